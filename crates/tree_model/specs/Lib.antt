@@ -1,1 +1,13 @@
 pub mod Errors
+pub mod Names
+pub mod NameLaws
+pub mod Texts
+pub mod Records
+pub mod Nodes
+pub mod Memory
+pub mod Standings
+pub mod CoordinatorRows
+pub mod ManagerRows
+pub mod Reactions
+pub mod Store
+pub mod Restarts
