@@ -11,3 +11,7 @@ pub mod ManagerRows
 pub mod Reactions
 pub mod Store
 pub mod Restarts
+pub mod World
+pub mod Outcomes
+pub mod Plays
+pub mod Rows

@@ -29,7 +29,7 @@ use Rattle.tree_model.specs.Names.{child_case, root_case, presumed, process_of}
 use Rattle.tree_model.specs.Records.{boot_of}
 use Rattle.tree_model.specs.Nodes.{Role, AtRoot, Below, AtLeaf, Place, is_listed, is_child, is_leaf, role_of, DataAnswer, Heard, Node, kept, Effect, no_effect}
 use Rattle.tree_model.specs.Memory.{Memory, memory_of, next_txn, next_ticket, active_ticket, ticket_of_child, of_ticket}
-use Rattle.tree_model.specs.Standings.{CoordinatorView, ManagerView, coordinator_view, manager_view, case_of_child}
+use Rattle.tree_model.specs.Standings.{CoordinatorView, ManagerView, coordinator_view, manager_view, some_case, case_of_child}
 use Rattle.tree_model.specs.CoordinatorRows.{Seat, Row, quiet, post, active_join, active_work, active_commit, active_abort, collecting_abort, ByAct, prepared_ask, tells_outcome, on_vote, on_ack, on_inquiry, on_joined, on_prepare, on_commit, on_abort}
 use Rattle.tree_model.specs.ManagerRows.{Leaf, LeafRow, prepared_decide, heuristic_forget, untold_ask}
 use Rattle.tree_model.specs.ManagerRows as leaf
@@ -72,7 +72,7 @@ seat_of place parent c = record { me = place.me; parent = parent; own = c }
 
 abbrev pub acts_begin : Place → Node → Presumption → Reacts
 acts_begin place n p =
-    let c = root_case (next_txn place.me (boot_of (kept n)) (memory_of place n (root_case (record { root = place.me; boot = 0; sequence = 0; presumption = p }))) p) in
+    let c = root_case (next_txn place.me (boot_of (kept n)) (memory_of place n (some_case place)) p) in
     Does (record { begun = Some c.txn; written = []; told = None; letters = []; accepts = []; counts = []; remains = None })
 
 abbrev pub join_by : Seat → List TreeEntry → ProcessId → CoordinatorView → Standing → Reacts

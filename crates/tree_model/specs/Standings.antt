@@ -14,7 +14,7 @@ use Rattle.tree_model.specs.declared.records.Record.TheVariants.{Prepared as Pre
 use Rattle.tree_model.specs.declared.standings.Standing.{Standing}
 use Rattle.tree_model.specs.declared.standings.Standing.TheVariants.{Unknown, Active, Collecting, Prepared, Committing, Aborting, Heuristic}
 use Rattle.tree_model.specs.declared.standings.Vote.{Vote}
-use Rattle.tree_model.specs.Names.{same_txn, same_case}
+use Rattle.tree_model.specs.Names.{same_txn, same_case, root_case}
 use Rattle.tree_model.specs.Records.{has, in_list, none_of, same_branch, is_collecting, is_prepare, is_commit, is_abort, is_end, named_by, promised_by, owing_by, cases_in}
 use Rattle.tree_model.specs.Nodes.{Place, Role, AtRoot, Below, AtLeaf, Node, kept}
 use Rattle.tree_model.specs.Memory.{Memory, Phase, Idle, Open, Asked, Over, memory_of, has_acked}
@@ -96,17 +96,20 @@ coordinator_view place n c =
 abbrev pub belongs : Memory → List Record → Case → Ticket → Bool
 belongs m rs c t = in_list m.accepted t || in_list (named_by c rs) t
 
--- the cases of the process that may have children: the recorded ones, then those issued in this boot
-abbrev pub own_cases : Place → Node → List Case
-own_cases place n = cases_in (kept n) ++ (memory_of place n place_holder).issued
-  where
-  place_holder : Case
-  place_holder = record { txn = record { root = place.me; boot = 0; sequence = 0; presumption = PresumeAbort }; ticket = None }
+-- any case of the process: what it remembers of itself is the same in each
+abbrev pub some_case : Place → Case
+some_case place = record { txn = record { root = place.me; boot = 0; sequence = 0; presumption = PresumeAbort }; ticket = None }
+
+-- the cases of the transaction that may have children: at the root its own; below it the recorded ones, then those
+-- issued in this boot
+abbrev pub own_cases : Role → Place → Node → Txn → List Case
+own_cases AtRoot place n x = root_case x ∷ []
+own_cases _ place n x = filter (λ c. same_txn c.txn x) (cases_in (kept n) ++ (memory_of place n (some_case place)).issued)
 
 -- the first case of the transaction to which the child belongs
 abbrev pub case_of_child : Place → Node → Txn → Ticket → Option Case
 case_of_child place n x t =
-    find (λ c. same_txn c.txn x && belongs (memory_of place n c) (kept n) c t) (own_cases place n)
+    find (λ c. belongs (memory_of place n c) (kept n) c t) (own_cases place.role place n x)
 
 -- A manager.
 

@@ -2,6 +2,7 @@
 #![tactic(auto)]
 
 mod events;
+pub mod law;
 mod lists;
 mod messages;
 mod names;
