@@ -1,2 +1,3 @@
 pub mod RowLaws
 pub mod RunLaws
+pub mod BranchLaws
