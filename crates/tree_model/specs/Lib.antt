@@ -5,6 +5,7 @@ pub mod NameLaws
 pub mod Texts
 pub mod Records
 pub mod Nodes
+pub mod Trees
 pub mod Memory
 pub mod Standings
 pub mod CoordinatorRows
