@@ -16,4 +16,5 @@ pub mod Restarts
 pub mod World
 pub mod Outcomes
 pub mod Plays
+pub mod Views
 pub mod Rows

@@ -3,7 +3,9 @@
 ghost use Rattle.std.specs.Prelude.{◌≡◌, List};
 ghost use Rattle.tree_model.specs.declared.names.ProcessId.{ProcessId};
 ghost use Rattle.tree_model.specs.declared.trees.TreeEntry.{TreeEntry};
-ghost use Rattle.tree_model.specs.Nodes.{place_of};
+ghost use Rattle.tree_model.specs.declared.names.Case.{Case};
+ghost use Rattle.tree_model.specs.Nodes.{Node, place_of};
+ghost use Rattle.tree_model.specs.Views.{ManagerViews};
 ghost use Rattle.tree_model.specs.World.{IsRun, Made, World, made_by, net_by, node_by};
 ghost use Rattle.tree_model.specs.Rows.{Runs, flat_pa_commit, flat_pc_commit, late_no_vote_pa, root_restart_collecting_pc, late_inquiry_after_trim_pa, cascaded_abort_after_prepare_pc, cascaded_readonly_vote_end_lost_pc, heuristic_rollback_mismatch, late_no_vote_pc, readonly_transactions, root_restart_committing_pa, forgotten_ticket_votes_no, cascaded_restart_pa, heuristic_rollback_forgotten, heuristic_forgotten_before_vote, cascaded_pa_commit, ask_before_prepare, ask_after_commit, commit_again_after_end, commit_again_before_votes, trim_manager_twice, collecting_in_doubt_pc, cascaded_in_doubt_pa};
 
@@ -40,4 +42,9 @@ pub fn processes_are_their_moves()
     ensures processes { (tree : List TreeEntry) (es : List Made) (w : World) → IsRun tree es w → (p : ProcessId)
         → w.at p ≡ node_by (place_of tree p) (made_by p es) }
     ensures net { (tree : List TreeEntry) (es : List Made) (w : World) → IsRun tree es w → w.net ≡ net_by es }
+{}
+
+/// A manager's new view, as its reaction table gives it, is what its extended lists read as.
+pub fn manager_views_follow_the_table()
+    ensures { (me p : ProcessId) (tree : List TreeEntry) (n : Node) (d : Case) → ManagerViews me p tree n d }
 {}
