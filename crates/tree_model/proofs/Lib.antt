@@ -3,3 +3,4 @@ pub mod RunLaws
 pub mod BranchLaws
 pub mod ListLaws
 pub mod ManagerViewLaws
+pub mod RootViewLaws

@@ -3,24 +3,31 @@ use Rattle.std.specs.Prelude.{◌≡◌, ◌≢◌, ℕ, Bool, true, false, Opti
 use Rattle.tree_model.specs.declared.names.Case.{Case}
 use Rattle.tree_model.specs.declared.names.ProcessId.{ProcessId}
 use Rattle.tree_model.specs.declared.names.Ticket.{Ticket}
+use Rattle.tree_model.specs.declared.names.Txn.{Txn}
 use Rattle.tree_model.specs.declared.names.Outcome.{Outcome}
+use Rattle.tree_model.specs.declared.names.Presumption.{Presumption}
+use Rattle.tree_model.specs.declared.names.Presumption.TheVariants.{PresumeAbort}
+use Rattle.tree_model.specs.declared.records.Record.{Record}
 use Rattle.tree_model.specs.declared.messages.Op.{Op}
 use Rattle.tree_model.specs.declared.messages.Message.{Message}
-use Rattle.tree_model.specs.declared.messages.Message.TheVariants.{Join, Work, Prepare, Commit, Abort}
+use Rattle.tree_model.specs.declared.messages.Message.TheVariants.{Join, Joined, Work, Prepare, Yes, No, Read, Commit, Abort, Ack, Inquire}
 use Rattle.tree_model.specs.declared.records.Branch.TheVariants.{Case as CaseBranch}
-use Rattle.tree_model.specs.declared.standings.Standing.TheVariants.{Active}
+use Rattle.tree_model.specs.declared.standings.Standing.TheVariants.{Active, Collecting}
+use Rattle.tree_model.specs.declared.standings.Vote.{Vote}
+use Rattle.tree_model.specs.declared.standings.Vote.TheVariants.{Yes as VoteYes, No as VoteNo, Read as VoteRead}
 use Rattle.tree_model.specs.declared.events.Act.{Act}
-use Rattle.tree_model.specs.declared.events.Act.TheVariants.{Ask, Decide, Forget}
+use Rattle.tree_model.specs.declared.events.Act.TheVariants.{Begin, Join as JoinAct, Work as WorkAct, Commit as CommitAct, Abort as AbortAct, Ask, Decide, Forget}
 use Rattle.tree_model.specs.declared.events.Input.TheVariants.{Act as ActInput, Message as MessageInput}
 use Rattle.tree_model.specs.declared.trees.TreeEntry.{TreeEntry}
-use Rattle.tree_model.specs.Names.{same_case, child_case}
-use Rattle.tree_model.specs.Records.{boot_of}
-use Rattle.tree_model.specs.Nodes.{Place, AtLeaf, DataAnswer, Heard, Node, kept, Effect, no_effect, after}
-use Rattle.tree_model.specs.Memory.{memory_of, next_ticket, active_ticket}
-use Rattle.tree_model.specs.Standings.{ManagerView, manager_view, mark_of, Mark, Unmarked}
+use Rattle.tree_model.specs.Names.{same_txn, same_case, root_case, child_case}
+use Rattle.tree_model.specs.Records.{boot_of, has, is_end, is_commit, is_abort, is_prepare, is_collecting, promised_by, named_by, owing_by}
+use Rattle.tree_model.specs.Nodes.{Place, AtRoot, AtLeaf, DataAnswer, Heard, Node, kept, Effect, no_effect, after}
+use Rattle.tree_model.specs.Memory.{Open, Asked, memory_of, next_txn, next_ticket, active_ticket, ticket_of_child}
+use Rattle.tree_model.specs.Standings.{CoordinatorView, some_case, coordinator_view, ManagerView, manager_view, mark_of, Mark, Unmarked}
+use Rattle.tree_model.specs.CoordinatorRows.{Seat, Row, ByAct, active_commit, active_abort, active_join, active_work, collecting_abort, on_joined, on_vote, on_ack, on_inquiry}
 use Rattle.tree_model.specs.ManagerRows.{Leaf, LeafRow, prepared_decide, heuristic_forget, untold_ask}
 use Rattle.tree_model.specs.ManagerRows as leaf
-use Rattle.tree_model.specs.Reactions.{leaf_effect, leaf_of, leaf_joins}
+use Rattle.tree_model.specs.Reactions.{row_effect, leaf_effect, leaf_of, leaf_joins}
 
 -- A manager.
 
@@ -74,3 +81,81 @@ pub record ManagerViews (me p : ProcessId) (tree : List TreeEntry) (n : Node) (d
       MovesBranch place n (hears_act (Decide d o) a) d (prepared_decide (leaf_of place p d) o)
   pub forget : (a : DataAnswer) → let place = leaf_place me p tree in
       MovesBranch place n (hears_act (Forget d) a) d (heuristic_forget (leaf_of place p d))
+
+-- The root.
+
+abbrev pub root_place : ProcessId → List TreeEntry → Place
+root_place me tree = record { me = me; role = AtRoot; tree = tree }
+
+abbrev pub root_seat : ProcessId → Case → Seat
+root_seat me c = record { me = me; parent = None; own = c }
+
+-- What a case that is open has on its lists: while it takes children no record says that it went on, votes are taken
+-- exactly while it stands at Collecting, and Presumed Abort collects them behind no record.
+pub record IsOpenAlike (place : Place) (n : Node) (c : Case) : Type 0 where
+  pub open_is_active : (memory_of place n c).phase ≡ Open → (coordinator_view place n c).standing ≡ Active
+  pub asked_is_collecting : (memory_of place n c).phase ≡ Asked → (coordinator_view place n c).standing ≡ Collecting
+  pub collecting_is_asked : (coordinator_view place n c).standing ≡ Collecting → (memory_of place n c).phase ≡ Asked
+  pub no_record_collects : c.txn.presumption ≡ PresumeAbort → has (is_collecting c) (kept n) ≡ false
+
+-- the view of the transaction after an input is the row's, and no other transaction's moves
+pub record MovesTxn (place : Place) (n : Node) (h : Heard) (x : Txn) (row : Row) : Type 0 where
+  pub moved : coordinator_view place (after n h (row_effect (root_case x) row)) (root_case x) ≡ row.view
+  pub others : (y : Txn) → same_txn x y ≡ false → coordinator_view place (after n h (row_effect (root_case x) row)) (root_case y) ≡ coordinator_view place n (root_case y)
+
+abbrev pub vote_message : Vote → Case → Message
+vote_message VoteYes = Yes
+vote_message VoteNo = No
+vote_message VoteRead = Read
+
+-- no record is of the case, or names a child of it
+pub record IsUnrecorded (rs : List Record) (c : Case) : Type 0 where
+  pub no_end : has (is_end c) rs ≡ false
+  pub no_commit : has (is_commit c) rs ≡ false
+  pub no_abort : has (is_abort c) rs ≡ false
+  pub no_prepare : has (is_prepare c) rs ≡ false
+  pub no_collecting : has (is_collecting c) rs ≡ false
+  pub promised : promised_by c rs ≡ []
+  pub named : named_by c rs ≡ []
+  pub owing : owing_by c rs ≡ []
+
+-- the transaction that the root begins next
+abbrev pub next_begun : Place → Node → Presumption → Txn
+next_begun place n p = next_txn place.me (boot_of (kept n)) (memory_of place n (some_case place)) p
+
+-- a transaction that is begun, and of which there was no record, is Active, and no other moves
+pub record BeginsTxn (place : Place) (n : Node) (h : Heard) (e : Effect) (x : Txn) : Type 0 where
+  pub begun : IsUnrecorded (kept n) (root_case x) → coordinator_view place (after n h e) (root_case x) ≡ record { standing = Active; accepted = []; votes = []; works = []; promised = []; named = []; owed = [] }
+  pub others : (y : Txn) → same_txn x y ≡ false → coordinator_view place (after n h e) (root_case y) ≡ coordinator_view place n (root_case y)
+
+-- what a begin does beside naming its transaction
+abbrev pub begin_effect : Txn → Effect
+begin_effect x = record { begun = Some x; written = []; told = None; letters = []; accepts = []; counts = []; remains = None }
+
+-- a transaction that begins
+abbrev pub RootBegins : ProcessId → List TreeEntry → Node → Presumption → DataAnswer → Type 0
+RootBegins me tree n p a =
+    let place = root_place me tree in
+    let x = next_begun place n p in
+    BeginsTxn place n (hears_act (Begin p) a) (begin_effect x) x
+
+-- the rows of the root
+pub record RootViews (me : ProcessId) (tree : List TreeEntry) (n : Node) (x : Txn) : Type 0 where
+  pub commit : (a : DataAnswer) → let place = root_place me tree in let c = root_case x in let v = coordinator_view place n c in
+      v.standing ≡ Active → MovesTxn place n (hears_act (CommitAct x) a) x (active_commit (root_seat me c) v)
+  pub abort_active : (a : DataAnswer) → let place = root_place me tree in let c = root_case x in let v = coordinator_view place n c in
+      v.standing ≡ Active → MovesTxn place n (hears_act (AbortAct x) a) x (active_abort (root_seat me c) v)
+  pub abort_collecting : (a : DataAnswer) → let place = root_place me tree in let c = root_case x in let v = coordinator_view place n c in
+      IsOpenAlike place n c → v.standing ≡ Collecting → MovesTxn place n (hears_act (AbortAct x) a) x (collecting_abort (root_seat me c) ByAct v)
+  pub join : (a : DataAnswer) (q : ProcessId) → let place = root_place me tree in let c = root_case x in let v = coordinator_view place n c in
+      MovesTxn place n (hears_act (JoinAct c q) a) x (active_join (root_seat me c) q v)
+  pub work : (a : DataAnswer) (q : ProcessId) (t : Ticket) (op : Op) → let place = root_place me tree in let c = root_case x in let v = coordinator_view place n c in
+      v.standing ≡ Active → ticket_of_child v.accepted q ≡ Some t → MovesTxn place n (hears_act (WorkAct c q op) a) x (active_work (root_seat me c) t op v)
+  pub joined : (k : ℕ) (a : DataAnswer) (t : Ticket) → let place = root_place me tree in let c = root_case x in let v = coordinator_view place n c in
+      IsOpenAlike place n c → MovesTxn place n (hears_message k (Joined c t) a) x (on_joined t v v.standing)
+  pub vote : (k : ℕ) (a : DataAnswer) (t : Ticket) (w : Vote) → let place = root_place me tree in let c = root_case x in let v = coordinator_view place n c in
+      IsOpenAlike place n c → MovesTxn place n (hears_message k (vote_message w (child_case x t)) a) x (on_vote (root_seat me c) t w v v.standing)
+  pub acknowledgement : (k : ℕ) (a : DataAnswer) (t : Ticket) (o : Outcome) → let place = root_place me tree in let c = root_case x in let v = coordinator_view place n c in
+      IsOpenAlike place n c → MovesTxn place n (hears_message k (Ack (child_case x t) o) a) x (on_ack (root_seat me c) t o v v.standing)
+  pub inquiry : (k : ℕ) (a : DataAnswer) (t : Ticket) → let place = root_place me tree in let c = root_case x in let v = coordinator_view place n c in
+      MovesTxn place n (hears_message k (Inquire (child_case x t)) a) x (on_inquiry (root_seat me c) t v v.standing)
