@@ -4,3 +4,5 @@ pub mod BranchLaws
 pub mod ListLaws
 pub mod ManagerViewLaws
 pub mod RootViewLaws
+pub mod CostLaws
+pub mod NameTests

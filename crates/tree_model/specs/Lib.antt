@@ -17,4 +17,5 @@ pub mod World
 pub mod Outcomes
 pub mod Plays
 pub mod Views
+pub mod Counts
 pub mod Rows

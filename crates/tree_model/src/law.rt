@@ -1,6 +1,10 @@
 //! Laws of the definitions, each on a function with an empty body.
 
-ghost use Rattle.std.specs.Prelude.{◌≡◌, List};
+ghost use Rattle.std.specs.Prelude.{◌≡◌, ◌↔◌, true, ℕ, List};
+ghost use Rattle.tree_model.specs.declared.names.Ticket.{Ticket};
+ghost use Rattle.tree_model.specs.Names.{same_case, same_process, same_ticket, same_txn};
+ghost use Rattle.tree_model.specs.CoordinatorRows.{Seat};
+ghost use Rattle.tree_model.specs.Counts.{CommittedUpdateCosts};
 ghost use Rattle.tree_model.specs.declared.names.ProcessId.{ProcessId};
 ghost use Rattle.tree_model.specs.declared.trees.TreeEntry.{TreeEntry};
 ghost use Rattle.tree_model.specs.declared.names.Case.{Case};
@@ -55,4 +59,17 @@ pub fn manager_views_follow_the_table()
 pub fn root_views_follow_the_table()
     ensures rows { (me : ProcessId) (tree : List TreeEntry) (n : Node) (x : Txn) → RootViews me tree n x }
     ensures begins { (me : ProcessId) (tree : List TreeEntry) (n : Node) (p : Presumption) (a : DataAnswer) → RootBegins me tree n p a }
+{}
+
+/// What a committed update of a flat tree costs its root and each of its managers.
+pub fn committed_update_costs()
+    ensures { (s : Seat) (n : ℕ) → CommittedUpdateCosts s n }
+{}
+
+/// The tests of names tell exactly which names are one.
+pub fn names_tell()
+    ensures process { (a b : ProcessId) → (same_process a b ≡ true) ↔ (a ≡ b) }
+    ensures txn { (a b : Txn) → (same_txn a b ≡ true) ↔ (a ≡ b) }
+    ensures ticket { (a b : Ticket) → (same_ticket a b ≡ true) ↔ (a ≡ b) }
+    ensures case { (a b : Case) → (same_case a b ≡ true) ↔ (a ≡ b) }
 {}
