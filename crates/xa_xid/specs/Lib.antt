@@ -1,3 +1,4 @@
 pub mod Errors
 pub mod Part
 pub mod Xids
+pub mod Bytes

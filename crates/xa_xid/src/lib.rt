@@ -1,6 +1,7 @@
 //! XIDs: the names of transaction branches.
 #![tactic(auto)]
 
+mod bytes;
 mod error;
 mod part;
 mod xid;

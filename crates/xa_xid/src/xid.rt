@@ -56,11 +56,20 @@ impl Xid {
     {
         match fault_of_branch(format, gtrid.len(), bqual.len()) {
             Some(error) => Err(error),
-            None => Ok(Xid {
-                format,
-                gtrid: Part::new(gtrid),
-                bqual: Part::new(bqual),
-            }),
+            None => Ok(Xid::of_parts(format, gtrid, bqual)),
+        }
+    }
+
+    /// The XID of parts in which nothing is wrong.
+    pub(crate) fn of_parts(format: i32, gtrid: &[u8], bqual: &[u8]) -> Self
+        requires { xid_fault format (length gtrid.now) (length bqual.now) ≡ None }
+        ensures value { result ≡ record { format = format; gtrid = gtrid.now; bqual = bqual.now } }
+        ensures sound { IsXid result }
+    {
+        Xid {
+            format,
+            gtrid: Part::new(gtrid),
+            bqual: Part::new(bqual),
         }
     }
 
