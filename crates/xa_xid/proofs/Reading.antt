@@ -1,17 +1,17 @@
 -- XIDs in bytes: what is read is spelled so, and what is spelled so is read.
-use Rattle.std.proofs.Common.{◌≡◌, ℕ, zero, suc, ◌+◌, ◌-◌, ◌≤◌, ◌<◌, ◌^◌, ℤ, true, false, cond, ltb, List, [], ◌∷◌, ◌++◌, length, get_or, take, drop, Option, Some, None, refl, ap, sym, ◌∙◌, subst, arith, inl, inr, append_assoc, length-append, length-take, length-drop, take-append-drop}
+use Rattle.std.proofs.Common.{◌≡◌, ℕ, zero, suc, ◌+◌, ◌-◌, ◌≤◌, ◌<◌, ◌^◌, ℤ, false, cond, ltb, List, [], ◌∷◌, ◌++◌, length, get_or, take, drop, Option, Some, None, refl, ap, sym, ◌∙◌, arith, append_assoc, length-append, length-take, length-drop, take-append-drop}
 use Rattle.std.specs.Int.{w32, to_be_bytes, from_be_bytes, cast_signed, cast_unsigned}
 use Rattle.std.specs.Int.RustNames.{FitsSigned}
 use Rattle.std.specs.Option.{option_or}
-use Rattle.std.proofs.lemmas.Bool.{cases_lt, lt-ltb, le-ltb}
+use Rattle.std.proofs.lemmas.Bool.{le-ltb}
 use Rattle.std.proofs.lemmas.Int.{of_z-to_z, to_z-of_z}
-use Rattle.std.proofs.lemmas.List.{append-nil, drop_all, take_all, take_at, drop_at}
+use Rattle.std.proofs.lemmas.List.{take_all, take_at, drop_at}
 use Rattle.std.proofs.lemmas.Nat.{be_bytes_4, from_be_bytes-to_be_bytes_4}
 use Rattle.std.proofs.Math.Facts.{Fits-of_z}
 use Rattle.xa_xid.specs.declared.error.XidError.{XidError}
-use Rattle.xa_xid.specs.declared.error.XidError.TheVariants.{Truncated, Trailing}
+use Rattle.xa_xid.specs.declared.error.XidError.TheVariants.{Truncated}
 use Rattle.xa_xid.specs.Xids.{XidParts, IsXid, xid_fault}
-use Rattle.xa_xid.specs.Bytes.{xid_bytes, format_of, front_fault, front_parts, bytes_fault}
+use Rattle.xa_xid.specs.Bytes.{xid_bytes, format_of, front_fault, front_parts}
 
 -- ---- the format
 
@@ -58,12 +58,12 @@ pub begins : (x : XidParts) (rest bytes : List ℕ) → IsXid x → bytes ≡ xi
 begins x rest bytes is e =
     let format : format_of (to_be_bytes w32 (cast_unsigned w32 x.format)) ≡ x.format = format_back x.format is.fits.format in (
       ap front_fault e
-      ∙ ap (rest_fault (length x.gtrid) (length x.bqual) (x.gtrid ++ x.bqual ++ rest)) format
-      ∙ no_fault _ _ is.sound (enough x.gtrid x.bqual rest),
+          ∙ ap (rest_fault (length x.gtrid) (length x.bqual) (x.gtrid ++ x.bqual ++ rest)) format
+          ∙ no_fault _ _ is.sound (enough x.gtrid x.bqual rest),
       ap front_parts e
-      ∙ ap (parts (take (length x.gtrid) (x.gtrid ++ x.bqual ++ rest)) (take (length x.bqual) (drop (length x.gtrid) (x.gtrid ++ x.bqual ++ rest)))) format
-      ∙ ap (λ (g : List ℕ). parts g (take (length x.bqual) (drop (length x.gtrid) (x.gtrid ++ x.bqual ++ rest))) x.format) (first_part x.gtrid x.bqual rest)
-      ∙ ap (λ (q : List ℕ). parts x.gtrid q x.format) (second_part x.gtrid x.bqual rest),
+          ∙ ap (parts (take (length x.gtrid) (x.gtrid ++ x.bqual ++ rest)) (take (length x.bqual) (drop (length x.gtrid) (x.gtrid ++ x.bqual ++ rest)))) format
+          ∙ ap (λ (g : List ℕ). parts g (take (length x.bqual) (drop (length x.gtrid) (x.gtrid ++ x.bqual ++ rest))) x.format) (first_part x.gtrid x.bqual rest)
+          ∙ ap (λ (q : List ℕ). parts x.gtrid q x.format) (second_part x.gtrid x.bqual rest),
     )
 
 -- two XIDs that begin the same bytes are one

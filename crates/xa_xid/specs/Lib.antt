@@ -2,3 +2,5 @@ pub mod Errors
 pub mod Part
 pub mod Xids
 pub mod Bytes
+pub mod Numerals
+pub mod HexText

@@ -3,6 +3,8 @@
 
 mod bytes;
 mod error;
+pub mod hexadecimal;
+pub mod numeral;
 mod part;
 mod xid;
 
