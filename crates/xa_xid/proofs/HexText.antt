@@ -1,5 +1,5 @@
 -- Bytes in hexadecimal: each text of pairs of digits is the spelling of bytes, and no other is.
-use Rattle.std.proofs.Common.{◌≡◌, ℕ, zero, suc, ◌-◌, ◌*◌, ◌/◌, ◌%◌, ◌<◌, ◌^◌, Bool, true, false, not, ◌&&◌, ◌||◌, if◌then◌else◌, eqb, ltb, List, [], ◌∷◌, ◌++◌, length, take, get_or, ◌+◌, slice_index, Result, Ok, refl, ap, sym, ◌∙◌, arith, inl, inr}
+use Rattle.std.proofs.Common.{◌≡◌, ℕ, zero, suc, ◌-◌, ◌*◌, ◌/◌, ◌%◌, ◌<◌, ◌≤◌, ◌^◌, Bool, true, false, not, ◌&&◌, ◌||◌, if◌then◌else◌, eqb, ltb, List, [], ◌∷◌, ◌++◌, length, take, get_or, ◌+◌, slice_index, Result, Ok, refl, ap, sym, ◌∙◌, arith, inl, inr, length-take}
 use Rattle.std.specs.Prelude.{nat_le}
 use Rattle.std.specs.List.{All, list_all}
 use Rattle.std.specs.Fmt.{digit_glyph, digits, padded_integral, format_spec}
@@ -152,3 +152,7 @@ pub written_more : (bytes : List ℕ) (i : ℕ) → i < length bytes → get_or 
 written_more bytes i lt fits =
     ap (λ (t : List ℕ). encode_lower (take i bytes) ++ t) (byte_text (get_or bytes i 0) fits)
     ∙ sym (encode_append (take i bytes) (get_or bytes i 0 ∷ [])) ∙ ap encode_lower (sym (take_more bytes i 0 lt))
+
+-- there is room for the bytes of a short text
+pub room : (text array : List ℕ) → IsHexadecimal text → length text ≤ 128 → length array ≡ 64 → length text ≡ 2 * length (take (length text / 2) array)
+room text array h size n = let even = spelled_even text h in omega (arith, length-take (length text / 2) array)

@@ -4,3 +4,5 @@ pub mod Xids
 pub mod Bytes
 pub mod Numerals
 pub mod HexText
+pub mod Words
+pub mod Text
