@@ -36,7 +36,8 @@ abbrev stands : ℕ → Bool
 stands c = not (is_lower_digit c) || (eqb (slice_index lower_digits (place c)) c && ltb (place c) 16)
 
 abbrev is_digit : ℕ → Bool
-is_digit d = is_lower_digit (slice_index lower_digits d) && eqb (digit_glyph false d) (slice_index lower_digits d)
+is_digit d = is_lower_digit (slice_index lower_digits d) && eqb (digit_glyph false d)
+    (slice_index lower_digits d)
 
 digit_small : (c : ℕ) → is_lower_digit c ≡ true → c < 103
 digit_small c h = grind (arith, nat_tests)
@@ -47,12 +48,15 @@ or_right false b h e = cc
 
 digit_at : (c : ℕ) → is_lower_digit c ≡ true → (slice_index lower_digits (place c) ≡ c) × (place c < 16)
 digit_at c h =
-    let both = and_parts (eqb (slice_index lower_digits (place c)) c) (ltb (place c) 16) (or_right (is_lower_digit c) _ (at_below stands 103 c refl (digit_small c h)) h) in
+    let both = and_parts (eqb (slice_index lower_digits (place c)) c) (ltb (place c) 16)
+    (or_right (is_lower_digit c) _ (at_below stands 103 c refl (digit_small c h)) h) in
     (eqb-true _ _ both.0, ltb-true _ _ both.1)
 
-table_at : (d : ℕ) → d < 16 → (is_lower_digit (slice_index lower_digits d) ≡ true) × (digit_glyph false d ≡ slice_index lower_digits d)
+table_at : (d : ℕ) → d < 16 → (is_lower_digit (slice_index lower_digits d) ≡ true)
+    × (digit_glyph false d ≡ slice_index lower_digits d)
 table_at d lt =
-    let both = and_parts (is_lower_digit (slice_index lower_digits d)) (eqb (digit_glyph false d) (slice_index lower_digits d)) (at_below is_digit 16 d refl lt) in
+    let both = and_parts (is_lower_digit (slice_index lower_digits d))
+    (eqb (digit_glyph false d) (slice_index lower_digits d)) (at_below is_digit 16 d refl lt) in
     (both.0, eqb-true _ _ both.1)
 
 abbrev is_byte : ℕ → Type 0
@@ -60,7 +64,8 @@ is_byte b = b < 256
 
 -- ---- from texts to bytes
 
-spell_more : (a b : ℕ) (rest bytes : List ℕ) → is_lower_digit a ≡ true → is_lower_digit b ≡ true → Spells rest bytes → Spells (a ∷ b ∷ rest) ((place a * 16 + place b) ∷ bytes)
+spell_more : (a b : ℕ) (rest bytes : List ℕ) → is_lower_digit a ≡ true → is_lower_digit b ≡ true
+    → Spells rest bytes → Spells (a ∷ b ∷ rest) ((place a * 16 + place b) ∷ bytes)
 unfolding encode_with
 spell_more a b rest bytes da db h =
     let high = digit_at a da in
@@ -70,10 +75,12 @@ spell_more a b rest bytes da db h =
     let e1 : (place a * 16 + place b) / 16 ≡ place a = omega arith in
     let e2 : (place a * 16 + place b) % 16 ≡ place b = omega arith in
     let fits : place a * 16 + place b < 256 = omega arith in
-    let text : a ∷ b ∷ rest ≡ encode_lower ((place a * 16 + place b) ∷ bytes) = rw (e1, e2, high.0, low.0) (ap (λ (t : List ℕ). a ∷ b ∷ t) h.spelled) in
+    let text : a ∷ b ∷ rest ≡ encode_lower ((place a * 16 + place b) ∷ bytes) = rw (e1, e2, high.0, low.0)
+    (ap (λ (t : List ℕ). a ∷ b ∷ t) h.spelled) in
     record { fits = All-cons is_byte (place a * 16 + place b) bytes fits h.fits; spelled = text }
 
-pub spells_some : (text : List ℕ) → length text % 2 ≡ 0 → list_all is_lower_digit text ≡ true → IsHexadecimal text
+pub spells_some : (text : List ℕ) → length text % 2 ≡ 0 → list_all is_lower_digit text ≡ true
+    → IsHexadecimal text
 unfolding encode_with
 spells_some [] even digits = ([], record { fits = All-nil is_byte; spelled = refl })
 spells_some (a ∷ []) even digits = absurd (omega arith)
@@ -100,22 +107,26 @@ spelled_lower text (bytes, h) = rw h.spelled (lower_text bytes h.fits)
 pub length-spelled : (text bytes : List ℕ) → Spells text bytes → length text ≡ 2 * length bytes
 length-spelled text bytes h = ap length h.spelled ∙ length-encode_with lower_digits bytes
 
-pub tells : (text : List ℕ) (test : Bool) → length text % 2 ≡ 0 → test ≡ list_all is_lower_digit text → (test ≡ true → IsHexadecimal text) × (IsHexadecimal text → test ≡ true)
+pub tells : (text : List ℕ) (test : Bool) → length text % 2 ≡ 0 → test ≡ list_all is_lower_digit text
+    → (test ≡ true → IsHexadecimal text) × (IsHexadecimal text → test ≡ true)
 tells text test even is = (λ yes. spells_some text even (sym is ∙ yes), λ h. is ∙ spelled_lower text h)
 
 pub spelled_even : (text : List ℕ) → IsHexadecimal text → length text % 2 ≡ 0
 spelled_even text (bytes, h) = let n = length-spelled text bytes h in omega arith
 
 bytes_fit : (bytes : List ℕ) → All is_byte bytes → IsBytes bytes
-bytes_fit bytes fits i = elim (cases_lt i (length bytes)) [ inl lt ↦ fits i 0 lt | inr le ↦ (let e = get_or_past bytes i 0 le in omega (arith, e)) ]
+bytes_fit bytes fits i = elim (cases_lt i (length bytes))
+    [ inl lt ↦ fits i 0 lt | inr le ↦ (let e = get_or_past bytes i 0 le in omega (arith, e)) ]
 
 -- ---- decoding
 
-pub decodes : (text bytes : List ℕ) (n : ℕ) → Spells text bytes → length text ≡ 2 * n → decode_sized text n ≡ Ok bytes
+pub decodes : (text bytes : List ℕ) (n : ℕ) → Spells text bytes → length text ≡ 2 * n
+    → decode_sized text n ≡ Ok bytes
 decodes text bytes n h size =
     let even : eqb (length text % 2) 1 ≡ false = grind (arith, nat_tests) in
     let half : eqb (length text / 2) n ≡ true = grind (arith, nat_tests) in
-    rw (even, half) (ap (decode_pairs 0) h.spelled ∙ decode_pairs-encode_with lower_digits IsDigits-lower_digits 0 bytes (bytes_fit bytes h.fits))
+    rw (even, half) (ap (decode_pairs 0) h.spelled
+    ∙ decode_pairs-encode_with lower_digits IsDigits-lower_digits 0 bytes (bytes_fit bytes h.fits))
 
 same_ok : {E : Type 0} (x y : List ℕ) (r s : Result (List ℕ) E) → r ≡ Ok x → s ≡ Ok y → r ≡ s → x ≡ y
 same_ok x y r s e f g = cc
@@ -124,14 +135,16 @@ same_ok x y r s e f g = cc
 pub one_spelling : (text xs ys : List ℕ) → Spells text xs → Spells text ys → xs ≡ ys
 one_spelling text xs ys h k =
     let n : length text ≡ 2 * length ys = length-spelled text ys k in
-    same_ok xs ys (decode_sized text (length ys)) (decode_sized text (length ys)) (decodes text xs (length ys) h n) (decodes text ys (length ys) k n) refl
+    same_ok xs ys (decode_sized text (length ys)) (decode_sized text (length ys))
+    (decodes text xs (length ys) h n) (decodes text ys (length ys) k n) refl
 
 -- ---- writing
 
 encode_append : (xs ys : List ℕ) → encode_lower (xs ++ ys) ≡ encode_lower xs ++ encode_lower ys
 unfolding encode_with
 encode_append [] ys = refl
-encode_append (x ∷ xs) ys = ap (λ (t : List ℕ). slice_index lower_digits (x / 16) ∷ slice_index lower_digits (x % 16) ∷ t) (encode_append xs ys)
+encode_append (x ∷ xs) ys = ap (λ (t : List ℕ). slice_index lower_digits (x / 16) ∷ slice_index
+    lower_digits (x % 16) ∷ t) (encode_append xs ys)
 
 pub encode_nil : encode_lower [] ≡ []
 unfolding encode_with
@@ -148,11 +161,15 @@ byte_text b lt =
     let low = table_at (b % 16) (omega arith) in
     hex_byte false b lt ∙ rw (high.1, low.1) refl
 
-pub written_more : (bytes : List ℕ) (i : ℕ) → i < length bytes → get_or bytes i 0 < 256 → encode_lower (take i bytes) ++ two_digits (get_or bytes i 0) ≡ encode_lower (take (i + 1) bytes)
+pub written_more : (bytes : List ℕ) (i : ℕ) → i < length bytes → get_or bytes i 0 < 256
+    → encode_lower (take i bytes) ++ two_digits (get_or bytes i 0) ≡ encode_lower (take (i + 1) bytes)
 written_more bytes i lt fits =
     ap (λ (t : List ℕ). encode_lower (take i bytes) ++ t) (byte_text (get_or bytes i 0) fits)
-    ∙ sym (encode_append (take i bytes) (get_or bytes i 0 ∷ [])) ∙ ap encode_lower (sym (take_more bytes i 0 lt))
+    ∙ sym (encode_append (take i bytes) (get_or bytes i 0 ∷ []))
+    ∙ ap encode_lower (sym (take_more bytes i 0 lt))
 
 -- there is room for the bytes of a short text
-pub room : (text array : List ℕ) → IsHexadecimal text → length text ≤ 128 → length array ≡ 64 → length text ≡ 2 * length (take (length text / 2) array)
-room text array h size n = let even = spelled_even text h in omega (arith, length-take (length text / 2) array)
+pub room : (text array : List ℕ) → IsHexadecimal text → length text ≤ 128 → length array ≡ 64
+    → length text ≡ 2 * length (take (length text / 2) array)
+room text array h size n = let even = spelled_even text h in omega
+    (arith, length-take (length text / 2) array)

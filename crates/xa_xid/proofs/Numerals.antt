@@ -69,12 +69,14 @@ within_yes n lt = rw (lt-ltb _ _ lt) refl
 within_no : (n : ℕ) → (n < 2 ^ 64 → ⊥) → within n ≡ None
 within_no n above = let le : 2 ^ 64 ≤ n = omega arith in rw (le-ltb _ _ le) refl
 
-pub number_is : {E : Type 0} (bs : List ℕ) (r : Result ℕ E) (o : Option ℕ) → o ≡ result_ok r → ParsesUnsigned 64 10 bs r → is_numeral bs ≡ true → o ≡ number_at bs
+pub number_is : {E : Type 0} (bs : List ℕ) (r : Result ℕ E) (o : Option ℕ) → o ≡ result_ok r
+    → ParsesUnsigned 64 10 bs r → is_numeral bs ≡ true → o ≡ number_at bs
 number_is {E} bs (Ok n) o e h is =
     let num = numeral_is bs is in
     let iff = parse_digits own {E = E} 64 bs (Ok n) h num.digits in
     let n-is : n ≡ digits_value 10 bs = iff.1 in
-    e ∙ ap (λ (x : ℕ). Some x) n-is ∙ sym (within_yes (digits_value 10 bs) iff.0.1) ∙ sym (number_of_numeral bs is)
+    e ∙ ap (λ (x : ℕ). Some x) n-is ∙ sym (within_yes (digits_value 10 bs) iff.0.1)
+    ∙ sym (number_of_numeral bs is)
 number_is {E} bs (Err x) o e h is =
     let num = numeral_is bs is in
     let iff = parse_digits own {E = E} 64 bs (Err x) h num.digits in
@@ -84,7 +86,8 @@ within_is : (v n : ℕ) → within v ≡ Some n → (v ≡ n) × (v < 2 ^ 64)
 within_is v n e =
     elim (cases_lt v (2 ^ 64)) [
       | inl lt ↦ (let same = sym (within_yes v lt) ∙ e in (let s : Some v ≡ Some n = same in cc, lt))
-      | inr le ↦ (let no = sym (within_no v (λ lt. omega arith)) ∙ e in absurd (let s : None ≡ Some n = no in cc))
+      | inr le ↦ (let no = sym (within_no v (λ lt. omega arith))
+          ∙ e in absurd (let s : None ≡ Some n = no in cc))
     ]
 
 -- what is read as a number is spelled so
@@ -95,7 +98,8 @@ number_takes bs n e =
       | inl t ↦ (
           let num = numeral_is bs t in
           let v = within_is (digits_value 10 bs) n (sym (number_of_numeral bs t) ∙ e) in
-          let back : decimal (digits_value 10 bs) ≡ bs = decimal-digits_value own bs num.digits num.some num.zero_alone v.1 in
+          let back : decimal (digits_value 10 bs) ≡ bs = decimal-digits_value own bs num.digits num.some
+          num.zero_alone v.1 in
           (sym back ∙ ap decimal v.0, rw (← v.0) v.1))
       | inr f ↦ absurd (let s : None ≡ Some n = rw f at e in cc)
     ]
@@ -106,7 +110,8 @@ decimal_numeral n lt = record {
   some = decimal_nonempty n lt;
   zero_alone = elim (cases_eq n 0) [
     | inl e ↦ λ _. ap (λ (x : ℕ). length (decimal x)) e ∙ ap length (decimal_digit 0 (omega arith))
-    | inr e ↦ λ is. let first : 48 < get_or (decimal n) 0 0 = first_decimal n (omega arith) lt in absurd (omega arith)
+    | inr e ↦ λ is. let first : 48 < get_or (decimal n) 0 0 = first_decimal n (omega arith) lt in absurd
+        (omega arith)
   ];
 }
 
@@ -114,7 +119,8 @@ decimal_numeral n lt = record {
 pub number_again : (n : ℕ) → n < 2 ^ 64 → number_at (decimal n) ≡ Some n
 number_again n lt =
     let v : digits_value 10 (decimal n) ≡ n = digits_value-decimal own n lt in
-    number_of_numeral (decimal n) (numeral_again (decimal n) (decimal_numeral n lt)) ∙ ap within v ∙ within_yes n lt
+    number_of_numeral (decimal n) (numeral_again (decimal n) (decimal_numeral n lt)) ∙ ap within v
+    ∙ within_yes n lt
 
 pub not_numeral : (w : List ℕ) → is_numeral w ≡ false → number_at w ≡ None
 unfolding number_at
@@ -124,14 +130,16 @@ pub found_of : (w : List ℕ) (r : Option ℕ) → r ≡ number_at w → IfSome 
 found_of w None e = tt
 found_of w (Some n) e = (number_takes w n (sym e)).0
 
-pub none_of : (w : List ℕ) (r : Option ℕ) → r ≡ number_at w → IfNone r ((n : ℕ) → n < 2 ^ 64 → w ≡ decimal n → ⊥)
+pub none_of : (w : List ℕ) (r : Option ℕ) → r ≡ number_at w
+    → IfNone r ((n : ℕ) → n < 2 ^ 64 → w ≡ decimal n → ⊥)
 none_of w None e = λ n lt is. let no : None ≡ Some n = e ∙ ap number_at is ∙ number_again n lt in cc
 none_of w (Some n) e = tt
 
 -- ---- signed numbers
 
 -- a word without a minus sign is a number that is not negative
-pub positive_only : (w : List ℕ) (r : Option (Bor (List ℕ))) → r ≡ None → MatchOption r ((rest : List ℕ) → w ≢ 45 ∷ rest) (λ x. w ≡ 45 ∷ x.now)
+pub positive_only : (w : List ℕ) (r : Option (Bor (List ℕ))) → r ≡ None
+    → MatchOption r ((rest : List ℕ) → w ≢ 45 ∷ rest) (λ x. w ≡ 45 ∷ x.now)
     → (z : ℤ) → FitsSigned w32 z → w ≡ signed_decimal z → (n : ℕ) × (n < 2 ^ 31) × (w ≡ decimal n)
 positive_only w None e absent (pos n) fits is = (n, fits.sfits, is)
 positive_only w None e absent (negsuc n) fits is = absurd (absent (decimal (suc n)) is)
@@ -144,11 +152,15 @@ decimal_first n rest lt e =
     cc
 
 -- a word behind a minus sign is the number below the negative one
-pub negative_only : (w digits : List ℕ) → w ≡ 45 ∷ digits → (z : ℤ) → FitsSigned w32 z → w ≡ signed_decimal z → (n : ℕ) × (n < 2 ^ 31) × (digits ≡ decimal (suc n))
-negative_only w digits e (pos n) fits is = absurd (decimal_first n digits (let lt : n < 2 ^ 31 = fits.sfits in omega arith) (sym is ∙ e))
-negative_only w digits e (negsuc n) fits is = (n, fits.sfits, let same : 45 ∷ digits ≡ 45 ∷ decimal (suc n) = sym e ∙ is in cc)
+pub negative_only : (w digits : List ℕ) → w ≡ 45 ∷ digits → (z : ℤ) → FitsSigned w32 z
+    → w ≡ signed_decimal z → (n : ℕ) × (n < 2 ^ 31) × (digits ≡ decimal (suc n))
+negative_only w digits e (pos n) fits is = absurd
+    (decimal_first n digits (let lt : n < 2 ^ 31 = fits.sfits in omega arith) (sym is ∙ e))
+negative_only w digits e (negsuc n) fits is =
+    (n, fits.sfits, let same : 45 ∷ digits ≡ 45 ∷ decimal (suc n) = sym e ∙ is in cc)
 
-pub minus_first : (w : List ℕ) (r : Option (Bor (List ℕ))) (x : Bor (List ℕ)) → r ≡ Some x → MatchOption r ((rest : List ℕ) → w ≢ 45 ∷ rest) (λ y. w ≡ 45 ∷ y.now) → w ≡ 45 ∷ x.now
+pub minus_first : (w : List ℕ) (r : Option (Bor (List ℕ))) (x : Bor (List ℕ)) → r ≡ Some x
+    → MatchOption r ((rest : List ℕ) → w ≢ 45 ∷ rest) (λ y. w ≡ 45 ∷ y.now) → w ≡ 45 ∷ x.now
 minus_first w None x e m = cc
 minus_first w (Some y) x e m = let k : y ≡ x = cc in m ∙ ap (λ (t : Bor (List ℕ)). 45 ∷ t.now) k
 

@@ -11,4 +11,5 @@ is_numeral (b ∷ bs) = if b == 48 then length bs == 0 else list_all is_ascii_di
 
 -- the number below 2^64 that such digits spell
 unfoldable pub number_at : List ℕ → Option ℕ
-number_at bs = if is_numeral bs && nat_lt (digits_value 10 bs) (2 ^ 64) then Some (digits_value 10 bs) else None
+number_at bs =
+    if is_numeral bs && nat_lt (digits_value 10 bs) (2 ^ 64) then Some (digits_value 10 bs) else None

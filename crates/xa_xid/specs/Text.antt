@@ -22,4 +22,6 @@ pub record ArePieces (text : List ℕ) (format : ℤ) (gtrid bqual : List ℕ) (
 -- why a text is no XID: it spells no parts at all, or parts of which this is the first fault
 abbrev pub IsTextFault : List ℕ → XidError → Type 0
 IsTextFault text Syntax = (x : XidParts) → FitsParts x → text ≡ xid_text x → ⊥
-IsTextFault text error = (x : XidParts) × FitsParts x × (text ≡ xid_text x) × (xid_fault x.format (length x.gtrid) (length x.bqual) ≡ Some error)
+IsTextFault text error =
+    (x : XidParts) × FitsParts x × (text ≡ xid_text x)
+    × (xid_fault x.format (length x.gtrid) (length x.bqual) ≡ Some error)

@@ -25,14 +25,15 @@ impl Xid {
 
     /// The XID that these bytes are.
     ///
-    /// Refused are, in this order, fewer than six bytes (Truncated), a negative format that is not the null
-    /// XID's six bytes (BadFormat), a gtrid that is not 1 to 64 bytes long (GtridLength), a bqual longer than
-    /// 64 bytes (BqualLength), too few bytes for both (Truncated), and bytes behind them (Trailing). No memory
-    /// is taken.
+    /// Refused are, in this order, fewer than six bytes (Truncated), a negative format unless it is -1 with
+    /// both lengths 0 (BadFormat), a gtrid that is not 1 to 64 bytes long (GtridLength), a bqual longer than 64
+    /// bytes (BqualLength), too few bytes for both (Truncated), and bytes behind them (Trailing). No memory is
+    /// taken.
     pub fn from_bytes(bytes: &[u8]) -> Result<Xid, XidError>
         ensures ok { IfOk result (λ xid. IsXid xid × (bytes.now ≡ xid_bytes xid)) }
         ensures err { IfErr result (λ error. bytes_fault bytes.now ≡ Some error) }
-        ensures none { IfErr result (λ _. (xid : XidParts) → IsXid xid → bytes.now ≡ xid_bytes xid → ⊥) }
+        ensures none { IfErr result (λ _. (xid : XidParts) → IsXid xid
+            → bytes.now ≡ xid_bytes xid → ⊥) }
     {
         match Xid::front(bytes) {
             Err(error) => Err(error),
@@ -45,9 +46,11 @@ impl Xid {
     ///
     /// Refused as by [`Xid::from_bytes`], but never for bytes behind it. No memory is taken.
     pub fn front(bytes: &[u8]) -> Result<(Xid, usize), XidError>
-        ensures ok { IfOk result (λ (xid, size). IsXid xid × (size ≡ length (xid_bytes xid)) × (bytes.now ≡ xid_bytes xid ++ drop size bytes.now)) }
+        ensures ok { IfOk result (λ (xid, size). IsXid xid × (size ≡ length (xid_bytes xid))
+            × (bytes.now ≡ xid_bytes xid ++ drop size bytes.now)) }
         ensures err { IfErr result (λ error. front_fault bytes.now ≡ Some error) }
-        ensures none { IfErr result (λ _. (xid : XidParts) (rest : List ℕ) → IsXid xid → bytes.now ≡ xid_bytes xid ++ rest → ⊥) }
+        ensures none { IfErr result (λ _. (xid : XidParts) (rest : List ℕ) → IsXid xid
+            → bytes.now ≡ xid_bytes xid ++ rest → ⊥) }
     {
         let [a, b, c, d, gtrid, bqual, rest @ ..] = bytes else {
             return Err(XidError::Truncated);

@@ -29,8 +29,8 @@ impl fmt::Display for Xid {
 }
 
 impl Xid {
-    /// The XID in text, as `7:aa:` or `-1::`: the format in decimal, a colon, gtrid in lower-case hexadecimal, a
-    /// colon, bqual.
+    /// The XID in text, as `7:aa:` or `-1::`: the format in decimal, a colon, gtrid in lower-case
+    /// hexadecimal, a colon, bqual.
     pub fn text(&self, alloc: Global) -> Result<String, AllocError>
         ensures { IfOk result (λ text. string_bytes text ≡ xid_text self.now) }
     {
@@ -39,9 +39,9 @@ impl Xid {
 
     /// The XID that a text spells.
     ///
-    /// Refused are, in this order, a text that is not a 32-bit number, a colon, bytes in hexadecimal, a colon and
-    /// bytes in hexadecimal, each in its one spelling (Syntax); a negative format, unless the text is `-1::`
-    /// (BadFormat); a gtrid that is not 1 to 64 bytes long (GtridLength); a bqual longer than 64 bytes
+    /// Refused are, in this order, a text that is not a 32-bit number, a colon, bytes in hexadecimal, a colon
+    /// and bytes in hexadecimal, each in its one spelling (Syntax); a negative format, unless the text is
+    /// `-1::` (BadFormat); a gtrid that is not 1 to 64 bytes long (GtridLength); a bqual longer than 64 bytes
     /// (BqualLength). No memory is taken.
     pub fn parse(text: &str) -> Result<Xid, XidError>
         ensures ok { IfOk result (λ xid. IsXid xid × (text.now ≡ xid_text xid)) }

@@ -50,9 +50,11 @@ impl Xid {
     /// Refused are, in this order, a negative format (BadFormat, whatever the lengths), a `gtrid` that is
     /// not 1 to 64 bytes long (GtridLength) and a `bqual` longer than 64 bytes (BqualLength).
     pub fn new(format: i32, gtrid: &[u8], bqual: &[u8]) -> Result<Self, XidError>
-        ensures ok { IfOk result (λ xid. (xid ≡ record { format = format; gtrid = gtrid.now; bqual = bqual.now })
+        ensures ok { IfOk result (λ xid.
+            (xid ≡ record { format = format; gtrid = gtrid.now; bqual = bqual.now })
             × (branch_fault format (length gtrid.now) (length bqual.now) ≡ None)) }
-        ensures err { IfErr result (λ error. branch_fault format (length gtrid.now) (length bqual.now) ≡ Some error) }
+        ensures err { IfErr result (λ error.
+            branch_fault format (length gtrid.now) (length bqual.now) ≡ Some error) }
     {
         match fault_of_branch(format, gtrid.len(), bqual.len()) {
             Some(error) => Err(error),

@@ -5,4 +5,5 @@ use Rattle.xa_xid.proofs.hexadecimal.HexadecimalDisplay.fmt.Given as goal
 
 abbrev pub invariant-loop-byte : goal.invariant-loop-byte
 invariant-loop-byte g l =
-    IsPlainFormatter l.initial.f → HasWritten g.W.Write.write_str_gives l.initial.f (encode_lower (take l.byte-index l.bytes)) l.f
+    IsPlainFormatter l.initial.f → HasWritten g.W.Write.write_str_gives l.initial.f
+    (encode_lower (take l.byte-index l.bytes)) l.f
