@@ -1,0 +1,5 @@
+pub mod RowLaws
+pub mod RunLaws
+pub mod BranchLaws
+pub mod ListLaws
+pub mod ManagerViewLaws
