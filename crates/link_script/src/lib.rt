@@ -1,7 +1,9 @@
 //! Scripts of events over a tree of processes, and the text of a trace.
 #![tactic(auto)]
 
+mod document;
 mod event;
 mod names;
 
+pub use document::{DocumentError, read_tree};
 pub use event::event_of;
