@@ -4,6 +4,8 @@
 mod document;
 mod event;
 mod names;
+mod trace;
 
 pub use document::{DocumentError, read_tree};
 pub use event::event_of;
+pub use trace::case_text;
