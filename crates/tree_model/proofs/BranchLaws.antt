@@ -32,7 +32,7 @@ txn_again x h =
     let s = big_bytes 8 x.sequence in
     let at4 : drop 4 (r ++ (b ++ s)) ≡ b ++ s = behind 4 0 r (b ++ s) (length-bytes_high_first 4 x.root.0) in
     let at12 : drop 12 (r ++ (b ++ s)) ≡ s =
-        behind 4 8 r (b ++ s) (length-bytes_high_first 4 x.root.0) ∙ behind 8 0 b s (length-bytes_high_first 8 x.boot) in
+    behind 4 8 r (b ++ s) (length-bytes_high_first 4 x.root.0) ∙ behind 8 0 b s (length-bytes_high_first 8 x.boot) in
     record {
       root = big_number-reads_back 4 x.root.0 (b ++ s) h.root;
       boot = ap (λ (l : List ℕ). big_number 8 l) at4 ∙ big_number-reads_back 8 x.boot s h.boot;
@@ -59,7 +59,7 @@ ticket_again x h =
     let at4 : drop 4 (p ++ (c ++ (b ++ n))) ≡ c ++ (b ++ n) = behind 4 0 p (c ++ (b ++ n)) lp in
     let at8 : drop 8 (p ++ (c ++ (b ++ n))) ≡ b ++ n = behind 4 4 p (c ++ (b ++ n)) lp ∙ behind 4 0 c (b ++ n) lc in
     let at16 : drop 16 (p ++ (c ++ (b ++ n))) ≡ n =
-        behind 4 12 p (c ++ (b ++ n)) lp ∙ (behind 4 8 c (b ++ n) lc ∙ behind 8 0 b n lb) in
+    behind 4 12 p (c ++ (b ++ n)) lp ∙ (behind 4 8 c (b ++ n) lc ∙ behind 8 0 b n lb) in
     record {
       parent = big_number-reads_back 4 x.0.0 (c ++ (b ++ n)) h.parent;
       child = ap (λ (l : List ℕ). big_number 4 l) at4 ∙ big_number-reads_back 4 x.1.child.0 (b ++ n) h.child;

@@ -1,5 +1,5 @@
 -- What an appended record changes.
-use Rattle.std.proofs.Common.{◌≡◌, ◌∙◌, ap, sym, ℕ, Bool, true, false, ◌||◌, List, [], ◌∷◌, ◌++◌, append_assoc, if◌then◌else◌, refl, arith}
+use Rattle.std.proofs.Common.{◌≡◌, ◌∙◌, ap, sym, Bool, true, false, ◌||◌, List, [], ◌∷◌, ◌++◌, append_assoc, if◌then◌else◌, arith}
 use Rattle.std.proofs.lemmas.List.{append-nil}
 use Rattle.std.proofs.lemmas.List.Folds.{list_any-append}
 use Rattle.std.proofs.lemmas.Grind.{fold-append}
@@ -8,8 +8,8 @@ use Rattle.tree_model.specs.declared.records.Branch.{Branch}
 use Rattle.tree_model.specs.declared.records.Record.{Record}
 use Rattle.tree_model.specs.Records.{has, boot_of, boot_after}
 use Rattle.tree_model.specs.Nodes.{Place, Node, kept, Heard, Effect, Written, entries_written, is_any_forced, appends, after}
-use Rattle.tree_model.specs.Memory.{Memory, memory_of, remembers}
-use Rattle.tree_model.specs.Standings.{Mark, mark_of, mark_after}
+use Rattle.tree_model.specs.Memory.{memory_of, remembers}
+use Rattle.tree_model.specs.Standings.{mark_of, mark_after}
 
 pub has-push : (q : Record → Bool) (xs : List Record) (r : Record) → has q (xs ++ r ∷ []) ≡ (q r || has q xs)
 unfolding has
@@ -33,8 +33,8 @@ appended_by n new false whole part h k = k
 pub kept-appends : (n : Node) (ws : List Written) → kept (appends n ws) ≡ kept n ++ entries_written ws
 kept-appends n ws =
     appended_by n (entries_written ws) (is_any_forced ws) _ _
-      (append-nil (kept n ++ entries_written ws))
-      (sym (append_assoc n.forced n.loose (entries_written ws)))
+    (append-nil (kept n ++ entries_written ws))
+    (sym (append_assoc n.forced n.loose (entries_written ws)))
 
 pub kept-after : (n : Node) (h : Heard) (e : Effect) → kept (after n h e) ≡ kept n ++ entries_written e.written
 kept-after n h e = kept-appends n e.written

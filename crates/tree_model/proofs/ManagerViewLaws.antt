@@ -1,5 +1,5 @@
 -- A manager's new view is what the extended lists read as.
-use Rattle.std.proofs.Common.{◌≡◌, ◌∙◌, ap, sym, ◌+◌, ◌==◌, ◌&&◌, not, ℕ, Bool, true, false, Option, Some, None, List, [], ◌∷◌, ◌++◌, refl, arith, if◌then◌else◌}
+use Rattle.std.proofs.Common.{◌≡◌, ◌∙◌, ap, sym, ◌+◌, ◌==◌, ◌&&◌, not, ℕ, Bool, true, false, Option, Some, None, List, [], ◌∷◌, ◌++◌, refl, if◌then◌else◌}
 use Rattle.std.specs.Prelude.{fold}
 use Rattle.std.proofs.lemmas.List.{append-nil}
 use Rattle.std.proofs.lemmas.Grind.{fold-append}
@@ -23,7 +23,7 @@ use Rattle.tree_model.specs.declared.standings.Standing.TheVariants.{Unknown, Ac
 use Rattle.tree_model.specs.Names.{same_case, same_outcome, child_case}
 use Rattle.tree_model.specs.NameLaws.{same_case-refl}
 use Rattle.tree_model.specs.Records.{boot_of, boot_after, same_branch}
-use Rattle.tree_model.specs.Nodes.{Place, AtLeaf, Node, kept, Heard, Effect, Written, entries_written, after, Holding, ReadsOnly, Holds, DataAnswer}
+use Rattle.tree_model.specs.Nodes.{Place, AtLeaf, Node, kept, Heard, Effect, entries_written, after, Holding, ReadsOnly, Holds, DataAnswer}
 use Rattle.tree_model.specs.Memory.{Memory, Phase, Idle, Open, Asked, Over, fresh_memory, memory_of, remembers, manager_remembers, manager_hears, joins, gives, opens_case, next_ticket, active_ticket, without_ticket, works, closes, retires}
 use Rattle.tree_model.specs.Standings.{ManagerView, unknown_branch, manager_view, marked_branch, heard_branch, active_branch, Mark, Unmarked, Promised, Decided, ToldOf, Finished, mark_of, mark_after}
 use Rattle.tree_model.specs.ManagerRows.{Leaf, LeafRow, untold_ask, prepared_decide, heuristic_forget}
@@ -48,7 +48,7 @@ boot_of-append xs ys = fold-append _ _ xs ys
 pub view-after : (place : Place) (n : Node) (h : Heard) (row : LeafRow) (c : Case)
     → ((b : ℕ) → fold boot_after b (entries_written row.written) ≡ b)
     → manager_view place (after n h (leaf_effect row)) c
-      ≡ marked_branch (remembers place.me place.role (boot_of (kept n)) c (memory_of place n c) h) (marks (CaseBranch c) (mark_of (CaseBranch c) (kept n)) (entries_written row.written))
+    ≡ marked_branch (remembers place.me place.role (boot_of (kept n)) c (memory_of place n c) h) (marks (CaseBranch c) (mark_of (CaseBranch c) (kept n)) (entries_written row.written))
 unfolding manager_view
 view-after place n h row c boot =
     let same : boot_of (kept n ++ entries_written row.written) ≡ boot_of (kept n) = boot_of-append (kept n) (entries_written row.written) ∙ boot (boot_of (kept n)) in
@@ -89,7 +89,7 @@ heard_closes m Over e = rw e refl
 
 active_works : (m : Memory) (i : ℕ) (does b : Bool) → m.phase ≡ Open
     → marked_branch (if b then (if does then record m { done = i } else record m { spoiled = true }) else m) Unmarked
-      ≡ (if b then leaf.unmoved (if does then record (active_branch m) { done = i } else record (active_branch m) { spoiled = true }) else leaf.unmoved (active_branch m)).view
+    ≡ (if b then leaf.unmoved (if does then record (active_branch m) { done = i } else record (active_branch m) { spoiled = true }) else leaf.unmoved (active_branch m)).view
 active_works m i true true e = rw e refl
 active_works m i false true e = rw e refl
 active_works m i does false e = rw e refl
@@ -136,15 +136,15 @@ pub record IsOwn (l : Leaf) (row : LeafRow) : Type 0 where
 
 prepare_choice : (l : Leaf) (m : Memory) (holding : Holding) (b : Bool)
     → let row = if b then leaf.active_prepare_holding l holding else leaf.replies l (No l.own) unknown_branch in
-      marked_branch (record (retires m l.own) { phase = Over }) (marks_of l Unmarked row) ≡ row.view
+    marked_branch (record (retires m l.own) { phase = Over }) (marks_of l Unmarked row) ≡ row.view
 prepare_choice l m ReadsOnly true = refl
 prepare_choice l m (Holds ws) true = rw (same_branch-refl l.own) refl
 prepare_choice l m holding false = refl
 
 prepare_heard : (l : Leaf) (m : Memory) (i : ℕ) (holding : Holding) (phase : Phase) → m.phase ≡ phase
     → let v = heard_branch m phase in
-      let row = leaf.on_prepare l i holding v v.standing in
-      marked_branch (closes (retires m l.own) phase) (marks_of l Unmarked row) ≡ row.view
+    let row = leaf.on_prepare l i holding v v.standing in
+    marked_branch (closes (retires m l.own) phase) (marks_of l Unmarked row) ≡ row.view
 prepare_heard l m i holding Idle e = rw e refl
 prepare_heard l m i holding Open e = prepare_choice l m holding ((m.done == i) && not m.spoiled)
 prepare_heard l m i holding Asked e = refl
@@ -152,8 +152,8 @@ prepare_heard l m i holding Over e = refl
 
 prepare_moves : (l : Leaf) (m : Memory) (i : ℕ) (holding : Holding) (mark : Mark)
     → let v = marked_branch m mark in
-      let row = leaf.on_prepare l i holding v v.standing in
-      marked_branch (closes (retires m l.own) m.phase) (marks_of l mark row) ≡ row.view
+    let row = leaf.on_prepare l i holding v v.standing in
+    marked_branch (closes (retires m l.own) m.phase) (marks_of l mark row) ≡ row.view
 prepare_moves l m i holding Unmarked = prepare_heard l m i holding m.phase refl
 prepare_moves l m i holding Promised = refl
 prepare_moves l m i holding Decided = refl
@@ -183,15 +183,15 @@ prepare_own l i holding v Heuristic = quiet_own l _ refl
 -- an outcome at a branch that an operator decided
 told_again : (l : Leaf) (m : Memory) (o told : Outcome) (b : Bool)
     → let v = marked_branch m (ToldOf told) in
-      let row = if b then record { written = []; letters = leaf.acknowledgement l o; view = v } else leaf.unmoved v in
-      marked_branch m (marks_of l (ToldOf told) row) ≡ row.view
+    let row = if b then record { written = []; letters = leaf.acknowledgement l o; view = v } else leaf.unmoved v in
+    marked_branch m (marks_of l (ToldOf told) row) ≡ row.view
 told_again l m o told true = refl
 told_again l m o told false = refl
 
 commit_heard : (l : Leaf) (m : Memory) (phase : Phase) → m.phase ≡ phase
     → let v = heard_branch m phase in
-      let row = leaf.on_commit l v v.standing in
-      heard_branch m phase ≡ row.view
+    let row = leaf.on_commit l v v.standing in
+    heard_branch m phase ≡ row.view
 commit_heard l m Idle e = refl
 commit_heard l m Open e = refl
 commit_heard l m Asked e = refl
@@ -205,8 +205,8 @@ commit_writes l m Over = refl
 
 commit_moves : (l : Leaf) (m : Memory) (mark : Mark)
     → let v = marked_branch m mark in
-      let row = leaf.on_commit l v v.standing in
-      marked_branch m (marks_of l mark row) ≡ row.view
+    let row = leaf.on_commit l v v.standing in
+    marked_branch m (marks_of l mark row) ≡ row.view
 commit_moves l m Unmarked = rw (commit_writes l m m.phase) (commit_heard l m m.phase refl)
 commit_moves l m Promised = rw (same_branch-refl l.own) refl
 commit_moves l m Decided = rw (same_branch-refl l.own) refl
@@ -232,8 +232,8 @@ commit_own l v Aborting = quiet_own l _ refl
 
 abort_heard : (l : Leaf) (m : Memory) (phase : Phase) → m.phase ≡ phase
     → let v = heard_branch m phase in
-      let row = leaf.on_abort l v v.standing in
-      marked_branch (closes (retires m l.own) phase) (marks_of l Unmarked row) ≡ row.view
+    let row = leaf.on_abort l v v.standing in
+    marked_branch (closes (retires m l.own) phase) (marks_of l Unmarked row) ≡ row.view
 abort_heard l m Idle e = rw e refl
 abort_heard l m Open e = refl
 abort_heard l m Asked e = refl
@@ -241,8 +241,8 @@ abort_heard l m Over e = refl
 
 abort_moves : (l : Leaf) (m : Memory) (mark : Mark)
     → let v = marked_branch m mark in
-      let row = leaf.on_abort l v v.standing in
-      marked_branch (closes (retires m l.own) m.phase) (marks_of l mark row) ≡ row.view
+    let row = leaf.on_abort l v v.standing in
+    marked_branch (closes (retires m l.own) m.phase) (marks_of l mark row) ≡ row.view
 abort_moves l m Unmarked = abort_heard l m m.phase refl
 abort_moves l m Promised = rw (same_branch-refl l.own) refl
 abort_moves l m Decided = rw (same_branch-refl l.own) refl
@@ -263,15 +263,15 @@ abort_own l v Aborting = quiet_own l _ refl
 assembled : (place : Place) (n : Node) (h : Heard) (l : Leaf) (row : LeafRow) → IsOwn l row
     → marked_branch (remembers place.me place.role (boot_of (kept n)) l.own (memory_of place n l.own) h) (marks_of l (mark_of (CaseBranch l.own) (kept n)) row) ≡ row.view
     → ((c : Case) (mark : Mark) → same_case l.own c ≡ false
-        → marked_branch (remembers place.me place.role (boot_of (kept n)) c (memory_of place n c) h) mark ≡ marked_branch (memory_of place n c) mark)
+    → marked_branch (remembers place.me place.role (boot_of (kept n)) c (memory_of place n c) h) mark ≡ marked_branch (memory_of place n c) mark)
     → MovesBranch place n h l.own row
 unfolding manager_view
 assembled place n h l row own moved others =
     record {
       moved = view-after place n h row l.own own.boot ∙ moved;
       others = λ c o.
-        view-after place n h row c own.boot
-        ∙ rw (own.others c (mark_of (CaseBranch c) (kept n)) o) (others c (mark_of (CaseBranch c) (kept n)) o);
+          view-after place n h row c own.boot
+          ∙ rw (own.others c (mark_of (CaseBranch c) (kept n)) o) (others c (mark_of (CaseBranch c) (kept n)) o);
     }
 
 -- What a manager remembers of itself is the same in each case.
@@ -363,7 +363,7 @@ same_givens me p tree n c d =
 -- the view of a case after an effect that writes nothing
 quiet-after : (place : Place) (n : Node) (h : Heard) (e : Effect) (c : Case) → e.written ≡ []
     → manager_view place (after n h e) c
-      ≡ marked_branch (remembers place.me place.role (boot_of (kept n)) c (memory_of place n c) h) (mark_of (CaseBranch c) (kept n))
+    ≡ marked_branch (remembers place.me place.role (boot_of (kept n)) c (memory_of place n c) h) (mark_of (CaseBranch c) (kept n))
 unfolding manager_view
 quiet-after place n h e c quiet =
     let same : kept n ++ entries_written e.written ≡ kept n = rw quiet (append-nil (kept n)) in
@@ -416,8 +416,8 @@ module _ (me p : ProcessId) (tree : List TreeEntry) (n : Node) (d : Case) where
       let nothing : entries_written (leaf.on_work i a.does v v.standing).written ≡ [] = work_writes i a.does v v.standing in
       let none : IsOwn own (leaf.on_work i a.does v v.standing) = record { boot = λ b. rw nothing refl; others = λ c w o. rw nothing refl } in
       assembled place n _ own _ none
-        (rw (nothing, same_case-refl d) (work_moves m i a.does mark))
-        (λ c w o. rw o refl)
+      (rw (nothing, same_case-refl d) (work_moves m i a.does mark))
+      (λ c w o. rw o refl)
 
   pub prepare_views : (k i : ℕ) (a : DataAnswer) → let v = manager_view place n d in
       MovesBranch place n (hears_message k (Prepare d i) a) d (leaf.on_prepare own i a.holding v v.standing)
@@ -427,8 +427,8 @@ module _ (me p : ProcessId) (tree : List TreeEntry) (n : Node) (d : Case) where
       let mark = mark_of (CaseBranch d) (kept n) in
       let v = marked_branch m mark in
       assembled place n _ own _ (prepare_own own i a.holding v v.standing)
-        (rw (same_case-refl d) (prepare_moves own m i a.holding mark))
-        (λ c w o. rw o (view_retires (memory_of place n c) d w))
+      (rw (same_case-refl d) (prepare_moves own m i a.holding mark))
+      (λ c w o. rw o (view_retires (memory_of place n c) d w))
 
   pub commit_views : (k : ℕ) (a : DataAnswer) → let v = manager_view place n d in
       MovesBranch place n (hears_message k (Commit d) a) d (leaf.on_commit own v v.standing)
@@ -447,8 +447,8 @@ module _ (me p : ProcessId) (tree : List TreeEntry) (n : Node) (d : Case) where
       let mark = mark_of (CaseBranch d) (kept n) in
       let v = marked_branch m mark in
       assembled place n _ own _ (abort_own own v v.standing)
-        (rw (same_case-refl d) (abort_moves own m mark))
-        (λ c w o. rw o (view_retires (memory_of place n c) d w))
+      (rw (same_case-refl d) (abort_moves own m mark))
+      (λ c w o. rw o (view_retires (memory_of place n c) d w))
 
   pub ask_views : (a : DataAnswer) → MovesBranch place n (hears_act (Ask d) a) d (untold_ask own (manager_view place n d))
   unfolding manager_view
@@ -480,19 +480,19 @@ module _ (me p : ProcessId) (tree : List TreeEntry) (n : Node) (d : Case) where
   join_views k a =
       record {
         given_again = λ t h c.
-          quiet-after place n (hears_message k (Join d) a) (leaf_joins place p n d (memory_of place n d) a.starts (Some t)) c refl
-          ∙ ap (λ (m : Memory). marked_branch m (mark_of (CaseBranch c) (kept n))) (again me (boot_of (kept n)) c d (memory_of place n c) t a.starts (same_active c ∙ h));
+            quiet-after place n (hears_message k (Join d) a) (leaf_joins place p n d (memory_of place n d) a.starts (Some t)) c refl
+            ∙ ap (λ (m : Memory). marked_branch m (mark_of (CaseBranch c) (kept n))) (again me (boot_of (kept n)) c d (memory_of place n c) t a.starts (same_active c ∙ h));
         not_started = λ h s c. quiet-after place n (hears_message k (Join d) a) (leaf_joins place p n d (memory_of place n d) a.starts None) c (joins_quiet a.starts) ∙ rw s refl;
         fresh = λ h s unmarked.
-          let c = fresh_case place n d in
-          let alike : same_case c (child_case d.txn (next_ticket me (boot_of (kept n)) (memory_of place n c))) ≡ true =
-              rw (same_next c) (same_case-refl c) in
-          quiet-after place n (hears_message k (Join d) a) (leaf_joins place p n d (memory_of place n d) a.starts None) c (joins_quiet a.starts)
-          ∙ rw (s, same_active c, h, unmarked) (given_here me (boot_of (kept n)) c d (memory_of place n c) alike);
+            let c = fresh_case place n d in
+            let alike : same_case c (child_case d.txn (next_ticket me (boot_of (kept n)) (memory_of place n c))) ≡ true =
+            rw (same_next c) (same_case-refl c) in
+            quiet-after place n (hears_message k (Join d) a) (leaf_joins place p n d (memory_of place n d) a.starts None) c (joins_quiet a.starts)
+            ∙ rw (s, same_active c, h, unmarked) (given_here me (boot_of (kept n)) c d (memory_of place n c) alike);
         others = λ h s c o.
-          let apart : same_case c (child_case d.txn (next_ticket me (boot_of (kept n)) (memory_of place n c))) ≡ false = rw (same_next c) o in
-          quiet-after place n (hears_message k (Join d) a) (leaf_joins place p n d (memory_of place n d) a.starts None) c (joins_quiet a.starts)
-          ∙ rw (s, same_active c, h) (given_elsewhere me (boot_of (kept n)) c d (memory_of place n c) (mark_of (CaseBranch c) (kept n)) apart);
+            let apart : same_case c (child_case d.txn (next_ticket me (boot_of (kept n)) (memory_of place n c))) ≡ false = rw (same_next c) o in
+            quiet-after place n (hears_message k (Join d) a) (leaf_joins place p n d (memory_of place n d) a.starts None) c (joins_quiet a.starts)
+            ∙ rw (s, same_active c, h) (given_elsewhere me (boot_of (kept n)) c d (memory_of place n c) (mark_of (CaseBranch c) (kept n)) apart);
       }
 
   pub manager_views : ManagerViews me p tree n d

@@ -1,6 +1,6 @@
 -- The root's new view is what the extended lists read as.
-use Rattle.std.proofs.Common.{◌≡◌, ◌≢◌, subst, ◌∙◌, ap, sym, ◌+◌, ◌==◌, ◌&&◌, ◌||◌, not, ℕ, Bool, true, false, Option, Some, None, List, [], ◌∷◌, ◌++◌, append_assoc, refl, arith, if◌then◌else◌}
-use Rattle.std.specs.Prelude.{fold, filter, map}
+use Rattle.std.proofs.Common.{◌≡◌, subst, ◌∙◌, ap, sym, ◌+◌, ◌&&◌, ◌||◌, not, ℕ, Bool, true, false, Option, Some, None, List, [], ◌∷◌, ◌++◌, append_assoc, refl, arith, if◌then◌else◌}
+use Rattle.std.specs.Prelude.{fold, filter}
 use Rattle.std.specs.List.{flat_map}
 use Rattle.std.proofs.lemmas.List.{append-nil}
 use Rattle.std.proofs.lemmas.List.Folds.{list_any-append}
@@ -15,10 +15,10 @@ use Rattle.tree_model.specs.declared.names.Presumption.{Presumption}
 use Rattle.tree_model.specs.declared.names.Presumption.TheVariants.{PresumeAbort, PresumeCommit}
 use Rattle.tree_model.specs.declared.messages.Op.{Op}
 use Rattle.tree_model.specs.declared.messages.Message.{Message}
-use Rattle.tree_model.specs.declared.messages.Message.TheVariants.{Join, Joined, Work, Prepare, Yes, No, Read, Commit, Abort, Ack, Inquire}
+use Rattle.tree_model.specs.declared.messages.Message.TheVariants.{Join, Joined, Yes, No, Read, Ack, Inquire}
 use Rattle.tree_model.specs.declared.standings.Vote.{Vote}
 use Rattle.tree_model.specs.declared.standings.Vote.TheVariants.{Yes as VoteYes, No as VoteNo, Read as VoteRead}
-use Rattle.tree_model.specs.declared.events.Act.TheVariants.{Begin, Join as JoinAct, Work as WorkAct, Commit as CommitAct, Abort as AbortAct, Ask, Decide, Forget}
+use Rattle.tree_model.specs.declared.events.Act.TheVariants.{Begin, Join as JoinAct, Work as WorkAct, Commit as CommitAct, Abort as AbortAct}
 use Rattle.tree_model.specs.declared.events.Input.{Input}
 use Rattle.tree_model.specs.declared.events.Input.TheVariants.{Act as ActInput, Message as MessageInput}
 use Rattle.tree_model.specs.declared.trees.TreeEntry.{TreeEntry}
@@ -29,12 +29,12 @@ use Rattle.tree_model.specs.declared.standings.Standing.TheVariants.{Unknown, Ac
 use Rattle.tree_model.specs.Names.{same_txn, same_ticket, same_outcome, same_case, root_case, child_case}
 use Rattle.tree_model.specs.NameLaws.{same_case-refl, same_txn-refl, same_ticket_tells}
 use Rattle.tree_model.specs.Records.{has, in_list, none_of, boot_of, boot_after, is_end, is_commit, is_abort, is_prepare, is_collecting, named_by, named_in, promised_by, promised_in, owing_by, owing_in}
-use Rattle.tree_model.specs.Nodes.{Place, AtRoot, Node, kept, Heard, Effect, Written, entries_written, after, DataAnswer}
-use Rattle.tree_model.specs.Memory.{Memory, Phase, Idle, Open, Asked, Over, memory_of, remembers, root_remembers, asks_votes, closes, has_acked, with_vote, takes_vote, takes_ack, phase_after, is_counted, all_voted, yes_of, undecided_of, opens_case, begins, next_txn, sends_work, accepts_ticket, hears_child, of_ticket, of_child, fresh_memory, has_child, ticket_of_child}
-use Rattle.tree_model.specs.Standings.{some_case, CoordinatorView, unknown_view, coordinator_view, coordinator_standing, standing_by, phase_standing, view_at, known_view, still_owed}
-use Rattle.tree_model.specs.CoordinatorRows.{Seat, Row, active_commit_alone, active_commit_with, active_commit, active_abort, Reason, ByVote, ByAct, collecting_abort, collecting_abort_by, collecting_after, collecting_vote, collecting_full, collecting_read_only, read_only_end, decides, root_commits, decided_ack, decided_ack_by, other_tickets, on_ack, on_vote, on_joined, on_inquiry, quiet, sends, post, plain, active_joined, active_join, active_work}
+use Rattle.tree_model.specs.Nodes.{Place, AtRoot, Node, kept, Heard, Effect, entries_written, after, DataAnswer}
+use Rattle.tree_model.specs.Memory.{Memory, Phase, Idle, Open, Asked, Over, memory_of, remembers, root_remembers, asks_votes, closes, has_acked, with_vote, takes_vote, takes_ack, is_counted, all_voted, yes_of, undecided_of, opens_case, next_txn, sends_work, accepts_ticket, hears_child, of_ticket, of_child, fresh_memory, has_child, ticket_of_child}
+use Rattle.tree_model.specs.Standings.{some_case, CoordinatorView, unknown_view, coordinator_view, coordinator_standing, standing_by, phase_standing, view_at, still_owed}
+use Rattle.tree_model.specs.CoordinatorRows.{Seat, Row, active_commit_alone, active_commit_with, active_commit, active_abort, Reason, ByVote, ByAct, collecting_abort, collecting_abort_by, collecting_after, collecting_vote, collecting_full, collecting_read_only, read_only_end, decides, root_commits, decided_ack, other_tickets, on_ack, on_vote, on_joined, on_inquiry, quiet, sends, post, plain, active_joined, active_join, active_work}
 use Rattle.tree_model.specs.Reactions.{row_effect}
-use Rattle.tree_model.specs.Views.{root_place, root_seat, hears_act, hears_message, vote_message, MovesTxn, RootViews, IsOpenAlike, IsUnrecorded, BeginsTxn, RootBegins, next_begun, begin_effect}
+use Rattle.tree_model.specs.Views.{root_place, root_seat, hears_act, hears_message, vote_message, MovesTxn, RootViews, IsOpenAlike, IsUnrecorded, RootBegins, next_begun, begin_effect}
 use Rattle.tree_model.proofs.ListLaws.{has-push, memory_of-after, kept-after}
 
 -- Lists of tickets that records name.
@@ -54,7 +54,6 @@ promised_by-push c xs r = flat_push (promised_in c) xs r
 owing_by-push : (c : Case) (xs : List Record) (r : Record) → owing_by c (xs ++ r ∷ []) ≡ owing_by c xs ++ owing_in c r
 unfolding owing_by
 owing_by-push c xs r = flat_push (owing_in c) xs r
-
 
 either_false : (a b : Bool) → (a || b) ≡ false → a ≡ false
 either_false true b e = absurd (cc)
@@ -135,8 +134,8 @@ fold_boot xs ys = fold-append _ _ xs ys
 pub view-after : (place : Place) (n : Node) (h : Heard) (e : Effect) (c : Case)
     → ((b : ℕ) → fold boot_after b (entries_written e.written) ≡ b)
     → let rs = kept n ++ entries_written e.written in
-      let m = remembers place.me place.role (boot_of (kept n)) c (memory_of place n c) h in
-      coordinator_view place (after n h e) c ≡ view_at (coordinator_standing rs c m) rs c m
+    let m = remembers place.me place.role (boot_of (kept n)) c (memory_of place n c) h in
+    coordinator_view place (after n h e) c ≡ view_at (coordinator_standing rs c m) rs c m
 unfolding coordinator_view
 view-after place n h e c boot =
     let same : boot_of (kept n ++ entries_written e.written) ≡ boot_of (kept n) = fold_boot (kept n) (entries_written e.written) ∙ boot (boot_of (kept n)) in
@@ -155,10 +154,10 @@ commit_row s v p b = if b then active_commit_alone s else active_commit_with s v
 commit_pure : (me : ProcessId) (c : Case) (p : Presumption) (b : Bool) (rs : List Record) (m : Memory)
     → ActiveFacts (has (is_end c) rs) (has (is_commit c) rs) (has (is_abort c) rs) (has (is_prepare c) rs) (has (is_collecting c) rs) Active
     → let s : Seat = record { me = me; parent = None; own = c } in
-      let row = commit_row s (view_at Active rs c m) p b in
-      let rs' = rs ++ entries_written row.written in
-      let m' : Memory = record m { phase = if b then Over else Asked } in
-      view_at (standing_with p rs' c m') rs' c m' ≡ row.view
+    let row = commit_row s (view_at Active rs c m) p b in
+    let rs' = rs ++ entries_written row.written in
+    let m' : Memory = record m { phase = if b then Over else Asked } in
+    view_at (standing_with p rs' c m') rs' c m' ≡ row.view
 commit_pure me c PresumeAbort true rs m f = simp (pushed, f.no_end, f.no_commit, f.no_abort, f.no_prepare, f.no_collecting) refl
 commit_pure me c PresumeCommit true rs m f = simp (pushed, f.no_end, f.no_commit, f.no_abort, f.no_prepare, f.no_collecting) refl
 commit_pure me c PresumeAbort false rs m f = simp (pushed, f.no_end, f.no_commit, f.no_abort, f.no_prepare, f.no_collecting) refl
@@ -169,8 +168,8 @@ commit_pure me c PresumeCommit false rs m f = simp (pushed, f.no_end, f.no_commi
 abort_pure : (me : ProcessId) (c : Case) (p : Presumption) (rs : List Record) (m : Memory)
     → ActiveFacts (has (is_end c) rs) (has (is_commit c) rs) (has (is_abort c) rs) (has (is_prepare c) rs) (has (is_collecting c) rs) Active
     → let rs' = rs ++ [] in
-      let m' : Memory = record m { phase = Over } in
-      view_at (standing_with p rs' c m') rs' c m' ≡ unknown_view
+    let m' : Memory = record m { phase = Over } in
+    view_at (standing_with p rs' c m') rs' c m' ≡ unknown_view
 abort_pure me c PresumeAbort rs m f = simp (pushed, f.no_end, f.no_commit, f.no_abort, f.no_prepare, f.no_collecting) refl
 abort_pure me c PresumeCommit rs m f = simp (pushed, f.no_end, f.no_commit, f.no_abort, f.no_prepare, f.no_collecting) refl
 
@@ -211,10 +210,10 @@ collecting_abort_pure : (me : ProcessId) (c : Case) (p : Presumption) (why : Rea
     → CollectingFacts (has (is_end c) rs) (has (is_commit c) rs) (has (is_abort c) rs) (has (is_prepare c) rs)
     → owing_by c rs ≡ [] → m.acks ≡ [] → none_of us ≡ none
     → let s : Seat = record { me = me; parent = None; own = c } in
-      let row = collecting_abort_by s why (view_at Collecting rs c m) us p in
-      let rs' = rs ++ entries_written row.written in
-      let m' : Memory = record m { phase = Over } in
-      view_at (standing_with p rs' c m') rs' c m' ≡ row.view
+    let row = collecting_abort_by s why (view_at Collecting rs c m) us p in
+    let rs' = rs ++ entries_written row.written in
+    let m' : Memory = record m { phase = Over } in
+    view_at (standing_with p rs' c m') rs' c m' ≡ row.view
 collecting_abort_pure me c PresumeAbort why none us rs m f owes acks u = simp (pushed, f.no_end, f.no_commit, f.no_abort, f.no_prepare, owes) refl
 collecting_abort_pure me c PresumeCommit why true us rs m f owes acks u = simp (pushed, f.no_end, f.no_commit, f.no_abort, f.no_prepare, owes, u) refl
 collecting_abort_pure me c PresumeCommit why false us rs m f owes acks u = simp (pushed, f.no_end, f.no_commit, f.no_abort, f.no_prepare, owes, u, acks, owed_by_all) refl
@@ -231,9 +230,9 @@ read_only_pure : (me : ProcessId) (c : Case) (p : Presumption) (rs : List Record
     → CollectingFacts (has (is_end c) rs) (has (is_commit c) rs) (has (is_abort c) rs) (has (is_prepare c) rs)
     → (p ≡ PresumeAbort → has (is_collecting c) rs ≡ false)
     → let s : Seat = record { me = me; parent = None; own = c } in
-      let rs' = rs ++ entries_written (read_only_end s p) in
-      let m' : Memory = record m { phase = Over } in
-      view_at (standing_with p rs' c m') rs' c m' ≡ unknown_view
+    let rs' = rs ++ entries_written (read_only_end s p) in
+    let m' : Memory = record m { phase = Over } in
+    view_at (standing_with p rs' c m') rs' c m' ≡ unknown_view
 read_only_pure me c PresumeAbort rs m f no_record =
     let none : has (is_collecting c) rs ≡ false = no_record refl in
     simp (pushed, f.no_end, f.no_commit, f.no_abort, f.no_prepare, none) refl
@@ -243,10 +242,10 @@ root_commits_pure : (me : ProcessId) (c : Case) (p : Presumption) (ys : List Tic
     → CollectingFacts (has (is_end c) rs) (has (is_commit c) rs) (has (is_abort c) rs) (has (is_prepare c) rs)
     → owing_by c rs ≡ [] → m.acks ≡ [] → none_of ys ≡ false
     → let s : Seat = record { me = me; parent = None; own = c } in
-      let row = root_commits s (view_at Collecting rs c m) ys p in
-      let rs' = rs ++ entries_written row.written in
-      let m' : Memory = record m { phase = Over } in
-      view_at (standing_with p rs' c m') rs' c m' ≡ row.view
+    let row = root_commits s (view_at Collecting rs c m) ys p in
+    let rs' = rs ++ entries_written row.written in
+    let m' : Memory = record m { phase = Over } in
+    view_at (standing_with p rs' c m') rs' c m' ≡ row.view
 root_commits_pure me c PresumeAbort ys rs m f owes acks some = simp (pushed, f.no_end, f.no_commit, f.no_abort, f.no_prepare, owes, some, acks, owed_by_all) refl
 root_commits_pure me c PresumeCommit ys rs m f owes acks some = simp (pushed, f.no_end, f.no_commit, f.no_abort, f.no_prepare, owes) refl
 
@@ -334,8 +333,8 @@ acked_commit : (me : ProcessId) (c : Case) (p : Presumption) (t : Ticket) (rs : 
     → standing_with p rs c m ≡ Committing
     → in_list (still_owed m.acks CommittedOutcome (owing_by c rs)) t ≡ b → none_of (other_tickets t (still_owed m.acks CommittedOutcome (owing_by c rs))) ≡ none
     → let row = decided_ack (root_at me c) t (view_at Committing rs c m) in
-      let rs' = rs ++ entries_written row.written in
-      view_at (standing_with p rs' c (acked m t CommittedOutcome)) rs' c (acked m t CommittedOutcome) ≡ row.view
+    let rs' = rs ++ entries_written row.written in
+    view_at (standing_with p rs' c (acked m t CommittedOutcome)) rs' c (acked m t CommittedOutcome) ≡ row.view
 acked_commit me c p t rs m true true h there last = simp (pushed, there, last) refl
 acked_commit me c p t rs m true false h there last = simp (append-nil, there, last, h, agreeing) refl
 acked_commit me c p t rs m false none h there last =
@@ -346,8 +345,8 @@ acked_abort : (me : ProcessId) (c : Case) (p : Presumption) (t : Ticket) (rs : L
     → standing_with p rs c m ≡ Aborting
     → in_list (still_owed m.acks AbortedOutcome (owing_by c rs)) t ≡ b → none_of (other_tickets t (still_owed m.acks AbortedOutcome (owing_by c rs))) ≡ none
     → let row = decided_ack (root_at me c) t (view_at Aborting rs c m) in
-      let rs' = rs ++ entries_written row.written in
-      view_at (standing_with p rs' c (acked m t AbortedOutcome)) rs' c (acked m t AbortedOutcome) ≡ row.view
+    let rs' = rs ++ entries_written row.written in
+    view_at (standing_with p rs' c (acked m t AbortedOutcome)) rs' c (acked m t AbortedOutcome) ≡ row.view
 acked_abort me c p t rs m true true h there last = simp (pushed, there, last) refl
 acked_abort me c p t rs m true false h there last = simp (append-nil, there, last, h, agreeing) refl
 acked_abort me c p t rs m false none h there last =
@@ -372,14 +371,14 @@ refused_commit : (c : Case) (p : Presumption) (t : Ticket) (rs : List Record) (m
     → view_at (standing_with p (rs ++ []) c (acked m t AbortedOutcome)) (rs ++ []) c (acked m t AbortedOutcome) ≡ view_at Committing rs c m
 refused_commit c p t rs m h =
     let same : still_owed (m.acks ++ (t, AbortedOutcome) ∷ []) CommittedOutcome (owing_by c rs) ≡ still_owed m.acks CommittedOutcome (owing_by c rs) =
-        disagreeing m.acks t AbortedOutcome CommittedOutcome (owing_by c rs) (apart AbortedOutcome) in
+    disagreeing m.acks t AbortedOutcome CommittedOutcome (owing_by c rs) (apart AbortedOutcome) in
     simp (append-nil, h, same) refl
 
 refused_abort : (c : Case) (p : Presumption) (t : Ticket) (rs : List Record) (m : Memory) → standing_with p rs c m ≡ Aborting
     → view_at (standing_with p (rs ++ []) c (acked m t CommittedOutcome)) (rs ++ []) c (acked m t CommittedOutcome) ≡ view_at Aborting rs c m
 refused_abort c p t rs m h =
     let same : still_owed (m.acks ++ (t, CommittedOutcome) ∷ []) AbortedOutcome (owing_by c rs) ≡ still_owed m.acks AbortedOutcome (owing_by c rs) =
-        disagreeing m.acks t CommittedOutcome AbortedOutcome (owing_by c rs) (apart CommittedOutcome) in
+    disagreeing m.acks t CommittedOutcome AbortedOutcome (owing_by c rs) (apart CommittedOutcome) in
     simp (append-nil, h, same) refl
 
 -- one at a case that was not decided
@@ -606,8 +605,8 @@ module _ (me : ProcessId) (tree : List TreeEntry) (n : Node) (x : Txn) where
       record {
         moved = view-after place n h (row_effect c row) c own.boot ∙ moved;
         others = λ y o.
-          view-after place n h (row_effect c row) (root_case y) own.boot
-          ∙ rw (others y o) (own.others (root_case y) rs (memory_of place n (root_case y)) (apart_case x y o));
+            view-after place n h (row_effect c row) (root_case y) own.boot
+            ∙ rw (others y o) (own.others (root_case y) rs (memory_of place n (root_case y)) (apart_case x y o));
       }
 
   -- from the view's standing to the lists
@@ -634,12 +633,12 @@ module _ (me : ProcessId) (tree : List TreeEntry) (n : Node) (x : Txn) where
       let f = active_facts _ _ _ _ _ _ _ h in
       let opened : m.phase ≡ Open = phase_active x.presumption m.phase f.heard in
       let g : ActiveFacts (has (is_end c) rs) (has (is_commit c) rs) (has (is_abort c) rs) (has (is_prepare c) rs) (has (is_collecting c) rs) Active =
-          record { no_end = f.no_end; no_commit = f.no_commit; no_abort = f.no_abort; no_prepare = f.no_prepare; no_collecting = f.no_collecting; heard = refl } in
+      record { no_end = f.no_end; no_commit = f.no_commit; no_abort = f.no_abort; no_prepare = f.no_prepare; no_collecting = f.no_collecting; heard = refl } in
       let row = active_commit seat (view_at Active rs c m) in
       assembled (hears_act (CommitAct x) a) row (commit_is_of (view_at Active rs c m) x.presumption (none_of m.accepted))
-        (ap (λ w. read_view (rs ++ entries_written row.written) c w) (here c m (asks_votes m m.phase) ∙ ap (λ ph. asks_votes m ph) opened)
-         ∙ commit_pure me c x.presumption (none_of m.accepted) rs m g)
-        (λ y o. elsewhere y _ _ o)
+      (ap (λ w. read_view (rs ++ entries_written row.written) c w) (here c m (asks_votes m m.phase) ∙ ap (λ ph. asks_votes m ph) opened)
+      ∙ commit_pure me c x.presumption (none_of m.accepted) rs m g)
+      (λ y o. elsewhere y _ _ o)
 
   pub commit_views : (a : DataAnswer) → let v = coordinator_view place n c in
       v.standing ≡ Active → MovesTxn place n (hears_act (CommitAct x) a) x (active_commit seat v)
@@ -655,10 +654,10 @@ module _ (me : ProcessId) (tree : List TreeEntry) (n : Node) (x : Txn) where
       let f = active_facts _ _ _ _ _ _ _ h in
       let opened : m.phase ≡ Open = phase_active x.presumption m.phase f.heard in
       let g : ActiveFacts (has (is_end c) rs) (has (is_commit c) rs) (has (is_abort c) rs) (has (is_prepare c) rs) (has (is_collecting c) rs) Active =
-          record { no_end = f.no_end; no_commit = f.no_commit; no_abort = f.no_abort; no_prepare = f.no_prepare; no_collecting = f.no_collecting; heard = refl } in
+      record { no_end = f.no_end; no_commit = f.no_commit; no_abort = f.no_abort; no_prepare = f.no_prepare; no_collecting = f.no_collecting; heard = refl } in
       assembled (hears_act (AbortAct x) a) (active_abort seat (view_at Active rs c m)) (quiet_of c _ refl)
-        (ap (λ w. read_view (rs ++ []) c w) (here c m (closes m m.phase) ∙ ap (λ ph. closes m ph) opened) ∙ abort_pure me c x.presumption rs m g)
-        (λ y o. elsewhere y _ _ o)
+      (ap (λ w. read_view (rs ++ []) c w) (here c m (closes m m.phase) ∙ ap (λ ph. closes m ph) opened) ∙ abort_pure me c x.presumption rs m g)
+      (λ y o. elsewhere y _ _ o)
 
   pub abort_active_views : (a : DataAnswer) → let v = coordinator_view place n c in
       v.standing ≡ Active → MovesTxn place n (hears_act (AbortAct x) a) x (active_abort seat v)
@@ -689,9 +688,9 @@ module _ (me : ProcessId) (tree : List TreeEntry) (n : Node) (x : Txn) where
       let us = undecided_of m.accepted m.votes in
       let row = collecting_abort seat ByAct (view_at Collecting rs c m) in
       assembled (hears_act (AbortAct x) a) row (collecting_of_abort ByAct (view_at Collecting rs c m) us x.presumption)
-        (ap (λ w. read_view (rs ++ entries_written row.written) c w) (here c m (closes m m.phase) ∙ ap (λ ph. closes m ph) (asked_of alike h))
-         ∙ collecting_abort_pure me c x.presumption ByAct (none_of us) us rs m f (undecided_owes c rs f.no_commit f.no_abort) (acks_of alike h) refl)
-        (λ y o. elsewhere y _ _ o)
+      (ap (λ w. read_view (rs ++ entries_written row.written) c w) (here c m (closes m m.phase) ∙ ap (λ ph. closes m ph) (asked_of alike h))
+      ∙ collecting_abort_pure me c x.presumption ByAct (none_of us) us rs m f (undecided_owes c rs f.no_commit f.no_abort) (acks_of alike h) refl)
+      (λ y o. elsewhere y _ _ o)
 
   pub abort_collecting_views : (a : DataAnswer) → let v = coordinator_view place n c in
       IsOpenAlike place n c → v.standing ≡ Collecting → MovesTxn place n (hears_act (AbortAct x) a) x (collecting_abort seat ByAct v)
@@ -709,8 +708,8 @@ module _ (me : ProcessId) (tree : List TreeEntry) (n : Node) (x : Txn) where
   unfolding coordinator_view
   quiet_views h row quiet view same others =
       assembled h row (quiet_of c row quiet)
-        (rw (quiet, same) (simp append-nil (sym view)))
-        others
+      (rw (quiet, same) (simp append-nil (sym view)))
+      others
 
   join_row : (q : ProcessId) (v : CoordinatorView) (b : Bool) → let row = if b then quiet v else sends (post me q (Join c) ∷ []) v in (row.written ≡ []) × (row.view ≡ v)
   join_row q v true = (refl, refl)
@@ -747,10 +746,10 @@ module _ (me : ProcessId) (tree : List TreeEntry) (n : Node) (x : Txn) where
       let opened : m.phase ≡ Open = phase_active x.presumption m.phase f.heard in
       let m' : Memory = record m { works = m.works ++ t ∷ [] } in
       assembled (hears_act (WorkAct c q op) a) (active_work seat t op (view_at Active rs c m)) (quiet_of c _ refl)
-        (ap (λ w. read_view (rs ++ []) c w)
-          (here c m (sends_work m (ticket_of_child m.accepted q) m.phase) ∙ ap (λ u. sends_work m u m.phase) found ∙ ap (λ ph. sends_work m (Some t) ph) opened)
-         ∙ same_pure c x.presumption Active rs m m' h refl)
-        (λ y o. elsewhere y _ _ o)
+      (ap (λ w. read_view (rs ++ []) c w)
+      (here c m (sends_work m (ticket_of_child m.accepted q) m.phase) ∙ ap (λ u. sends_work m u m.phase) found ∙ ap (λ ph. sends_work m (Some t) ph) opened)
+      ∙ same_pure c x.presumption Active rs m m' h refl)
+      (λ y o. elsewhere y _ _ o)
 
   pub work_views : (a : DataAnswer) (q : ProcessId) (t : Ticket) (op : Op) → let v = coordinator_view place n c in
       v.standing ≡ Active → ticket_of_child v.accepted q ≡ Some t → MovesTxn place n (hears_act (WorkAct c q op) a) x (active_work seat t op v)
@@ -772,8 +771,8 @@ module _ (me : ProcessId) (tree : List TreeEntry) (n : Node) (x : Txn) where
 
   accepted_at : (t : Ticket) (b : Bool) → standing_with x.presumption rs c m ≡ Active
       → let v = view_at Active rs c m in
-        let row = if b then quiet v else record { written = []; told = None; letters = []; accepts = t ∷ []; counts = []; view = record v { accepted = v.accepted ++ t ∷ [] } } in
-        (row.written ≡ []) × (read_view (rs ++ []) c (if b then m else record m { accepted = m.accepted ++ t ∷ [] }) ≡ row.view)
+      let row = if b then quiet v else record { written = []; told = None; letters = []; accepts = t ∷ []; counts = []; view = record v { accepted = v.accepted ++ t ∷ [] } } in
+      (row.written ≡ []) × (read_view (rs ++ []) c (if b then m else record m { accepted = m.accepted ++ t ∷ [] }) ≡ row.view)
   accepted_at t true h = (refl, same_pure c x.presumption Active rs m m h refl)
   accepted_at t false h = (refl, same_pure c x.presumption Active rs m (record m { accepted = m.accepted ++ t ∷ [] }) h refl)
 
@@ -785,16 +784,16 @@ module _ (me : ProcessId) (tree : List TreeEntry) (n : Node) (x : Txn) where
       let r = accepted_at t (has_child m.accepted t.child) h in
       let row = active_joined t (view_at Active rs c m) in
       assembled (hears_message k (Joined c t) a) row (quiet_of c row r.0)
-        (ap (λ w. read_view (rs ++ entries_written row.written) c w) (here c m (accepts_ticket m t m.phase) ∙ ap (λ ph. accepts_ticket m t ph) opened)
-         ∙ rw r.0 r.1)
-        (λ y o. elsewhere y _ _ o)
+      (ap (λ w. read_view (rs ++ entries_written row.written) c w) (here c m (accepts_ticket m t m.phase) ∙ ap (λ ph. accepts_ticket m t ph) opened)
+      ∙ rw r.0 r.1)
+      (λ y o. elsewhere y _ _ o)
 
   joined_other : (k : ℕ) (a : DataAnswer) (t : Ticket) → IsOpenAlike place n c → (s : Standing) → standing_with x.presumption rs c m ≡ s → (s ≡ Active → ⊥)
       → MovesTxn place n (hears_message k (Joined c t) a) x (quiet (coordinator_view place n c))
   joined_other k a t alike s h d =
       quiet_views (hears_message k (Joined c t) a) (quiet (coordinator_view place n c)) refl refl
-        (here c m (accepts_ticket m t m.phase) ∙ not_accepted m t m.phase (not_open alike s h d))
-        (λ y o. elsewhere y _ _ o)
+      (here c m (accepts_ticket m t m.phase) ∙ not_accepted m t m.phase (not_open alike s h d))
+      (λ y o. elsewhere y _ _ o)
 
   joined_at : (k : ℕ) (a : DataAnswer) (t : Ticket) → IsOpenAlike place n c → (s : Standing) → standing_with x.presumption rs c m ≡ s
       → MovesTxn place n (hears_message k (Joined c t) a) x (on_joined t (coordinator_view place n c) s)
@@ -829,9 +828,9 @@ module _ (me : ProcessId) (tree : List TreeEntry) (n : Node) (x : Txn) where
   full_at : (b : Bool) (w : Memory) → none_of (yes_of w.accepted w.votes) ≡ b → CollectingFacts (has (is_end c) rs) (has (is_commit c) rs) (has (is_abort c) rs) (has (is_prepare c) rs)
       → (x.presumption ≡ PresumeAbort → has (is_collecting c) rs ≡ false) → owing_by c rs ≡ [] → w.acks ≡ []
       → let v = view_at Collecting rs c w in
-        let ys = yes_of w.accepted w.votes in
-        let row = if b then collecting_read_only seat else decides seat v ys None in
-        read_view (rs ++ entries_written row.written) c (record w { phase = Over }) ≡ row.view
+      let ys = yes_of w.accepted w.votes in
+      let row = if b then collecting_read_only seat else decides seat v ys None in
+      read_view (rs ++ entries_written row.written) c (record w { phase = Over }) ≡ row.view
   full_at true w e f no_record owes acks = read_only_pure me c x.presumption rs w f no_record
   full_at false w e f no_record owes acks = root_commits_pure me c x.presumption (yes_of w.accepted w.votes) rs w f owes acks e
 
@@ -857,8 +856,8 @@ module _ (me : ProcessId) (tree : List TreeEntry) (n : Node) (x : Txn) where
   counted_consent : (t : Ticket) (w : Vote) (all : Bool) → standing_with x.presumption rs c m ≡ Collecting → m.phase ≡ Asked → Collects
       → (x.presumption ≡ PresumeAbort → has (is_collecting c) rs ≡ false) → owing_by c rs ≡ [] → m.acks ≡ []
       → let v = view_at Collecting rs c (with_one t w) in
-        let row = if all then collecting_full seat v else quiet v in
-        (IsOf c row) × (read_view (rs ++ entries_written row.written) c (record (with_one t w) { phase = if all then Over else Asked }) ≡ row.view)
+      let row = if all then collecting_full seat v else quiet v in
+      (IsOf c row) × (read_view (rs ++ entries_written row.written) c (record (with_one t w) { phase = if all then Over else Asked }) ≡ row.view)
   counted_consent t w true h asked f no_record owes acks =
       let ys = yes_of m.accepted (m.votes ++ (t, w) ∷ []) in
       (full_of (none_of ys) (view_at Collecting rs c (with_one t w)) ys, full_at (none_of ys) (with_one t w) refl f no_record owes acks)
@@ -868,11 +867,12 @@ module _ (me : ProcessId) (tree : List TreeEntry) (n : Node) (x : Txn) where
   counted_vote : (t : Ticket) (w : Vote) → standing_with x.presumption rs c m ≡ Collecting → m.phase ≡ Asked → Collects
       → (x.presumption ≡ PresumeAbort → has (is_collecting c) rs ≡ false) → owing_by c rs ≡ [] → m.acks ≡ []
       → let row = collecting_after seat (view_at Collecting rs c (with_one t w)) w in
-        (IsOf c row) × (read_view (rs ++ entries_written row.written) c (with_vote m t w) ≡ row.view)
+      (IsOf c row) × (read_view (rs ++ entries_written row.written) c (with_vote m t w) ≡ row.view)
   counted_vote t VoteNo h asked f no_record owes acks =
-      let us = undecided_of m.accepted (m.votes ++ (t, VoteNo) ∷ []) in
-      (collecting_of_abort ByVote (view_at Collecting rs c (with_one t VoteNo)) us x.presumption,
-       collecting_abort_pure me c x.presumption ByVote (none_of us) us rs (with_one t VoteNo) f owes acks refl)
+      let us = undecided_of m.accepted (m.votes ++ (t, VoteNo) ∷ []) in (
+        collecting_of_abort ByVote (view_at Collecting rs c (with_one t VoteNo)) us x.presumption,
+        collecting_abort_pure me c x.presumption ByVote (none_of us) us rs (with_one t VoteNo) f owes acks refl,
+      )
   counted_vote t VoteYes h asked f no_record owes acks =
       counted_consent t VoteYes (all_voted m.accepted (m.votes ++ (t, VoteYes) ∷ [])) h asked f no_record owes acks
   counted_vote t VoteRead h asked f no_record owes acks =
@@ -881,7 +881,7 @@ module _ (me : ProcessId) (tree : List TreeEntry) (n : Node) (x : Txn) where
   taken_vote : (t : Ticket) (w : Vote) (b : Bool) → standing_with x.presumption rs c m ≡ Collecting → m.phase ≡ Asked → Collects
       → (x.presumption ≡ PresumeAbort → has (is_collecting c) rs ≡ false) → owing_by c rs ≡ [] → m.acks ≡ []
       → let row = if b then record (collecting_after seat (view_at Collecting rs c (with_one t w)) w) { counts = (t, w) ∷ [] } else quiet (view_at Collecting rs c m) in
-        (IsOf c row) × (read_view (rs ++ entries_written row.written) c (if b then with_vote m t w else m) ≡ row.view)
+      (IsOf c row) × (read_view (rs ++ entries_written row.written) c (if b then with_vote m t w else m) ≡ row.view)
   taken_vote t w true h asked f no_record owes acks =
       let r = counted_vote t w h asked f no_record owes acks in
       (record { boot = r.0.boot; others = r.0.others }, r.1)
@@ -895,15 +895,15 @@ module _ (me : ProcessId) (tree : List TreeEntry) (n : Node) (x : Txn) where
       let r = taken_vote t w (is_counted m.accepted m.votes t) h asked f alike.no_record_collects (undecided_owes c rs f.no_commit f.no_abort) (acks_of alike h) in
       let row = collecting_vote seat t w (view_at Collecting rs c m) in
       assembled (hears_message k (vote_message w (child_case x t)) a) row r.0
-        (ap (λ u. read_view (rs ++ entries_written row.written) c u) (vote_memory k t w ∙ ap (λ ph. takes_vote m t w ph) asked) ∙ r.1)
-        (λ y o. vote_elsewhere k t w y o)
+      (ap (λ u. read_view (rs ++ entries_written row.written) c u) (vote_memory k t w ∙ ap (λ ph. takes_vote m t w ph) asked) ∙ r.1)
+      (λ y o. vote_elsewhere k t w y o)
 
   vote_other : (k : ℕ) (a : DataAnswer) (t : Ticket) (w : Vote) → IsOpenAlike place n c → (s : Standing) → standing_with x.presumption rs c m ≡ s → (s ≡ Collecting → ⊥)
       → MovesTxn place n (hears_message k (vote_message w (child_case x t)) a) x (quiet (coordinator_view place n c))
   vote_other k a t w alike s h d =
       quiet_views (hears_message k (vote_message w (child_case x t)) a) (quiet (coordinator_view place n c)) refl refl
-        (vote_memory k t w ∙ not_taken m t w m.phase (not_asked alike s h d))
-        (λ y o. vote_elsewhere k t w y o)
+      (vote_memory k t w ∙ not_taken m t w m.phase (not_asked alike s h d))
+      (λ y o. vote_elsewhere k t w y o)
 
   vote_at : (k : ℕ) (a : DataAnswer) (t : Ticket) (w : Vote) → IsOpenAlike place n c → (s : Standing) → standing_with x.presumption rs c m ≡ s
       → MovesTxn place n (hears_message k (vote_message w (child_case x t)) a) x (on_vote seat t w (coordinator_view place n c) s)
@@ -936,8 +936,8 @@ module _ (me : ProcessId) (tree : List TreeEntry) (n : Node) (x : Txn) where
       → MovesTxn place n (hears_message k (Ack (child_case x t) o) a) x row
   ack_noted k a t o row noted own moved =
       assembled (hears_message k (Ack (child_case x t) o) a) row own
-        (ap (λ u. read_view (rs ++ entries_written row.written) c u) (ack_memory k t o ∙ noted) ∙ moved)
-        (λ y q. ack_elsewhere k t o y q)
+      (ap (λ u. read_view (rs ++ entries_written row.written) c u) (ack_memory k t o ∙ noted) ∙ moved)
+      (λ y q. ack_elsewhere k t o y q)
 
   last_of : (t : Ticket) (v : CoordinatorView) (b none : Bool) → IsOf c (if b then (if none then record { written = plain (EndRecord c); told = None; letters = []; accepts = []; counts = []; view = unknown_view } else quiet (record v { owed = other_tickets t v.owed })) else quiet v)
   last_of t v true true = end_of c _ false refl
@@ -950,12 +950,12 @@ module _ (me : ProcessId) (tree : List TreeEntry) (n : Node) (x : Txn) where
   ack_by k a t CommittedOutcome Committing h na nc noted =
       let v = view_at Committing rs c m in
       ack_noted k a t CommittedOutcome (decided_ack seat t v) noted (last_of t v (in_list v.owed t) (none_of (other_tickets t v.owed)))
-        (acked_commit me c x.presumption t rs m (in_list v.owed t) (none_of (other_tickets t v.owed)) h refl refl)
+      (acked_commit me c x.presumption t rs m (in_list v.owed t) (none_of (other_tickets t v.owed)) h refl refl)
   ack_by k a t AbortedOutcome Committing h na nc noted = ack_noted k a t AbortedOutcome (quiet (view_at Committing rs c m)) noted (quiet_of c _ refl) (refused_commit c x.presumption t rs m h)
   ack_by k a t AbortedOutcome Aborting h na nc noted =
       let v = view_at Aborting rs c m in
       ack_noted k a t AbortedOutcome (decided_ack seat t v) noted (last_of t v (in_list v.owed t) (none_of (other_tickets t v.owed)))
-        (acked_abort me c x.presumption t rs m (in_list v.owed t) (none_of (other_tickets t v.owed)) h refl refl)
+      (acked_abort me c x.presumption t rs m (in_list v.owed t) (none_of (other_tickets t v.owed)) h refl refl)
   ack_by k a t CommittedOutcome Aborting h na nc noted = ack_noted k a t CommittedOutcome (quiet (view_at Aborting rs c m)) noted (quiet_of c _ refl) (refused_abort c x.presumption t rs m h)
   ack_by k a t CommittedOutcome Unknown h na nc noted = ack_noted k a t CommittedOutcome (quiet unknown_view) noted (quiet_of c _ refl) (unawaited c x.presumption t CommittedOutcome rs m h)
   ack_by k a t AbortedOutcome Unknown h na nc noted = ack_noted k a t AbortedOutcome (quiet unknown_view) noted (quiet_of c _ refl) (unawaited c x.presumption t AbortedOutcome rs m h)
@@ -974,8 +974,8 @@ module _ (me : ProcessId) (tree : List TreeEntry) (n : Node) (x : Txn) where
       → MovesTxn place n (hears_message k (Ack (child_case x t) o) a) x row
   ack_unheard k a t o row unheard e =
       quiet_views (hears_message k (Ack (child_case x t) o) a) row (ap (λ (r : Row). r.written) e) (ap (λ (r : Row). r.view) e)
-        (ack_memory k t o ∙ unheard)
-        (λ y q. ack_elsewhere k t o y q)
+      (ack_memory k t o ∙ unheard)
+      (λ y q. ack_elsewhere k t o y q)
 
   on_ack_open : (t : Ticket) (o : Outcome) (v : CoordinatorView) → on_ack seat t o v Active ≡ quiet v
   on_ack_open t CommittedOutcome v = refl
@@ -1012,16 +1012,18 @@ module _ (me : ProcessId) (tree : List TreeEntry) (n : Node) (x : Txn) where
       ack_unheard k a t o _ (ap (λ ph. takes_ack m t o ph) e) (ap (λ q. on_ack seat t o v q) (now_collecting alike s h e) ∙ on_ack_asked t o v)
   ack_phase k a t o alike Idle e s h = ack_closed k a t o alike s h (λ q. not_idle (sym e ∙ q)) (λ q. not_idle_asked (sym e ∙ q)) (ap (λ ph. takes_ack m t o ph) e)
     where
-    not_idle : Idle ≡ Open → ⊥
-    not_idle q = cc
-    not_idle_asked : Idle ≡ Asked → ⊥
-    not_idle_asked q = cc
+      not_idle : Idle ≡ Open → ⊥
+      not_idle q = cc
+
+      not_idle_asked : Idle ≡ Asked → ⊥
+      not_idle_asked q = cc
   ack_phase k a t o alike Over e s h = ack_closed k a t o alike s h (λ q. not_over (sym e ∙ q)) (λ q. not_over_asked (sym e ∙ q)) (ap (λ ph. takes_ack m t o ph) e)
     where
-    not_over : Over ≡ Open → ⊥
-    not_over q = cc
-    not_over_asked : Over ≡ Asked → ⊥
-    not_over_asked q = cc
+      not_over : Over ≡ Open → ⊥
+      not_over q = cc
+
+      not_over_asked : Over ≡ Asked → ⊥
+      not_over_asked q = cc
 
   pub ack_views : (k : ℕ) (a : DataAnswer) (t : Ticket) (o : Outcome) → let v = coordinator_view place n c in
       IsOpenAlike place n c → MovesTxn place n (hears_message k (Ack (child_case x t) o) a) x (on_ack seat t o v v.standing)
@@ -1131,7 +1133,7 @@ same_begun me tree n c d =
 
 begun_pure : (rs : List Record) (c : Case) (m : Memory) → IsUnrecorded rs c
     → view_at (standing_with c.txn.presumption (rs ++ []) c (opens_case m)) (rs ++ []) c (opens_case m)
-      ≡ record { standing = Active; accepted = []; votes = []; works = []; promised = []; named = []; owed = [] }
+    ≡ record { standing = Active; accepted = []; votes = []; works = []; promised = []; named = []; owed = [] }
 begun_pure rs c m u = simp (append-nil, u.no_end, u.no_commit, u.no_abort, u.no_prepare, u.no_collecting) (simp (u.promised, u.named, u.owing, owed_none) refl)
 
 counted_pure : (rs : List Record) (c : Case) (m : Memory) (k : ℕ)
@@ -1146,12 +1148,12 @@ root_begins me tree n p a =
     let x = next_begun place n p in
     let h = hears_act (Begin p) a in
     let named : (c : Case) → next_txn me boot (memory_of place n c) p ≡ x =
-        λ c. ap (λ (k : ℕ). record { root = me; boot = boot; sequence = k + 1; presumption = p }) (same_begun me tree n c (some_case place)) in
+    λ c. ap (λ (k : ℕ). record { root = me; boot = boot; sequence = k + 1; presumption = p }) (same_begun me tree n c (some_case place)) in
     record {
       begun = λ u.
-        view-after place n h (begin_effect x) (root_case x) (λ b. refl)
-        ∙ rw (named (root_case x), same_case-refl (root_case x)) (begun_pure (kept n) (root_case x) (record (memory_of place n (root_case x)) { begun = (memory_of place n (root_case x)).begun + 1 }) u);
+          view-after place n h (begin_effect x) (root_case x) (λ b. refl)
+          ∙ rw (named (root_case x), same_case-refl (root_case x)) (begun_pure (kept n) (root_case x) (record (memory_of place n (root_case x)) { begun = (memory_of place n (root_case x)).begun + 1 }) u);
       others = λ y o.
-        view-after place n h (begin_effect x) (root_case y) (λ b. refl)
-        ∙ rw (named (root_case y), apart_case x y o) (counted_pure (kept n) (root_case y) (memory_of place n (root_case y)) ((memory_of place n (root_case y)).begun + 1));
+          view-after place n h (begin_effect x) (root_case y) (λ b. refl)
+          ∙ rw (named (root_case y), apart_case x y o) (counted_pure (kept n) (root_case y) (memory_of place n (root_case y)) ((memory_of place n (root_case y)).begun + 1));
     }

@@ -1,5 +1,5 @@
 -- How a case is named as a branch at a resource manager: its XID.
-use Rattle.std.specs.Prelude.{◌≡◌, ◌<◌, ◌^◌, ◌++◌, ℕ, ℤ, pos, Option, Some, None, List, [], ⊤}
+use Rattle.std.specs.Prelude.{◌<◌, ◌^◌, ◌++◌, ℕ, ℤ, pos, Option, Some, None, List, [], ⊤}
 use Rattle.byteorder.specs.Endian.{big_bytes}
 use Rattle.xa_xid.specs.Xids.{XidParts}
 use Rattle.tree_model.specs.declared.names.ProcessId.{ProcessId}

@@ -1,5 +1,5 @@
 -- The new view that the reaction table gives is what the extended lists read as.
-use Rattle.std.specs.Prelude.{◌≡◌, ◌≢◌, ℕ, Bool, true, false, Option, Some, None, List, [], ◌∷◌, ◌++◌}
+use Rattle.std.specs.Prelude.{◌≡◌, ℕ, Bool, true, false, Some, None, List, []}
 use Rattle.tree_model.specs.declared.names.Case.{Case}
 use Rattle.tree_model.specs.declared.names.ProcessId.{ProcessId}
 use Rattle.tree_model.specs.declared.names.Ticket.{Ticket}
@@ -21,9 +21,9 @@ use Rattle.tree_model.specs.declared.events.Input.TheVariants.{Act as ActInput, 
 use Rattle.tree_model.specs.declared.trees.TreeEntry.{TreeEntry}
 use Rattle.tree_model.specs.Names.{same_txn, same_case, root_case, child_case}
 use Rattle.tree_model.specs.Records.{boot_of, has, is_end, is_commit, is_abort, is_prepare, is_collecting, promised_by, named_by, owing_by}
-use Rattle.tree_model.specs.Nodes.{Place, AtRoot, AtLeaf, DataAnswer, Heard, Node, kept, Effect, no_effect, after}
+use Rattle.tree_model.specs.Nodes.{Place, AtRoot, AtLeaf, DataAnswer, Heard, Node, kept, Effect, after}
 use Rattle.tree_model.specs.Memory.{Open, Asked, memory_of, next_txn, next_ticket, active_ticket, ticket_of_child}
-use Rattle.tree_model.specs.Standings.{CoordinatorView, some_case, coordinator_view, ManagerView, manager_view, mark_of, Mark, Unmarked}
+use Rattle.tree_model.specs.Standings.{some_case, coordinator_view, manager_view, mark_of, Unmarked}
 use Rattle.tree_model.specs.CoordinatorRows.{Seat, Row, ByAct, active_commit, active_abort, active_join, active_work, collecting_abort, on_joined, on_vote, on_ack, on_inquiry}
 use Rattle.tree_model.specs.ManagerRows.{Leaf, LeafRow, prepared_decide, heuristic_forget, untold_ask}
 use Rattle.tree_model.specs.ManagerRows as leaf
@@ -59,7 +59,7 @@ pub record JoinsBranch (place : Place) (p : ProcessId) (n : Node) (h : Heard) (d
   pub fresh : active_ticket (memory_of place n d).active d ≡ None → starts ≡ true
       → mark_of (CaseBranch (fresh_case place n d)) (kept n) ≡ Unmarked
       → manager_view place (after n h (leaf_joins place p n d (memory_of place n d) starts None)) (fresh_case place n d)
-        ≡ record { standing = Active; done = 0; spoiled = false; told = None }
+      ≡ record { standing = Active; done = 0; spoiled = false; told = None }
   pub others : active_ticket (memory_of place n d).active d ≡ None → starts ≡ true
       → (c : Case) → same_case c (fresh_case place n d) ≡ false
       → manager_view place (after n h (leaf_joins place p n d (memory_of place n d) starts None)) c ≡ manager_view place n c

@@ -2,7 +2,14 @@
 
 ghost use Rattle.std.specs.Prelude.{◌≡◌, ◌≢◌, ◌↔◌, Option, IfOk, OnErr, IfSome, IfNone, IsTrue, length};
 ghost use Rattle.tree_model.specs.Branches.{
-    branch_format, branch_parts, below_bytes, txn_bytes, ticket_bytes, FitsTxn, FitsBelow, FitsTicket
+  branch_format,
+  branch_parts,
+  below_bytes,
+  txn_bytes,
+  ticket_bytes,
+  FitsTxn,
+  FitsBelow,
+  FitsTicket,
 };
 ghost use Rattle.tree_model.specs.declared.names.ProcessId.{ProcessId as AnyProcess};
 ghost use Rattle.tree_model.specs.declared.names.Presumption.{Presumption as AnyPresumption};

@@ -6,9 +6,24 @@ ghost use Rattle.std.specs.List.{list_any};
 ghost use Rattle.tree_model.specs.Names.{same_process};
 ghost use Rattle.tree_model.specs.Nodes.{is_listed as is_listed_in};
 ghost use Rattle.tree_model.specs.Trees.{
-    tree_error_number, times_listed as times_listed_in, lists_twice as lists_twice_in, is_unlisted, has_unknown_parent,
-    parent_of as parent_in, level_within, has_cycle, is_too_deep, has_wrong_roots, is_listed_manager,
-    has_managed_child, has_fault, is_managed as is_managed_in, is_top, is_manager_kind, IsTree, IsFirstFault
+  tree_error_number,
+  times_listed as times_listed_in,
+  lists_twice as lists_twice_in,
+  is_unlisted,
+  has_unknown_parent,
+  parent_of as parent_in,
+  level_within,
+  has_cycle,
+  is_too_deep,
+  has_wrong_roots,
+  is_listed_manager,
+  has_managed_child,
+  has_fault,
+  is_managed as is_managed_in,
+  is_top,
+  is_manager_kind,
+  IsTree,
+  IsFirstFault,
 };
 
 use crate::messages::Bytes;
@@ -239,9 +254,7 @@ fn count_tops(entries: &[TreeEntry]) -> usize
 fn has_manager_on_top(entries: &[TreeEntry]) -> bool
     ensures { result ≡ list_any (λ e. is_top e && is_manager_kind e.kind) entries.now }
 {
-    entries
-        .iter()
-        .any(|entry| entry.parent.is_none() && matches!(entry.kind, Kind::Manager))
+    entries.iter().any(|entry| entry.parent.is_none() && matches!(entry.kind, Kind::Manager))
 }
 
 #[tactic(auto, unfolding(crate::specs::Trees::has_wrong_roots))]
@@ -255,9 +268,7 @@ fn has_other_roots(entries: &[TreeEntry]) -> bool
 fn is_manager(entries: &[TreeEntry], id: ProcessId) -> bool
     ensures { result ≡ is_listed_manager entries.now id }
 {
-    entries
-        .iter()
-        .any(|entry| entry.id == id && matches!(entry.kind, Kind::Manager))
+    entries.iter().any(|entry| entry.id == id && matches!(entry.kind, Kind::Manager))
 }
 
 fn is_managed(entries: &[TreeEntry], parent: Option<ProcessId>) -> bool
@@ -273,7 +284,9 @@ fn is_managed(entries: &[TreeEntry], parent: Option<ProcessId>) -> bool
 fn has_child_of_manager(entries: &[TreeEntry]) -> bool
     ensures { result ≡ has_managed_child entries.now }
 {
-    entries.iter().any(|entry| is_managed(entries, entry.parent))
+    entries
+        .iter()
+        .any(|entry| is_managed(entries, entry.parent))
 }
 
 #[tactic(auto, unfolding(crate::specs::Trees::is_too_deep))]
