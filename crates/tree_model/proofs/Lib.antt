@@ -6,3 +6,4 @@ pub mod ManagerViewLaws
 pub mod RootViewLaws
 pub mod CostLaws
 pub mod NameTests
+pub mod TextLaws

@@ -3,6 +3,7 @@
 ghost use Rattle.std.specs.Prelude.{◌≡◌, ◌↔◌, true, ℕ, List};
 ghost use Rattle.tree_model.specs.declared.names.Ticket.{Ticket};
 ghost use Rattle.tree_model.specs.Names.{same_case, same_process, same_ticket, same_txn};
+ghost use Rattle.tree_model.specs.Texts.{TellsCases, TellsTickets};
 ghost use Rattle.tree_model.specs.CoordinatorRows.{Seat};
 ghost use Rattle.tree_model.specs.Counts.{CommittedUpdateCosts};
 ghost use Rattle.tree_model.specs.declared.names.ProcessId.{ProcessId};
@@ -72,4 +73,10 @@ pub fn names_tell()
     ensures txn { (a b : Txn) → (same_txn a b ≡ true) ↔ (a ≡ b) }
     ensures ticket { (a b : Ticket) → (same_ticket a b ≡ true) ↔ (a ≡ b) }
     ensures case { (a b : Case) → (same_case a b ≡ true) ↔ (a ≡ b) }
+{}
+
+/// No two names are spelled alike: no two tickets, and no two cases of one root.
+pub fn names_are_spelled_apart()
+    ensures tickets { (t u : Ticket) → TellsTickets t u }
+    ensures cases { (c d : Case) → TellsCases c d }
 {}
