@@ -3,7 +3,13 @@ pub mod RunLaws
 pub mod BranchLaws
 pub mod ListLaws
 pub mod ManagerViewLaws
+pub mod TicketLaws
+pub mod StandingLaws
+pub mod AckLaws
+pub mod RootRowLaws
+pub mod PhaseLaws
 pub mod RootViewLaws
+pub mod BeginLaws
 pub mod CostLaws
 pub mod NameTests
 pub mod TextLaws

@@ -1,10 +1,7 @@
 -- The root's new view is what the extended lists read as.
-use Rattle.std.proofs.Common.{◌≡◌, subst, ◌∙◌, ap, sym, ◌+◌, ◌&&◌, ◌||◌, not, ℕ, Bool, true, false, Option, Some, None, List, [], ◌∷◌, ◌++◌, append_assoc, refl, arith, if◌then◌else◌}
-use Rattle.std.specs.Prelude.{fold, filter}
-use Rattle.std.specs.List.{flat_map}
+use Rattle.std.proofs.Common.{◌≡◌, subst, ◌∙◌, ap, sym, ℕ, Bool, true, false, Some, None, List, [], ◌∷◌, ◌++◌, refl, if◌then◌else◌}
+use Rattle.std.specs.Prelude.{fold}
 use Rattle.std.proofs.lemmas.List.{append-nil}
-use Rattle.std.proofs.lemmas.List.Folds.{list_any-append}
-use Rattle.std.proofs.lemmas.Grind.{fold-append}
 use Rattle.tree_model.specs.declared.names.Case.{Case}
 use Rattle.tree_model.specs.declared.names.ProcessId.{ProcessId}
 use Rattle.tree_model.specs.declared.names.Ticket.{Ticket}
@@ -14,485 +11,34 @@ use Rattle.tree_model.specs.declared.names.Outcome.TheVariants.{Committed as Com
 use Rattle.tree_model.specs.declared.names.Presumption.{Presumption}
 use Rattle.tree_model.specs.declared.names.Presumption.TheVariants.{PresumeAbort, PresumeCommit}
 use Rattle.tree_model.specs.declared.messages.Op.{Op}
-use Rattle.tree_model.specs.declared.messages.Message.{Message}
-use Rattle.tree_model.specs.declared.messages.Message.TheVariants.{Join, Joined, Yes, No, Read, Ack, Inquire}
+use Rattle.tree_model.specs.declared.messages.Message.TheVariants.{Join, Joined, Ack, Inquire}
 use Rattle.tree_model.specs.declared.standings.Vote.{Vote}
 use Rattle.tree_model.specs.declared.standings.Vote.TheVariants.{Yes as VoteYes, No as VoteNo, Read as VoteRead}
-use Rattle.tree_model.specs.declared.events.Act.TheVariants.{Begin, Join as JoinAct, Work as WorkAct, Commit as CommitAct, Abort as AbortAct}
-use Rattle.tree_model.specs.declared.events.Input.{Input}
-use Rattle.tree_model.specs.declared.events.Input.TheVariants.{Act as ActInput, Message as MessageInput}
+use Rattle.tree_model.specs.declared.events.Act.TheVariants.{Join as JoinAct, Work as WorkAct, Commit as CommitAct, Abort as AbortAct}
+use Rattle.tree_model.specs.declared.events.Input.TheVariants.{Message as MessageInput}
 use Rattle.tree_model.specs.declared.trees.TreeEntry.{TreeEntry}
 use Rattle.tree_model.specs.declared.records.Record.{Record}
 use Rattle.tree_model.specs.declared.records.Record.TheVariants.{Collecting as CollectingRecord, Commit as CommitRecord, Abort as AbortRecord, End as EndRecord}
 use Rattle.tree_model.specs.declared.standings.Standing.{Standing}
 use Rattle.tree_model.specs.declared.standings.Standing.TheVariants.{Unknown, Active, Collecting, Prepared, Committing, Aborting, Heuristic}
-use Rattle.tree_model.specs.Names.{same_txn, same_ticket, same_outcome, same_case, root_case, child_case}
-use Rattle.tree_model.specs.NameLaws.{same_case-refl, same_txn-refl, same_ticket_tells}
-use Rattle.tree_model.specs.Records.{has, in_list, none_of, boot_of, boot_after, is_end, is_commit, is_abort, is_prepare, is_collecting, named_by, named_in, promised_by, promised_in, owing_by, owing_in}
-use Rattle.tree_model.specs.Nodes.{Place, AtRoot, Node, kept, Heard, Effect, entries_written, after, DataAnswer}
-use Rattle.tree_model.specs.Memory.{Memory, Phase, Idle, Open, Asked, Over, memory_of, remembers, root_remembers, asks_votes, closes, has_acked, with_vote, takes_vote, takes_ack, is_counted, all_voted, yes_of, undecided_of, opens_case, next_txn, sends_work, accepts_ticket, hears_child, of_ticket, of_child, fresh_memory, has_child, ticket_of_child}
-use Rattle.tree_model.specs.Standings.{some_case, CoordinatorView, unknown_view, coordinator_view, coordinator_standing, standing_by, phase_standing, view_at, still_owed}
-use Rattle.tree_model.specs.CoordinatorRows.{Seat, Row, active_commit_alone, active_commit_with, active_commit, active_abort, Reason, ByVote, ByAct, collecting_abort, collecting_abort_by, collecting_after, collecting_vote, collecting_full, collecting_read_only, read_only_end, decides, root_commits, decided_ack, other_tickets, on_ack, on_vote, on_joined, on_inquiry, quiet, sends, post, plain, active_joined, active_join, active_work}
+use Rattle.tree_model.specs.Names.{same_txn, same_case, root_case, child_case}
+use Rattle.tree_model.specs.NameLaws.{same_case-refl, same_txn-refl}
+use Rattle.tree_model.specs.Records.{has, in_list, none_of, boot_of, boot_after, is_end, is_commit, is_abort, is_prepare, is_collecting, owing_by}
+use Rattle.tree_model.specs.Nodes.{Place, Node, kept, Heard, entries_written, DataAnswer}
+use Rattle.tree_model.specs.Memory.{Memory, Phase, Idle, Open, Asked, Over, memory_of, root_remembers, asks_votes, closes, with_vote, takes_vote, takes_ack, is_counted, all_voted, yes_of, undecided_of, sends_work, accepts_ticket, has_child, ticket_of_child}
+use Rattle.tree_model.specs.Standings.{CoordinatorView, unknown_view, coordinator_view, coordinator_standing, view_at}
+use Rattle.tree_model.specs.CoordinatorRows.{Seat, Row, active_commit, active_abort, Reason, ByVote, ByAct, collecting_abort, collecting_abort_by, collecting_after, collecting_vote, collecting_full, collecting_read_only, read_only_end, decides, root_commits, decided_ack, other_tickets, on_ack, on_vote, on_joined, on_inquiry, quiet, sends, post, plain, active_joined, active_join, active_work}
 use Rattle.tree_model.specs.Reactions.{row_effect}
-use Rattle.tree_model.specs.Views.{root_place, root_seat, hears_act, hears_message, vote_message, MovesTxn, RootViews, IsOpenAlike, IsUnrecorded, RootBegins, next_begun, begin_effect}
-use Rattle.tree_model.proofs.ListLaws.{has-push, memory_of-after, kept-after}
-
--- Lists of tickets that records name.
-
-flat_push : (f : Record → List Ticket) (xs : List Record) (r : Record) → flat_map f (xs ++ r ∷ []) ≡ flat_map f xs ++ f r
-flat_push f [] r = append-nil (f r)
-flat_push f (x ∷ xs) r = ap (λ l. f x ++ l) (flat_push f xs r) ∙ sym (append_assoc (f x) (flat_map f xs) (f r))
-
-named_by-push : (c : Case) (xs : List Record) (r : Record) → named_by c (xs ++ r ∷ []) ≡ named_by c xs ++ named_in c r
-unfolding named_by
-named_by-push c xs r = flat_push (named_in c) xs r
-
-promised_by-push : (c : Case) (xs : List Record) (r : Record) → promised_by c (xs ++ r ∷ []) ≡ promised_by c xs ++ promised_in c r
-unfolding promised_by
-promised_by-push c xs r = flat_push (promised_in c) xs r
-
-owing_by-push : (c : Case) (xs : List Record) (r : Record) → owing_by c (xs ++ r ∷ []) ≡ owing_by c xs ++ owing_in c r
-unfolding owing_by
-owing_by-push c xs r = flat_push (owing_in c) xs r
-
-either_false : (a b : Bool) → (a || b) ≡ false → a ≡ false
-either_false true b e = absurd (cc)
-either_false false b e = refl
-
-other_false : (a b : Bool) → (a || b) ≡ false → b ≡ false
-other_false true b e = absurd (cc)
-other_false false b e = e
-
-none_nil : none_of [] ≡ true
-unfolding none_of
-none_nil = refl
-
-ruleset pushed = (has-push, named_by-push, promised_by-push, owing_by-push, append-nil, same_case-refl, none_nil)
-
--- where there is no decision nobody owes an acknowledgement
-undecided_owes : (c : Case) (rs : List Record) → has (is_commit c) rs ≡ false → has (is_abort c) rs ≡ false → owing_by c rs ≡ []
-unfolding has owing_by
-undecided_owes c [] h k = refl
-undecided_owes c (CommitRecord d ts ∷ rs) h k =
-    let no : same_case d c ≡ false = either_false (same_case d c) (has (is_commit c) rs) h in
-    rw no (undecided_owes c rs (other_false (same_case d c) (has (is_commit c) rs) h) k)
-undecided_owes c (AbortRecord d ts ∷ rs) h k =
-    let no : same_case d c ≡ false = either_false (same_case d c) (has (is_abort c) rs) k in
-    rw no (undecided_owes c rs h (other_false (same_case d c) (has (is_abort c) rs) k))
-undecided_owes c (r ∷ rs) h k = undecided_owes c rs h k
-
--- What a standing says of the records.
-
-pub record NoRecords (rs : List Record) (c : Case) : Type 0 where
-  pub no_end : has (is_end c) rs ≡ false
-  pub no_commit : has (is_commit c) rs ≡ false
-  pub no_abort : has (is_abort c) rs ≡ false
-  pub no_prepare : has (is_prepare c) rs ≡ false
-
-pub record ActiveFacts (E C A P K : Bool) (hs : Standing) : Type 0 where
-  pub no_end : E ≡ false
-  pub no_commit : C ≡ false
-  pub no_abort : A ≡ false
-  pub no_prepare : P ≡ false
-  pub no_collecting : K ≡ false
-  pub heard : hs ≡ Active
-
-active_facts : (E C A P K N : Bool) (hs : Standing) → standing_by E C A P K N hs ≡ Active → ActiveFacts E C A P K hs
-active_facts true C A P K N hs e = absurd (cc)
-active_facts false true A P K true hs e = absurd (cc)
-active_facts false true A P K false hs e = absurd (cc)
-active_facts false false true P K true hs e = absurd (cc)
-active_facts false false true P K false hs e = absurd (cc)
-active_facts false false false true K N hs e = absurd (cc)
-active_facts false false false false true N hs e = absurd (cc)
-active_facts false false false false false N hs e = record { no_end = refl; no_commit = refl; no_abort = refl; no_prepare = refl; no_collecting = refl; heard = e }
-
-phase_active : (p : Presumption) (ph : Phase) → phase_standing p ph ≡ Active → ph ≡ Open
-phase_active PresumeAbort Open e = refl
-phase_active PresumeCommit Open e = refl
-phase_active PresumeAbort Idle e = absurd (cc)
-phase_active PresumeCommit Idle e = absurd (cc)
-phase_active PresumeAbort Asked e = absurd (cc)
-phase_active PresumeCommit Asked e = absurd (cc)
-phase_active PresumeAbort Over e = absurd (cc)
-phase_active PresumeCommit Over e = absurd (cc)
-
-view_standing : (s : Standing) (rs : List Record) (c : Case) (m : Memory) → (view_at s rs c m).standing ≡ s
-view_standing Unknown rs c m = refl
-view_standing Active rs c m = refl
-view_standing Collecting rs c m = refl
-view_standing Prepared rs c m = refl
-view_standing Committing rs c m = refl
-view_standing Aborting rs c m = refl
-view_standing Heuristic rs c m = refl
-
--- the view of a case after a row
-fold_boot : (xs ys : List Record) → boot_of (xs ++ ys) ≡ fold boot_after (boot_of xs) ys
-unfolding boot_of
-fold_boot xs ys = fold-append _ _ xs ys
-
-pub view-after : (place : Place) (n : Node) (h : Heard) (e : Effect) (c : Case)
-    → ((b : ℕ) → fold boot_after b (entries_written e.written) ≡ b)
-    → let rs = kept n ++ entries_written e.written in
-    let m = remembers place.me place.role (boot_of (kept n)) c (memory_of place n c) h in
-    coordinator_view place (after n h e) c ≡ view_at (coordinator_standing rs c m) rs c m
-unfolding coordinator_view
-view-after place n h e c boot =
-    let same : boot_of (kept n ++ entries_written e.written) ≡ boot_of (kept n) = fold_boot (kept n) (entries_written e.written) ∙ boot (boot_of (kept n)) in
-    rw (memory_of-after place n h e c same, kept-after n h e) refl
-
--- the standing with the presumption beside the case
-abbrev pub standing_with : Presumption → List Record → Case → Memory → Standing
-standing_with p rs c m =
-    standing_by (has (is_end c) rs) (has (is_commit c) rs) (has (is_abort c) rs) (has (is_prepare c) rs) (has (is_collecting c) rs) (none_of (owing_by c rs)) (phase_standing p m.phase)
-
--- The commit act at an Active case.
-
-abbrev commit_row : Seat → CoordinatorView → Presumption → Bool → Row
-commit_row s v p b = if b then active_commit_alone s else active_commit_with s v p
-
-commit_pure : (me : ProcessId) (c : Case) (p : Presumption) (b : Bool) (rs : List Record) (m : Memory)
-    → ActiveFacts (has (is_end c) rs) (has (is_commit c) rs) (has (is_abort c) rs) (has (is_prepare c) rs) (has (is_collecting c) rs) Active
-    → let s : Seat = record { me = me; parent = None; own = c } in
-    let row = commit_row s (view_at Active rs c m) p b in
-    let rs' = rs ++ entries_written row.written in
-    let m' : Memory = record m { phase = if b then Over else Asked } in
-    view_at (standing_with p rs' c m') rs' c m' ≡ row.view
-commit_pure me c PresumeAbort true rs m f = simp (pushed, f.no_end, f.no_commit, f.no_abort, f.no_prepare, f.no_collecting) refl
-commit_pure me c PresumeCommit true rs m f = simp (pushed, f.no_end, f.no_commit, f.no_abort, f.no_prepare, f.no_collecting) refl
-commit_pure me c PresumeAbort false rs m f = simp (pushed, f.no_end, f.no_commit, f.no_abort, f.no_prepare, f.no_collecting) refl
-commit_pure me c PresumeCommit false rs m f = simp (pushed, f.no_end, f.no_commit, f.no_abort, f.no_prepare, f.no_collecting) refl
-
--- An abort at an Active case.
-
-abort_pure : (me : ProcessId) (c : Case) (p : Presumption) (rs : List Record) (m : Memory)
-    → ActiveFacts (has (is_end c) rs) (has (is_commit c) rs) (has (is_abort c) rs) (has (is_prepare c) rs) (has (is_collecting c) rs) Active
-    → let rs' = rs ++ [] in
-    let m' : Memory = record m { phase = Over } in
-    view_at (standing_with p rs' c m') rs' c m' ≡ unknown_view
-abort_pure me c PresumeAbort rs m f = simp (pushed, f.no_end, f.no_commit, f.no_abort, f.no_prepare, f.no_collecting) refl
-abort_pure me c PresumeCommit rs m f = simp (pushed, f.no_end, f.no_commit, f.no_abort, f.no_prepare, f.no_collecting) refl
-
--- Aborts of a case that collects votes.
-
-pub record CollectingFacts (E C A P : Bool) : Type 0 where
-  pub no_end : E ≡ false
-  pub no_commit : C ≡ false
-  pub no_abort : A ≡ false
-  pub no_prepare : P ≡ false
-
-phase_collecting : (p : Presumption) (ph : Phase) → phase_standing p ph ≡ Collecting → ph ≡ Asked
-phase_collecting PresumeAbort Asked e = refl
-phase_collecting PresumeCommit Asked e = absurd (cc)
-phase_collecting PresumeAbort Open e = absurd (cc)
-phase_collecting PresumeCommit Open e = absurd (cc)
-phase_collecting PresumeAbort Idle e = absurd (cc)
-phase_collecting PresumeCommit Idle e = absurd (cc)
-phase_collecting PresumeAbort Over e = absurd (cc)
-phase_collecting PresumeCommit Over e = absurd (cc)
-
-collecting_facts : (E C A P K N : Bool) (hs : Standing) → standing_by E C A P K N hs ≡ Collecting → CollectingFacts E C A P
-collecting_facts true C A P K N hs e = absurd (cc)
-collecting_facts false true A P K true hs e = absurd (cc)
-collecting_facts false true A P K false hs e = absurd (cc)
-collecting_facts false false true P K true hs e = absurd (cc)
-collecting_facts false false true P K false hs e = absurd (cc)
-collecting_facts false false false true K N hs e = absurd (cc)
-collecting_facts false false false false K N hs e = record { no_end = refl; no_commit = refl; no_abort = refl; no_prepare = refl }
-
--- with no acknowledgement heard, all that are named owe one
-owed_by_all : (o : Outcome) (ts : List Ticket) → still_owed [] o ts ≡ ts
-unfolding still_owed has_acked
-owed_by_all o [] = refl
-owed_by_all o (t ∷ ts) = ap (λ l. t ∷ l) (owed_by_all o ts)
-
-collecting_abort_pure : (me : ProcessId) (c : Case) (p : Presumption) (why : Reason) (none : Bool) (us : List Ticket) (rs : List Record) (m : Memory)
-    → CollectingFacts (has (is_end c) rs) (has (is_commit c) rs) (has (is_abort c) rs) (has (is_prepare c) rs)
-    → owing_by c rs ≡ [] → m.acks ≡ [] → none_of us ≡ none
-    → let s : Seat = record { me = me; parent = None; own = c } in
-    let row = collecting_abort_by s why (view_at Collecting rs c m) us p in
-    let rs' = rs ++ entries_written row.written in
-    let m' : Memory = record m { phase = Over } in
-    view_at (standing_with p rs' c m') rs' c m' ≡ row.view
-collecting_abort_pure me c PresumeAbort why none us rs m f owes acks u = simp (pushed, f.no_end, f.no_commit, f.no_abort, f.no_prepare, owes) refl
-collecting_abort_pure me c PresumeCommit why true us rs m f owes acks u = simp (pushed, f.no_end, f.no_commit, f.no_abort, f.no_prepare, owes, u) refl
-collecting_abort_pure me c PresumeCommit why false us rs m f owes acks u = simp (pushed, f.no_end, f.no_commit, f.no_abort, f.no_prepare, owes, u, acks, owed_by_all) refl
-
--- A vote of a case that collects votes.
-
--- the view where no record was written and the phase stays
-same_pure : (c : Case) (p : Presumption) (s : Standing) (rs : List Record) (m m' : Memory)
-    → standing_with p rs c m ≡ s → m'.phase ≡ m.phase
-    → view_at (standing_with p (rs ++ []) c m') (rs ++ []) c m' ≡ view_at s rs c m'
-same_pure c p s rs m m' h k = simp (append-nil, k, h) refl
-
-read_only_pure : (me : ProcessId) (c : Case) (p : Presumption) (rs : List Record) (m : Memory)
-    → CollectingFacts (has (is_end c) rs) (has (is_commit c) rs) (has (is_abort c) rs) (has (is_prepare c) rs)
-    → (p ≡ PresumeAbort → has (is_collecting c) rs ≡ false)
-    → let s : Seat = record { me = me; parent = None; own = c } in
-    let rs' = rs ++ entries_written (read_only_end s p) in
-    let m' : Memory = record m { phase = Over } in
-    view_at (standing_with p rs' c m') rs' c m' ≡ unknown_view
-read_only_pure me c PresumeAbort rs m f no_record =
-    let none : has (is_collecting c) rs ≡ false = no_record refl in
-    simp (pushed, f.no_end, f.no_commit, f.no_abort, f.no_prepare, none) refl
-read_only_pure me c PresumeCommit rs m f no_record = simp (pushed) refl
-
-root_commits_pure : (me : ProcessId) (c : Case) (p : Presumption) (ys : List Ticket) (rs : List Record) (m : Memory)
-    → CollectingFacts (has (is_end c) rs) (has (is_commit c) rs) (has (is_abort c) rs) (has (is_prepare c) rs)
-    → owing_by c rs ≡ [] → m.acks ≡ [] → none_of ys ≡ false
-    → let s : Seat = record { me = me; parent = None; own = c } in
-    let row = root_commits s (view_at Collecting rs c m) ys p in
-    let rs' = rs ++ entries_written row.written in
-    let m' : Memory = record m { phase = Over } in
-    view_at (standing_with p rs' c m') rs' c m' ≡ row.view
-root_commits_pure me c PresumeAbort ys rs m f owes acks some = simp (pushed, f.no_end, f.no_commit, f.no_abort, f.no_prepare, owes, some, acks, owed_by_all) refl
-root_commits_pure me c PresumeCommit ys rs m f owes acks some = simp (pushed, f.no_end, f.no_commit, f.no_abort, f.no_prepare, owes) refl
-
--- Acknowledgements.
-
--- no acknowledgement is heard while children or votes can still come
-abbrev pub QuietAt : Phase → List (Ticket × Outcome) → Type 0
-QuietAt Open acks = acks ≡ []
-QuietAt Asked acks = acks ≡ []
-QuietAt Idle acks = Unit {0}
-QuietAt Over acks = Unit {0}
-
-has_acked-push : (acks : List (Ticket × Outcome)) (t u : Ticket) (a o : Outcome)
-    → has_acked (acks ++ (t, a) ∷ []) o u ≡ (has_acked acks o u || (same_outcome a o && same_ticket t u))
-unfolding has_acked
-has_acked-push acks t u a o = grind (arith, list_any-append)
-
-filter_same : (f g : Ticket → Bool) (ts : List Ticket) → ((u : Ticket) → f u ≡ g u) → filter f ts ≡ filter g ts
-filter_same f g [] h = refl
-filter_same f g (t ∷ ts) h = rw (h t, filter_same f g ts h) refl
-
-or_nothing : (b : Bool) → not (b || false) ≡ not b
-or_nothing true = refl
-or_nothing false = refl
-
--- an acknowledgement that disagrees changes nothing
-disagreeing : (acks : List (Ticket × Outcome)) (t : Ticket) (a o : Outcome) (ts : List Ticket) → same_outcome a o ≡ false
-    → still_owed (acks ++ (t, a) ∷ []) o ts ≡ still_owed acks o ts
-unfolding still_owed
-disagreeing acks t a o ts d = filter_same _ _ ts (λ u. rw has_acked-push (rw d (or_nothing (has_acked acks o u))))
-
-filter_head : (g h : Ticket → Bool) (t : Ticket) (ts : List Ticket) (a b : Bool) → g t ≡ a → h t ≡ b
-    → filter g (filter h ts) ≡ filter (λ u. g u && h u) ts → filter g (filter h (t ∷ ts)) ≡ filter (λ u. g u && h u) (t ∷ ts)
-filter_head g h t ts true true e k ih = simp (e, k, ih) refl
-filter_head g h t ts true false e k ih = simp (e, k, ih) refl
-filter_head g h t ts false true e k ih = simp (e, k, ih) refl
-filter_head g h t ts false false e k ih = simp (e, k, ih) refl
-
-filter_filter : (g h : Ticket → Bool) (ts : List Ticket) → filter g (filter h ts) ≡ filter (λ u. g u && h u) ts
-filter_filter g h [] = refl
-filter_filter g h (t ∷ ts) = filter_head g h t ts (g t) (h t) refl refl (filter_filter g h ts)
-
-same_outcome-refl : (o : Outcome) → same_outcome o o ≡ true
-unfolding same_outcome
-same_outcome-refl CommittedOutcome = refl
-same_outcome-refl AbortedOutcome = refl
-
-neither : (a b : Bool) → not (a || (true && b)) ≡ (not b && not a)
-neither true true = refl
-neither true false = refl
-neither false true = refl
-neither false false = refl
-
--- an acknowledgement that agrees takes its ticket away
-agreeing : (acks : List (Ticket × Outcome)) (t : Ticket) (o : Outcome) (ts : List Ticket)
-    → still_owed (acks ++ (t, o) ∷ []) o ts ≡ other_tickets t (still_owed acks o ts)
-unfolding still_owed other_tickets
-agreeing acks t o ts =
-    filter_same _ _ ts (λ u. rw has_acked-push (rw (same_outcome-refl o) (neither (has_acked acks o u) (same_ticket t u))))
-    ∙ sym (filter_filter (λ u. not (same_ticket t u)) (λ u. not (has_acked acks o u)) ts)
-
-flipped : (a b : Ticket) → same_ticket a b ≡ same_ticket b a
-flipped a b = grind (arith, same_ticket_tells)
-
-none_taken : (t u : Ticket) (ts : List Ticket) (b : Bool) → same_ticket u t ≡ b → (b || in_list ts t) ≡ false
-    → other_tickets t ts ≡ ts → other_tickets t (u ∷ ts) ≡ u ∷ ts
-unfolding other_tickets in_list
-none_taken t u ts true e h ih = absurd (cc)
-none_taken t u ts false e h ih = rw (flipped t u, e) (ap (λ l. u ∷ l) ih)
-
--- a ticket that is not there takes nothing away
-not_there : (t : Ticket) (ts : List Ticket) → in_list ts t ≡ false → other_tickets t ts ≡ ts
-unfolding other_tickets in_list
-not_there t [] h = refl
-not_there t (u ∷ us) h = none_taken t u us (same_ticket u t) refl h (not_there t us (other_false (same_ticket u t) (in_list us t) h))
-
-abbrev pub acked : Memory → Ticket → Outcome → Memory
-acked m t o = record m { acks = m.acks ++ (t, o) ∷ [] }
-
-abbrev pub root_at : ProcessId → Case → Seat
-root_at me c = record { me = me; parent = None; own = c }
-
--- an acknowledgement that agrees with the decision
-acked_commit : (me : ProcessId) (c : Case) (p : Presumption) (t : Ticket) (rs : List Record) (m : Memory) (b none : Bool)
-    → standing_with p rs c m ≡ Committing
-    → in_list (still_owed m.acks CommittedOutcome (owing_by c rs)) t ≡ b → none_of (other_tickets t (still_owed m.acks CommittedOutcome (owing_by c rs))) ≡ none
-    → let row = decided_ack (root_at me c) t (view_at Committing rs c m) in
-    let rs' = rs ++ entries_written row.written in
-    view_at (standing_with p rs' c (acked m t CommittedOutcome)) rs' c (acked m t CommittedOutcome) ≡ row.view
-acked_commit me c p t rs m true true h there last = simp (pushed, there, last) refl
-acked_commit me c p t rs m true false h there last = simp (append-nil, there, last, h, agreeing) refl
-acked_commit me c p t rs m false none h there last =
-    let stays : other_tickets t (still_owed m.acks CommittedOutcome (owing_by c rs)) ≡ still_owed m.acks CommittedOutcome (owing_by c rs) = not_there t (still_owed m.acks CommittedOutcome (owing_by c rs)) there in
-    simp (append-nil, there, h, agreeing, stays) refl
-
-acked_abort : (me : ProcessId) (c : Case) (p : Presumption) (t : Ticket) (rs : List Record) (m : Memory) (b none : Bool)
-    → standing_with p rs c m ≡ Aborting
-    → in_list (still_owed m.acks AbortedOutcome (owing_by c rs)) t ≡ b → none_of (other_tickets t (still_owed m.acks AbortedOutcome (owing_by c rs))) ≡ none
-    → let row = decided_ack (root_at me c) t (view_at Aborting rs c m) in
-    let rs' = rs ++ entries_written row.written in
-    view_at (standing_with p rs' c (acked m t AbortedOutcome)) rs' c (acked m t AbortedOutcome) ≡ row.view
-acked_abort me c p t rs m true true h there last = simp (pushed, there, last) refl
-acked_abort me c p t rs m true false h there last = simp (append-nil, there, last, h, agreeing) refl
-acked_abort me c p t rs m false none h there last =
-    let stays : other_tickets t (still_owed m.acks AbortedOutcome (owing_by c rs)) ≡ still_owed m.acks AbortedOutcome (owing_by c rs) = not_there t (still_owed m.acks AbortedOutcome (owing_by c rs)) there in
-    simp (append-nil, there, h, agreeing, stays) refl
-
--- one that disagrees
-abbrev other_outcome : Outcome → Outcome
-other_outcome CommittedOutcome = AbortedOutcome
-other_outcome AbortedOutcome = CommittedOutcome
-
-apart : (o : Outcome) → same_outcome o (other_outcome o) ≡ false
-unfolding same_outcome
-apart CommittedOutcome = refl
-apart AbortedOutcome = refl
-
-owed_none : (acks : List (Ticket × Outcome)) (o : Outcome) → still_owed acks o [] ≡ []
-unfolding still_owed
-owed_none acks o = refl
-
-refused_commit : (c : Case) (p : Presumption) (t : Ticket) (rs : List Record) (m : Memory) → standing_with p rs c m ≡ Committing
-    → view_at (standing_with p (rs ++ []) c (acked m t AbortedOutcome)) (rs ++ []) c (acked m t AbortedOutcome) ≡ view_at Committing rs c m
-refused_commit c p t rs m h =
-    let same : still_owed (m.acks ++ (t, AbortedOutcome) ∷ []) CommittedOutcome (owing_by c rs) ≡ still_owed m.acks CommittedOutcome (owing_by c rs) =
-    disagreeing m.acks t AbortedOutcome CommittedOutcome (owing_by c rs) (apart AbortedOutcome) in
-    simp (append-nil, h, same) refl
-
-refused_abort : (c : Case) (p : Presumption) (t : Ticket) (rs : List Record) (m : Memory) → standing_with p rs c m ≡ Aborting
-    → view_at (standing_with p (rs ++ []) c (acked m t CommittedOutcome)) (rs ++ []) c (acked m t CommittedOutcome) ≡ view_at Aborting rs c m
-refused_abort c p t rs m h =
-    let same : still_owed (m.acks ++ (t, CommittedOutcome) ∷ []) AbortedOutcome (owing_by c rs) ≡ still_owed m.acks AbortedOutcome (owing_by c rs) =
-    disagreeing m.acks t CommittedOutcome AbortedOutcome (owing_by c rs) (apart CommittedOutcome) in
-    simp (append-nil, h, same) refl
-
--- one at a case that was not decided
-unawaited : (c : Case) (p : Presumption) (t : Ticket) (o : Outcome) (rs : List Record) (m : Memory) → standing_with p rs c m ≡ Unknown
-    → view_at (standing_with p (rs ++ []) c (acked m t o)) (rs ++ []) c (acked m t o) ≡ unknown_view
-unawaited c p t o rs m h = simp (append-nil, h) refl
-
-promised_ack : (c : Case) (p : Presumption) (t : Ticket) (o : Outcome) (rs : List Record) (m : Memory) → standing_with p rs c m ≡ Prepared → owing_by c rs ≡ []
-    → view_at (standing_with p (rs ++ []) c (acked m t o)) (rs ++ []) c (acked m t o) ≡ view_at Prepared rs c m
-promised_ack c p t o rs m h owes = simp (append-nil, h) (simp (owes, owed_none) refl)
-
--- The phases of a case: no acknowledgement is heard while children or votes can still come.
-
-abbrev pub Quiet : Memory → Type 0
-Quiet m = QuietAt m.phase m.acks
-
-quiet_if : (b : Bool) (m r : Memory) → Quiet m → Quiet r → Quiet (if b then r else m)
-quiet_if true m r q k = k
-quiet_if false m r q k = q
-
-quiet_over : (m : Memory) → Quiet (record m { phase = Over })
-quiet_over m = tt
-
-quiet_work : (m : Memory) (t : Option Ticket) (ph : Phase) → Quiet m → Quiet (sends_work m t ph)
-quiet_work m None Idle q = q
-quiet_work m None Open q = q
-quiet_work m None Asked q = q
-quiet_work m None Over q = q
-quiet_work m (Some t) Idle q = q
-quiet_work m (Some t) Open q = q
-quiet_work m (Some t) Asked q = q
-quiet_work m (Some t) Over q = q
-
-quiet_next : (b : Bool) (acks : List (Ticket × Outcome)) → acks ≡ [] → QuietAt (if b then Over else Asked) acks
-quiet_next true acks q = tt
-quiet_next false acks q = q
-
-quiet_asks : (m : Memory) (ph : Phase) → QuietAt ph m.acks → m.phase ≡ ph → Quiet (asks_votes m ph)
-quiet_asks m Open q e = quiet_next (none_of m.accepted) m.acks q
-quiet_asks m Idle q e = rw e tt
-quiet_asks m Asked q e = rw e q
-quiet_asks m Over q e = rw e tt
-
-quiet_closes : (m : Memory) (ph : Phase) → m.phase ≡ ph → Quiet (closes m ph)
-quiet_closes m Idle e = rw e tt
-quiet_closes m Open e = tt
-quiet_closes m Asked e = tt
-quiet_closes m Over e = tt
-
-quiet_accepts : (m : Memory) (t : Ticket) (ph : Phase) → Quiet m → Quiet (accepts_ticket m t ph)
-quiet_accepts m t Idle q = q
-quiet_accepts m t Open q = quiet_if (has_child m.accepted t.child) (record m { accepted = m.accepted ++ t ∷ [] }) m q q
-quiet_accepts m t Asked q = q
-quiet_accepts m t Over q = q
-
-quiet_vote : (m : Memory) (t : Ticket) (w : Vote) → m.acks ≡ [] → Quiet (with_vote m t w)
-quiet_vote m t VoteNo q = tt
-quiet_vote m t VoteYes q = quiet_next (all_voted m.accepted (m.votes ++ (t, VoteYes) ∷ [])) m.acks q
-quiet_vote m t VoteRead q = quiet_next (all_voted m.accepted (m.votes ++ (t, VoteRead) ∷ [])) m.acks q
-
-quiet_takes : (m : Memory) (t : Ticket) (w : Vote) (ph : Phase) → QuietAt ph m.acks → m.phase ≡ ph → Quiet (takes_vote m t w ph)
-quiet_takes m t w Idle q e = rw e tt
-quiet_takes m t w Open q e = rw e q
-quiet_takes m t w Asked q e = quiet_if (is_counted m.accepted m.votes t) m (with_vote m t w) (rw e q) (quiet_vote m t w q)
-quiet_takes m t w Over q e = rw e tt
-
-quiet_acks : (m : Memory) (t : Ticket) (o : Outcome) (ph : Phase) → QuietAt ph m.acks → m.phase ≡ ph → Quiet (takes_ack m t o ph)
-quiet_acks m t o Idle q e = rw e tt
-quiet_acks m t o Open q e = rw e q
-quiet_acks m t o Asked q e = rw e q
-quiet_acks m t o Over q e = rw e tt
-
-quiet_ticket : (o : Option Ticket) (m : Memory) (f : Ticket → Memory) → Quiet m → ((t : Ticket) → Quiet (f t)) → Quiet (of_ticket o m f)
-quiet_ticket None m f q k = q
-quiet_ticket (Some t) m f q k = k t
-
-quiet_child : (c d : Case) (m : Memory) (f : Ticket → Memory) → Quiet m → ((t : Ticket) → Quiet (f t)) → Quiet (of_child c d m f)
-quiet_child c d m f q k = quiet_if (same_txn d.txn c.txn) m (of_ticket d.ticket m f) q (quiet_ticket d.ticket m f q k)
-
-quiet_hears : (c : Case) (m : Memory) (message : Message) → Quiet m → Quiet (hears_child c m message)
-quiet_hears c m (Joined d t) q = quiet_if (same_case d c) m (accepts_ticket m t m.phase) q (quiet_accepts m t m.phase q)
-quiet_hears c m (Yes d) q = quiet_child c d m _ q (λ t. quiet_takes m t VoteYes m.phase q refl)
-quiet_hears c m (No d) q = quiet_child c d m _ q (λ t. quiet_takes m t VoteNo m.phase q refl)
-quiet_hears c m (Read d) q = quiet_child c d m _ q (λ t. quiet_takes m t VoteRead m.phase q refl)
-quiet_hears c m (Ack d o) q = quiet_child c d m _ q (λ t. quiet_acks m t o m.phase q refl)
-quiet_hears c m message q = q
-
-quiet_step : (me : ProcessId) (boot : ℕ) (c : Case) (m : Memory) (i : Input) → Quiet m → Quiet (root_remembers me boot c m i)
-quiet_step me boot c m (ActInput (Begin p)) q =
-    quiet_if (same_case (root_case (next_txn me boot m p)) c) (record m { begun = m.begun + 1 }) (opens_case (record m { begun = m.begun + 1 })) q refl
-quiet_step me boot c m (ActInput (WorkAct d r op)) q =
-    quiet_if (same_case d c) m (sends_work m (ticket_of_child m.accepted r) m.phase) q (quiet_work m (ticket_of_child m.accepted r) m.phase q)
-quiet_step me boot c m (ActInput (CommitAct x)) q =
-    quiet_if (same_case (root_case x) c) m (asks_votes m m.phase) q (quiet_asks m m.phase q refl)
-quiet_step me boot c m (ActInput (AbortAct x)) q =
-    quiet_if (same_case (root_case x) c) m (closes m m.phase) q (quiet_closes m m.phase refl)
-quiet_step me boot c m (ActInput a) q = q
-quiet_step me boot c m (MessageInput k message) q = quiet_hears c m message q
-
-quiet_fold : (me : ProcessId) (boot : ℕ) (c : Case) (m : Memory) (hs : List Heard) → Quiet m → Quiet (fold (remembers me AtRoot boot c) m hs)
-quiet_fold me boot c m [] q = q
-quiet_fold me boot c m (h ∷ hs) q = quiet_fold me boot c (root_remembers me boot c m h.input) hs (quiet_step me boot c m h.input q)
-
-pub memory_quiet : (me : ProcessId) (tree : List TreeEntry) (n : Node) (c : Case) → Quiet (memory_of (root_place me tree) n c)
-unfolding memory_of
-memory_quiet me tree n c = quiet_fold me (boot_of (kept n)) c fresh_memory n.heard tt
-
--- where votes are collected, no acknowledgement was heard
-asked_quiet : (m : Memory) → Quiet m → m.phase ≡ Asked → m.acks ≡ []
-asked_quiet m q e = let P : Phase → Type 0 = λ ph. QuietAt ph m.acks in subst P e q
+use Rattle.tree_model.specs.Views.{root_place, root_seat, hears_act, hears_message, vote_message, MovesTxn, RootViews, IsOpenAlike}
+use Rattle.tree_model.proofs.TicketLaws.{pushed, undecided_owes}
+use Rattle.tree_model.proofs.StandingLaws.{ActiveFacts, active_facts, phase_active, view_standing, view-after, standing_with, not_accepted, not_taken, phase_standing_known, never_heuristic, prepared_facts, phase_unprepared}
+use Rattle.tree_model.proofs.AckLaws.{acked, acked_commit, acked_abort, refused_commit, refused_abort, unawaited, promised_ack}
+use Rattle.tree_model.proofs.RootRowLaws.{commit_row, commit_pure, abort_pure, CollectingFacts, collecting_facts, collecting_abort_pure, same_pure, read_only_pure, root_commits_pure}
+use Rattle.tree_model.proofs.PhaseLaws.{memory_quiet, asked_quiet}
 
 -- What a message or an act of another transaction leaves: nothing moves.
 
-apart_case : (x y : Txn) → same_txn x y ≡ false → same_case (root_case x) (root_case y) ≡ false
+pub apart_case : (x y : Txn) → same_txn x y ≡ false → same_case (root_case x) (root_case y) ≡ false
 unfolding same_case
 apart_case x y o = rw o refl
 
@@ -501,72 +47,20 @@ pub record IsOf (c : Case) (row : Row) : Type 0 where
   pub others : (d : Case) (rs : List Record) (m : Memory) → same_case c d ≡ false
       → view_at (coordinator_standing (rs ++ entries_written row.written) d m) (rs ++ entries_written row.written) d m ≡ view_at (coordinator_standing rs d m) rs d m
 
-quiet_of : (c : Case) (row : Row) → row.written ≡ [] → IsOf c row
+pub quiet_of : (c : Case) (row : Row) → row.written ≡ [] → IsOf c row
 quiet_of c row h = record { boot = λ b. rw h refl; others = λ d rs m o. rw h (simp append-nil refl) }
 
-end_of : (c : Case) (row : Row) (b : Bool) → row.written ≡ record { entry = EndRecord c; is_forced = b } ∷ [] → IsOf c row
+pub end_of : (c : Case) (row : Row) (b : Bool) → row.written ≡ record { entry = EndRecord c; is_forced = b } ∷ [] → IsOf c row
 end_of c row b h = record { boot = λ b. rw h refl; others = λ d rs m o. rw h (simp (pushed, o) refl) }
 
-commit_of : (c : Case) (ts : List Ticket) (row : Row) (b : Bool) → row.written ≡ record { entry = CommitRecord c ts; is_forced = b } ∷ [] → IsOf c row
+pub commit_of : (c : Case) (ts : List Ticket) (row : Row) (b : Bool) → row.written ≡ record { entry = CommitRecord c ts; is_forced = b } ∷ [] → IsOf c row
 commit_of c ts row b h = record { boot = λ b. rw h refl; others = λ d rs m o. rw h (simp (pushed, o) refl) }
 
-abort_of : (c : Case) (ts : List Ticket) (row : Row) (b : Bool) → row.written ≡ record { entry = AbortRecord c ts; is_forced = b } ∷ [] → IsOf c row
+pub abort_of : (c : Case) (ts : List Ticket) (row : Row) (b : Bool) → row.written ≡ record { entry = AbortRecord c ts; is_forced = b } ∷ [] → IsOf c row
 abort_of c ts row b h = record { boot = λ b. rw h refl; others = λ d rs m o. rw h (simp (pushed, o) refl) }
 
-collecting_of : (c : Case) (ts : List Ticket) (row : Row) (b : Bool) → row.written ≡ record { entry = CollectingRecord c ts; is_forced = b } ∷ [] → IsOf c row
+pub collecting_of : (c : Case) (ts : List Ticket) (row : Row) (b : Bool) → row.written ≡ record { entry = CollectingRecord c ts; is_forced = b } ∷ [] → IsOf c row
 collecting_of c ts row b h = record { boot = λ b. rw h refl; others = λ d rs m o. rw h (simp (pushed, o) refl) }
-
--- What a phase lets in.
-
-not_accepted : (m : Memory) (t : Ticket) (ph : Phase) → (ph ≡ Open → ⊥) → accepts_ticket m t ph ≡ m
-not_accepted m t Idle h = refl
-not_accepted m t Open h = absurd (h refl)
-not_accepted m t Asked h = refl
-not_accepted m t Over h = refl
-
-not_taken : (m : Memory) (t : Ticket) (w : Vote) (ph : Phase) → (ph ≡ Asked → ⊥) → takes_vote m t w ph ≡ m
-not_taken m t w Idle h = refl
-not_taken m t w Open h = refl
-not_taken m t w Asked h = absurd (h refl)
-not_taken m t w Over h = refl
-
-phase_standing_known : (p : Presumption) (ph : Phase) → phase_standing p ph ≡ Heuristic → ⊥
-phase_standing_known p Open e = cc
-phase_standing_known PresumeAbort Asked e = cc
-phase_standing_known PresumeCommit Asked e = cc
-phase_standing_known PresumeAbort Idle e = cc
-phase_standing_known PresumeCommit Idle e = cc
-phase_standing_known PresumeAbort Over e = cc
-phase_standing_known PresumeCommit Over e = cc
-
-never_heuristic : (E C A P K N : Bool) (hs : Standing) → (hs ≡ Heuristic → ⊥) → standing_by E C A P K N hs ≡ Heuristic → ⊥
-never_heuristic true C A P K N hs d e = cc
-never_heuristic false true A P K true hs d e = cc
-never_heuristic false true A P K false hs d e = cc
-never_heuristic false false true P K true hs d e = cc
-never_heuristic false false true P K false hs d e = cc
-never_heuristic false false false true K N hs d e = cc
-never_heuristic false false false false true N hs d e = cc
-never_heuristic false false false false false N hs d e = d e
-
-prepared_facts : (E C A P K N : Bool) (hs : Standing) → (hs ≡ Prepared → ⊥) → standing_by E C A P K N hs ≡ Prepared → (C ≡ false) × (A ≡ false)
-prepared_facts true C A P K N hs d e = absurd (cc)
-prepared_facts false true A P K true hs d e = absurd (cc)
-prepared_facts false true A P K false hs d e = absurd (cc)
-prepared_facts false false true P K true hs d e = absurd (cc)
-prepared_facts false false true P K false hs d e = absurd (cc)
-prepared_facts false false false true K N hs d e = (refl, refl)
-prepared_facts false false false false true N hs d e = absurd (cc)
-prepared_facts false false false false false N hs d e = absurd (d e)
-
-phase_unprepared : (p : Presumption) (ph : Phase) → phase_standing p ph ≡ Prepared → ⊥
-phase_unprepared p Open e = cc
-phase_unprepared PresumeAbort Asked e = cc
-phase_unprepared PresumeCommit Asked e = cc
-phase_unprepared PresumeAbort Idle e = cc
-phase_unprepared PresumeCommit Idle e = cc
-phase_unprepared PresumeAbort Over e = cc
-phase_unprepared PresumeCommit Over e = cc
 
 -- Whole rows.
 
@@ -574,7 +68,7 @@ phase_unprepared PresumeCommit Over e = cc
 abbrev pub read_view : List Record → Case → Memory → CoordinatorView
 read_view rs c m = view_at (standing_with c.txn.presumption rs c m) rs c m
 
-here : (c : Case) (m r : Memory) → (if same_case c c then r else m) ≡ r
+pub here : (c : Case) (m r : Memory) → (if same_case c c then r else m) ≡ r
 here c m r = rw (same_case-refl c) refl
 
 module _ (me : ProcessId) (tree : List TreeEntry) (n : Node) (x : Txn) where
@@ -1042,118 +536,3 @@ module _ (me : ProcessId) (tree : List TreeEntry) (n : Node) (x : Txn) where
         acknowledgement = ack_views;
         inquiry = inquiry_views;
       }
-
--- A transaction that begins.
-
--- how many were begun is the same in each case
-abbrev pub begun_next : ℕ → Input → ℕ
-begun_next k (ActInput (Begin p)) = k + 1
-begun_next k (ActInput a) = k
-begun_next k (MessageInput i m) = k
-
-begun_if : (b : Bool) (m r : Memory) → r.begun ≡ m.begun → (if b then r else m).begun ≡ m.begun
-begun_if true m r h = h
-begun_if false m r h = refl
-
-begun_work : (m : Memory) (t : Option Ticket) (ph : Phase) → (sends_work m t ph).begun ≡ m.begun
-begun_work m None Idle = refl
-begun_work m None Open = refl
-begun_work m None Asked = refl
-begun_work m None Over = refl
-begun_work m (Some t) Idle = refl
-begun_work m (Some t) Open = refl
-begun_work m (Some t) Asked = refl
-begun_work m (Some t) Over = refl
-
-begun_asks : (m : Memory) (ph : Phase) → (asks_votes m ph).begun ≡ m.begun
-begun_asks m Idle = refl
-begun_asks m Open = refl
-begun_asks m Asked = refl
-begun_asks m Over = refl
-
-begun_closes : (m : Memory) (ph : Phase) → (closes m ph).begun ≡ m.begun
-begun_closes m Idle = refl
-begun_closes m Open = refl
-begun_closes m Asked = refl
-begun_closes m Over = refl
-
-begun_accepts : (m : Memory) (t : Ticket) (ph : Phase) → (accepts_ticket m t ph).begun ≡ m.begun
-begun_accepts m t Idle = refl
-begun_accepts m t Open = begun_if (has_child m.accepted t.child) (record m { accepted = m.accepted ++ t ∷ [] }) m refl
-begun_accepts m t Asked = refl
-begun_accepts m t Over = refl
-
-begun_takes : (m : Memory) (t : Ticket) (w : Vote) (ph : Phase) → (takes_vote m t w ph).begun ≡ m.begun
-begun_takes m t w Idle = refl
-begun_takes m t w Open = refl
-begun_takes m t w Asked = begun_if (is_counted m.accepted m.votes t) m (with_vote m t w) refl
-begun_takes m t w Over = refl
-
-begun_acks : (m : Memory) (t : Ticket) (o : Outcome) (ph : Phase) → (takes_ack m t o ph).begun ≡ m.begun
-begun_acks m t o Idle = refl
-begun_acks m t o Open = refl
-begun_acks m t o Asked = refl
-begun_acks m t o Over = refl
-
-begun_ticket : (o : Option Ticket) (m : Memory) (f : Ticket → Memory) → ((t : Ticket) → (f t).begun ≡ m.begun) → (of_ticket o m f).begun ≡ m.begun
-begun_ticket None m f k = refl
-begun_ticket (Some t) m f k = k t
-
-begun_child : (c d : Case) (m : Memory) (f : Ticket → Memory) → ((t : Ticket) → (f t).begun ≡ m.begun) → (of_child c d m f).begun ≡ m.begun
-begun_child c d m f k = begun_if (same_txn d.txn c.txn) m (of_ticket d.ticket m f) (begun_ticket d.ticket m f k)
-
-begun_hears : (c : Case) (m : Memory) (message : Message) → (hears_child c m message).begun ≡ m.begun
-begun_hears c m (Joined d t) = begun_if (same_case d c) m (accepts_ticket m t m.phase) (begun_accepts m t m.phase)
-begun_hears c m (Yes d) = begun_child c d m _ (λ t. begun_takes m t VoteYes m.phase)
-begun_hears c m (No d) = begun_child c d m _ (λ t. begun_takes m t VoteNo m.phase)
-begun_hears c m (Read d) = begun_child c d m _ (λ t. begun_takes m t VoteRead m.phase)
-begun_hears c m (Ack d o) = begun_child c d m _ (λ t. begun_acks m t o m.phase)
-begun_hears c m message = refl
-
-begun_step : (me : ProcessId) (boot : ℕ) (c : Case) (m : Memory) (i : Input) → (root_remembers me boot c m i).begun ≡ begun_next m.begun i
-begun_step me boot c m (ActInput (Begin p)) =
-    begun_if (same_case (root_case (next_txn me boot m p)) c) (record m { begun = m.begun + 1 }) (opens_case (record m { begun = m.begun + 1 })) refl
-begun_step me boot c m (ActInput (WorkAct d r op)) = begun_if (same_case d c) m (sends_work m (ticket_of_child m.accepted r) m.phase) (begun_work m (ticket_of_child m.accepted r) m.phase)
-begun_step me boot c m (ActInput (CommitAct y)) = begun_if (same_case (root_case y) c) m (asks_votes m m.phase) (begun_asks m m.phase)
-begun_step me boot c m (ActInput (AbortAct y)) = begun_if (same_case (root_case y) c) m (closes m m.phase) (begun_closes m m.phase)
-begun_step me boot c m (ActInput a) = refl
-begun_step me boot c m (MessageInput k message) = begun_hears c m message
-
-begun_fold : (me : ProcessId) (boot : ℕ) (c : Case) (m : Memory) (hs : List Heard)
-    → (fold (remembers me AtRoot boot c) m hs).begun ≡ fold (λ k h. begun_next k h.input) m.begun hs
-begun_fold me boot c m [] = refl
-begun_fold me boot c m (h ∷ hs) =
-    begun_fold me boot c (root_remembers me boot c m h.input) hs ∙ ap (λ k. fold (λ j g. begun_next j g.input) k hs) (begun_step me boot c m h.input)
-
-same_begun : (me : ProcessId) (tree : List TreeEntry) (n : Node) (c d : Case)
-    → (memory_of (root_place me tree) n c).begun ≡ (memory_of (root_place me tree) n d).begun
-unfolding memory_of
-same_begun me tree n c d =
-    begun_fold me (boot_of (kept n)) c fresh_memory n.heard ∙ sym (begun_fold me (boot_of (kept n)) d fresh_memory n.heard)
-
-begun_pure : (rs : List Record) (c : Case) (m : Memory) → IsUnrecorded rs c
-    → view_at (standing_with c.txn.presumption (rs ++ []) c (opens_case m)) (rs ++ []) c (opens_case m)
-    ≡ record { standing = Active; accepted = []; votes = []; works = []; promised = []; named = []; owed = [] }
-begun_pure rs c m u = simp (append-nil, u.no_end, u.no_commit, u.no_abort, u.no_prepare, u.no_collecting) (simp (u.promised, u.named, u.owing, owed_none) refl)
-
-counted_pure : (rs : List Record) (c : Case) (m : Memory) (k : ℕ)
-    → view_at (coordinator_standing (rs ++ []) c (record m { begun = k })) (rs ++ []) c (record m { begun = k }) ≡ view_at (coordinator_standing rs c m) rs c m
-counted_pure rs c m k = simp append-nil refl
-
-pub root_begins : (me : ProcessId) (tree : List TreeEntry) (n : Node) (p : Presumption) (a : DataAnswer) → RootBegins me tree n p a
-unfolding coordinator_view
-root_begins me tree n p a =
-    let place = root_place me tree in
-    let boot = boot_of (kept n) in
-    let x = next_begun place n p in
-    let h = hears_act (Begin p) a in
-    let named : (c : Case) → next_txn me boot (memory_of place n c) p ≡ x =
-    λ c. ap (λ (k : ℕ). record { root = me; boot = boot; sequence = k + 1; presumption = p }) (same_begun me tree n c (some_case place)) in
-    record {
-      begun = λ u.
-          view-after place n h (begin_effect x) (root_case x) (λ b. refl)
-          ∙ rw (named (root_case x), same_case-refl (root_case x)) (begun_pure (kept n) (root_case x) (record (memory_of place n (root_case x)) { begun = (memory_of place n (root_case x)).begun + 1 }) u);
-      others = λ y o.
-          view-after place n h (begin_effect x) (root_case y) (λ b. refl)
-          ∙ rw (named (root_case y), apart_case x y o) (counted_pure (kept n) (root_case y) (memory_of place n (root_case y)) ((memory_of place n (root_case y)).begun + 1));
-    }

@@ -14,7 +14,10 @@ use Rattle.tree_model.specs.Restarts.{recorded_view, recorded_branch, trimmed}
 use Rattle.tree_model.specs.Standings.{still_owed, coordinator_view, mark_of, manager_view}
 use Rattle.tree_model.specs.Store.{key_below, with_pair, without_key, applied, writes_of, stored}
 use Rattle.tree_model.specs.World.{node_makes, world_makes, made_by, node_by, net_by, entries_of, journal_of}
-use Rattle.tree_model.specs.Rows.{Runs, flat_pa_commit, flat_pc_commit, late_no_vote_pa, root_restart_collecting_pc, late_inquiry_after_trim_pa, cascaded_abort_after_prepare_pc, cascaded_readonly_vote_end_lost_pc, heuristic_rollback_mismatch, late_no_vote_pc, readonly_transactions, root_restart_committing_pa, forgotten_ticket_votes_no, cascaded_restart_pa, heuristic_rollback_forgotten, heuristic_forgotten_before_vote, cascaded_pa_commit, ask_before_prepare, ask_after_commit, commit_again_after_end, commit_again_before_votes, trim_manager_twice, collecting_in_doubt_pc, cascaded_in_doubt_pa}
+use Rattle.tree_model.specs.Rows.{Runs}
+use Rattle.tree_model.specs.FlatRuns.{flat_pa_commit, flat_pc_commit, late_no_vote_pa, late_no_vote_pc, readonly_transactions, forgotten_ticket_votes_no, commit_again_after_end, commit_again_before_votes}
+use Rattle.tree_model.specs.TreeRuns.{cascaded_abort_after_prepare_pc, cascaded_readonly_vote_end_lost_pc, cascaded_restart_pa, cascaded_pa_commit, cascaded_in_doubt_pa}
+use Rattle.tree_model.specs.DoubtRuns.{root_restart_collecting_pc, late_inquiry_after_trim_pa, heuristic_rollback_mismatch, root_restart_committing_pa, heuristic_rollback_forgotten, heuristic_forgotten_before_vote, ask_before_prepare, ask_after_commit, trim_manager_twice, collecting_in_doubt_pc}
 
 -- what a run computes with
 unfoldable computing : ⊤

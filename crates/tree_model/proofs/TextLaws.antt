@@ -8,8 +8,7 @@ use Rattle.tree_model.specs.declared.names.ProcessId.{ProcessId}
 use Rattle.tree_model.specs.declared.names.Presumption.{Presumption}
 use Rattle.tree_model.specs.declared.names.Presumption.TheVariants.{PresumeAbort, PresumeCommit}
 use Rattle.tree_model.specs.declared.names.Ticket.{Ticket}
-use Rattle.tree_model.specs.declared.names.Txn.{Txn}
-use Rattle.tree_model.specs.Texts.{presumption_letter, txn_text, ticket_text, case_text, ticket_part, FitsName, FitsOwner, FitsCase, TellsCases, TellsTickets}
+use Rattle.tree_model.specs.Texts.{ticket_text, case_text, ticket_part, FitsOwner, TellsCases, TellsTickets}
 
 -- Digits.
 
@@ -24,7 +23,7 @@ digits_push (x ∷ xs) d h low high = (h.0, h.1, digits_push xs d h.2 low high)
 decimal_digits : (n : ℕ) → n < 2 ^ 64 → Digits (decimal n)
 decimal_digits n h =
     decimal_by_steps (λ k ds. Digits ds) (λ k lt. (omega arith, omega arith, tt))
-      (λ k ds big before. digits_push ds (48 + k % 10) before (omega arith) (omega arith)) n h
+    (λ k ds big before. digits_push ds (48 + k % 10) before (omega arith) (omega arith)) n h
 
 -- a byte that is no digit
 abbrev IsMark : ℕ → Type 0
@@ -71,13 +70,13 @@ ticket_same a b n a' b' n' e f g = rw (e, f, g) refl
 pub tickets_told : (t u : Ticket) → TellsTickets t u
 tickets_told t u h k e =
     let whole : decimal t.child.0 ++ 46 ∷ (decimal t.boot ++ 46 ∷ decimal t.number) ≡ decimal u.child.0 ++ 46 ∷ (decimal u.boot ++ 46 ∷ decimal u.number) =
-        sym (ticket_parts t) ∙ (e ∙ ticket_parts u) in
+    sym (ticket_parts t) ∙ (e ∙ ticket_parts u) in
     let first = split 46 full_stop _ _ _ _ (decimal_digits t.child.0 h.0) (decimal_digits u.child.0 k.0) whole in
     let second = split 46 full_stop _ _ _ _ (decimal_digits t.boot h.1.boot_fits) (decimal_digits u.boot k.1.boot_fits) first.1 in
     ticket_same _ _ _ _ _ _
-      (decimal_injective t.child.0 u.child.0 h.0 k.0 first.0)
-      (decimal_injective t.boot u.boot h.1.boot_fits k.1.boot_fits second.0)
-      (decimal_injective t.number u.number h.1.number_fits k.1.number_fits second.1)
+    (decimal_injective t.child.0 u.child.0 h.0 k.0 first.0)
+    (decimal_injective t.boot u.boot h.1.boot_fits k.1.boot_fits second.0)
+    (decimal_injective t.number u.number h.1.number_fits k.1.number_fits second.1)
 
 -- Transactions and cases: the text behind the letter.
 
@@ -87,7 +86,7 @@ letter_code PresumeCommit = 99
 
 case_parts : (p : Presumption) (root : ProcessId) (boot sequence : ℕ) (o : Option Ticket)
     → case_text (record { txn = record { root = root; boot = boot; sequence = sequence; presumption = p }; ticket = o })
-      ≡ letter_code p ∷ (decimal boot ++ 46 ∷ (decimal sequence ++ ticket_part o))
+    ≡ letter_code p ∷ (decimal boot ++ 46 ∷ (decimal sequence ++ ticket_part o))
 unfolding letter_code
 case_parts PresumeAbort root boot sequence o = simp append_assoc
 case_parts PresumeCommit root boot sequence o = simp append_assoc
@@ -118,7 +117,7 @@ case_same p q root root' b s b' s' o o' e f g h i = rw (e, f, g, h, i) refl
 pub cases_told : (c d : Case) → TellsCases c d
 cases_told c d h k root e =
     let whole = sym (case_parts c.txn.presumption c.txn.root c.txn.boot c.txn.sequence c.ticket)
-        ∙ (e ∙ case_parts d.txn.presumption d.txn.root d.txn.boot d.txn.sequence d.ticket) in
+    ∙ (e ∙ case_parts d.txn.presumption d.txn.root d.txn.boot d.txn.sequence d.ticket) in
     let letter = letters_told c.txn.presumption d.txn.presumption (head_same _ _ _ _ whole) in
     let boots = split 46 full_stop _ _ _ _ (decimal_digits c.txn.boot h.0.boot_fits) (decimal_digits d.txn.boot k.0.boot_fits) (tail_same _ _ _ _ whole) in
     let rest = owners_told c.txn.sequence d.txn.sequence c.ticket d.ticket h.0.number_fits k.0.number_fits h.1 k.1 boots.1 in

@@ -14,7 +14,10 @@ ghost use Rattle.tree_model.specs.declared.names.Txn.{Txn};
 ghost use Rattle.tree_model.specs.Nodes.{DataAnswer, Node, place_of};
 ghost use Rattle.tree_model.specs.Views.{ManagerViews, RootBegins, RootViews};
 ghost use Rattle.tree_model.specs.World.{IsRun, Made, World, made_by, net_by, node_by};
-ghost use Rattle.tree_model.specs.Rows.{Runs, flat_pa_commit, flat_pc_commit, late_no_vote_pa, root_restart_collecting_pc, late_inquiry_after_trim_pa, cascaded_abort_after_prepare_pc, cascaded_readonly_vote_end_lost_pc, heuristic_rollback_mismatch, late_no_vote_pc, readonly_transactions, root_restart_committing_pa, forgotten_ticket_votes_no, cascaded_restart_pa, heuristic_rollback_forgotten, heuristic_forgotten_before_vote, cascaded_pa_commit, ask_before_prepare, ask_after_commit, commit_again_after_end, commit_again_before_votes, trim_manager_twice, collecting_in_doubt_pc, cascaded_in_doubt_pa};
+ghost use Rattle.tree_model.specs.Rows.{Runs};
+ghost use Rattle.tree_model.specs.FlatRuns.{flat_pa_commit, flat_pc_commit, late_no_vote_pa, late_no_vote_pc, readonly_transactions, forgotten_ticket_votes_no, commit_again_after_end, commit_again_before_votes};
+ghost use Rattle.tree_model.specs.TreeRuns.{cascaded_abort_after_prepare_pc, cascaded_readonly_vote_end_lost_pc, cascaded_restart_pa, cascaded_pa_commit, cascaded_in_doubt_pa};
+ghost use Rattle.tree_model.specs.DoubtRuns.{root_restart_collecting_pc, late_inquiry_after_trim_pa, heuristic_rollback_mismatch, root_restart_committing_pa, heuristic_rollback_forgotten, heuristic_forgotten_before_vote, ask_before_prepare, ask_after_commit, trim_manager_twice, collecting_in_doubt_pc};
 
 /// The worked runs come out as they are written.
 pub fn worked_runs()
