@@ -8,4 +8,4 @@ mod trace;
 
 pub use document::{DocumentError, read_tree};
 pub use event::event_of;
-pub use trace::case_text;
+pub use trace::{case_text, push_entry, trace_text};
