@@ -2,3 +2,5 @@ pub mod Names
 pub mod Events
 pub mod Documents
 pub mod Trace
+pub mod Rules
+pub mod Script

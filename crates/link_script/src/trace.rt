@@ -2,17 +2,31 @@
 
 ghost use Rattle.std.specs.Prelude.{◌≡◌, ◌+◌, ◌<◌, ◌^◌, ◌++◌, ◌∷◌, [], OnOk, IfOk, length, decimal, codes, flat_map};
 ghost use Rattle.tree_model.specs.Texts.{
-    txn_text, ticket_text, case_text as text_of_case, op_text, outcome_word as word_of_outcome, message_text,
-    envelope_text, kind_word as word_of_kind, subject_text, logged_text, conclusion_word as word_of_conclusion, told_text,
-    begun_lines, logged_lines, told_lines, envelope_lines, kept_lines
+  txn_text,
+  ticket_text,
+  case_text as text_of_case,
+  op_text,
+  outcome_word as word_of_outcome,
+  message_text,
+  envelope_text,
+  kind_word as word_of_kind,
+  subject_text,
+  logged_text,
+  conclusion_word as word_of_conclusion,
+  told_text,
+  begun_lines,
+  logged_lines,
+  told_lines,
+  envelope_lines,
+  kept_lines,
 };
-ghost use Rattle.link_script.specs.Trace.{lines_text, entry_text, entries_text};
+ghost use Rattle.link_script.specs.Trace.{lines_text, entry_text, entries_text, messages_in};
 
 use itoa::Buffer;
 use std::alloc::{AllocError, Global};
 use tree_model::{
-    Case, Conclusion, Entry, Envelope, Logged, Message, Op, Outcome, Presumption, RecordKind, Subject,
-    Ticket, Told, Txn,
+    Case, Conclusion, Entry, Envelope, Logged, Message, Op, Outcome, Presumption, RecordKind,
+    Subject, Ticket, Told, Txn,
 };
 
 /// The name of a case, as `a1.1@2.1.1`.
@@ -227,4 +241,96 @@ fn push_told(out: &mut Vec<u8>, told: &Told) -> Result<(), AllocError>
     push_txn(out, &told.txn)?;
     push(out, " ")?;
     push(out, conclusion_word(told.conclusion))
+}
+
+/// Writes the lines of an entry before which so many messages were sent: what it began, its records, what it told,
+/// its messages, and what a trim kept. Where memory is refused, a beginning of them may stand.
+#[tactic(auto, unfolding(crate::specs::Trace::entry_text))]
+pub fn push_entry(out: &mut Vec<u8>, sent: u64, entry: &Entry) -> Result<(), AllocError>
+    requires { sent + length entry.now.reaction.letters < 2 ^ 64 }
+    ensures { OnOk result (out.new.items ≡ out.old.items ++ entry_text sent entry.now) }
+{
+    let process = entry.step.process.0;
+    let reaction = &entry.reaction;
+    push_begun(out, &reaction.begun)?;
+    push_written(out, process, reaction.written.as_slice())?;
+    push_conclusion(out, &reaction.told)?;
+    push_letters(out, sent, reaction.letters.as_slice())?;
+    push_kept(out, process, &reaction.kept)
+}
+
+/// The text of these entries of a run, from its first on.
+pub fn trace_text(alloc: Global, entries: &[Entry]) -> Result<Vec<u8>, AllocError>
+    requires { messages_in entries.now < 2 ^ 64 }
+    ensures { IfOk result (λ text. text.items ≡ entries_text 0 entries.now) }
+{
+    let mut out = Vec::new(alloc);
+    let mut sent = 0;
+    for entry in entries {
+        push_entry(&mut out, sent, entry)?;
+        sent += entry.reaction.letters.len() as u64;
+    }
+    Ok(out)
+}
+
+fn push_begun(out: &mut Vec<u8>, begun: &Option<Txn>) -> Result<(), AllocError>
+    ensures { OnOk result (out.new.items ≡ out.old.items ++ lines_text (begun_lines begun.now)) }
+{
+    match begun {
+        None => Ok(()),
+        Some(txn) => {
+            push(out, "begin ")?;
+            push_txn(out, txn)?;
+            push(out, "\n")
+        }
+    }
+}
+
+fn push_written(out: &mut Vec<u8>, process: u32, written: &[Logged]) -> Result<(), AllocError>
+    ensures { OnOk result (out.new.items ≡ out.old.items ++ lines_text (logged_lines process written.now)) }
+{
+    for logged in written {
+        push_logged(out, process, logged)?;
+        push(out, "\n")?;
+    }
+    Ok(())
+}
+
+fn push_conclusion(out: &mut Vec<u8>, told: &Option<Told>) -> Result<(), AllocError>
+    ensures { OnOk result (out.new.items ≡ out.old.items ++ lines_text (told_lines told.now)) }
+{
+    match told {
+        None => Ok(()),
+        Some(told) => {
+            push_told(out, told)?;
+            push(out, "\n")
+        }
+    }
+}
+
+fn push_letters(out: &mut Vec<u8>, sent: u64, letters: &[Envelope]) -> Result<(), AllocError>
+    requires { sent + length letters.now < 2 ^ 64 }
+    ensures { OnOk result (out.new.items ≡ out.old.items ++ lines_text (envelope_lines sent letters.now)) }
+{
+    let mut number = sent;
+    for envelope in letters {
+        number += 1;
+        push_envelope(out, number, envelope)?;
+        push(out, "\n")?;
+    }
+    Ok(())
+}
+
+fn push_kept(out: &mut Vec<u8>, process: u32, kept: &Option<u64>) -> Result<(), AllocError>
+    ensures { OnOk result (out.new.items ≡ out.old.items ++ lines_text (kept_lines process kept.now)) }
+{
+    match kept {
+        None => Ok(()),
+        Some(count) => {
+            push(out, "trim ")?;
+            push_number(out, u64::from(process))?;
+            push_space_number(out, *count)?;
+            push(out, "\n")
+        }
+    }
 }

@@ -28,7 +28,7 @@ get_or_middle : (a : List ℕ) (c : ℕ) (b : List ℕ) → get_or (a ++ c ∷ b
 get_or_middle [] c b = refl
 get_or_middle (x ∷ a) c b = get_or_middle a c b
 
-drop_past : (a : List ℕ) (c : ℕ) (b : List ℕ) → drop (length a + 1) (a ++ c ∷ b) ≡ b
+pub drop_past : (a : List ℕ) (c : ℕ) (b : List ℕ) → drop (length a + 1) (a ++ c ∷ b) ≡ b
 drop_past [] c b = refl
 drop_past (x ∷ a) c b = let k : length (x ∷ a) + 1 ≡ suc (length a + 1) = omega arith in rw k
     (drop_past a c b)

@@ -1,0 +1,38 @@
+-- Reading a script line by line.
+use Rattle.std.specs.Prelude.{ℕ, ◌+◌, List, [], ◌∷◌, ◌++◌, length, Bool, ◌||◌, ◌==◌, not, Option, Some, None, Result, Ok, Err, if◌then◌else◌, slice_index, count_by, ◌≡◌}
+use Rattle.tree_model.specs.declared.names.ProcessId.{ProcessId}
+use Rattle.tree_model.specs.declared.events.Event.{Event}
+use Rattle.link_script.specs.declared.lines.LineError.{LineError}
+use Rattle.link_script.specs.declared.lines.LineError.TheVariants.{Memory, Line}
+use Rattle.link_script.specs.Events.{event_at}
+
+-- an empty line, or a remark
+abbrev pub is_skipped : List ℕ → Bool
+is_skipped line = (length line == 0) || (slice_index line 0 == 35)
+
+-- how many lines ask for an event
+unfoldable pub asked_in : List (List ℕ) → ℕ
+asked_in lines = count_by (λ line. not (is_skipped line)) lines
+
+-- these events, and then those that are read
+abbrev pub with_front : List Event → Result (List Event) ℕ → Result (List Event) ℕ
+with_front es (Ok more) = Ok (es ++ more)
+with_front es (Err n) = Err n
+
+-- the line's event and those of the lines behind it, or the line's number
+abbrev pub line_then : ℕ → Option Event → Result (List Event) ℕ → Result (List Event) ℕ
+line_then n None more = Err n
+line_then n (Some e) more = with_front (e ∷ []) more
+
+-- the events of lines, the first of which has this number, over a tree with this root; or the number of the first
+-- line that is the line of no event
+unfoldable pub events_at : ProcessId → ℕ → List (List ℕ) → Result (List Event) ℕ
+events_at root n [] = Ok []
+events_at root n (line ∷ lines) =
+    if is_skipped line then events_at root (n + 1) lines
+    else line_then n (event_at root line) (events_at root (n + 1) lines)
+
+-- memory was refused, or this is the number of the first line that is the line of no event
+abbrev pub IsLineFault : LineError → Result (List Event) ℕ → Type 0
+IsLineFault Memory read = Unit {0}
+IsLineFault (Line n) read = read ≡ Err n

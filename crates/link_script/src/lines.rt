@@ -1,0 +1,113 @@
+//! The lines of a script.
+
+ghost use Rattle.std.specs.Prelude.{◌≡◌, ◌+◌, ◌<◌, ◌^◌, IfOk, IfErr, MatchOption, List, ℕ, Some, None, Ok, Err, length, map};
+ghost use Rattle.std.specs.Str.Lines.{lines as lines_in, lines_of_parts};
+ghost use Rattle.link_script.specs.Rules.{pieces, is_rule as is_rule_at, around_rule};
+ghost use Rattle.link_script.specs.Trace.{lines_text};
+ghost use Rattle.link_script.specs.Script.{is_skipped, asked_in, events_at, IsLineFault};
+
+use crate::event::event_of;
+use std::alloc::{AllocError, AllocFailed, Global};
+use tree_model::{Event, ProcessId};
+use xa_xid::word::cut;
+
+/// Why lines could not be read.
+#[derive(Clone, Copy, Debug, PartialEq, Eq)]
+pub enum LineError {
+    Memory,
+    /// The line of this number asks for no event.
+    Line(u64),
+}
+
+impl From<AllocError> for LineError {
+    ghost use Rattle.std.specs.Prelude.{◌≡◌};
+    ghost use Rattle.link_script.specs.declared.lines.LineError.TheVariants.{Memory};
+
+    ghost from_gives = { λ _ e. e ≡ Memory };
+
+    fn from(_e: AllocError) -> LineError {
+        LineError::Memory
+    }
+}
+
+impl<T: Drop> From<AllocFailed<T>> for LineError {
+    ghost use Rattle.std.specs.Prelude.{◌≡◌};
+    ghost use Rattle.link_script.specs.declared.lines.LineError.TheVariants.{Memory};
+
+    ghost from_gives = { λ _ e. e ≡ Memory };
+
+    fn from(_e: AllocFailed<T>) -> LineError {
+        LineError::Memory
+    }
+}
+
+/// Whether a line that ends in a line feed is just three dashes.
+fn is_rule(line: &str) -> bool
+    ensures { result ≡ is_rule_at line.now }
+{
+    line == "---" || line == "---\r"
+}
+
+/// The text before the first line that is just three dashes, how many lines it has, and the text behind that line.
+pub fn around(text: &str) -> Option<(&str, u64, &str)>
+    ensures { MatchOption result (around_rule (pieces text.now) ≡ None) (λ r.
+        (fronts : List (List ℕ)) × (behind : List (List ℕ)) × (around_rule (pieces text.now) ≡ Some (fronts, behind))
+        × (r.0.now ≡ lines_text fronts) × (r.1 ≡ length fronts) × (lines_in r.2.now ≡ lines_of_parts behind)
+        × (length r.0.now + length r.2.now < length text.now)) }
+{
+    let mut rest = text;
+    let mut number = 0;
+    while let Some((line, more)) = cut(rest, '\n') {
+        if is_rule(line) {
+            return Some((&text[..text.len() - rest.len()], number, more));
+        }
+        rest = more;
+        number += 1;
+    }
+    if rest == "---" {
+        Some((&text[..text.len() - rest.len()], number, ""))
+    } else {
+        None
+    }
+}
+
+/// The lines of a text.
+pub fn lines_of(alloc: Global, text: &str) -> Result<Vec<&str>, AllocError>
+    ensures { IfOk result (λ v. map (λ s. s.now) v.items ≡ lines_in text.now) }
+{
+    text.lines().collect(alloc)
+}
+
+/// Whether a line is skipped: it is empty, or begins with `#`.
+fn says_nothing(line: &str) -> bool
+    ensures { result ≡ is_skipped line.now }
+{
+    line.is_empty() || line.as_bytes()[0] == b'#'
+}
+
+/// How many of these lines ask for an event.
+#[tactic(auto, unfolding(crate::specs::Script::asked_in))]
+pub fn count_asked(lines: &[&str]) -> usize
+    ensures { result ≡ asked_in (map (λ s. s.now) lines.now) }
+{
+    lines.iter().filter(|line| !says_nothing(line)).count()
+}
+
+/// The events of these lines, behind so many lines of the script.
+pub fn events_of(alloc: Global, root: ProcessId, before: u64, lines: &[&str]) -> Result<Vec<Event>, LineError>
+    requires { before + length lines.now < 2 ^ 64 }
+    ensures ok { IfOk result (λ v. events_at root (before + 1) (map (λ s. s.now) lines.now) ≡ Ok v.items) }
+    ensures err { IfErr result (λ e. IsLineFault e (events_at root (before + 1) (map (λ s. s.now) lines.now))) }
+{
+    let mut events = Vec::new(alloc);
+    for (i, line) in lines.iter().enumerate() {
+        if says_nothing(line) {
+            continue;
+        }
+        match event_of(alloc, root, line)? {
+            Some(event) => events.push(event)?,
+            None => return Err(LineError::Line(before + i as u64 + 1)),
+        }
+    }
+    Ok(events)
+}
