@@ -1,5 +1,5 @@
 -- Rows that are answered to be equal are one.
-use Rattle.std.proofs.Common.{◌≡◌, Bool, true, false, ◌&&◌, List, refl, ap, sym, ◌∙◌, rules}
+use Rattle.std.proofs.Common.{◌≡◌, Bool, ◌&&◌, List, ap, ◌∙◌, rules}
 use Rattle.std.specs.Prelude.{IsTrue, Contains, ◌↔◌}
 use Rattle.std.specs.Bool.{Decides}
 use Rattle.std.specs.List.{IsAnyAnswer}

@@ -1,6 +1,5 @@
-use Rattle.std.proofs.Common.{ap, ◌∙◌, ◌≡◌, sym, option_map, List, []}
+use Rattle.std.proofs.Common.{ap, ◌∙◌, sym, option_map, []}
 use Rattle.std.specs.Prelude.{unwrap_or}
-use Rattle.xa_xid.specs.declared.xid.Xid.{Xid}
 use Rattle.xa_branch.proofs.Lists.{scan_of-left_of, if_ok_then}
 use Rattle.xa_branch.proofs.scans.Scans.rest.Goals as goal
 
