@@ -1,6 +1,6 @@
 //! Each thread's associations, and those that belong to nobody.
 
-ghost use Rattle.std.specs.Prelude.{◌≡◌, ◌≢◌, ◌≤◌, ◌<◌, ◌+◌, ◌^◌, ◌↔◌, IsTrue, [], IfOk, OnOk, OnErr, IsOk, Some, None, is_some, true, false, option_map};
+ghost use Rattle.std.specs.Prelude.{◌≡◌, ◌≢◌, ◌≤◌, ◌<◌, ◌+◌, ◌^◌, ◌↔◌, IsTrue, [], IfOk, OnOk, OnErr, IsOk, Some, None, is_some, true, false, option_map, ◌||◌};
 ghost use Rattle.xa_assoc.specs.Associations.{AssocList, active_of, has_seat, own_state, moved_of, Moves, Turns, Settles, Recounts, has_some, is_holder, is_active, has_room, Steps, start_plan, resume_plan, moved_plan, suspend_plan, end_plan, has_active, has_suspended, IsBare};
 
 use crate::held::{OfBranch, Seat};
@@ -97,13 +97,20 @@ impl Associations {
         self.holds(thread) || self.active.len() < THREADS
     }
 
+    /// Whether a thread may not start in a branch: it is active in one, or has suspended this one.
+    pub fn is_busy(&self, thread: u32, xid: &Xid) -> bool
+        ensures { result ≡ (is_some (active_of self.now thread) || has_seat self.now thread xid.now) }
+    {
+        self.active(thread).is_some() || self.has_seat(thread, xid)
+    }
+
     /// A start without TMRESUME. Proto: the thread is active in a branch, or has suspended this one. RmErr: it
     /// holds nothing and 256 threads hold associations. Either changes nothing.
     pub fn start(&mut self, thread: u32, xid: &Xid) -> Result<Code, AllocError>
         ensures answer { IfOk result (Steps self.old self.new thread xid.now (start_plan self.old thread xid.now)) }
         ensures err { OnErr result (self.new ≡ self.old) }
     {
-        if self.active(thread).is_some() || self.has_seat(thread, xid) {
+        if self.is_busy(thread, xid) {
             return Ok(Code::Proto);
         }
         if !self.has_room(thread) {

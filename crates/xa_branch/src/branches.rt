@@ -1,6 +1,6 @@
 //! The state of each known branch.
 
-ghost use Rattle.std.specs.Prelude.{◌≡◌, ◌≢◌, ◌⊎◌, ◌≤◌, ◌<◌, ◌+◌, [], length, IfOk, OnOk, OnErr, MatchResult, IsOk, Contains, IsTrue, ◌↔◌, Some, None, Bool, true, false};
+ghost use Rattle.std.specs.Prelude.{◌≡◌, ◌≢◌, ◌⊎◌, ◌≤◌, ◌<◌, ◌+◌, [], length, IfOk, OnOk, OnErr, MatchResult, IsOk, Contains, IsTrue, ◌↔◌, Some, None, Bool, true, false, nat_le};
 ghost use Rattle.xa_tables.specs.Tables.{branch_rows};
 ghost use Rattle.xa_branch.specs.Branches.{BranchList, Moves, Begins, Scans as Scanned, is_known, state_in, off_row, Stays, in_doubt, starts_scan, ends_scan, scan_refusal};
 
@@ -91,6 +91,20 @@ impl Branches {
         self.states.get(xid).copied().unwrap_or(BranchState::S0)
     }
 
+    /// Whether a branch is known.
+    pub fn is_known(&self, xid: &Xid) -> bool
+        ensures { result ≡ is_known self.now.branches xid.now }
+    {
+        self.states.contains_key(xid)
+    }
+
+    /// Whether 1,024 branches are known, so that no other can begin.
+    pub fn is_full(&self) -> bool
+        ensures { result ≡ nat_le 1024 (length self.now.branches) }
+    {
+        self.states.len() >= BRANCHES
+    }
+
     /// Begins a branch, in S1. DupId: it is known. RmErr: 1,024 branches are known. Either changes nothing.
     pub fn begin(&mut self, xid: &Xid) -> Result<Code, AllocError>
         ensures begun { IfOk result (Begins self.old self.new xid.now BranchState.S1) }
@@ -117,10 +131,10 @@ impl Branches {
         ensures err { OnErr result (Stays self.old self.new) }
         ensures succeeds { 0 < self.old.room → IsOk result }
     {
-        if self.states.contains_key(xid) {
+        if self.is_known(xid) {
             return Ok(Code::DupId);
         }
-        if self.states.len() >= BRANCHES {
+        if self.is_full() {
             return Ok(Code::RmErr);
         }
         self.states.insert(*xid, state)?;
