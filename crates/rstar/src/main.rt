@@ -1,0 +1,53 @@
+//! The program `rstar`: the command line, and standard input and output of the engines.
+#![tactic(auto)]
+
+mod command;
+
+use clap::error::ErrorKind;
+use command::{Asked, Request, read_words};
+use rstar_engine::{Failure, run_xa};
+use std::io;
+use std::process::ExitCode;
+
+/// Runs what was asked, and answers the exit status.
+fn perform(rt: &HostRuntime, request: Request) -> u8 {
+    let mut reader = rt.reader();
+    let mut writer = io::writer(rt);
+    let ended = match request {
+        Request::Xa => run_xa(rt.alloc(), &mut reader, &mut writer),
+    };
+    match ended {
+        Ok(status) => status.number(),
+        Err(Failure::Read | Failure::Memory | Failure::Write) => 4,
+    }
+}
+
+/// Reads the command line and runs it.
+fn status_of(rt: &HostRuntime) -> u8 {
+    let alloc = rt.alloc();
+    let Ok(args) = std::env::args(rt) else {
+        return 1;
+    };
+    let words: Result<Vec<String>, _> = args.collect(alloc);
+    let Ok(words) = words else {
+        return 4;
+    };
+    match read_words(alloc, words.as_slice()) {
+        Ok(Asked::Request(request)) => perform(rt, request),
+        Ok(Asked::Memory) => 4,
+        Err(error) => {
+            if error.kind() == ErrorKind::OutOfMemory {
+                return 4;
+            }
+            let status = if error.exit_code() == 0 { 0 } else { 1 };
+            if error.print(rt).is_err() {
+                return 4;
+            }
+            status
+        }
+    }
+}
+
+fn main(rt: HostRuntime) -> ExitCode {
+    ExitCode::from(status_of(&rt))
+}

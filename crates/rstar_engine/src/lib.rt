@@ -1,0 +1,13 @@
+//! The engines of `rstar`: bytes in, report out.
+#![tactic(auto)]
+
+mod manager;
+mod script;
+mod streams;
+mod xa;
+
+pub use streams::Failure;
+pub use xa::{Status, run_xa};
+
+#[cfg(test)]
+mod tests;

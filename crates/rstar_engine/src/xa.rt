@@ -1,0 +1,111 @@
+//! The engine of XA scripts.
+
+ghost use Rattle.std.specs.Prelude.{◌≡◌, ℕ, List, IfOk, IfErr, IfSome};
+ghost use Rattle.std.specs.Io.KnownBytes.{Appends, Keeps};
+ghost use Rattle.rstar_engine.specs.Streams.{WritesFront};
+
+use crate::manager::Manager;
+use crate::script::{Request, ScriptError, requests_of};
+use crate::streams::{Failure, read_all, write_all};
+use std::alloc::{AllocError, Global};
+use std::io::{Read, Write};
+
+/// How a run ended.
+#[derive(Clone, Copy, Debug, PartialEq, Eq)]
+pub enum Status {
+    /// All calls were made.
+    Ended,
+    /// The script was refused.
+    Refused,
+}
+
+impl Status {
+    /// The exit status.
+    pub fn number(self) -> u8 {
+        match self {
+            Status::Ended => 0,
+            Status::Refused => 1,
+        }
+    }
+}
+
+/// Reads an XA script, makes its calls on a manager without data, and writes their answers; or one line
+/// that says why the script is refused.
+pub fn run_xa<R: Read, W: Write>(
+    alloc: Global,
+    reader: &mut R,
+    writer: &mut W,
+) -> Result<Status, Failure>
+    ensures written { IfOk result (λ _. (text : List ℕ) × Appends (W.contents writer.old) (W.contents writer.new) text) }
+    ensures unread { IfErr result (λ e. e ≡ Failure.Read → Keeps (W.contents writer.old) (W.contents writer.new)) }
+    ensures memory { IfErr result (λ e. e ≡ Failure.Memory → Keeps (W.contents writer.old) (W.contents writer.new)) }
+{
+    let input = read_all(alloc, reader)?;
+    let (text, status) = report(alloc, &input)?;
+    match write_all(writer, text.as_bytes()) {
+        Ok(()) => Ok(status),
+        Err(failure) => Err(failure),
+    }
+}
+
+/// The answer to an input.
+fn report(alloc: Global, input: &[u8]) -> Result<(String, Status), AllocError> {
+    match requests_of(alloc, input)? {
+        Ok(requests) => Ok((answers(alloc, &requests)?, Status::Ended)),
+        Err(error) => Ok((refusal(alloc, error)?, Status::Refused)),
+    }
+}
+
+/// The line of a refusal.
+fn refusal(alloc: Global, error: ScriptError) -> Result<String, AllocError> {
+    match error {
+        ScriptError::Utf8 => String::from_str(alloc, "error 4\n"),
+        ScriptError::TooLong => String::from_str(alloc, "error 5\n"),
+        ScriptError::Line(number) => format!(in alloc; "error 3 {number}\n"),
+    }
+}
+
+/// The answers to a script's calls, one a line, and the last line.
+fn answers(alloc: Global, requests: &[Request]) -> Result<String, AllocError> {
+    let mut manager = Manager::new(alloc);
+    let mut out = String::new(alloc);
+    for request in requests {
+        answer(&mut manager, *request, &mut out)?;
+    }
+    out.push_str("end\n")?;
+    Ok(out)
+}
+
+/// Makes a call, and adds the line of its answer.
+fn answer(manager: &mut Manager, request: Request, out: &mut String) -> Result<(), AllocError> {
+    let code = match request {
+        Request::Open { flags, migrates } => manager.open(flags, migrates),
+        Request::Close { flags } => manager.close(flags),
+        Request::Branch {
+            verb,
+            thread,
+            xid,
+            flags,
+        } => manager.call(verb, thread, &xid, flags)?,
+        Request::Recover {
+            thread,
+            count,
+            flags,
+        } => match manager.recover(thread, count, flags)? {
+            Err(code) => code,
+            Ok(xids) => return add_branches(out, &xids),
+        },
+    };
+    out.push_str(code.name())?;
+    out.push_str("\n")
+}
+
+/// Adds how many branches these are, and their names.
+fn add_branches(out: &mut String, xids: &[xa_xid::Xid]) -> Result<(), AllocError> {
+    let count = xids.len();
+    write!(out, "{count}")?;
+    for xid in xids {
+        write!(out, " {xid}")?;
+    }
+    out.push_str("\n")
+}

@@ -1,0 +1,6 @@
+use Rattle.std.proofs.Common.{refl}
+use Rattle.xa_assoc.proofs.Sound.{settled}
+use Rattle.xa_assoc.proofs.associations.Associations.give_up.Goals as goal
+
+pub returns : goal.returns
+returns c = settled _ _ _ _ _ _ _ c.remove_seat.ensures.turns c.settle.ensures refl

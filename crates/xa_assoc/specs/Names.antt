@@ -1,0 +1,12 @@
+-- When two names of branches are one, and two associations.
+use Rattle.std.specs.Prelude.{Bool}
+use Rattle.xa_xid.specs.declared.xid.Xid.{Xid}
+use Rattle.xa_xid.specs.contracts.xid.XidPartialEq.TheImpl as names
+use Rattle.xa_assoc.specs.declared.held.Seat.{Seat}
+use Rattle.xa_assoc.specs.contracts.held.SeatPartialEq.TheImpl as seats
+
+abbrev pub same : Xid → Xid → Bool
+same = names.ghosts.eq
+
+abbrev pub same_seat : Seat → Seat → Bool
+same_seat = seats.ghosts.eq

@@ -1,0 +1,7 @@
+-- When two names of branches are one.
+use Rattle.std.specs.Prelude.{Bool}
+use Rattle.xa_xid.specs.declared.xid.Xid.{Xid}
+use Rattle.xa_xid.specs.contracts.xid.XidPartialEq.TheImpl as names
+
+abbrev pub same : Xid → Xid → Bool
+same = names.ghosts.eq

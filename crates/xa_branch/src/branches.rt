@@ -1,0 +1,244 @@
+//! The state of each known branch.
+
+ghost use Rattle.std.specs.Prelude.{◌≡◌, ◌≢◌, ◌⊎◌, ◌≤◌, ◌<◌, ◌+◌, [], length, IfOk, OnOk, OnErr, MatchResult, IsOk, Contains, IsTrue, ◌↔◌, Some, None, Bool, true, false, nat_le};
+ghost use Rattle.xa_tables.specs.Tables.{branch_rows};
+ghost use Rattle.xa_branch.specs.Branches.{BranchList, Moves, Begins, Scans as Scanned, is_known, state_in, off_row, Stays, in_doubt, starts_scan, ends_scan, scan_refusal};
+
+use crate::scans::Scans;
+use indexmap::IndexMap;
+use std::alloc::{AllocError, Global};
+use std::marker::Model;
+use xa_codes::Code;
+use xa_tables::{BranchState, Call, next_branch};
+use xa_xid::Xid;
+
+/// The most branches that are known at a time.
+const BRANCHES: usize = 1024;
+
+/// Whether a table's rows have this one.
+fn is_listed(rows: &[(Code, BranchState)], row: (Code, BranchState)) -> bool
+    ensures { IsTrue result ↔ Contains rows.now row }
+{
+    rows.contains(&row)
+}
+
+/// Whether a recover begins a scan.
+fn starts(call: Call) -> bool
+    ensures { result ≡ starts_scan call }
+{
+    matches!(call, Call::RecoverStart | Call::RecoverWhole)
+}
+
+/// Whether a recover ends a scan.
+fn ends(call: Call) -> bool
+    ensures { result ≡ ends_scan call }
+{
+    matches!(call, Call::RecoverEnd | Call::RecoverWhole)
+}
+
+/// The known branches with their states, and the open scans.
+#[derive(Drop)]
+pub struct Branches {
+    alloc: Global,
+    states: IndexMap<Xid, BranchState>,
+    scans: Scans,
+}
+
+impl Model for Branches {
+    ghost use Rattle.indexmap.specs.IndexMap.{spare};
+    ghost use Rattle.xa_branch.specs.Branches.{BranchList};
+
+    ghost Value = { BranchList };
+
+    ghost view = { λ b. record { branches = b.states.entries; room = spare b.states; scans = b.scans } };
+}
+
+impl Branches {
+    /// No branches and no scans.
+    pub fn new(alloc: Global) -> Self
+        ensures branches { result.branches ≡ [] }
+        ensures scans { result.scans ≡ [] }
+    {
+        Branches {
+            alloc,
+            states: IndexMap::new(alloc),
+            scans: Scans::new(alloc),
+        }
+    }
+
+    /// Makes room for so many more branches.
+    pub fn reserve(&mut self, more: usize) -> Result<(), AllocError>
+        ensures stays { Stays self.old self.new }
+        ensures room { OnOk result (more ≤ self.new.room) }
+    {
+        self.states.reserve(more)
+    }
+
+    /// Forgets all branches and closes all scans, as a restart does. The room stays.
+    pub fn clear(&mut self)
+        ensures branches { self.new.branches ≡ [] }
+        ensures scans { self.new.scans ≡ [] }
+        ensures room { length self.old.branches + self.old.room ≤ self.new.room }
+    {
+        self.states.clear();
+        self.scans.clear();
+    }
+
+    /// The state of a branch: S0 where it is not known.
+    pub fn state(&self, xid: &Xid) -> BranchState
+        ensures { result ≡ state_in self.now.branches xid.now }
+    {
+        self.states.get(xid).copied().unwrap_or(BranchState::S0)
+    }
+
+    /// Whether a branch is known.
+    pub fn is_known(&self, xid: &Xid) -> bool
+        ensures { result ≡ is_known self.now.branches xid.now }
+    {
+        self.states.contains_key(xid)
+    }
+
+    /// Whether 1,024 branches are known, so that no other can begin.
+    pub fn is_full(&self) -> bool
+        ensures { result ≡ nat_le 1024 (length self.now.branches) }
+    {
+        self.states.len() >= BRANCHES
+    }
+
+    /// Begins a branch, in S1. DupId: it is known. RmErr: 1,024 branches are known. Either changes nothing.
+    pub fn begin(&mut self, xid: &Xid) -> Result<Code, AllocError>
+        ensures begun { IfOk result (Begins self.old self.new xid.now BranchState.S1) }
+        ensures err { OnErr result (Stays self.old self.new) }
+        ensures succeeds { 0 < self.old.room → IsOk result }
+    {
+        self.enter(xid, BranchState::S1)
+    }
+
+    /// Enters a branch that a log left, in S3 or S5. DupId: it is known. RmErr: 1,024 branches are known.
+    /// Either changes nothing.
+    pub fn restore(&mut self, xid: &Xid, state: BranchState) -> Result<Code, AllocError>
+        requires { (state ≡ BranchState.S3) ⊎ (state ≡ BranchState.S5) }
+        ensures restored { IfOk result (Begins self.old self.new xid.now state) }
+        ensures err { OnErr result (Stays self.old self.new) }
+        ensures succeeds { 0 < self.old.room → IsOk result }
+    {
+        self.enter(xid, state)
+    }
+
+    fn enter(&mut self, xid: &Xid, state: BranchState) -> Result<Code, AllocError>
+        requires { state ≡ BranchState.S0 → ⊥ }
+        ensures entered { IfOk result (Begins self.old self.new xid.now state) }
+        ensures err { OnErr result (Stays self.old self.new) }
+        ensures succeeds { 0 < self.old.room → IsOk result }
+    {
+        if self.is_known(xid) {
+            return Ok(Code::DupId);
+        }
+        if self.is_full() {
+            return Ok(Code::RmErr);
+        }
+        self.states.insert(*xid, state)?;
+        Ok(Code::Ok)
+    }
+
+    /// Makes a row of the table for a known branch: its answer, and the state behind it. NotA: the branch is
+    /// not known. DupId: it is known, and the call is a start that neither joins nor resumes. Proto: the table
+    /// has no such row. None of the three changes anything.
+    pub fn step(&mut self, xid: &Xid, call: Call, row: (Code, BranchState)) -> Code
+        ensures row { is_known self.old.branches xid.now ≡ true → Contains (branch_rows (state_in self.old.branches xid.now) call) row
+            → (result ≡ row.0) × Moves self.old self.new xid.now row.1 }
+        ensures off { is_known self.old.branches xid.now ≡ true → (Contains (branch_rows (state_in self.old.branches xid.now) call) row → ⊥)
+            → (result ≡ off_row call) × (self.new ≡ self.old) }
+        ensures unknown { is_known self.old.branches xid.now ≡ false → (result ≡ Code.NotA) × (self.new ≡ self.old) }
+    {
+        let Some(from) = self.states.get(xid).copied() else {
+            return Code::NotA;
+        };
+        if is_listed(next_branch(from, call), row) {
+            self.place(xid, row.1);
+            return row.0;
+        }
+        if call == Call::Start {
+            Code::DupId
+        } else {
+            Code::Proto
+        }
+    }
+
+    /// An operator's decision about a prepared branch, which leads it from S3 to S5. False: it is not in S3,
+    /// and nothing changes.
+    pub fn decided(&mut self, xid: &Xid) -> bool
+        ensures decided { result ≡ true → (state_in self.old.branches xid.now ≡ BranchState.S3) × Moves self.old self.new xid.now BranchState.S5 }
+        ensures refused { result ≡ false → (state_in self.old.branches xid.now ≢ BranchState.S3) × (self.new ≡ self.old) }
+    {
+        if self.state(xid) != BranchState::S3 {
+            return false;
+        }
+        self.place(xid, BranchState::S5);
+        true
+    }
+
+    /// Moves a known branch.
+    fn place(&mut self, xid: &Xid, to: BranchState)
+        requires { is_known self.old.branches xid.now ≡ true }
+        ensures { Moves self.old self.new xid.now to }
+    {
+        if to == BranchState::S0 {
+            let _ = self.states.shift_remove(xid);
+        } else {
+            let _ = self.states.insert(*xid, to).unwrap();
+        }
+    }
+
+    /// Gives a thread the next of the branches in S3 and S5, at most so many, in order of beginning. TMSTARTRSCAN
+    /// begins a scan over them as they are now, in place of one that is open; TMENDRSCAN closes it behind the
+    /// call. Inval: no scan is open and none begins. RmErr: a scan begins, 256 threads have one and this thread
+    /// has none. A refusal changes nothing.
+    pub fn scan(
+        &mut self,
+        thread: u32,
+        count: u32,
+        call: Call,
+    ) -> Result<Result<Vec<Xid>, Code>, AllocError>
+        ensures answer { IfOk result (λ answer. MatchResult answer
+            (λ v. Scanned self.old self.new thread count call v.items)
+            (λ code. (scan_refusal self.old.scans thread call ≡ Some code) × (self.new ≡ self.old))) }
+        ensures err { OnErr result (self.new ≡ self.old) }
+    {
+        if let Some(refusal) = self.scan_refusal(thread, call) {
+            return Ok(Err(refusal));
+        }
+        let rest = if starts(call) {
+            self.in_doubt()?
+        } else {
+            self.scans.rest(thread)?
+        };
+        let given = self.scans.give(thread, rest.as_slice(), count, ends(call))?;
+        Ok(Ok(given))
+    }
+
+    fn scan_refusal(&self, thread: u32, call: Call) -> Option<Code>
+        ensures { result ≡ scan_refusal self.now.scans thread call }
+    {
+        if self.scans.is_open(thread) {
+            None
+        } else if !starts(call) {
+            Some(Code::Inval)
+        } else if self.scans.is_full() {
+            Some(Code::RmErr)
+        } else {
+            None
+        }
+    }
+
+    /// The branches in S3 and S5, in order of beginning.
+    fn in_doubt(&self) -> Result<Vec<Xid>, AllocError>
+        ensures { IfOk result (λ v. v.items ≡ in_doubt self.now.branches) }
+    {
+        self.states
+            .iter()
+            .filter(|(_, state)| matches!(state, BranchState::S3 | BranchState::S5))
+            .map(|(xid, _)| *xid)
+            .collect(self.alloc)
+    }
+}

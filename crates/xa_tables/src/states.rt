@@ -1,0 +1,40 @@
+//! The states of a manager, of an association and of a branch.
+
+/// The state of a manager.
+#[derive(Clone, Copy, Debug, PartialEq, Eq)]
+pub enum InitState {
+    /// Not open.
+    R0,
+    /// Open.
+    R1,
+}
+
+/// The state of the association of a thread with a branch.
+#[derive(Clone, Copy, Debug, PartialEq, Eq)]
+pub enum AssocState {
+    /// None.
+    T0,
+    /// Active.
+    T1,
+    /// Suspended by the thread, which alone resumes it.
+    T2,
+    /// Suspended for migration: it belongs to nobody until any one thread resumes it.
+    M,
+}
+
+/// The state of a branch.
+#[derive(Clone, Copy, Debug, PartialEq, Eq)]
+pub enum BranchState {
+    /// Unknown.
+    S0,
+    /// Active: a thread is in it.
+    S1,
+    /// Idle.
+    S2,
+    /// Prepared.
+    S3,
+    /// Can only be rolled back.
+    S4,
+    /// Decided by an operator, and not yet forgotten.
+    S5,
+}
