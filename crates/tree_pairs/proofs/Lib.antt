@@ -1,0 +1,12 @@
+pub mod ChildAbort
+pub mod ChildCrashAbort
+pub mod ParentAbort
+pub mod RootAbort
+pub mod CascadedAbort
+pub mod ParentCrashAbort
+pub mod ChildCommit
+pub mod ChildCrashCommit
+pub mod ParentCommit
+pub mod RootCommit
+pub mod CascadedCommit
+pub mod ParentCrashCommit

@@ -1,0 +1,10 @@
+pub mod Reading
+pub mod Standing
+pub mod Invariant
+pub mod Keeps
+pub mod ChildMoves
+pub mod ChildCrash
+pub mod ParentMoves
+pub mod RootMoves
+pub mod CascadedMoves
+pub mod ParentCrash

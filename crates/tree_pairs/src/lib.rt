@@ -1,0 +1,2 @@
+//! The pair layer.
+#![tactic(auto)]
