@@ -1,8 +1,9 @@
 -- Each fault and restart of a child keeps the invariant, under Presumed Abort.
-use Rattle.std.proofs.Common.{◌≡◌, ◌⊎◌, Bool, true, false, ◌||◌, ◌&&◌, not, arith}
+use Rattle.std.proofs.Common.{◌≡◌, ◌⊎◌, refl, Bool, true, false, ◌||◌, ◌&&◌, not, arith}
 use Rattle.tree_pairs.specs.Reading.{Reading, Active, Collecting, Closed, is_live}
 use Rattle.tree_pairs.specs.Invariant.{PresumedAbort as Inv}
 use Rattle.tree_pairs.specs.Keeps.{Keeps, Follows, Later}
+use Rattle.tree_pairs.proofs.Later.{later-later}
 use Rattle.tree_pairs.specs.ChildCrash as crash
 use Rattle.tree_pairs.specs.ChildCrash.{ChildFront}
 
@@ -32,3 +33,9 @@ child_loses front r h g = grind arith
 
 pub child_reopens : Keeps Inv crash.MayReopenChild crash.child_reopens
 child_reopens r h g = grind arith
+
+pub child_restarts : (front : ChildFront) → Keeps Inv (crash.IsChildFront front) (crash.child_restarts front)
+child_restarts front r h g =
+    let lost = child_loses front r h g in
+    let back = child_reopens (crash.child_loses front r) lost.invariant (record { failed = refl }) in
+    record { invariant = back.invariant; later = later-later _ _ _ lost.later back.later }

@@ -1,3 +1,4 @@
+pub mod Later
 pub mod ChildAbort
 pub mod ChildCrashAbort
 pub mod ParentAbort

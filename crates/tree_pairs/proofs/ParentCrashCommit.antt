@@ -1,8 +1,9 @@
 -- Each fault and restart of a parent keeps the invariant, under Presumed Commit.
-use Rattle.std.proofs.Common.{◌≡◌, ◌⊎◌, Bool, true, false, ◌||◌, ◌&&◌, not, arith}
+use Rattle.std.proofs.Common.{◌≡◌, ◌⊎◌, refl, Bool, true, false, ◌||◌, ◌&&◌, not, arith}
 use Rattle.tree_pairs.specs.Reading.{Reading, Active, Collecting, Closed, is_live}
 use Rattle.tree_pairs.specs.Invariant.{PresumedCommit as Inv}
 use Rattle.tree_pairs.specs.Keeps.{Keeps, Follows, Later}
+use Rattle.tree_pairs.proofs.Later.{later-later}
 use Rattle.tree_pairs.specs.ParentCrash as crash
 use Rattle.tree_pairs.specs.ParentCrash.{ParentFront}
 use Rattle.tree_pairs.specs.ParentMoves as rows
@@ -222,3 +223,9 @@ parent_reopens r h g = record {
   };
   later = grind arith;
 }
+
+pub parent_restarts : (front : ParentFront) → Keeps Inv (crash.IsParentFront front) (crash.parent_restarts front)
+parent_restarts front r h g =
+    let lost = parent_loses front r h g in
+    let back = parent_reopens (crash.parent_loses front r) lost.invariant (record { failed = refl }) in
+    record { invariant = back.invariant; later = later-later _ _ _ lost.later back.later }

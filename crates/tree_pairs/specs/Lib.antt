@@ -8,3 +8,4 @@ pub mod ParentMoves
 pub mod RootMoves
 pub mod CascadedMoves
 pub mod ParentCrash
+pub mod Laws

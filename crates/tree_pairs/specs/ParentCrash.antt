@@ -166,3 +166,10 @@ parent_reopens r = record r {
     owed = (is_undecided r && r.collects) || r.owed;
     sent_abort = (is_undecided r && r.collects) || (r.abort_kept && not r.end_kept && r.owed) || r.sent_abort;
   }
+
+-- A whole restart, under Presumed Abort and under Presumed Commit.
+abbrev pub parent_restarts_naming : ParentFront → Reading → Reading
+parent_restarts_naming front r = parent_reopens_naming (parent_loses front r)
+
+abbrev pub parent_restarts : ParentFront → Reading → Reading
+parent_restarts front r = parent_reopens (parent_loses front r)
