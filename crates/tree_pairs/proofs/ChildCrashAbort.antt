@@ -26,7 +26,22 @@ pub fails_to_forget : Keeps Inv crash.MayFailToForget crash.fails_to_forget
 fails_to_forget r h g = grind arith
 
 pub hardens_failed_child : (front : ChildFront) → Keeps Inv (crash.MayHardenFailedChild front) (crash.hardens_failed_child front)
-hardens_failed_child front r h g = grind arith
+hardens_failed_child front r h g = record {
+  invariant = record {
+    common = grind arith;
+    never_collects = grind arith;
+    commit_is_forced = grind arith;
+    learnt_commit_is_forced = grind arith;
+    abort_is_refused = grind arith;
+    commit_means_commit = grind arith;
+    commit_owes = grind arith;
+    owed_stands = grind arith;
+    end_stands_behind_commit = grind arith;
+    ended_is_settled = grind arith;
+    forgotten = grind arith;
+  };
+  later = grind arith;
+}
 
 pub child_loses : (front : ChildFront) → Keeps Inv (crash.IsChildFront front) (crash.child_loses front)
 child_loses front r h g = grind arith

@@ -1,5 +1,5 @@
 -- What is true for ever is true for ever.
-use Rattle.std.proofs.Common.{◌≡◌, Bool, true, false, arith}
+use Rattle.std.proofs.Common.{◌≡◌, ◌∙◌, Bool, true, false, arith}
 use Rattle.tree_pairs.specs.Reading.{Reading}
 use Rattle.tree_pairs.specs.Keeps.{Later}
 
@@ -22,6 +22,7 @@ later-later r s t h g = record {
   child_committed = λ e. g.child_committed (h.child_committed e);
   prepared_ever = λ e. g.prepared_ever (h.prepared_ever e);
   heuristic_ever = λ e. g.heuristic_ever (h.heuristic_ever e);
+  heuristic_commits = λ e. g.heuristic_commits (h.heuristic_ever e) ∙ h.heuristic_commits e;
   forgot_ever = λ e. g.forgot_ever (h.forgot_ever e);
   sent_prepare = λ e. g.sent_prepare (h.sent_prepare e);
   sent_yes = λ e. g.sent_yes (h.sent_yes e);

@@ -11,3 +11,4 @@ pub mod ParentCommit
 pub mod RootCommit
 pub mod CascadedCommit
 pub mod ParentCrashCommit
+pub mod Promises

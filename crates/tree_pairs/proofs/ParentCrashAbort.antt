@@ -20,7 +20,22 @@ pub fails_to_promise_up : Keeps Inv cascaded.MayPromise crash.fails_to_promise_u
 fails_to_promise_up r h g = grind arith
 
 pub hardens_failed_parent : (front : ParentFront) → Keeps Inv (crash.MayHardenFailedParent front) (crash.hardens_failed_parent front)
-hardens_failed_parent front r h g = grind arith
+hardens_failed_parent front r h g = record {
+  invariant = record {
+    common = grind arith;
+    never_collects = grind arith;
+    commit_is_forced = grind arith;
+    learnt_commit_is_forced = grind arith;
+    abort_is_refused = grind arith;
+    commit_means_commit = grind arith;
+    commit_owes = grind arith;
+    owed_stands = grind arith;
+    end_stands_behind_commit = grind arith;
+    ended_is_settled = grind arith;
+    forgotten = grind arith;
+  };
+  later = grind arith;
+}
 
 pub parent_loses : (front : ParentFront) → Keeps Inv (crash.IsParentFront front) (crash.parent_loses front)
 parent_loses front r h g = record {
@@ -77,8 +92,11 @@ parent_loses front r h g = record {
       forced_heuristic = grind arith;
       heuristic_is_forced = grind arith;
       heuristic_stays = grind arith;
+      forgot_stays = grind arith;
       forgot_stands_behind = grind arith;
       forced_forgot = grind arith;
+      forgot_is_once = grind arith;
+      forgot_was_decided = grind arith;
       forgot_is_forced = grind arith;
       yes_means = grind arith;
       inquire_means = grind arith;

@@ -119,8 +119,11 @@ pub record Common (r : Reading) : Type 0 where
   pub forced_heuristic : r.heuristic_forced ≡ true → (r.heuristic_kept ≡ true) × (r.heuristic_ever ≡ true)
   pub heuristic_is_forced : r.heuristic_kept ≡ true → r.child_failed ≡ false → r.heuristic_forced ≡ true
   pub heuristic_stays : r.heuristic_ever ≡ true → (r.heuristic_forced ≡ true) ⊎ (r.forgot_ever ≡ true)
+  pub forgot_stays : r.forgot_ever ≡ true → r.prepared_kept ≡ true → r.forgot_kept ≡ true
   pub forgot_stands_behind : r.forgot_kept ≡ true → r.heuristic_kept ≡ true
   pub forced_forgot : r.forgot_forced ≡ true → (r.forgot_kept ≡ true) × (r.forgot_ever ≡ true)
+  pub forgot_is_once : r.forgot_kept ≡ true → r.forgot_ever ≡ true → r.forgot_forced ≡ true
+  pub forgot_was_decided : r.forgot_ever ≡ true → r.heuristic_ever ≡ true
   pub forgot_is_forced : r.forgot_kept ≡ true → r.child_failed ≡ false → r.forgot_forced ≡ true
   -- What each message means for ever.
   pub yes_means : r.sent_yes ≡ true → (r.prepared_ever ≡ true) × (r.sent_prepare ≡ true)

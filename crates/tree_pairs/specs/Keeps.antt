@@ -22,6 +22,7 @@ pub record Later (old new : Reading) : Type 0 where
   pub child_committed : old.child_committed ≡ true → new.child_committed ≡ true
   pub prepared_ever : old.prepared_ever ≡ true → new.prepared_ever ≡ true
   pub heuristic_ever : old.heuristic_ever ≡ true → new.heuristic_ever ≡ true
+  pub heuristic_commits : old.heuristic_ever ≡ true → new.heuristic_commits ≡ old.heuristic_commits
   pub forgot_ever : old.forgot_ever ≡ true → new.forgot_ever ≡ true
   pub sent_prepare : old.sent_prepare ≡ true → new.sent_prepare ≡ true
   pub sent_yes : old.sent_yes ≡ true → new.sent_yes ≡ true

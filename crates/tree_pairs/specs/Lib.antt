@@ -9,3 +9,4 @@ pub mod RootMoves
 pub mod CascadedMoves
 pub mod ParentCrash
 pub mod Laws
+pub mod Promises
