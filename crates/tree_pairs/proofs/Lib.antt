@@ -12,3 +12,5 @@ pub mod RootCommit
 pub mod CascadedCommit
 pub mod ParentCrashCommit
 pub mod Promises
+pub mod Audited
+pub mod Chain

@@ -90,7 +90,7 @@ pub record Common (r : Reading) : Type 0 where
   pub cascaded_commit_obeys : r.parent_is_root ≡ false → r.commit_kept ≡ true → (r.own_prepare_kept ≡ true) × (r.outcome ≡ true)
   pub owed_took_part : r.owed ≡ true → r.took_part ≡ true
   pub told_commit_is_the_outcome : r.told_committed ≡ true → r.outcome ≡ true
-  pub told_abort_is_refused : r.told_aborted ≡ true → r.refused ≡ true
+  pub told_abort_is_refused : r.told_aborted ≡ true → (r.refused ≡ true) × (r.took_part_up ≡ true)
   -- What a commit, a promise and a READ of the parent rest on.
   pub commit_has_votes : r.commit_kept ≡ true → r.took_part ≡ true → VotedFor r
   pub promise_has_votes : r.own_prepare_kept ≡ true → r.took_part ≡ true → (r.names ≡ true) ⊎ (r.first_read ≡ true)

@@ -10,3 +10,4 @@ pub mod CascadedMoves
 pub mod ParentCrash
 pub mod Laws
 pub mod Promises
+pub mod Chain

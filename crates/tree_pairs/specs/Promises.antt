@@ -13,9 +13,9 @@ pub record Agreement (Inv : Reading → Type 0) : Type 0 where
   pub abort_end : (r s : Reading) → Inv r → Later r s → Inv s → r.child_refused ≡ true → r.took_part ≡ true → r.took_part_up ≡ true → s.outcome ≡ false
   -- The root: what it told, and what it wrote.
   pub told_commit : (r s : Reading) → Inv r → Later r s → Inv s → r.told_committed ≡ true → s.outcome ≡ true
-  pub told_abort : (r s : Reading) → Inv r → Later r s → Inv s → r.parent_is_root ≡ true → r.born ≡ true → s.parent_is_root ≡ true → r.told_aborted ≡ true → s.outcome ≡ false
+  pub told_abort : (r s : Reading) → Inv r → Later r s → Inv s → r.told_aborted ≡ true → s.outcome ≡ false
   pub root_commit : (r s : Reading) → Inv r → Later r s → Inv s → r.parent_is_root ≡ true → r.commit_forced ≡ true → s.outcome ≡ true
-  pub root_abort : (r s : Reading) → Inv r → Later r s → Inv s → r.parent_is_root ≡ true → r.born ≡ true → r.refused ≡ true → s.outcome ≡ false
+  pub root_abort : (r s : Reading) → Inv r → Later r s → Inv s → r.parent_is_root ≡ true → r.refused ≡ true → s.outcome ≡ false
 
 -- The commit rule.
 pub record CommitRule (Inv : Reading → Type 0) : Type 0 where
