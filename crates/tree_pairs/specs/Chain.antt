@@ -3,6 +3,7 @@ use Rattle.std.specs.Prelude.{◌≡◌, Bool, true, false, ◌⊎◌, ◌&&◌,
 use Rattle.tree_pairs.specs.Reading.{Reading, is_live}
 use Rattle.tree_pairs.specs.Standing.{Consents, IsInDoubt}
 use Rattle.tree_pairs.specs.Keeps.{Keeps}
+use Rattle.tree_pairs.specs.RootMoves.{MayDecide}
 use Rattle.tree_pairs.specs.CascadedMoves.{MayCommitAbove}
 
 -- One cascaded coordinator, seen from the pair above as a child and from the pair below as a parent: the same process,
@@ -44,6 +45,10 @@ HasConsented r = r.took_part_up ≡ true → (r.refused ≡ false) × Consents r
 abbrev pub ChildHasConsented : Reading → Type 0
 ChildHasConsented r = r.took_part_up ≡ true → r.took_part ≡ true → (r.child_refused ≡ false) × ((r.prepared_ever ≡ true) ⊎ (r.sent_read ≡ true))
 
+-- The root's Commit reaches the forced front: the root decides, or a Commit that a fault left unforced is forced later.
+abbrev pub RootCommits : Reading → Type 0
+RootCommits r = MayDecide r ⊎ ((r.parent_is_root ≡ true) × (r.commit_kept ≡ true))
+
 -- Every pair of a list may learn that the root has committed.
 abbrev pub AllMayCommit : List Reading → Type 0
 AllMayCommit [] = Unit {0}
@@ -60,8 +65,8 @@ pub record Chain (Inv : Reading → Type 0) : Type 0 where
   pub consent_goes_down : (r : Reading) → Inv r → HasConsented r → (r.parent_is_root ≡ true → r.outcome ≡ true) → ChildHasConsented r
   -- Where the outcome is commit, every ticket down the tree that takes part has consented.
   pub all_consented : (r : Reading) (rest : List Reading) → IsPath r rest → Inv r → AllHave Inv rest → r.outcome ≡ true → AllConsent (r ∷ rest)
-  -- As the root decides commit, every pair below may make the move that the decision makes there.
-  pub all_may_commit : (r : Reading) (rest : List Reading) → IsPath r rest → Inv r → AllHave Inv rest → HasConsented r → (r.parent_is_root ≡ true → r.outcome ≡ true) → AllMayCommit rest
+  -- As the root commits, every pair below may make the move that this makes there.
+  pub all_may_commit : (r : Reading) (rest : List Reading) → IsPath r rest → Inv r → AllHave Inv rest → RootCommits r → AllMayCommit rest
 
 -- What the pair above tells the pair below: the guards of its moves that speak of what stands above.
 pub record ToldFromAbove (Inv : Reading → Type 0) : Type 0 where
