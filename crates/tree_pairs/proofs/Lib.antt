@@ -14,3 +14,4 @@ pub mod ParentCrashCommit
 pub mod Promises
 pub mod Audited
 pub mod Chain
+pub mod TwoPairs

@@ -11,3 +11,4 @@ pub mod ParentCrash
 pub mod Laws
 pub mod Promises
 pub mod Chain
+pub mod TwoPairs
