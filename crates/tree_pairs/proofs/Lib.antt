@@ -15,3 +15,6 @@ pub mod Promises
 pub mod Audited
 pub mod Chain
 pub mod TwoPairs
+pub mod Opened
+pub mod StagesAbort
+pub mod StagesCommit

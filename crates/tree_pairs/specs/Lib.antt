@@ -12,3 +12,7 @@ pub mod Laws
 pub mod Promises
 pub mod Chain
 pub mod TwoPairs
+pub mod Opened
+pub mod StagesAbort
+pub mod StagesCommit
+pub mod Runs
