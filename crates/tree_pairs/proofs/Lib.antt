@@ -18,3 +18,4 @@ pub mod TwoPairs
 pub mod Opened
 pub mod StagesAbort
 pub mod StagesCommit
+pub mod WrongMoves

@@ -16,3 +16,4 @@ pub mod Opened
 pub mod StagesAbort
 pub mod StagesCommit
 pub mod Runs
+pub mod WrongMoves

@@ -1,4 +1,4 @@
-use Rattle.tree_pairs.proofs.heuristic_rows.Goals as goal
+use Rattle.tree_pairs.proofs.rows.heuristic_rows.Goals as goal
 use Rattle.tree_pairs.proofs.ChildAbort as child_abort
 use Rattle.tree_pairs.proofs.ChildCommit as child_commit
 use Rattle.tree_pairs.proofs.ChildCrashAbort as child_crash_abort

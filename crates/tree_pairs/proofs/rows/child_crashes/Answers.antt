@@ -1,4 +1,4 @@
-use Rattle.tree_pairs.proofs.child_crashes.Goals as goal
+use Rattle.tree_pairs.proofs.rows.child_crashes.Goals as goal
 use Rattle.tree_pairs.proofs.ChildCrashAbort as child_crash_abort
 use Rattle.tree_pairs.proofs.ChildCrashCommit as child_crash_commit
 

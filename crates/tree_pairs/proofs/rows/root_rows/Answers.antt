@@ -1,4 +1,4 @@
-use Rattle.tree_pairs.proofs.root_rows.Goals as goal
+use Rattle.tree_pairs.proofs.rows.root_rows.Goals as goal
 use Rattle.tree_pairs.proofs.RootAbort as root_abort
 use Rattle.tree_pairs.proofs.RootCommit as root_commit
 

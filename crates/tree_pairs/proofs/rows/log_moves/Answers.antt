@@ -1,4 +1,4 @@
-use Rattle.tree_pairs.proofs.log_moves.Goals as goal
+use Rattle.tree_pairs.proofs.rows.log_moves.Goals as goal
 use Rattle.tree_pairs.proofs.ChildAbort as child_abort
 use Rattle.tree_pairs.proofs.ChildCommit as child_commit
 use Rattle.tree_pairs.proofs.ParentAbort as parent_abort

@@ -1,4 +1,4 @@
-use Rattle.tree_pairs.proofs.cascaded_rows.Goals as goal
+use Rattle.tree_pairs.proofs.rows.cascaded_rows.Goals as goal
 use Rattle.tree_pairs.proofs.CascadedAbort as cascaded_abort
 use Rattle.tree_pairs.proofs.CascadedCommit as cascaded_commit
 

@@ -1,4 +1,4 @@
-use Rattle.tree_pairs.proofs.parent_crashes.Goals as goal
+use Rattle.tree_pairs.proofs.rows.parent_crashes.Goals as goal
 use Rattle.tree_pairs.proofs.ParentCrashAbort as parent_crash_abort
 use Rattle.tree_pairs.proofs.ParentCrashCommit as parent_crash_commit
 

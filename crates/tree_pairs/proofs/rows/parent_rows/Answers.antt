@@ -1,4 +1,4 @@
-use Rattle.tree_pairs.proofs.parent_rows.Goals as goal
+use Rattle.tree_pairs.proofs.rows.parent_rows.Goals as goal
 use Rattle.tree_pairs.proofs.ParentAbort as parent_abort
 use Rattle.tree_pairs.proofs.ParentCommit as parent_commit
 
