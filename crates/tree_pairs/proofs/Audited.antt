@@ -5,25 +5,31 @@ use Rattle.tree_pairs.specs.Standing.{IsInDoubt, IsSettled, Waits}
 use Rattle.tree_pairs.specs.Invariant.{PresumedAbort, PresumedCommit}
 use Rattle.tree_pairs.specs.Promises.{AuditedOutcome, kept_case_says, said_by, SaysCommit, SaysAbort, AsksAbove, Presumes}
 
-pub abort_says_commit : (r : Reading) → PresumedAbort r → r.failed ≡ false → r.child_failed ≡ false → IsInDoubt r → kept_case_says r ≡ SaysCommit → r.outcome ≡ true
+pub abort_says_commit : (r : Reading) → PresumedAbort r → r.failed ≡ false → r.child_failed ≡ false
+    → IsInDoubt r → kept_case_says r ≡ SaysCommit → r.outcome ≡ true
 abort_says_commit r h f c d e = grind arith
 
-pub abort_says_abort : (r : Reading) → PresumedAbort r → r.failed ≡ false → r.child_failed ≡ false → IsInDoubt r → kept_case_says r ≡ SaysAbort → r.outcome ≡ false
+pub abort_says_abort : (r : Reading) → PresumedAbort r → r.failed ≡ false → r.child_failed ≡ false
+    → IsInDoubt r → kept_case_says r ≡ SaysAbort → r.outcome ≡ false
 abort_says_abort r h f c d e = grind arith
 
-pub abort_asks_above : (r : Reading) → PresumedAbort r → r.failed ≡ false → r.child_failed ≡ false → IsInDoubt r → kept_case_says r ≡ AsksAbove → Waits r
+pub abort_asks_above : (r : Reading) → PresumedAbort r → r.failed ≡ false → r.child_failed ≡ false
+    → IsInDoubt r → kept_case_says r ≡ AsksAbove → Waits r
 abort_asks_above r h f c d e = grind arith
 
-pub abort_presumes : (r : Reading) → PresumedAbort r → r.failed ≡ false → r.child_failed ≡ false → IsInDoubt r → kept_case_says r ≡ Presumes → r.outcome ≡ false
+pub abort_presumes : (r : Reading) → PresumedAbort r → r.failed ≡ false → r.child_failed ≡ false
+    → IsInDoubt r → kept_case_says r ≡ Presumes → r.outcome ≡ false
 abort_presumes r h f c d e = grind arith
 
 pub abort_own_abort : (r : Reading) → PresumedAbort r → r.learnt_abort_kept ≡ true → r.outcome ≡ false
 abort_own_abort r h e = grind arith
 
-pub abort_root_commit : (r : Reading) → PresumedAbort r → r.failed ≡ false → r.parent_is_root ≡ true → r.commit_kept ≡ true → r.outcome ≡ true
+pub abort_root_commit : (r : Reading) → PresumedAbort r → r.failed ≡ false → r.parent_is_root ≡ true
+    → r.commit_kept ≡ true → r.outcome ≡ true
 abort_root_commit r h f p c = grind arith
 
-pub abort_root_other : (r : Reading) → PresumedAbort r → r.failed ≡ false → r.parent_is_root ≡ true → r.commit_kept ≡ false → (r.abort_kept ≡ true) ⊎ (r.collecting_kept ≡ true) → r.outcome ≡ false
+pub abort_root_other : (r : Reading) → PresumedAbort r → r.failed ≡ false → r.parent_is_root ≡ true
+    → r.commit_kept ≡ false → (r.abort_kept ≡ true) ⊎ (r.collecting_kept ≡ true) → r.outcome ≡ false
 abort_root_other r h f p c a = grind arith
 
 pub abort_audited : AuditedOutcome PresumedAbort false
@@ -38,25 +44,31 @@ abort_audited = record {
   root_other = abort_root_other;
 }
 
-pub commit_says_commit : (r : Reading) → PresumedCommit r → r.failed ≡ false → r.child_failed ≡ false → IsInDoubt r → kept_case_says r ≡ SaysCommit → r.outcome ≡ true
+pub commit_says_commit : (r : Reading) → PresumedCommit r → r.failed ≡ false → r.child_failed ≡ false
+    → IsInDoubt r → kept_case_says r ≡ SaysCommit → r.outcome ≡ true
 commit_says_commit r h f c d e = grind arith
 
-pub commit_says_abort : (r : Reading) → PresumedCommit r → r.failed ≡ false → r.child_failed ≡ false → IsInDoubt r → kept_case_says r ≡ SaysAbort → r.outcome ≡ false
+pub commit_says_abort : (r : Reading) → PresumedCommit r → r.failed ≡ false → r.child_failed ≡ false
+    → IsInDoubt r → kept_case_says r ≡ SaysAbort → r.outcome ≡ false
 commit_says_abort r h f c d e = grind arith
 
-pub commit_asks_above : (r : Reading) → PresumedCommit r → r.failed ≡ false → r.child_failed ≡ false → IsInDoubt r → kept_case_says r ≡ AsksAbove → Waits r
+pub commit_asks_above : (r : Reading) → PresumedCommit r → r.failed ≡ false → r.child_failed ≡ false
+    → IsInDoubt r → kept_case_says r ≡ AsksAbove → Waits r
 commit_asks_above r h f c d e = grind arith
 
-pub commit_presumes : (r : Reading) → PresumedCommit r → r.failed ≡ false → r.child_failed ≡ false → IsInDoubt r → kept_case_says r ≡ Presumes → r.outcome ≡ true
+pub commit_presumes : (r : Reading) → PresumedCommit r → r.failed ≡ false → r.child_failed ≡ false
+    → IsInDoubt r → kept_case_says r ≡ Presumes → r.outcome ≡ true
 commit_presumes r h f c d e = grind arith
 
 pub commit_own_abort : (r : Reading) → PresumedCommit r → r.learnt_abort_kept ≡ true → r.outcome ≡ false
 commit_own_abort r h e = grind arith
 
-pub commit_root_commit : (r : Reading) → PresumedCommit r → r.failed ≡ false → r.parent_is_root ≡ true → r.commit_kept ≡ true → r.outcome ≡ true
+pub commit_root_commit : (r : Reading) → PresumedCommit r → r.failed ≡ false → r.parent_is_root ≡ true
+    → r.commit_kept ≡ true → r.outcome ≡ true
 commit_root_commit r h f p c = grind arith
 
-pub commit_root_other : (r : Reading) → PresumedCommit r → r.failed ≡ false → r.parent_is_root ≡ true → r.commit_kept ≡ false → (r.abort_kept ≡ true) ⊎ (r.collecting_kept ≡ true) → r.outcome ≡ false
+pub commit_root_other : (r : Reading) → PresumedCommit r → r.failed ≡ false → r.parent_is_root ≡ true
+    → r.commit_kept ≡ false → (r.abort_kept ≡ true) ⊎ (r.collecting_kept ≡ true) → r.outcome ≡ false
 commit_root_other r h f p c a = grind arith
 
 pub commit_audited : AuditedOutcome PresumedCommit true

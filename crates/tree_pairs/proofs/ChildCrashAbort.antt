@@ -19,13 +19,15 @@ fails_to_commit r h g = grind arith
 pub fails_to_roll_back : Keeps Inv crash.MayFailToLearnAbort crash.fails_to_roll_back
 fails_to_roll_back r h g = grind arith
 
-pub fails_to_decide_alone : (commit : Bool) → Keeps Inv crash.MayFailToDecideAlone (crash.fails_to_decide_alone commit)
+pub fails_to_decide_alone : (commit : Bool)
+    → Keeps Inv crash.MayFailToDecideAlone (crash.fails_to_decide_alone commit)
 fails_to_decide_alone commit r h g = grind arith
 
 pub fails_to_forget : Keeps Inv crash.MayFailToForget crash.fails_to_forget
 fails_to_forget r h g = grind arith
 
-pub hardens_failed_child : (front : ChildFront) → Keeps Inv (crash.MayHardenFailedChild front) (crash.hardens_failed_child front)
+pub hardens_failed_child : (front : ChildFront)
+    → Keeps Inv (crash.MayHardenFailedChild front) (crash.hardens_failed_child front)
 hardens_failed_child front r h g = record {
   invariant = record {
     common = grind arith;
@@ -49,7 +51,8 @@ child_loses front r h g = grind arith
 pub child_reopens : Keeps Inv crash.MayReopenChild crash.child_reopens
 child_reopens r h g = grind arith
 
-pub child_restarts : (front : ChildFront) → Keeps Inv (crash.IsChildFront front) (crash.child_restarts front)
+pub child_restarts : (front : ChildFront)
+    → Keeps Inv (crash.IsChildFront front) (crash.child_restarts front)
 child_restarts front r h g =
     let lost = child_loses front r h g in
     let back = child_reopens (crash.child_loses front r) lost.invariant (record { failed = refl }) in

@@ -18,11 +18,11 @@ hears_read r h g = grind arith
 pub gives_up : Keeps Inv move.MayGiveUp move.gives_up
 gives_up r h g = grind arith
 
+pub hears_ack : Keeps Inv move.MayHearAck move.hears_ack
+hears_ack r h g = grind arith
+
 pub hardens_parent : Keeps Inv move.MayHardenParent move.hardens_parent
 hardens_parent r h g = grind arith
-
-pub hears_ack : Keeps Inv move.MayHearAbortAck move.hears_ack
-hears_ack r h g = grind arith
 
 pub ends : Keeps Inv move.MayEndAbort move.ends
 ends r h g = grind arith

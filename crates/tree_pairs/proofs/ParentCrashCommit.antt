@@ -19,7 +19,8 @@ fails_to_hear_no r h g = grind arith
 pub fails_to_promise_up : Keeps Inv cascaded.MayPromise crash.fails_to_promise_up
 fails_to_promise_up r h g = grind arith
 
-pub hardens_failed_parent : (front : ParentFront) → Keeps Inv (crash.MayHardenFailedParent front) (crash.hardens_failed_parent front)
+pub hardens_failed_parent : (front : ParentFront)
+    → Keeps Inv (crash.MayHardenFailedParent front) (crash.hardens_failed_parent front)
 hardens_failed_parent front r h g = record {
   invariant = record {
     common = grind arith;
@@ -246,7 +247,8 @@ parent_reopens r h g = record {
   later = grind arith;
 }
 
-pub parent_restarts : (front : ParentFront) → Keeps Inv (crash.IsParentFront front) (crash.parent_restarts front)
+pub parent_restarts : (front : ParentFront)
+    → Keeps Inv (crash.IsParentFront front) (crash.parent_restarts front)
 parent_restarts front r h g =
     let lost = parent_loses front r h g in
     let back = parent_reopens (crash.parent_loses front r) lost.invariant (record { failed = refl }) in

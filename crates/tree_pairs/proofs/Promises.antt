@@ -8,7 +8,8 @@ use Rattle.tree_pairs.specs.ChildMoves.{votes_yes}
 use Rattle.tree_pairs.specs.Promises.{Agreement, CommitRule, TrueAnswers, StandingMismatches, AuditedOutcome, kept_case_says, said_by, SaysCommit, SaysAbort, AsksAbove, Presumes}
 
 -- A participant that ended without a commit, or whose parent did: the outcome is not commit.
-pub refused_child : (r : Reading) → Common r → r.child_refused ≡ true → r.took_part ≡ true → r.took_part_up ≡ true → r.outcome ≡ false
+pub refused_child : (r : Reading) → Common r → r.child_refused ≡ true → r.took_part ≡ true
+    → r.took_part_up ≡ true → r.outcome ≡ false
 refused_child r h c t u = grind arith
 
 pub refused_parent : (r : Reading) → Common r → r.refused ≡ true → r.took_part_up ≡ true → r.outcome ≡ false
@@ -18,26 +19,33 @@ pub true_commit : (r : Reading) → Common r → r.sent_commit ≡ true → IsIn
 true_commit r h c d = grind arith
 
 -- ABORT finds in doubt only a child whose parent has refused, and takes part.
-pub abort_refuses : (r : Reading) → Common r → r.sent_abort ≡ true → IsInDoubt r → (r.refused ≡ true) × (r.took_part_up ≡ true)
+pub abort_refuses : (r : Reading) → Common r → r.sent_abort ≡ true → IsInDoubt r → (r.refused ≡ true)
+    × (r.took_part_up ≡ true)
 abort_refuses r h a d = grind arith
 
-pub root_part : (r : Reading) → Common r → r.parent_is_root ≡ true → r.refused ≡ true → r.took_part_up ≡ true
+pub root_part : (r : Reading) → Common r → r.parent_is_root ≡ true → r.refused ≡ true
+    → r.took_part_up ≡ true
 root_part r h p e = grind arith
 
-pub voted : (r : Reading) → Common r → r.outcome ≡ true → r.took_part_up ≡ true → r.took_part ≡ true → (r.first_yes ≡ true) ⊎ (r.first_read ≡ true)
+pub voted : (r : Reading) → Common r → r.outcome ≡ true → r.took_part_up ≡ true → r.took_part ≡ true
+    → (r.first_yes ≡ true) ⊎ (r.first_read ≡ true)
 voted r h o u t = grind arith
 
-pub stands_or_forgot : (r : Reading) → Common r → r.heuristic_ever ≡ true → (r.heuristic_forced ≡ true) ⊎ (r.forgot_ever ≡ true)
+pub stands_or_forgot : (r : Reading) → Common r → r.heuristic_ever ≡ true → (r.heuristic_forced ≡ true)
+    ⊎ (r.forgot_ever ≡ true)
 stands_or_forgot r h e = h.heuristic_stays e
 
 pub abort_agreement : Agreement PresumedAbort
 abort_agreement = record {
   commit_end = λ r s h l k e. l.outcome (h.common.child_commit_is_the_outcome e);
-  abort_end = λ r s h l k e t u. refused_child s k.common (l.child_refused e) (l.took_part t) (l.took_part_up u);
+  abort_end = λ r s h l k e t u. refused_child s k.common (l.child_refused e) (l.took_part t)
+      (l.took_part_up u);
   told_commit = λ r s h l k e. l.outcome (h.common.told_commit_is_the_outcome e);
-  told_abort = λ r s h l k e. let both = h.common.told_abort_is_refused e in refused_parent s k.common (l.refused both.0) (l.took_part_up both.1);
+  told_abort = λ r s h l k e. let both = h.common.told_abort_is_refused e in refused_parent s k.common
+      (l.refused both.0) (l.took_part_up both.1);
   root_commit = λ r s h l k p c. l.outcome (h.common.root_commit_is_the_outcome p c);
-  root_abort = λ r s h l k p e. refused_parent s k.common (l.refused e) (l.took_part_up (root_part r h.common p e));
+  root_abort = λ r s h l k p e. refused_parent s k.common (l.refused e)
+      (l.took_part_up (root_part r h.common p e));
 }
 
 pub abort_commit_rule : CommitRule PresumedAbort
@@ -52,23 +60,28 @@ abort_commit_rule = record {
 pub abort_true_answers : TrueAnswers PresumedAbort
 abort_true_answers = record {
   commit_is_true = λ r s h l k c d. l.outcome (true_commit r h.common c d);
-  abort_is_true = λ r s h l k a d. let both = abort_refuses r h.common a d in refused_parent s k.common (l.refused both.0) (l.took_part_up both.1);
+  abort_is_true = λ r s h l k a d. let both = abort_refuses r h.common a d in refused_parent s k.common
+      (l.refused both.0) (l.took_part_up both.1);
 }
 
 pub abort_standing_mismatches : StandingMismatches PresumedAbort
 abort_standing_mismatches = record {
-  stands = λ r s h l k e. elim (stands_or_forgot s k.common (l.heuristic_ever e)) [ inl f ↦ inl (f, l.heuristic_commits e) | inr g ↦ inr g ];
+  stands = λ r s h l k e. elim (stands_or_forgot s k.common (l.heuristic_ever e))
+      [ inl f ↦ inl (f, l.heuristic_commits e) | inr g ↦ inr g ];
   shows = λ r h u p. h.common.heuristic_is_forced p u;
 }
 
 pub commit_agreement : Agreement PresumedCommit
 commit_agreement = record {
   commit_end = λ r s h l k e. l.outcome (h.common.child_commit_is_the_outcome e);
-  abort_end = λ r s h l k e t u. refused_child s k.common (l.child_refused e) (l.took_part t) (l.took_part_up u);
+  abort_end = λ r s h l k e t u. refused_child s k.common (l.child_refused e) (l.took_part t)
+      (l.took_part_up u);
   told_commit = λ r s h l k e. l.outcome (h.common.told_commit_is_the_outcome e);
-  told_abort = λ r s h l k e. let both = h.common.told_abort_is_refused e in refused_parent s k.common (l.refused both.0) (l.took_part_up both.1);
+  told_abort = λ r s h l k e. let both = h.common.told_abort_is_refused e in refused_parent s k.common
+      (l.refused both.0) (l.took_part_up both.1);
   root_commit = λ r s h l k p c. l.outcome (h.common.root_commit_is_the_outcome p c);
-  root_abort = λ r s h l k p e. refused_parent s k.common (l.refused e) (l.took_part_up (root_part r h.common p e));
+  root_abort = λ r s h l k p e. refused_parent s k.common (l.refused e)
+      (l.took_part_up (root_part r h.common p e));
 }
 
 pub commit_commit_rule : CommitRule PresumedCommit
@@ -83,11 +96,13 @@ commit_commit_rule = record {
 pub commit_true_answers : TrueAnswers PresumedCommit
 commit_true_answers = record {
   commit_is_true = λ r s h l k c d. l.outcome (true_commit r h.common c d);
-  abort_is_true = λ r s h l k a d. let both = abort_refuses r h.common a d in refused_parent s k.common (l.refused both.0) (l.took_part_up both.1);
+  abort_is_true = λ r s h l k a d. let both = abort_refuses r h.common a d in refused_parent s k.common
+      (l.refused both.0) (l.took_part_up both.1);
 }
 
 pub commit_standing_mismatches : StandingMismatches PresumedCommit
 commit_standing_mismatches = record {
-  stands = λ r s h l k e. elim (stands_or_forgot s k.common (l.heuristic_ever e)) [ inl f ↦ inl (f, l.heuristic_commits e) | inr g ↦ inr g ];
+  stands = λ r s h l k e. elim (stands_or_forgot s k.common (l.heuristic_ever e))
+      [ inl f ↦ inl (f, l.heuristic_commits e) | inr g ↦ inr g ];
   shows = λ r h u p. h.common.heuristic_is_forced p u;
 }

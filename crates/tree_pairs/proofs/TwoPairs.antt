@@ -100,7 +100,8 @@ gives_up a b h k i g = grind arith
 pub gives_up_and_acknowledges : Together (λ a b. Unit {0}) child.drops_and_acknowledges parent.gives_up
 gives_up_and_acknowledges a b h k i g = grind arith
 
-pub passes_commit_forced : Together (λ a b. cascaded.MayPassCommit b) child.commits_forced cascaded.passes_commit_forced
+pub passes_commit_forced : Together (λ a b. cascaded.MayPassCommit b) child.commits_forced
+    cascaded.passes_commit_forced
 passes_commit_forced a b h k i g = grind arith
 
 pub passes_commit : Together (λ a b. cascaded.MayPassCommit b) child.commits cascaded.passes_commit
@@ -109,7 +110,8 @@ passes_commit a b h k i g = grind arith
 pub passes_abort : Together (λ a b. cascaded.MayPassAbort b) child.rolls_back cascaded.passes_abort
 passes_abort a b h k i g = grind arith
 
-pub passes_abort_forced : Together (λ a b. cascaded.MayPassAbort b) child.rolls_back_forced cascaded.passes_abort_forced
+pub passes_abort_forced : Together (λ a b. cascaded.MayPassAbort b) child.rolls_back_forced
+    cascaded.passes_abort_forced
 passes_abort_forced a b h k i g = grind arith
 
 pub hardens : Together (λ a b. Unit {0}) child.hardens_child parent.hardens_parent
@@ -121,22 +123,27 @@ trims a b h k i g = grind arith
 pub fails : Together (λ a b. Unit {0}) child_crash.child_fails parent_crash.parent_fails
 fails a b h k i g = grind arith
 
-pub fails_to_collect : Together (λ a b. parent_crash.MayFailToCollect b) child_crash.child_fails parent_crash.fails_to_collect
+pub fails_to_collect : Together (λ a b. parent_crash.MayFailToCollect b) child_crash.child_fails
+    parent_crash.fails_to_collect
 fails_to_collect a b h k i g = grind arith
 
 pub fails_to_abort : Together (λ a b. parent.MayAbort b) child_crash.child_fails parent_crash.fails_to_abort
 fails_to_abort a b h k i g = grind arith
 
-pub fails_to_promise : Together (λ a b. cascaded.MayPromise b) child_crash.fails_to_promise parent_crash.fails_to_promise_up
+pub fails_to_promise : Together (λ a b. cascaded.MayPromise b) child_crash.fails_to_promise
+    parent_crash.fails_to_promise_up
 fails_to_promise a b h k i g = grind arith
 
-pub fails_to_pass_commit : Together (λ a b. cascaded.MayPassCommit b) child_crash.fails_to_commit parent_crash.fails_to_pass_commit
+pub fails_to_pass_commit : Together (λ a b. cascaded.MayPassCommit b) child_crash.fails_to_commit
+    parent_crash.fails_to_pass_commit
 fails_to_pass_commit a b h k i g = grind arith
 
-pub fails_to_pass_abort : Together (λ a b. cascaded.MayPassAbort b) child_crash.fails_to_roll_back parent_crash.fails_to_pass_abort
+pub fails_to_pass_abort : Together (λ a b. cascaded.MayPassAbort b) child_crash.fails_to_roll_back
+    parent_crash.fails_to_pass_abort
 fails_to_pass_abort a b h k i g = grind arith
 
-pub reopens_naming : Together (λ a b. parent_crash.MayReopenParent b) child_crash.child_reopens parent_crash.parent_reopens_naming
+pub reopens_naming : Together (λ a b. parent_crash.MayReopenParent b) child_crash.child_reopens
+    parent_crash.parent_reopens_naming
 reopens_naming a b h k i g = record {
   coordinator = grind arith;
   cascaded = grind arith;
@@ -157,7 +164,8 @@ reopens_naming a b h k i g = record {
   no_forgot = grind arith;
 }
 
-pub reopens : Together (λ a b. parent_crash.MayReopenParent b) child_crash.child_reopens parent_crash.parent_reopens
+pub reopens : Together (λ a b. parent_crash.MayReopenParent b) child_crash.child_reopens
+    parent_crash.parent_reopens
 reopens a b h k i g = record {
   coordinator = grind arith;
   cascaded = grind arith;
@@ -178,7 +186,8 @@ reopens a b h k i g = record {
   no_forgot = grind arith;
 }
 
-pub loses : (front : ChildFront) (below_front : ParentFront) → SameFront front below_front → Together (λ a b. Unit {0}) (child_crash.child_loses front) (parent_crash.parent_loses below_front)
+pub loses : (front : ChildFront) (below_front : ParentFront) → SameFront front below_front
+    → Together (λ a b. Unit {0}) (child_crash.child_loses front) (parent_crash.parent_loses below_front)
 loses front below_front s a b h k i g = grind arith
 
 pub one_step : OneStep

@@ -1,4 +1,5 @@
--- What a cascaded coordinator does as a parent, because of what its own parent told it; and what becomes true above it.
+-- What a cascaded coordinator does as a parent, because of what its own parent told it; and what becomes
+-- true above it.
 use Rattle.std.specs.Prelude.{◌≡◌, Bool, true, false, ◌||◌, ◌&&◌, ◌⊎◌}
 use Rattle.tree_pairs.specs.Reading.{Reading, Phase, Active, Collecting, Closed}
 use Rattle.tree_pairs.specs.Standing.{HasVote, Waits, Consents}
@@ -12,7 +13,8 @@ pub record MayBeBorn (r : Reading) : Type 0 where
 abbrev pub is_born : Reading → Reading
 is_born r = record r { born = true; phase = Active }
 
--- A case above that takes part accepted this one, or accepted one above it. The pair above knows: a case that accepts is
+-- A case above that takes part accepted this one, or accepted one above it. The pair above knows: a case
+-- that accepts is
 -- Active, and so its transaction is not committed.
 pub record MayTakePart (r : Reading) : Type 0 where
   pub cascaded : r.parent_is_root ≡ false
@@ -54,7 +56,8 @@ reads_up r = record r { phase = Closed; read_up = true }
 abbrev pub reads_up_collected : Reading → Reading
 reads_up_collected r = record r { phase = Closed; read_up = true; end_kept = true }
 
--- Each child voted YES or READ, and some voted YES: Prepare, which names those, is forced; then YES goes up.
+-- Each child voted YES or READ, and some voted YES: Prepare, which names those, is forced; then YES goes
+-- up.
 pub record MayPromise (r : Reading) : Type 0 where
   pub cascaded : r.parent_is_root ≡ false
   pub waiting : r.phase ≡ Collecting
@@ -62,7 +65,8 @@ pub record MayPromise (r : Reading) : Type 0 where
   pub all_voted : HasVote r
 
 abbrev pub promises : Reading → Reading
-promises r = record r { phase = Closed; own_prepare_kept = true; own_prepare_forced = true; own_prepare_ever = true; names = r.accepted && r.first_yes }
+promises r = record r { phase = Closed; own_prepare_kept = true; own_prepare_forced = true;
+    own_prepare_ever = true; names = r.accepted && r.first_yes }
 
 -- COMMIT found the case Prepared. True answers of the pair above: the outcome is commit.
 pub record MayPassCommit (r : Reading) : Type 0 where
@@ -73,13 +77,15 @@ pub record MayPassCommit (r : Reading) : Type 0 where
 
 -- Presumed Abort: Commit, which names whom Prepare named, is forced; COMMIT goes to each.
 abbrev pub passes_commit_forced : Reading → Reading
-passes_commit_forced r = record r { commit_kept = true; commit_forced = true; owed = r.names; sent_commit = r.names || r.sent_commit }
+passes_commit_forced r = record r { commit_kept = true; commit_forced = true; owed = r.names;
+    sent_commit = r.names || r.sent_commit }
 
 -- Presumed Commit: Commit is written unforced; COMMIT goes to each; the case is forgotten.
 abbrev pub passes_commit : Reading → Reading
 passes_commit r = record r { commit_kept = true; sent_commit = r.names || r.sent_commit }
 
--- ABORT found the case Prepared. True answers of the pair above: the outcome is not commit, and never will be.
+-- ABORT found the case Prepared. True answers of the pair above: the outcome is not commit, and never will
+-- be.
 pub record MayPassAbort (r : Reading) : Type 0 where
   pub cascaded : r.parent_is_root ≡ false
   pub up : r.failed ≡ false
@@ -92,4 +98,5 @@ passes_abort r = record r { refused = true; abort_kept = true; sent_abort = r.na
 
 -- Presumed Commit: Abort, which names whom Prepare named, is forced; ABORT goes to each.
 abbrev pub passes_abort_forced : Reading → Reading
-passes_abort_forced r = record r { refused = true; abort_kept = true; owed = r.names; sent_abort = r.names || r.sent_abort }
+passes_abort_forced r = record r { refused = true; abort_kept = true; owed = r.names;
+    sent_abort = r.names || r.sent_abort }

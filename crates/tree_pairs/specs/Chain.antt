@@ -6,7 +6,8 @@ use Rattle.tree_pairs.specs.Keeps.{Keeps}
 use Rattle.tree_pairs.specs.RootMoves.{MayDecide}
 use Rattle.tree_pairs.specs.CascadedMoves.{MayCommitAbove}
 
--- One cascaded coordinator, seen from the pair above as a child and from the pair below as a parent: the same process,
+-- One cascaded coordinator, seen from the pair above as a child and from the pair below as a parent: the
+-- same process,
 -- the same case, the same records.
 pub record IsBelow (above below : Reading) : Type 0 where
   pub coordinator : above.child_is_manager ≡ false
@@ -43,9 +44,11 @@ HasConsented r = r.took_part_up ≡ true → (r.refused ≡ false) × Consents r
 
 -- The ticket, if it takes part, has consented: it promised, or it is read-only and settled.
 abbrev pub ChildHasConsented : Reading → Type 0
-ChildHasConsented r = r.took_part_up ≡ true → r.took_part ≡ true → (r.child_refused ≡ false) × ((r.prepared_ever ≡ true) ⊎ (r.sent_read ≡ true))
+ChildHasConsented r = r.took_part_up ≡ true → r.took_part ≡ true → (r.child_refused ≡ false)
+    × ((r.prepared_ever ≡ true) ⊎ (r.sent_read ≡ true))
 
--- The root's Commit reaches the forced front: the root decides, or a Commit that a fault left unforced is forced later.
+-- The root's Commit reaches the forced front: the root decides, or a Commit that a fault left unforced is
+-- forced later.
 abbrev pub RootCommits : Reading → Type 0
 RootCommits r = MayDecide r ⊎ ((r.parent_is_root ≡ true) × (r.commit_kept ≡ true))
 
@@ -62,20 +65,29 @@ AllConsent (r ∷ rest) = ChildHasConsented r × AllConsent rest
 -- The chain, under one presumption.
 pub record Chain (Inv : Reading → Type 0) : Type 0 where
   -- A case that consented has children that consented.
-  pub consent_goes_down : (r : Reading) → Inv r → HasConsented r → (r.parent_is_root ≡ true → r.outcome ≡ true) → ChildHasConsented r
+  pub consent_goes_down : (r : Reading) → Inv r → HasConsented r
+      → (r.parent_is_root ≡ true → r.outcome ≡ true) → ChildHasConsented r
   -- Where the outcome is commit, every ticket down the tree that takes part has consented.
-  pub all_consented : (r : Reading) (rest : List Reading) → IsPath r rest → Inv r → AllHave Inv rest → r.outcome ≡ true → AllConsent (r ∷ rest)
+  pub all_consented : (r : Reading) (rest : List Reading) → IsPath r rest → Inv r → AllHave Inv rest
+      → r.outcome ≡ true → AllConsent (r ∷ rest)
   -- As the root commits, every pair below may make the move that this makes there.
-  pub all_may_commit : (r : Reading) (rest : List Reading) → IsPath r rest → Inv r → AllHave Inv rest → RootCommits r → AllMayCommit rest
+  pub all_may_commit : (r : Reading) (rest : List Reading) → IsPath r rest → Inv r → AllHave Inv rest
+      → RootCommits r → AllMayCommit rest
 
 -- What the pair above tells the pair below: the guards of its moves that speak of what stands above.
 pub record ToldFromAbove (Inv : Reading → Type 0) : Type 0 where
   -- PREPARE came: the case takes part.
-  pub asked_takes_part : (above below : Reading) → Inv above → IsBelow above below → above.sent_prepare ≡ true → below.took_part_up ≡ true
+  pub asked_takes_part : (above below : Reading) → Inv above → IsBelow above below
+      → above.sent_prepare ≡ true → below.took_part_up ≡ true
   -- The case above is Active and takes part: the transaction is undecided.
-  pub accepting_is_undecided : (above : Reading) → Inv above → is_live above.phase ≡ true → above.took_part_up ≡ true → above.outcome ≡ false
+  pub accepting_is_undecided : (above : Reading) → Inv above → is_live above.phase ≡ true
+      → above.took_part_up ≡ true → above.outcome ≡ false
   -- COMMIT, or ABORT, found the case in doubt.
-  pub commit_is_true : (above below : Reading) → Inv above → IsBelow above below → above.sent_commit ≡ true → IsInDoubt above → below.outcome ≡ true
-  pub abort_is_true : (above below : Reading) → Inv above → IsBelow above below → above.sent_abort ≡ true → IsInDoubt above → below.outcome ≡ false
+  pub commit_is_true : (above below : Reading) → Inv above → IsBelow above below → above.sent_commit ≡ true
+      → IsInDoubt above → below.outcome ≡ true
+  pub abort_is_true : (above below : Reading) → Inv above → IsBelow above below → above.sent_abort ≡ true
+      → IsInDoubt above → below.outcome ≡ false
   -- Prepared below is in doubt above.
-  pub waiting_is_in_doubt : (above below : Reading) → Inv above → IsBelow above below → below.own_prepare_kept ≡ true → below.commit_kept ≡ false → below.abort_kept ≡ false → IsInDoubt above
+  pub waiting_is_in_doubt : (above below : Reading) → Inv above → IsBelow above below
+      → below.own_prepare_kept ≡ true → below.commit_kept ≡ false → below.abort_kept ≡ false
+      → IsInDoubt above

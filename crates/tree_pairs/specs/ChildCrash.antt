@@ -11,7 +11,8 @@ pub record ChildFront : Type 0 where
   pub heuristic : Bool
   pub forgot : Bool
 
--- A front of the kept list that holds the forced front: nothing of it was lost, nothing is new, and no record stands
+-- A front of the kept list that holds the forced front: nothing of it was lost, nothing is new, and no
+-- record stands
 -- behind a lost one.
 pub record IsChildFront (front : ChildFront) (r : Reading) : Type 0 where
   pub holds_prepared : r.prepared_forced ≡ true → front.prepared ≡ true
@@ -27,7 +28,8 @@ pub record IsChildFront (front : ChildFront) (r : Reading) : Type 0 where
   pub heuristic_behind_prepared : front.heuristic ≡ true → front.prepared ≡ true
   pub commit_behind_prepared : front.learnt_commit ≡ true → front.prepared ≡ true
   pub abort_behind_prepared : front.learnt_abort ≡ true → front.prepared ≡ true
-  pub commit_behind_heuristic : front.learnt_commit ≡ true → r.heuristic_kept ≡ true → front.heuristic ≡ true
+  pub commit_behind_heuristic : front.learnt_commit ≡ true → r.heuristic_kept ≡ true
+      → front.heuristic ≡ true
   pub abort_behind_heuristic : front.learnt_abort ≡ true → r.heuristic_kept ≡ true → front.heuristic ≡ true
   pub forgot_behind_heuristic : front.forgot ≡ true → front.heuristic ≡ true
 
@@ -36,7 +38,8 @@ pub record MayFailChild (r : Reading) : Type 0 where
   pub up : r.child_failed ≡ false
 
 abbrev pub child_fails : Reading → Reading
-child_fails r = record r { child_failed = true; ticket_open = false; child_refused = r.ticket_open || r.child_refused }
+child_fails r = record r { child_failed = true; ticket_open = false;
+    child_refused = r.ticket_open || r.child_refused }
 
 -- It failed behind the promise, which was written and perhaps not forced; nothing was sent.
 pub record MayFailToPromise (r : Reading) : Type 0 where
@@ -53,7 +56,8 @@ pub record MayFailToLearnCommit (r : Reading) : Type 0 where
   pub in_doubt : IsInDoubt r
 
 abbrev pub fails_to_commit : Reading → Reading
-fails_to_commit r = record r { child_failed = true; learnt_commit_kept = true; child_committed = not r.heuristic_kept || r.child_committed }
+fails_to_commit r = record r { child_failed = true; learnt_commit_kept = true;
+    child_committed = not r.heuristic_kept || r.child_committed }
 
 pub record MayFailToLearnAbort (r : Reading) : Type 0 where
   pub up : r.child_failed ≡ false
@@ -71,7 +75,8 @@ pub record MayFailToDecideAlone (r : Reading) : Type 0 where
   pub undecided : r.heuristic_kept ≡ false
 
 abbrev pub fails_to_decide_alone : Bool → Reading → Reading
-fails_to_decide_alone commit r = record r { child_failed = true; heuristic_kept = true; heuristic_commits = commit }
+fails_to_decide_alone commit r = record r { child_failed = true; heuristic_kept = true;
+    heuristic_commits = commit }
 
 pub record MayFailToForget (r : Reading) : Type 0 where
   pub manager : r.child_is_manager ≡ true
@@ -127,7 +132,9 @@ child_reopens r = record r {
     heuristic_ever = r.heuristic_kept || r.heuristic_ever;
     forgot_forced = r.forgot_kept;
     forgot_ever = r.forgot_kept || r.forgot_ever;
-    sent_inquire = (r.prepared_kept && not r.learnt_commit_kept && not r.learnt_abort_kept && not r.forgot_kept) || r.sent_inquire;
+    sent_inquire =
+        (r.prepared_kept && not r.learnt_commit_kept && not r.learnt_abort_kept && not r.forgot_kept) ||
+        r.sent_inquire;
   }
 
 -- A whole restart.

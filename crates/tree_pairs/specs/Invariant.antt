@@ -69,15 +69,18 @@ pub record Common (r : Reading) : Type 0 where
   pub acceptance_is_of_an_issued_ticket : r.took_part ≡ true → r.issued ≡ true
   pub asked_takes_part : r.sent_prepare ≡ true → (r.took_part ≡ true) × (r.took_part_up ≡ true)
   pub root_takes_part : r.parent_is_root ≡ true → r.born ≡ true → r.took_part_up ≡ true
-  pub root_promises_nobody : r.parent_is_root ≡ true → (r.own_prepare_kept ≡ false) × (r.own_prepare_ever ≡ false) × (r.read_up ≡ false)
+  pub root_promises_nobody : r.parent_is_root ≡ true → (r.own_prepare_kept ≡ false)
+      × (r.own_prepare_ever ≡ false) × (r.read_up ≡ false)
   -- First votes and acknowledgements are messages that were sent.
-  pub yes_was_sent : r.first_yes ≡ true → (r.sent_yes ≡ true) × (r.first_read ≡ false) × (r.first_no ≡ false)
+  pub yes_was_sent : r.first_yes ≡ true → (r.sent_yes ≡ true) × (r.first_read ≡ false)
+      × (r.first_no ≡ false)
   pub read_was_sent : r.first_read ≡ true → (r.sent_read ≡ true) × (r.first_no ≡ false)
   pub no_was_sent : r.first_no ≡ true → r.sent_no ≡ true
   pub ack_was_sent : r.acked ≡ true → r.sent_ack ≡ true
   -- The parent's log.
   pub forced_collecting : r.collecting_forced ≡ true → r.collecting_kept ≡ true
-  pub forced_promise : r.own_prepare_forced ≡ true → (r.own_prepare_kept ≡ true) × (r.own_prepare_ever ≡ true)
+  pub forced_promise : r.own_prepare_forced ≡ true → (r.own_prepare_kept ≡ true)
+      × (r.own_prepare_ever ≡ true)
   pub promise_is_forced : r.own_prepare_kept ≡ true → r.failed ≡ false → r.own_prepare_forced ≡ true
   pub promise_is_once : r.own_prepare_kept ≡ true → r.own_prepare_ever ≡ true → r.own_prepare_forced ≡ true
   pub promise_takes_part : r.own_prepare_kept ≡ true → r.took_part_up ≡ true
@@ -85,15 +88,19 @@ pub record Common (r : Reading) : Type 0 where
   pub forced_commit : r.commit_forced ≡ true → r.commit_kept ≡ true
   pub commit_decided : r.commit_kept ≡ true → (r.refused ≡ false) × (r.abort_kept ≡ false)
   pub root_commit_is_the_outcome : r.parent_is_root ≡ true → r.commit_forced ≡ true → r.outcome ≡ true
-  pub root_commit_is_once : r.parent_is_root ≡ true → r.outcome ≡ true → r.commit_kept ≡ true → r.commit_forced ≡ true
-  pub root_commit_is_forced : r.parent_is_root ≡ true → r.commit_kept ≡ true → r.failed ≡ false → r.commit_forced ≡ true
-  pub cascaded_commit_obeys : r.parent_is_root ≡ false → r.commit_kept ≡ true → (r.own_prepare_kept ≡ true) × (r.outcome ≡ true)
+  pub root_commit_is_once : r.parent_is_root ≡ true → r.outcome ≡ true → r.commit_kept ≡ true
+      → r.commit_forced ≡ true
+  pub root_commit_is_forced : r.parent_is_root ≡ true → r.commit_kept ≡ true → r.failed ≡ false
+      → r.commit_forced ≡ true
+  pub cascaded_commit_obeys : r.parent_is_root ≡ false → r.commit_kept ≡ true → (r.own_prepare_kept ≡ true)
+      × (r.outcome ≡ true)
   pub owed_took_part : r.owed ≡ true → r.took_part ≡ true
   pub told_commit_is_the_outcome : r.told_committed ≡ true → r.outcome ≡ true
   pub told_abort_is_refused : r.told_aborted ≡ true → (r.refused ≡ true) × (r.took_part_up ≡ true)
   -- What a commit, a promise and a READ of the parent rest on.
   pub commit_has_votes : r.commit_kept ≡ true → r.took_part ≡ true → VotedFor r
-  pub promise_has_votes : r.own_prepare_kept ≡ true → r.took_part ≡ true → (r.names ≡ true) ⊎ (r.first_read ≡ true)
+  pub promise_has_votes : r.own_prepare_kept ≡ true → r.took_part ≡ true → (r.names ≡ true)
+      ⊎ (r.first_read ≡ true)
   pub names_has_yes : r.names ≡ true → (r.first_yes ≡ true) × (r.own_prepare_kept ≡ true)
   pub old_promise_has_votes : r.own_prepare_ever ≡ true → r.took_part ≡ true → VotedFor r
   pub read_has_reads : r.read_up ≡ true → r.took_part ≡ true → r.first_read ≡ true
@@ -109,13 +116,16 @@ pub record Common (r : Reading) : Type 0 where
   pub child_promise_is_forced : r.prepared_kept ≡ true → r.child_failed ≡ false → r.prepared_forced ≡ true
   pub child_promise_is_once : r.prepared_kept ≡ true → r.prepared_ever ≡ true → r.prepared_forced ≡ true
   pub promise_was_asked : r.prepared_kept ≡ true → r.sent_prepare ≡ true
-  pub learnt_commit_stands_behind : r.learnt_commit_kept ≡ true → (r.prepared_kept ≡ true) × (r.outcome ≡ true)
-  pub learnt_abort_stands_behind : r.learnt_abort_kept ≡ true → (r.prepared_kept ≡ true) × (r.refused ≡ true) × (r.child_refused ≡ true)
+  pub learnt_commit_stands_behind : r.learnt_commit_kept ≡ true → (r.prepared_kept ≡ true)
+      × (r.outcome ≡ true)
+  pub learnt_abort_stands_behind : r.learnt_abort_kept ≡ true → (r.prepared_kept ≡ true)
+      × (r.refused ≡ true) × (r.child_refused ≡ true)
   pub forced_learnt_commit : r.learnt_commit_forced ≡ true → r.learnt_commit_kept ≡ true
   pub forced_learnt_abort : r.learnt_abort_forced ≡ true → r.learnt_abort_kept ≡ true
   pub child_commit_is_the_outcome : r.child_committed ≡ true → r.outcome ≡ true
   -- Operators.
-  pub heuristic_stands_behind : r.heuristic_kept ≡ true → (r.prepared_kept ≡ true) × (r.child_is_manager ≡ true)
+  pub heuristic_stands_behind : r.heuristic_kept ≡ true → (r.prepared_kept ≡ true)
+      × (r.child_is_manager ≡ true)
   pub forced_heuristic : r.heuristic_forced ≡ true → (r.heuristic_kept ≡ true) × (r.heuristic_ever ≡ true)
   pub heuristic_is_forced : r.heuristic_kept ≡ true → r.child_failed ≡ false → r.heuristic_forced ≡ true
   pub heuristic_stays : r.heuristic_ever ≡ true → (r.heuristic_forced ≡ true) ⊎ (r.forgot_ever ≡ true)
@@ -128,7 +138,8 @@ pub record Common (r : Reading) : Type 0 where
   -- What each message means for ever.
   pub yes_means : r.sent_yes ≡ true → (r.prepared_ever ≡ true) × (r.sent_prepare ≡ true)
   pub inquire_means : r.sent_inquire ≡ true → r.sent_prepare ≡ true
-  pub read_means : r.sent_read ≡ true → (r.sent_prepare ≡ true) × (r.child_refused ≡ false) × (r.prepared_kept ≡ false) × (r.prepared_ever ≡ false) × IsSettled r
+  pub read_means : r.sent_read ≡ true → (r.sent_prepare ≡ true) × (r.child_refused ≡ false)
+      × (r.prepared_kept ≡ false) × (r.prepared_ever ≡ false) × IsSettled r
   pub no_means : r.sent_no ≡ true → (r.sent_prepare ≡ true)
   pub commit_means : r.sent_commit ≡ true → (r.outcome ≡ true) ⊎ IsSettled r
   pub abort_means : r.sent_abort ≡ true → r.sent_prepare ≡ true → (r.refused ≡ true) ⊎ IsSettled r
@@ -139,7 +150,8 @@ pub record PresumedAbort (r : Reading) : Type 0 where
   pub common : Common r
   pub never_collects : r.collecting_kept ≡ false
   pub commit_is_forced : r.commit_kept ≡ true → r.failed ≡ false → r.commit_forced ≡ true
-  pub learnt_commit_is_forced : r.learnt_commit_kept ≡ true → r.child_failed ≡ false → r.learnt_commit_forced ≡ true
+  pub learnt_commit_is_forced : r.learnt_commit_kept ≡ true → r.child_failed ≡ false
+      → r.learnt_commit_forced ≡ true
   pub abort_is_refused : r.abort_kept ≡ true → r.refused ≡ true
   pub commit_means_commit : r.sent_commit ≡ true → r.outcome ≡ true
   pub commit_owes : r.commit_kept ≡ true → r.took_part ≡ true → (r.owed ≡ true) ⊎ (r.first_read ≡ true)
@@ -147,16 +159,19 @@ pub record PresumedAbort (r : Reading) : Type 0 where
   pub end_stands_behind_commit : r.end_kept ≡ true → r.commit_kept ≡ true
   pub ended_is_settled : r.end_kept ≡ true → r.sent_prepare ≡ true → IsSettled r
   -- A parent that has forgotten has refused, or its child is settled.
-  pub forgotten : r.sent_prepare ≡ true → is_live r.phase ≡ false → r.commit_kept ≡ false → r.own_prepare_kept ≡ false → (r.refused ≡ true) ⊎ IsSettled r
+  pub forgotten : r.sent_prepare ≡ true → is_live r.phase ≡ false → r.commit_kept ≡ false
+      → r.own_prepare_kept ≡ false → (r.refused ≡ true) ⊎ IsSettled r
 
 -- Presumed Commit: a coordinator forces and names whom it will ask, and who must learn an abort.
 pub record PresumedCommit (r : Reading) : Type 0 where
   pub common : Common r
-  pub learnt_abort_is_forced : r.learnt_abort_kept ≡ true → r.child_failed ≡ false → r.learnt_abort_forced ≡ true
+  pub learnt_abort_is_forced : r.learnt_abort_kept ≡ true → r.child_failed ≡ false
+      → r.learnt_abort_forced ≡ true
   pub abort_is_refused : r.abort_kept ≡ true → (r.refused ≡ true) ⊎ (r.read_up ≡ true)
   pub collects_all : r.collecting_kept ≡ true → r.took_part ≡ true → r.collects ≡ true
   pub collects_stands : r.collects ≡ true → (r.collecting_kept ≡ true) × (r.took_part ≡ true)
-  pub collected_is_decided : r.collecting_kept ≡ true → is_live r.phase ≡ false → r.own_prepare_kept ≡ false → r.commit_kept ≡ false → (r.refused ≡ true) ⊎ (r.read_up ≡ true)
+  pub collected_is_decided : r.collecting_kept ≡ true → is_live r.phase ≡ false
+      → r.own_prepare_kept ≡ false → r.commit_kept ≡ false → (r.refused ≡ true) ⊎ (r.read_up ≡ true)
   pub abort_owes : r.abort_kept ≡ true → r.sent_prepare ≡ true → (r.owed ≡ true) ⊎ IsSettled r
   pub owed_stands : r.owed ≡ true → r.abort_kept ≡ true
   pub ended_is_settled : r.end_kept ≡ true → r.sent_prepare ≡ true → IsSettled r

@@ -2,7 +2,8 @@
 use Rattle.std.specs.Prelude.{◌≡◌, Bool, true}
 use Rattle.tree_pairs.specs.Reading.{Reading}
 
--- What was once true of a pair and is true for ever: the outcome, who took part, who ended how, what was promised, what
+-- What was once true of a pair and is true for ever: the outcome, who took part, who ended how, what was
+-- promised, what
 -- was heard and what was said.
 pub record Later (old new : Reading) : Type 0 where
   pub outcome : old.outcome ≡ true → new.outcome ≡ true

@@ -1,4 +1,5 @@
--- Each move of the protocol keeps the invariant of a pair: the laws, one record for each group of moves and presumption.
+-- Each move of the protocol keeps the invariant of a pair: the laws, one record for each group of moves and
+-- presumption.
 use Rattle.std.specs.Prelude.{Bool}
 use Rattle.tree_pairs.specs.Reading.{Reading}
 use Rattle.tree_pairs.specs.Standing as standing
@@ -42,18 +43,24 @@ pub record ChildRowsUnderCommit : Type 0 where
   pub acknowledges : Keeps PresumedCommit child.MayAcknowledgeAbort child.acknowledges
   pub asks : Keeps PresumedCommit child.MayAsk child.asks
 
--- An operator's decision and the Forgot behind it keep the invariant, also where the device fails, under Presumed Abort.
+-- An operator's decision and the Forgot behind it keep the invariant, also where the device fails, under
+-- Presumed Abort.
 pub record HeuristicRowsUnderAbort : Type 0 where
-  pub decides_alone : (commit : Bool) → Keeps PresumedAbort child.MayDecideAlone (child.decides_alone commit)
+  pub decides_alone : (commit : Bool)
+      → Keeps PresumedAbort child.MayDecideAlone (child.decides_alone commit)
   pub forgets : Keeps PresumedAbort child.MayForget child.forgets
-  pub fails_to_decide_alone : (commit : Bool) → Keeps PresumedAbort child_crash.MayFailToDecideAlone (child_crash.fails_to_decide_alone commit)
+  pub fails_to_decide_alone : (commit : Bool)
+      → Keeps PresumedAbort child_crash.MayFailToDecideAlone (child_crash.fails_to_decide_alone commit)
   pub fails_to_forget : Keeps PresumedAbort child_crash.MayFailToForget child_crash.fails_to_forget
 
--- An operator's decision and the Forgot behind it keep the invariant, also where the device fails, under Presumed Commit.
+-- An operator's decision and the Forgot behind it keep the invariant, also where the device fails, under
+-- Presumed Commit.
 pub record HeuristicRowsUnderCommit : Type 0 where
-  pub decides_alone : (commit : Bool) → Keeps PresumedCommit child.MayDecideAlone (child.decides_alone commit)
+  pub decides_alone : (commit : Bool)
+      → Keeps PresumedCommit child.MayDecideAlone (child.decides_alone commit)
   pub forgets : Keeps PresumedCommit child.MayForget child.forgets
-  pub fails_to_decide_alone : (commit : Bool) → Keeps PresumedCommit child_crash.MayFailToDecideAlone (child_crash.fails_to_decide_alone commit)
+  pub fails_to_decide_alone : (commit : Bool)
+      → Keeps PresumedCommit child_crash.MayFailToDecideAlone (child_crash.fails_to_decide_alone commit)
   pub fails_to_forget : Keeps PresumedCommit child_crash.MayFailToForget child_crash.fails_to_forget
 
 -- Each fault at the child keeps the invariant, and each restart of it, under Presumed Abort.
@@ -61,22 +68,32 @@ pub record ChildCrashesUnderAbort : Type 0 where
   pub child_fails : Keeps PresumedAbort child_crash.MayFailChild child_crash.child_fails
   pub fails_to_promise : Keeps PresumedAbort child_crash.MayFailToPromise child_crash.fails_to_promise
   pub fails_to_commit : Keeps PresumedAbort child_crash.MayFailToLearnCommit child_crash.fails_to_commit
-  pub fails_to_roll_back : Keeps PresumedAbort child_crash.MayFailToLearnAbort child_crash.fails_to_roll_back
-  pub hardens_failed_child : (front : ChildFront) → Keeps PresumedAbort (child_crash.MayHardenFailedChild front) (child_crash.hardens_failed_child front)
-  pub child_loses : (front : ChildFront) → Keeps PresumedAbort (child_crash.IsChildFront front) (child_crash.child_loses front)
+  pub fails_to_roll_back : Keeps PresumedAbort child_crash.MayFailToLearnAbort
+      child_crash.fails_to_roll_back
+  pub hardens_failed_child : (front : ChildFront)
+      → Keeps PresumedAbort (child_crash.MayHardenFailedChild front)
+      (child_crash.hardens_failed_child front)
+  pub child_loses : (front : ChildFront)
+      → Keeps PresumedAbort (child_crash.IsChildFront front) (child_crash.child_loses front)
   pub child_reopens : Keeps PresumedAbort child_crash.MayReopenChild child_crash.child_reopens
-  pub child_restarts : (front : ChildFront) → Keeps PresumedAbort (child_crash.IsChildFront front) (child_crash.child_restarts front)
+  pub child_restarts : (front : ChildFront)
+      → Keeps PresumedAbort (child_crash.IsChildFront front) (child_crash.child_restarts front)
 
 -- Each fault at the child keeps the invariant, and each restart of it, under Presumed Commit.
 pub record ChildCrashesUnderCommit : Type 0 where
   pub child_fails : Keeps PresumedCommit child_crash.MayFailChild child_crash.child_fails
   pub fails_to_promise : Keeps PresumedCommit child_crash.MayFailToPromise child_crash.fails_to_promise
   pub fails_to_commit : Keeps PresumedCommit child_crash.MayFailToLearnCommit child_crash.fails_to_commit
-  pub fails_to_roll_back : Keeps PresumedCommit child_crash.MayFailToLearnAbort child_crash.fails_to_roll_back
-  pub hardens_failed_child : (front : ChildFront) → Keeps PresumedCommit (child_crash.MayHardenFailedChild front) (child_crash.hardens_failed_child front)
-  pub child_loses : (front : ChildFront) → Keeps PresumedCommit (child_crash.IsChildFront front) (child_crash.child_loses front)
+  pub fails_to_roll_back : Keeps PresumedCommit child_crash.MayFailToLearnAbort
+      child_crash.fails_to_roll_back
+  pub hardens_failed_child : (front : ChildFront)
+      → Keeps PresumedCommit (child_crash.MayHardenFailedChild front)
+      (child_crash.hardens_failed_child front)
+  pub child_loses : (front : ChildFront)
+      → Keeps PresumedCommit (child_crash.IsChildFront front) (child_crash.child_loses front)
   pub child_reopens : Keeps PresumedCommit child_crash.MayReopenChild child_crash.child_reopens
-  pub child_restarts : (front : ChildFront) → Keeps PresumedCommit (child_crash.IsChildFront front) (child_crash.child_restarts front)
+  pub child_restarts : (front : ChildFront)
+      → Keeps PresumedCommit (child_crash.IsChildFront front) (child_crash.child_restarts front)
 
 -- Each row of a coordinator as a parent keeps the invariant, under Presumed Abort.
 pub record ParentRowsUnderAbort : Type 0 where
@@ -87,7 +104,7 @@ pub record ParentRowsUnderAbort : Type 0 where
   pub hears_no : Keeps PresumedAbort parent.MayHearNo parent.hears_no
   pub aborts : Keeps PresumedAbort parent.MayAbort parent.aborts
   pub gives_up : Keeps PresumedAbort parent.MayGiveUp parent.gives_up
-  pub hears_ack : Keeps PresumedAbort parent.MayHearCommitAck parent.hears_ack
+  pub hears_ack : Keeps PresumedAbort parent.MayHearAck parent.hears_ack
   pub ends : Keeps PresumedAbort parent.MayEndCommit parent.ends
   pub answers_commit : Keeps PresumedAbort parent.MayAnswerCommit parent.answers_commit
   pub presumes : Keeps PresumedAbort parent.MayPresumeAbort parent.answers_abort
@@ -101,7 +118,7 @@ pub record ParentRowsUnderCommit : Type 0 where
   pub hears_no : Keeps PresumedCommit parent.MayHearNo parent.hears_no_forced
   pub aborts : Keeps PresumedCommit parent.MayAbort parent.aborts_forced
   pub gives_up : Keeps PresumedCommit parent.MayGiveUp parent.gives_up
-  pub hears_ack : Keeps PresumedCommit parent.MayHearAbortAck parent.hears_ack
+  pub hears_ack : Keeps PresumedCommit parent.MayHearAck parent.hears_ack
   pub ends : Keeps PresumedCommit parent.MayEndAbort parent.ends
   pub answers_abort : Keeps PresumedCommit parent.MayAnswerAbort parent.answers_abort
   pub presumes : Keeps PresumedCommit parent.MayPresumeCommit parent.answers_commit
@@ -120,7 +137,8 @@ pub record RootRowsUnderCommit : Type 0 where
   pub ends_read_only : Keeps PresumedCommit root.MayEndReadOnly root.ends_read_only_collected
   pub decides : Keeps PresumedCommit root.MayDecide root.decides
 
--- Each row of a cascaded coordinator alone keeps the invariant, and what becomes true above it, under Presumed Abort.
+-- Each row of a cascaded coordinator alone keeps the invariant, and what becomes true above it, under
+-- Presumed Abort.
 pub record CascadedRowsUnderAbort : Type 0 where
   pub is_born : Keeps PresumedAbort cascaded.MayBeBorn cascaded.is_born
   pub takes_part : Keeps PresumedAbort cascaded.MayTakePart cascaded.takes_part
@@ -131,7 +149,8 @@ pub record CascadedRowsUnderAbort : Type 0 where
   pub passes_commit : Keeps PresumedAbort cascaded.MayPassCommit cascaded.passes_commit_forced
   pub passes_abort : Keeps PresumedAbort cascaded.MayPassAbort cascaded.passes_abort
 
--- Each row of a cascaded coordinator alone keeps the invariant, and what becomes true above it, under Presumed Commit.
+-- Each row of a cascaded coordinator alone keeps the invariant, and what becomes true above it, under
+-- Presumed Commit.
 pub record CascadedRowsUnderCommit : Type 0 where
   pub is_born : Keeps PresumedCommit cascaded.MayBeBorn cascaded.is_born
   pub takes_part : Keeps PresumedCommit cascaded.MayTakePart cascaded.takes_part
@@ -149,13 +168,18 @@ pub record ParentCrashesUnderAbort : Type 0 where
   pub fails_to_abort : Keeps PresumedAbort parent.MayAbort parent_crash.fails_to_abort
   pub fails_to_decide : Keeps PresumedAbort root.MayDecide parent_crash.fails_to_decide_naming
   pub fails_to_promise_up : Keeps PresumedAbort cascaded.MayPromise parent_crash.fails_to_promise_up
-  pub fails_to_pass_commit : Keeps PresumedAbort cascaded.MayPassCommit parent_crash.fails_to_pass_commit_naming
+  pub fails_to_pass_commit : Keeps PresumedAbort cascaded.MayPassCommit
+      parent_crash.fails_to_pass_commit_naming
   pub fails_to_pass_abort : Keeps PresumedAbort cascaded.MayPassAbort parent_crash.fails_to_pass_abort
   pub fails_to_end : Keeps PresumedAbort parent.MayEndCommit parent_crash.fails_to_end
-  pub hardens_failed_parent : (front : ParentFront) → Keeps PresumedAbort (parent_crash.MayHardenFailedParent front) (parent_crash.hardens_failed_parent front)
-  pub parent_loses : (front : ParentFront) → Keeps PresumedAbort (parent_crash.IsParentFront front) (parent_crash.parent_loses front)
+  pub hardens_failed_parent : (front : ParentFront)
+      → Keeps PresumedAbort (parent_crash.MayHardenFailedParent front)
+      (parent_crash.hardens_failed_parent front)
+  pub parent_loses : (front : ParentFront)
+      → Keeps PresumedAbort (parent_crash.IsParentFront front) (parent_crash.parent_loses front)
   pub parent_reopens : Keeps PresumedAbort parent_crash.MayReopenParent parent_crash.parent_reopens_naming
-  pub parent_restarts : (front : ParentFront) → Keeps PresumedAbort (parent_crash.IsParentFront front) (parent_crash.parent_restarts_naming front)
+  pub parent_restarts : (front : ParentFront)
+      → Keeps PresumedAbort (parent_crash.IsParentFront front) (parent_crash.parent_restarts_naming front)
 
 -- Each fault at the parent keeps the invariant, and each restart of it, under Presumed Commit.
 pub record ParentCrashesUnderCommit : Type 0 where
@@ -163,26 +187,35 @@ pub record ParentCrashesUnderCommit : Type 0 where
   pub fails_to_collect : Keeps PresumedCommit parent_crash.MayFailToCollect parent_crash.fails_to_collect
   pub fails_to_hear_no : Keeps PresumedCommit parent.MayHearNo parent_crash.fails_to_hear_no
   pub fails_to_abort : Keeps PresumedCommit parent.MayAbort parent_crash.fails_to_abort_naming
-  pub fails_to_abort_at_restart : Keeps PresumedCommit parent_crash.MayAbortAtRestart parent_crash.fails_to_abort_at_restart
-  pub fails_to_end_read_only : Keeps PresumedCommit parent_crash.MayFailToEndReadOnly parent_crash.fails_to_end_read_only
+  pub fails_to_abort_at_restart : Keeps PresumedCommit parent_crash.MayAbortAtRestart
+      parent_crash.fails_to_abort_at_restart
+  pub fails_to_end_read_only : Keeps PresumedCommit parent_crash.MayFailToEndReadOnly
+      parent_crash.fails_to_end_read_only
   pub fails_to_decide : Keeps PresumedCommit root.MayDecide parent_crash.fails_to_decide
   pub fails_to_promise_up : Keeps PresumedCommit cascaded.MayPromise parent_crash.fails_to_promise_up
   pub fails_to_pass_commit : Keeps PresumedCommit cascaded.MayPassCommit parent_crash.fails_to_pass_commit
-  pub fails_to_pass_abort : Keeps PresumedCommit cascaded.MayPassAbort parent_crash.fails_to_pass_abort_naming
+  pub fails_to_pass_abort : Keeps PresumedCommit cascaded.MayPassAbort
+      parent_crash.fails_to_pass_abort_naming
   pub fails_to_end : Keeps PresumedCommit parent.MayEndAbort parent_crash.fails_to_end
-  pub hardens_failed_parent : (front : ParentFront) → Keeps PresumedCommit (parent_crash.MayHardenFailedParent front) (parent_crash.hardens_failed_parent front)
-  pub parent_loses : (front : ParentFront) → Keeps PresumedCommit (parent_crash.IsParentFront front) (parent_crash.parent_loses front)
+  pub hardens_failed_parent : (front : ParentFront)
+      → Keeps PresumedCommit (parent_crash.MayHardenFailedParent front)
+      (parent_crash.hardens_failed_parent front)
+  pub parent_loses : (front : ParentFront)
+      → Keeps PresumedCommit (parent_crash.IsParentFront front) (parent_crash.parent_loses front)
   pub parent_reopens : Keeps PresumedCommit parent_crash.MayReopenParent parent_crash.parent_reopens
-  pub parent_restarts : (front : ParentFront) → Keeps PresumedCommit (parent_crash.IsParentFront front) (parent_crash.parent_restarts front)
+  pub parent_restarts : (front : ParentFront)
+      → Keeps PresumedCommit (parent_crash.IsParentFront front) (parent_crash.parent_restarts front)
 
--- A force for the sake of another case keeps the invariant, and a trim, at the child and at the parent, under Presumed Abort.
+-- A force for the sake of another case keeps the invariant, and a trim, at the child and at the parent,
+-- under Presumed Abort.
 pub record LogMovesUnderAbort : Type 0 where
   pub hardens_child : Keeps PresumedAbort child.MayHardenChild child.hardens_child
   pub trims_child : Keeps PresumedAbort child.MayTrimChild child.trims_child
   pub hardens_parent : Keeps PresumedAbort parent.MayHardenParent parent.hardens_parent
   pub trims_parent : Keeps PresumedAbort standing.IsUnknownUnderAbort parent.trims_parent
 
--- A force for the sake of another case keeps the invariant, and a trim, at the child and at the parent, under Presumed Commit.
+-- A force for the sake of another case keeps the invariant, and a trim, at the child and at the parent,
+-- under Presumed Commit.
 pub record LogMovesUnderCommit : Type 0 where
   pub hardens_child : Keeps PresumedCommit child.MayHardenChild child.hardens_child
   pub trims_child : Keeps PresumedCommit child.MayTrimChild child.trims_child

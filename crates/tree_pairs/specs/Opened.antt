@@ -65,7 +65,8 @@ opened root manager = record {
 }
 
 -- One stage comes from the other by a move whose guard holds, and both have the invariant.
-abbrev pub Reaches : (Reading → Type 0) → (Reading → Type 0) → (Reading → Reading) → Reading → Reading → Type 0
+abbrev pub Reaches : (Reading → Type 0) → (Reading → Type 0) → (Reading → Reading) → Reading → Reading
+    → Type 0
 Reaches Inv May move old new = Inv old × May old × (move old ≡ new) × Inv new
 
 -- The invariant holds where nothing has happened.

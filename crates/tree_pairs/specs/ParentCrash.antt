@@ -12,7 +12,8 @@ pub record ParentFront : Type 0 where
   pub abort : Bool
   pub end : Bool
 
--- A front of the kept list that holds the forced front: nothing of it was lost, nothing is new, and no record stands
+-- A front of the kept list that holds the forced front: nothing of it was lost, nothing is new, and no
+-- record stands
 -- behind a lost one. (A forced Abort or End may be lost here too: nothing rests on them.)
 pub record IsParentFront (front : ParentFront) (r : Reading) : Type 0 where
   pub holds_collecting : r.collecting_forced ≡ true → front.collecting ≡ true
@@ -23,7 +24,8 @@ pub record IsParentFront (front : ParentFront) (r : Reading) : Type 0 where
   pub had_commit : front.commit ≡ true → r.commit_kept ≡ true
   pub had_abort : front.abort ≡ true → r.abort_kept ≡ true
   pub had_end : front.end ≡ true → r.end_kept ≡ true
-  pub promise_behind_collecting : front.own_prepare ≡ true → r.collecting_kept ≡ true → front.collecting ≡ true
+  pub promise_behind_collecting : front.own_prepare ≡ true → r.collecting_kept ≡ true
+      → front.collecting ≡ true
   pub commit_behind_collecting : front.commit ≡ true → r.collecting_kept ≡ true → front.collecting ≡ true
   pub commit_behind_promise : front.commit ≡ true → r.own_prepare_kept ≡ true → front.own_prepare ≡ true
   pub abort_behind_collecting : front.abort ≡ true → r.collecting_kept ≡ true → front.collecting ≡ true
@@ -44,7 +46,8 @@ pub record MayFailToCollect (r : Reading) : Type 0 where
   pub active : r.phase ≡ Active
 
 abbrev pub fails_to_collect : Reading → Reading
-fails_to_collect r = record r { failed = true; phase = Closed; refused = true; collecting_kept = true; collects = r.accepted }
+fails_to_collect r = record r { failed = true; phase = Closed; refused = true; collecting_kept = true;
+    collects = r.accepted }
 
 -- It failed behind the Abort of a case that waits for votes.
 abbrev pub fails_to_abort : Reading → Reading
@@ -52,12 +55,15 @@ fails_to_abort r = record r { failed = true; phase = Closed; refused = true; abo
 
 -- Presumed Commit: the Abort names whom ABORT would have gone to.
 abbrev pub fails_to_abort_naming : Reading → Reading
-fails_to_abort_naming r = record r { failed = true; phase = Closed; refused = true; abort_kept = true; owed = is_told_to_abort r }
+fails_to_abort_naming r = record r { failed = true; phase = Closed; refused = true; abort_kept = true;
+    owed = is_told_to_abort r }
 
 abbrev pub fails_to_hear_no : Reading → Reading
-fails_to_hear_no r = record r { failed = true; phase = Closed; first_no = true; refused = true; abort_kept = true }
+fails_to_hear_no r = record r { failed = true; phase = Closed; first_no = true; refused = true;
+    abort_kept = true }
 
--- Presumed Commit: it failed behind the End of a case whose children all voted READ; nothing was told or sent.
+-- Presumed Commit: it failed behind the End of a case whose children all voted READ; nothing was told or
+-- sent.
 pub record MayFailToEndReadOnly (r : Reading) : Type 0 where
   pub waiting : r.phase ≡ Collecting
   pub all_read : r.accepted ≡ true → r.first_read ≡ true
@@ -67,14 +73,16 @@ fails_to_end_read_only r = record r { failed = true; phase = Closed; refused = t
 
 -- It failed behind the root's Commit; nothing was sent or told, and the Commit may be lost.
 abbrev pub fails_to_decide_naming : Reading → Reading
-fails_to_decide_naming r = record r { failed = true; phase = Closed; commit_kept = true; owed = r.accepted && r.first_yes }
+fails_to_decide_naming r = record r { failed = true; phase = Closed; commit_kept = true;
+    owed = r.accepted && r.first_yes }
 
 abbrev pub fails_to_decide : Reading → Reading
 fails_to_decide r = record r { failed = true; phase = Closed; commit_kept = true }
 
 -- It failed behind a cascaded case's Prepare; no YES was sent.
 abbrev pub fails_to_promise_up : Reading → Reading
-fails_to_promise_up r = record r { failed = true; phase = Closed; own_prepare_kept = true; names = r.accepted && r.first_yes }
+fails_to_promise_up r = record r { failed = true; phase = Closed; own_prepare_kept = true;
+    names = r.accepted && r.first_yes }
 
 -- It failed behind a cascaded case's Commit or Abort.
 abbrev pub fails_to_pass_commit_naming : Reading → Reading
@@ -107,7 +115,8 @@ hardens_failed_parent front r = record r {
     outcome = (r.parent_is_root && front.commit) || r.outcome;
   }
 
--- The first half of a restart: memory is gone, and the log is cut to a front that holds the forced one. The case is
+-- The first half of a restart: memory is gone, and the log is cut to a front that holds the forced one. The
+-- case is
 -- refused if it could still be decided, or if its Commit (the root's) or its Prepare was lost.
 abbrev pub parent_loses : ParentFront → Reading → Reading
 parent_loses front r = record r {
@@ -115,7 +124,8 @@ parent_loses front r = record r {
     phase = Closed;
     accepted = false;
     acked = false;
-    refused = is_live r.phase || (r.parent_is_root && r.commit_kept && not front.commit) || (r.own_prepare_kept && not front.own_prepare) || r.refused;
+    refused = is_live r.phase || (r.parent_is_root && r.commit_kept && not front.commit) ||
+        (r.own_prepare_kept && not front.own_prepare) || r.refused;
     collecting_kept = front.collecting;
     own_prepare_kept = front.own_prepare;
     commit_kept = front.commit;
@@ -126,10 +136,12 @@ parent_loses front r = record r {
     owed = (front.commit || front.abort) && r.owed;
   }
 
--- Presumed Commit: a Collecting with nothing behind it is undecided. The restart writes its Abort, naming all that it
+-- Presumed Commit: a Collecting with nothing behind it is undecided. The restart writes its Abort, naming
+-- all that it
 -- names; if that fails too, the Abort stands unforced.
 abbrev pub is_undecided : Reading → Bool
-is_undecided r = r.collecting_kept && not r.own_prepare_kept && not r.commit_kept && not r.abort_kept && not r.end_kept
+is_undecided r = r.collecting_kept && not r.own_prepare_kept && not r.commit_kept && not r.abort_kept &&
+    not r.end_kept
 
 pub record MayAbortAtRestart (r : Reading) : Type 0 where
   pub failed : r.failed ≡ true
@@ -138,7 +150,8 @@ pub record MayAbortAtRestart (r : Reading) : Type 0 where
 abbrev pub fails_to_abort_at_restart : Reading → Reading
 fails_to_abort_at_restart r = record r { abort_kept = true; owed = r.collects }
 
--- The second half: all that is left is forced with the new boot. Presumed Abort: a decided case sends COMMIT to all that
+-- The second half: all that is left is forced with the new boot. Presumed Abort: a decided case sends
+-- COMMIT to all that
 -- it owes it.
 pub record MayReopenParent (r : Reading) : Type 0 where
   pub failed : r.failed ≡ true
@@ -164,7 +177,8 @@ parent_reopens r = record r {
     outcome = (r.parent_is_root && r.commit_kept) || r.outcome;
     abort_kept = is_undecided r || r.abort_kept;
     owed = (is_undecided r && r.collects) || r.owed;
-    sent_abort = (is_undecided r && r.collects) || (r.abort_kept && not r.end_kept && r.owed) || r.sent_abort;
+    sent_abort = (is_undecided r && r.collects) || (r.abort_kept && not r.end_kept && r.owed) ||
+        r.sent_abort;
   }
 
 -- A whole restart, under Presumed Abort and under Presumed Commit.

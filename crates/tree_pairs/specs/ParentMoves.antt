@@ -1,4 +1,5 @@
--- What a coordinator does as a parent, root or cascaded: it joins children, asks them, hears them, answers and forgets.
+-- What a coordinator does as a parent, root or cascaded: it joins children, asks them, hears them, answers
+-- and forgets.
 use Rattle.std.specs.Prelude.{◌≡◌, Bool, true, false, not, ◌||◌, ◌&&◌, ◌⊎◌}
 use Rattle.tree_pairs.specs.Reading.{Reading, Phase, Active, Collecting, Closed}
 use Rattle.tree_pairs.specs.Standing.{IsUnknownUnderAbort, IsUnknownUnderCommit, IsCommitting, IsAborting, IsStranger, HasVote}
@@ -11,7 +12,8 @@ pub record MayAccept (r : Reading) : Type 0 where
 abbrev pub accepts : Reading → Reading
 accepts r = record r { accepted = true; took_part = true }
 
--- The commit act at the root, or PREPARE at a cascaded case, found children: each is asked. (The pair above says that a
+-- The commit act at the root, or PREPARE at a cascaded case, found children: each is asked. (The pair above
+-- says that a
 -- case which got PREPARE takes part.)
 pub record MayAskForVotes (r : Reading) : Type 0 where
   pub active : r.phase ≡ Active
@@ -23,7 +25,8 @@ asks_for_votes r = record r { phase = Collecting; sent_prepare = r.accepted || r
 
 -- Presumed Commit: Collecting, which names the accepted children, is forced first.
 abbrev pub collects_votes : Reading → Reading
-collects_votes r = record r { phase = Collecting; collecting_kept = true; collecting_forced = true; collects = r.accepted; sent_prepare = r.accepted || r.sent_prepare }
+collects_votes r = record r { phase = Collecting; collecting_kept = true; collecting_forced = true;
+    collects = r.accepted; sent_prepare = r.accepted || r.sent_prepare }
 
 -- The case waits for votes, and the ticket's first vote came.
 pub record MayHearYes (r : Reading) : Type 0 where
@@ -51,13 +54,16 @@ pub record MayHearNo (r : Reading) : Type 0 where
   pub said : r.sent_no ≡ true
   pub first : (r.first_yes ≡ false) × (r.first_read ≡ false)
 
--- Presumed Abort: Abort is written unforced; the ticket, which said NO, is sent nothing; the root tells `aborted`.
+-- Presumed Abort: Abort is written unforced; the ticket, which said NO, is sent nothing; the root tells
+-- `aborted`.
 abbrev pub hears_no : Reading → Reading
-hears_no r = record r { phase = Closed; first_no = true; refused = true; abort_kept = true; told_aborted = r.parent_is_root || r.told_aborted }
+hears_no r = record r { phase = Closed; first_no = true; refused = true; abort_kept = true;
+    told_aborted = r.parent_is_root || r.told_aborted }
 
 -- Presumed Commit: Abort is forced and does not name the ticket.
 abbrev pub hears_no_forced : Reading → Reading
-hears_no_forced r = record r { phase = Closed; first_no = true; refused = true; abort_kept = true; told_aborted = r.parent_is_root || r.told_aborted }
+hears_no_forced r = record r { phase = Closed; first_no = true; refused = true; abort_kept = true;
+    told_aborted = r.parent_is_root || r.told_aborted }
 
 -- Another child's NO, an abort act or an ABORT from above ended a case that waits for votes.
 pub record MayAbort (r : Reading) : Type 0 where
@@ -68,29 +74,24 @@ abbrev pub is_told_to_abort : Reading → Bool
 is_told_to_abort r = r.accepted && not r.first_read
 
 abbrev pub aborts : Reading → Reading
-aborts r = record r { phase = Closed; refused = true; abort_kept = true; told_aborted = r.parent_is_root || r.told_aborted; sent_abort = is_told_to_abort r || r.sent_abort }
+aborts r = record r { phase = Closed; refused = true; abort_kept = true;
+    told_aborted = r.parent_is_root || r.told_aborted; sent_abort = is_told_to_abort r || r.sent_abort }
 
 -- Presumed Commit: Abort is forced and names to whom ABORT goes.
 abbrev pub aborts_forced : Reading → Reading
-aborts_forced r = record r { phase = Closed; refused = true; abort_kept = true; owed = is_told_to_abort r; told_aborted = r.parent_is_root || r.told_aborted; sent_abort = is_told_to_abort r || r.sent_abort }
+aborts_forced r = record r { phase = Closed; refused = true; abort_kept = true; owed = is_told_to_abort r;
+    told_aborted = r.parent_is_root || r.told_aborted; sent_abort = is_told_to_abort r || r.sent_abort }
 
 -- An abort act or an ABORT ends an Active case; nothing is written.
 pub record MayGiveUp (r : Reading) : Type 0 where
   pub active : r.phase ≡ Active
 
 abbrev pub gives_up : Reading → Reading
-gives_up r = record r { phase = Closed; refused = true; told_aborted = r.parent_is_root || r.told_aborted; sent_abort = r.accepted || r.sent_abort }
+gives_up r = record r { phase = Closed; refused = true; told_aborted = r.parent_is_root || r.told_aborted;
+    sent_abort = r.accepted || r.sent_abort }
 
--- An ACK that agrees with the decision, of a ticket from which it is owed. Presumed Abort: of a commit.
-pub record MayHearCommitAck (r : Reading) : Type 0 where
-  pub decided : IsCommitting r
-  pub owed : r.owed ≡ true
-  pub said : r.sent_ack ≡ true
-
--- Presumed Commit: of an abort.
-pub record MayHearAbortAck (r : Reading) : Type 0 where
-  pub decided : IsAborting r
-  pub owed : r.owed ≡ true
+-- An ACK of the ticket came. (It counts where one is owed; before that it does no harm.)
+pub record MayHearAck (r : Reading) : Type 0 where
   pub said : r.sent_ack ≡ true
 
 abbrev pub hears_ack : Reading → Reading

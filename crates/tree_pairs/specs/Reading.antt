@@ -1,8 +1,10 @@
--- What one pair comes to: a parent's case of a transaction, and one ticket that its child got for that case.
+-- What one pair comes to: a parent's case of a transaction, and one ticket that its child got for that
+-- case.
 -- Every fact that the protocol can make true of the pair is one field.
 use Rattle.std.specs.Prelude.{Bool, true, false}
 
--- What a process that is up holds of a coordinator's case in memory: it joins children and does work, it waits for
+-- What a process that is up holds of a coordinator's case in memory: it joins children and does work, it
+-- waits for
 -- the votes, or it holds nothing (nobody began it, it was decided, or the process has been down since).
 pub data Phase : Type 0 where
   Active : Phase
@@ -55,7 +57,8 @@ pub record Reading : Type 0 where
   -- It sent READ.
   pub read_up : Bool
 
-  -- The parent's log: the record stands in the kept list, stands in its forced front, was ever in a forced front.
+  -- The parent's log: the record stands in the kept list, stands in its forced front, was ever in a forced
+  -- front.
   pub collecting_kept : Bool
   pub collecting_forced : Bool
   pub own_prepare_kept : Bool
@@ -65,7 +68,8 @@ pub record Reading : Type 0 where
   pub commit_forced : Bool
   pub abort_kept : Bool
   pub end_kept : Bool
-  -- A kept Collecting names the ticket; a kept Prepare names it; a kept Commit or Abort names it, so its ACK is owed.
+  -- A kept Collecting names the ticket; a kept Prepare names it; a kept Commit or Abort names it, so its
+  -- ACK is owed.
   pub collects : Bool
   pub names : Bool
   pub owed : Bool

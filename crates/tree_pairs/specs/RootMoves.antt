@@ -42,8 +42,11 @@ pub record MayDecide (r : Reading) : Type 0 where
 
 -- Presumed Abort: Commit, which names those that voted YES, is forced; then COMMIT goes to each of them.
 abbrev pub decides_naming : Reading → Reading
-decides_naming r = record r { phase = Closed; commit_kept = true; commit_forced = true; owed = r.accepted && r.first_yes; outcome = true; told_committed = true; sent_commit = (r.accepted && r.first_yes) || r.sent_commit }
+decides_naming r = record r { phase = Closed; commit_kept = true; commit_forced = true;
+    owed = r.accepted && r.first_yes; outcome = true; told_committed = true;
+    sent_commit = (r.accepted && r.first_yes) || r.sent_commit }
 
 -- Presumed Commit: Commit is forced and names nobody.
 abbrev pub decides : Reading → Reading
-decides r = record r { phase = Closed; commit_kept = true; commit_forced = true; outcome = true; told_committed = true; sent_commit = (r.accepted && r.first_yes) || r.sent_commit }
+decides r = record r { phase = Closed; commit_kept = true; commit_forced = true; outcome = true;
+    told_committed = true; sent_commit = (r.accepted && r.first_yes) || r.sent_commit }

@@ -8,7 +8,8 @@ use Rattle.tree_pairs.specs.Reading.{Reading, Phase, Active, Collecting, is_live
 pub record IsSettled (r : Reading) : Type 0 where
   pub issued : r.issued ≡ true
   pub closed : r.ticket_open ≡ false
-  pub decided : (r.prepared_kept ≡ false) ⊎ ((r.learnt_commit_forced ≡ true) ⊎ ((r.learnt_abort_forced ≡ true) ⊎ (r.forgot_forced ≡ true)))
+  pub decided : (r.prepared_kept ≡ false)
+      ⊎ ((r.learnt_commit_forced ≡ true) ⊎ ((r.learnt_abort_forced ≡ true) ⊎ (r.forgot_forced ≡ true)))
 
 -- The ticket is in doubt: prepared, or decided by an operator, and not told the outcome.
 pub record IsInDoubt (r : Reading) : Type 0 where
@@ -17,11 +18,14 @@ pub record IsInDoubt (r : Reading) : Type 0 where
   pub no_abort : r.learnt_abort_kept ≡ false
   pub not_forgotten : r.forgot_kept ≡ false
 
--- The child knows the ticket no more (at a coordinator also: it has begun to abort). It keeps no promise of it, or its
+-- The child knows the ticket no more (at a coordinator also: it has begun to abort). It keeps no promise of
+-- it, or its
 -- operator forgot it, or it obeyed the outcome and no operator had decided before.
 pub record IsForgotten (r : Reading) : Type 0 where
   pub closed : r.ticket_open ≡ false
-  pub nothing : (r.prepared_kept ≡ false) ⊎ ((r.forgot_kept ≡ true) ⊎ ((r.heuristic_kept ≡ false) × ((r.learnt_commit_kept ≡ true) ⊎ (r.learnt_abort_kept ≡ true))))
+  pub nothing : (r.prepared_kept ≡ false)
+      ⊎ ((r.forgot_kept ≡ true)
+      ⊎ ((r.heuristic_kept ≡ false) × ((r.learnt_commit_kept ≡ true) ⊎ (r.learnt_abort_kept ≡ true))))
 
 -- An operator decided the branch, and has not forgotten it.
 pub record IsHeuristic (r : Reading) : Type 0 where
@@ -31,7 +35,8 @@ pub record IsHeuristic (r : Reading) : Type 0 where
 -- A heuristic decision stands against the outcome.
 pub record MismatchStands (r : Reading) : Type 0 where
   pub heuristic : r.heuristic_forced ≡ true
-  pub against : ((r.heuristic_commits ≡ true) × (r.outcome ≡ false)) ⊎ ((r.heuristic_commits ≡ false) × (r.outcome ≡ true))
+  pub against : ((r.heuristic_commits ≡ true) × (r.outcome ≡ false))
+      ⊎ ((r.heuristic_commits ≡ false) × (r.outcome ≡ true))
   pub not_forgotten : r.forgot_kept ≡ false
 
 -- The parent.
@@ -65,19 +70,25 @@ pub record IsAborting (r : Reading) : Type 0 where
   pub decided : r.abort_kept ≡ true
   pub not_ended : r.end_kept ≡ false
 
--- The parent knows nothing of the case, under Presumed Abort: it ended, or an Abort stands, or no decision and no Prepare.
+-- The parent knows nothing of the case, under Presumed Abort: it ended, or an Abort stands, or no decision
+-- and no Prepare.
 pub record IsUnknownUnderAbort (r : Reading) : Type 0 where
   pub up : r.failed ≡ false
   pub closed : is_live r.phase ≡ false
-  pub nothing : (r.end_kept ≡ true) ⊎ ((r.abort_kept ≡ true) ⊎ ((r.commit_kept ≡ false) × (r.own_prepare_kept ≡ false)))
+  pub nothing : (r.end_kept ≡ true)
+      ⊎ ((r.abort_kept ≡ true) ⊎ ((r.commit_kept ≡ false) × (r.own_prepare_kept ≡ false)))
 
--- The same under Presumed Commit: it ended, or a Commit stands, or an Abort that owes this ticket nothing, or no Collecting.
+-- The same under Presumed Commit: it ended, or a Commit stands, or an Abort that owes this ticket nothing,
+-- or no Collecting.
 pub record IsUnknownUnderCommit (r : Reading) : Type 0 where
   pub up : r.failed ≡ false
   pub closed : is_live r.phase ≡ false
-  pub nothing : (r.end_kept ≡ true) ⊎ ((r.commit_kept ≡ true) ⊎ (((r.abort_kept ≡ true) × (r.owed ≡ false)) ⊎ (r.collecting_kept ≡ false)))
+  pub nothing : (r.end_kept ≡ true)
+      ⊎ ((r.commit_kept ≡ true)
+      ⊎ (((r.abort_kept ≡ true) × (r.owed ≡ false)) ⊎ (r.collecting_kept ≡ false)))
 
--- The ticket does not belong to the case: it is not among the accepted children in memory, and no kept record names it.
+-- The ticket does not belong to the case: it is not among the accepted children in memory, and no kept
+-- record names it.
 pub record IsStranger (r : Reading) : Type 0 where
   pub up : r.failed ≡ false
   pub not_accepted : r.accepted ≡ false

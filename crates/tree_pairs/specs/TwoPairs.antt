@@ -1,4 +1,5 @@
--- One step of a cascaded coordinator, seen from the pair above it and from a pair below it: the two readings of the one
+-- One step of a cascaded coordinator, seen from the pair above it and from a pair below it: the two
+-- readings of the one
 -- case change alike. So what one pair proves of its child, the next may use of its parent.
 use Rattle.std.specs.Prelude.{◌≡◌, Bool, true, false, ◌&&◌}
 use Rattle.tree_pairs.specs.Reading.{Reading}
@@ -19,7 +20,8 @@ same r = r
 
 -- The pair above makes one move and the pair below another, and they still speak of one case.
 abbrev pub Together : (Reading → Reading → Type 0) → (Reading → Reading) → (Reading → Reading) → Type 0
-Together May up down = (a b : Reading) → Common a → Common b → IsBelow a b → May a b → IsBelow (up a) (down b)
+Together May up down = (a b : Reading) → Common a → Common b → IsBelow a b → May a b
+    → IsBelow (up a) (down b)
 
 -- Two fronts of one log hold the same records of the case.
 pub record SameFront (above : ChildFront) (below : ParentFront) : Type 0 where
@@ -37,7 +39,8 @@ pub record OneStep : Type 0 where
   -- Accepted by one that does not: nothing changes below yet.
   pub joins_a_bystander : Together (λ a b. a.took_part_up ≡ false) parent.accepts same
   -- The case above becomes a participant, and with it each child that it accepted.
-  pub takes_part_with_its_child : Together (λ a b. a.took_part ≡ true) cascaded.takes_part cascaded.takes_part
+  pub takes_part_with_its_child : Together (λ a b. a.took_part ≡ true) cascaded.takes_part
+      cascaded.takes_part
   -- A child that it did not accept takes no part.
   pub takes_part_without_it : Together (λ a b. a.took_part ≡ false) cascaded.takes_part same
   -- The root decides, naming whom it waits for.
@@ -75,13 +78,15 @@ pub record OneStep : Type 0 where
   -- The same, with an ACK.
   pub gives_up_and_acknowledges : Together (λ a b. Unit {0}) child.drops_and_acknowledges parent.gives_up
   -- COMMIT finds it Prepared; Commit is forced.
-  pub passes_commit_forced : Together (λ a b. cascaded.MayPassCommit b) child.commits_forced cascaded.passes_commit_forced
+  pub passes_commit_forced : Together (λ a b. cascaded.MayPassCommit b) child.commits_forced
+      cascaded.passes_commit_forced
   -- The same, with Commit unforced.
   pub passes_commit : Together (λ a b. cascaded.MayPassCommit b) child.commits cascaded.passes_commit
   -- ABORT finds it Prepared; Abort is unforced.
   pub passes_abort : Together (λ a b. cascaded.MayPassAbort b) child.rolls_back cascaded.passes_abort
   -- The same, with Abort forced.
-  pub passes_abort_forced : Together (λ a b. cascaded.MayPassAbort b) child.rolls_back_forced cascaded.passes_abort_forced
+  pub passes_abort_forced : Together (λ a b. cascaded.MayPassAbort b) child.rolls_back_forced
+      cascaded.passes_abort_forced
   -- A record of another case is forced.
   pub hardens : Together (λ a b. Unit {0}) child.hardens_child parent.hardens_parent
   -- A trim takes the case.
@@ -89,18 +94,26 @@ pub record OneStep : Type 0 where
   -- A fault writes nothing of the case.
   pub fails : Together (λ a b. Unit {0}) child_crash.child_fails parent_crash.parent_fails
   -- A fault behind Collecting.
-  pub fails_to_collect : Together (λ a b. parent_crash.MayFailToCollect b) child_crash.child_fails parent_crash.fails_to_collect
+  pub fails_to_collect : Together (λ a b. parent_crash.MayFailToCollect b) child_crash.child_fails
+      parent_crash.fails_to_collect
   -- A fault behind the Abort of a case that waits for votes.
-  pub fails_to_abort : Together (λ a b. parent.MayAbort b) child_crash.child_fails parent_crash.fails_to_abort
+  pub fails_to_abort : Together (λ a b. parent.MayAbort b) child_crash.child_fails
+      parent_crash.fails_to_abort
   -- A fault behind the promise.
-  pub fails_to_promise : Together (λ a b. cascaded.MayPromise b) child_crash.fails_to_promise parent_crash.fails_to_promise_up
+  pub fails_to_promise : Together (λ a b. cascaded.MayPromise b) child_crash.fails_to_promise
+      parent_crash.fails_to_promise_up
   -- A fault behind the Commit that obeys.
-  pub fails_to_pass_commit : Together (λ a b. cascaded.MayPassCommit b) child_crash.fails_to_commit parent_crash.fails_to_pass_commit
+  pub fails_to_pass_commit : Together (λ a b. cascaded.MayPassCommit b) child_crash.fails_to_commit
+      parent_crash.fails_to_pass_commit
   -- A fault behind the Abort that obeys.
-  pub fails_to_pass_abort : Together (λ a b. cascaded.MayPassAbort b) child_crash.fails_to_roll_back parent_crash.fails_to_pass_abort
+  pub fails_to_pass_abort : Together (λ a b. cascaded.MayPassAbort b) child_crash.fails_to_roll_back
+      parent_crash.fails_to_pass_abort
   -- A restart forces what is left and answers.
-  pub reopens_naming : Together (λ a b. parent_crash.MayReopenParent b) child_crash.child_reopens parent_crash.parent_reopens_naming
+  pub reopens_naming : Together (λ a b. parent_crash.MayReopenParent b) child_crash.child_reopens
+      parent_crash.parent_reopens_naming
   -- The same, where an undecided case aborts.
-  pub reopens : Together (λ a b. parent_crash.MayReopenParent b) child_crash.child_reopens parent_crash.parent_reopens
+  pub reopens : Together (λ a b. parent_crash.MayReopenParent b) child_crash.child_reopens
+      parent_crash.parent_reopens
   -- The cut of a restart: both lose the same records.
-  pub loses : (front : ChildFront) (below_front : ParentFront) → SameFront front below_front → Together (λ a b. Unit {0}) (child_crash.child_loses front) (parent_crash.parent_loses below_front)
+  pub loses : (front : ChildFront) (below_front : ParentFront) → SameFront front below_front
+      → Together (λ a b. Unit {0}) (child_crash.child_loses front) (parent_crash.parent_loses below_front)

@@ -1,4 +1,5 @@
--- Wrong moves, each close to a right one. There is a reading that has the invariant and the wrong move's guard, and the
+-- Wrong moves, each close to a right one. There is a reading that has the invariant and the wrong move's
+-- guard, and the
 -- moved reading does not have the invariant: so no proof can let the move pass.
 use Rattle.std.specs.Prelude.{◌≡◌, Bool, true, false, ◌⊎◌, ◌&&◌, ◌||◌}
 use Rattle.tree_pairs.specs.Reading.{Reading, Phase, Active, Collecting, Closed}
@@ -21,7 +22,8 @@ forgets_after_first_ack r = ends r
 
 -- PREPARE goes out behind a Collecting that is not forced.
 abbrev pub prepare_before_collecting : Reading → Reading
-prepare_before_collecting r = record r { phase = Collecting; collecting_kept = true; collects = r.accepted; sent_prepare = r.accepted || r.sent_prepare }
+prepare_before_collecting r = record r { phase = Collecting; collecting_kept = true; collects = r.accepted;
+    sent_prepare = r.accepted || r.sent_prepare }
 
 -- A restart gives out the last boot again, and with it the ticket's number: it is not asked to be fresh.
 abbrev pub boot_reused : Reading → Reading
@@ -48,7 +50,8 @@ trim_drops_commit r = record r { commit_kept = false; commit_forced = false }
 
 -- A manager that is told to commit drops its operator's decision.
 abbrev pub told_drops_decision : Reading → Reading
-told_drops_decision r = record r { heuristic_kept = false; heuristic_forced = false; learnt_commit_kept = true; learnt_commit_forced = true; sent_ack = true }
+told_drops_decision r = record r { heuristic_kept = false; heuristic_forced = false;
+    learnt_commit_kept = true; learnt_commit_forced = true; sent_ack = true }
 
 -- The root commits on the votes that have come.
 abbrev pub commits_on_votes_so_far : Reading → Reading
@@ -62,11 +65,18 @@ pub record IsUp (r : Reading) : Type 0 where
   pub up : r.child_failed ≡ false
 
 pub record WrongMoves : Type 0 where
-  pub forgets_after_first_ack_breaks : Breaks PresumedAbort IsCommitting forgets_after_first_ack under_abort.flat_commit_decided
-  pub prepare_before_collecting_breaks : Breaks PresumedCommit MayAskForVotes prepare_before_collecting under_commit.flat_commit_accepted
+  pub forgets_after_first_ack_breaks : Breaks PresumedAbort IsCommitting forgets_after_first_ack
+      under_abort.flat_commit_decided
+  pub prepare_before_collecting_breaks : Breaks PresumedCommit MayAskForVotes prepare_before_collecting
+      under_commit.flat_commit_accepted
   pub boot_reused_breaks : Breaks PresumedAbort IsUp boot_reused under_abort.flat_commit_voted
-  pub reads_over_a_yes_breaks : Breaks PresumedAbort MayPromise reads_over_a_yes under_abort.cascaded_commit_heard
-  pub obeys_contradicting_commit_breaks : Breaks PresumedCommit HasAborted obeys_contradicting_commit under_commit.cascaded_abort_passed
-  pub trim_drops_commit_breaks : Breaks PresumedCommit IsUnknownUnderCommit trim_drops_commit under_commit.flat_commit_decided
-  pub told_drops_decision_breaks : Breaks PresumedAbort MayLearnCommit told_drops_decision under_abort.operator_decided
-  pub commits_on_votes_so_far_breaks : Breaks PresumedAbort Waiting commits_on_votes_so_far under_abort.flat_commit_asked
+  pub reads_over_a_yes_breaks : Breaks PresumedAbort MayPromise reads_over_a_yes
+      under_abort.cascaded_commit_heard
+  pub obeys_contradicting_commit_breaks : Breaks PresumedCommit HasAborted obeys_contradicting_commit
+      under_commit.cascaded_abort_passed
+  pub trim_drops_commit_breaks : Breaks PresumedCommit IsUnknownUnderCommit trim_drops_commit
+      under_commit.flat_commit_decided
+  pub told_drops_decision_breaks : Breaks PresumedAbort MayLearnCommit told_drops_decision
+      under_abort.operator_decided
+  pub commits_on_votes_so_far_breaks : Breaks PresumedAbort Waiting commits_on_votes_so_far
+      under_abort.flat_commit_asked
