@@ -1,9 +1,9 @@
 -- The auditor's lemma, read off the invariant of one reading.
-use Rattle.std.proofs.Common.{◌≡◌, ◌⊎◌, Bool, true, false, ◌||◌, arith}
-use Rattle.tree_pairs.specs.Reading.{Reading, Active, Collecting, Closed, is_live}
-use Rattle.tree_pairs.specs.Standing.{IsInDoubt, IsSettled, Waits}
+use Rattle.std.proofs.Common.{◌≡◌, ◌⊎◌, true, false, arith}
+use Rattle.tree_pairs.specs.Reading.{Reading}
+use Rattle.tree_pairs.specs.Standing.{IsInDoubt, Waits}
 use Rattle.tree_pairs.specs.Invariant.{PresumedAbort, PresumedCommit}
-use Rattle.tree_pairs.specs.Promises.{AuditedOutcome, kept_case_says, said_by, SaysCommit, SaysAbort, AsksAbove, Presumes}
+use Rattle.tree_pairs.specs.Promises.{AuditedOutcome, kept_case_says, SaysCommit, SaysAbort, AsksAbove, Presumes}
 
 pub abort_says_commit : (r : Reading) → PresumedAbort r → r.failed ≡ false → r.child_failed ≡ false
     → IsInDoubt r → kept_case_says r ≡ SaysCommit → r.outcome ≡ true

@@ -1,6 +1,6 @@
 -- The chain from the root down, by induction over the pairs of a path.
-use Rattle.std.proofs.Common.{◌≡◌, ◌⊎◌, ◌∙◌, Bool, true, false, ◌&&◌, List, [], ◌∷◌, arith}
-use Rattle.tree_pairs.specs.Reading.{Reading, Active, Collecting, Closed, is_live}
+use Rattle.std.proofs.Common.{◌≡◌, ◌⊎◌, ◌∙◌, true, false, List, [], ◌∷◌, arith}
+use Rattle.tree_pairs.specs.Reading.{Reading, is_live}
 use Rattle.tree_pairs.specs.Standing.{Consents, IsInDoubt}
 use Rattle.tree_pairs.specs.Invariant.{PresumedAbort, PresumedCommit, Common}
 use Rattle.tree_pairs.specs.Chain.{IsBelow, IsPath, AllHave, HasConsented, ChildHasConsented, RootCommits, AllMayCommit, AllConsent, Chain, ToldFromAbove}
@@ -52,30 +52,43 @@ abort_next above below h b c o u = next above below h.common b c o u
 pub abort_all_consented : (r : Reading) (rest : List Reading) → IsPath r rest → PresumedAbort r
     → AllHave PresumedAbort rest → r.outcome ≡ true → AllConsent (r ∷ rest)
 abort_all_consented r [] p h a o = (abort_down r h (λ u. consented r h.common o u) (λ _. o), tt)
-abort_all_consented r (s ∷ rest) p h a o =
-    (abort_down r h (λ u. consented r h.common o u) (λ _. o), abort_all_consented s rest p.1 a.0 a.1
-    (p.0.outcome ∙ o))
+abort_all_consented r (s ∷ rest) p h a o = (
+  abort_down r h (λ u. consented r h.common o u) (λ _. o),
+  abort_all_consented s rest p.1 a.0 a.1
+      (p.0.outcome ∙ o),
+)
 
 pub abort_may_commit_below : (r : Reading) (rest : List Reading) → IsPath r rest → PresumedAbort r
     → AllHave PresumedAbort rest → HasConsented r → (r.parent_is_root ≡ true → r.outcome ≡ true)
     → AllMayCommit rest
 abort_may_commit_below r [] p h a c o = tt
 abort_may_commit_below r (s ∷ rest) p h a c o =
-    let below = abort_next r s h p.0 c o in
-    (record { cascaded = p.0.cascaded;
-        consented = below }, abort_may_commit_below s rest p.1 a.0 a.1 below (not_root s p.0.cascaded))
+    let below = abort_next r s h p.0 c o in (
+      record {
+        cascaded = p.0.cascaded;
+        consented = below;
+      },
+      abort_may_commit_below s rest p.1 a.0 a.1 below (not_root s p.0.cascaded),
+    )
 
 pub abort_all_may_commit : (r : Reading) (rest : List Reading) → IsPath r rest → PresumedAbort r
     → AllHave PresumedAbort rest → RootCommits r → AllMayCommit rest
 abort_all_may_commit r [] p h a c = tt
 abort_all_may_commit r (s ∷ rest) p h a c =
-    let below = decided r s h.common p.0 c in
-    (record { cascaded = p.0.cascaded;
-        consented = below }, abort_may_commit_below s rest p.1 a.0 a.1 below (not_root s p.0.cascaded))
+    let below = decided r s h.common p.0 c in (
+      record {
+        cascaded = p.0.cascaded;
+        consented = below;
+      },
+      abort_may_commit_below s rest p.1 a.0 a.1 below (not_root s p.0.cascaded),
+    )
 
 pub abort_chain : Chain PresumedAbort
-abort_chain = record { consent_goes_down = abort_down; all_consented = abort_all_consented;
-    all_may_commit = abort_all_may_commit }
+abort_chain = record {
+  consent_goes_down = abort_down;
+  all_consented = abort_all_consented;
+  all_may_commit = abort_all_may_commit;
+}
 
 pub abort_told : ToldFromAbove PresumedAbort
 abort_told = record {
@@ -100,30 +113,43 @@ commit_next above below h b c o u = next above below h.common b c o u
 pub commit_all_consented : (r : Reading) (rest : List Reading) → IsPath r rest → PresumedCommit r
     → AllHave PresumedCommit rest → r.outcome ≡ true → AllConsent (r ∷ rest)
 commit_all_consented r [] p h a o = (commit_down r h (λ u. consented r h.common o u) (λ _. o), tt)
-commit_all_consented r (s ∷ rest) p h a o =
-    (commit_down r h (λ u. consented r h.common o u) (λ _. o), commit_all_consented s rest p.1 a.0 a.1
-    (p.0.outcome ∙ o))
+commit_all_consented r (s ∷ rest) p h a o = (
+  commit_down r h (λ u. consented r h.common o u) (λ _. o),
+  commit_all_consented s rest p.1 a.0 a.1
+      (p.0.outcome ∙ o),
+)
 
 pub commit_may_commit_below : (r : Reading) (rest : List Reading) → IsPath r rest → PresumedCommit r
     → AllHave PresumedCommit rest → HasConsented r → (r.parent_is_root ≡ true → r.outcome ≡ true)
     → AllMayCommit rest
 commit_may_commit_below r [] p h a c o = tt
 commit_may_commit_below r (s ∷ rest) p h a c o =
-    let below = commit_next r s h p.0 c o in
-    (record { cascaded = p.0.cascaded;
-        consented = below }, commit_may_commit_below s rest p.1 a.0 a.1 below (not_root s p.0.cascaded))
+    let below = commit_next r s h p.0 c o in (
+      record {
+        cascaded = p.0.cascaded;
+        consented = below;
+      },
+      commit_may_commit_below s rest p.1 a.0 a.1 below (not_root s p.0.cascaded),
+    )
 
 pub commit_all_may_commit : (r : Reading) (rest : List Reading) → IsPath r rest → PresumedCommit r
     → AllHave PresumedCommit rest → RootCommits r → AllMayCommit rest
 commit_all_may_commit r [] p h a c = tt
 commit_all_may_commit r (s ∷ rest) p h a c =
-    let below = decided r s h.common p.0 c in
-    (record { cascaded = p.0.cascaded;
-        consented = below }, commit_may_commit_below s rest p.1 a.0 a.1 below (not_root s p.0.cascaded))
+    let below = decided r s h.common p.0 c in (
+      record {
+        cascaded = p.0.cascaded;
+        consented = below;
+      },
+      commit_may_commit_below s rest p.1 a.0 a.1 below (not_root s p.0.cascaded),
+    )
 
 pub commit_chain : Chain PresumedCommit
-commit_chain = record { consent_goes_down = commit_down; all_consented = commit_all_consented;
-    all_may_commit = commit_all_may_commit }
+commit_chain = record {
+  consent_goes_down = commit_down;
+  all_consented = commit_all_consented;
+  all_may_commit = commit_all_may_commit;
+}
 
 pub commit_told : ToldFromAbove PresumedCommit
 commit_told = record {

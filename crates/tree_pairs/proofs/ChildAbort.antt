@@ -1,8 +1,7 @@
 -- Each move of a child keeps the invariant, under Presumed Abort.
-use Rattle.std.proofs.Common.{◌≡◌, ◌⊎◌, Bool, true, false, ◌||◌, ◌&&◌, not, arith}
-use Rattle.tree_pairs.specs.Reading.{Reading, Active, Collecting, Closed, is_live}
+use Rattle.std.proofs.Common.{Bool, arith}
 use Rattle.tree_pairs.specs.Invariant.{PresumedAbort as Inv}
-use Rattle.tree_pairs.specs.Keeps.{Keeps, Follows, Later}
+use Rattle.tree_pairs.specs.Keeps.{Keeps}
 use Rattle.tree_pairs.specs.ChildMoves as move
 
 pub issues : Keeps Inv move.MayIssue move.issues

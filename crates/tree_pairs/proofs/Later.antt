@@ -1,5 +1,5 @@
 -- What is true for ever is true for ever.
-use Rattle.std.proofs.Common.{◌≡◌, ◌∙◌, Bool, true, false, arith}
+use Rattle.std.proofs.Common.{◌∙◌}
 use Rattle.tree_pairs.specs.Reading.{Reading}
 use Rattle.tree_pairs.specs.Keeps.{Later}
 

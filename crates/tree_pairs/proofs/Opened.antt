@@ -1,5 +1,5 @@
 -- The invariant holds where nothing has happened.
-use Rattle.std.proofs.Common.{◌≡◌, ◌⊎◌, Bool, true, false, arith}
+use Rattle.std.proofs.Common.{Bool, arith}
 use Rattle.tree_pairs.specs.Invariant.{PresumedAbort, PresumedCommit}
 use Rattle.tree_pairs.specs.Opened.{opened}
 

@@ -1,8 +1,7 @@
 -- Each fault and restart of a parent keeps the invariant, under Presumed Abort.
-use Rattle.std.proofs.Common.{◌≡◌, ◌⊎◌, refl, Bool, true, false, ◌||◌, ◌&&◌, not, arith}
-use Rattle.tree_pairs.specs.Reading.{Reading, Active, Collecting, Closed, is_live}
+use Rattle.std.proofs.Common.{refl, arith}
 use Rattle.tree_pairs.specs.Invariant.{PresumedAbort as Inv}
-use Rattle.tree_pairs.specs.Keeps.{Keeps, Follows, Later}
+use Rattle.tree_pairs.specs.Keeps.{Keeps}
 use Rattle.tree_pairs.proofs.Later.{later-later}
 use Rattle.tree_pairs.specs.ParentCrash as crash
 use Rattle.tree_pairs.specs.ParentCrash.{ParentFront}

@@ -1,11 +1,9 @@
 -- The promises, read off the invariant of one reading.
-use Rattle.std.proofs.Common.{◌≡◌, ◌⊎◌, refl, inl, inr, Bool, true, false, ◌||◌, arith}
-use Rattle.tree_pairs.specs.Reading.{Reading, Active, Collecting, Closed, is_live}
-use Rattle.tree_pairs.specs.Standing.{IsInDoubt, IsSettled}
+use Rattle.std.proofs.Common.{◌≡◌, ◌⊎◌, refl, inl, inr, true, false, arith}
+use Rattle.tree_pairs.specs.Reading.{Reading}
+use Rattle.tree_pairs.specs.Standing.{IsInDoubt}
 use Rattle.tree_pairs.specs.Invariant.{PresumedAbort, PresumedCommit, Common}
-use Rattle.tree_pairs.specs.Keeps.{Later}
-use Rattle.tree_pairs.specs.ChildMoves.{votes_yes}
-use Rattle.tree_pairs.specs.Promises.{Agreement, CommitRule, TrueAnswers, StandingMismatches, AuditedOutcome, kept_case_says, said_by, SaysCommit, SaysAbort, AsksAbove, Presumes}
+use Rattle.tree_pairs.specs.Promises.{Agreement, CommitRule, TrueAnswers, StandingMismatches}
 
 -- A participant that ended without a commit, or whose parent did: the outcome is not commit.
 pub refused_child : (r : Reading) → Common r → r.child_refused ≡ true → r.took_part ≡ true

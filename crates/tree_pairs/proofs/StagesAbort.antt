@@ -1,6 +1,5 @@
 -- The stages of whole runs, under Presumed Abort.
-use Rattle.std.proofs.Common.{◌≡◌, ◌⊎◌, inl, inr, refl, Bool, true, false, arith}
-use Rattle.tree_pairs.specs.Reading.{Reading, Phase, Active, Collecting, Closed}
+use Rattle.std.proofs.Common.{refl, true, false, arith}
 use Rattle.tree_pairs.specs.Standing as standing
 use Rattle.tree_pairs.specs.Invariant.{PresumedAbort}
 use Rattle.tree_pairs.specs.Opened.{opened, Reaches}
@@ -118,17 +117,39 @@ lem_flat_abort_obeyed =
     let g : child.MayLearnAbort stage.flat_abort_aborted = grind arith in
     (h, g, refl, (child_law.rolls_back stage.flat_abort_aborted h g).invariant)
 
-pub lem_flat_abort_restarted : Reaches PresumedAbort (child_crash.IsChildFront (record { prepared = true;
-    learnt_commit = false; learnt_abort = false; heuristic = false;
-    forgot = false })) (child_crash.child_restarts (record { prepared = true; learnt_commit = false;
-    learnt_abort = false; heuristic = false;
-    forgot = false })) stage.flat_abort_obeyed stage.flat_abort_restarted
+pub lem_flat_abort_restarted : Reaches PresumedAbort (child_crash.IsChildFront (record {
+  prepared = true;
+  learnt_commit = false;
+  learnt_abort = false;
+  heuristic = false;
+  forgot = false;
+})) (child_crash.child_restarts (record {
+  prepared = true;
+  learnt_commit = false;
+  learnt_abort = false;
+  heuristic = false;
+  forgot = false;
+})) stage.flat_abort_obeyed stage.flat_abort_restarted
 lem_flat_abort_restarted =
     let h : PresumedAbort stage.flat_abort_obeyed = lem_flat_abort_obeyed.3 in
-    let g : child_crash.IsChildFront (record { prepared = true; learnt_commit = false;
-        learnt_abort = false; heuristic = false; forgot = false }) stage.flat_abort_obeyed = grind arith in
-    (h, g, refl, (child_crash_law.child_restarts (record { prepared = true; learnt_commit = false;
-        learnt_abort = false; heuristic = false; forgot = false }) stage.flat_abort_obeyed h g).invariant)
+    let g : child_crash.IsChildFront (record {
+      prepared = true;
+      learnt_commit = false;
+      learnt_abort = false;
+      heuristic = false;
+      forgot = false;
+    }) stage.flat_abort_obeyed = grind arith in (
+      h,
+      g,
+      refl,
+      (child_crash_law.child_restarts (record {
+        prepared = true;
+        learnt_commit = false;
+        learnt_abort = false;
+        heuristic = false;
+        forgot = false;
+      }) stage.flat_abort_obeyed h g).invariant,
+    )
 
 pub lem_flat_abort_answered : Reaches PresumedAbort parent.MayPresumeAbort parent.answers_abort
     stage.flat_abort_restarted stage.flat_abort_answered
@@ -313,16 +334,39 @@ lem_cascaded_abort_voted =
     (h, g, refl, (child_law.votes_yes stage.cascaded_abort_asked h g).invariant)
 
 pub lem_cascaded_abort_restarted : Reaches PresumedAbort
-    (parent_crash.IsParentFront (record { collecting = false; own_prepare = false; commit = false;
-    abort = false; end = false })) (parent_crash.parent_restarts_naming (record { collecting = false;
-    own_prepare = false; commit = false; abort = false;
-    end = false })) stage.cascaded_abort_voted stage.cascaded_abort_restarted
+    (parent_crash.IsParentFront (record {
+      collecting = false;
+      own_prepare = false;
+      commit = false;
+      abort = false;
+      end = false;
+    })) (parent_crash.parent_restarts_naming (record {
+      collecting = false;
+      own_prepare = false;
+      commit = false;
+      abort = false;
+      end = false;
+    })) stage.cascaded_abort_voted stage.cascaded_abort_restarted
 lem_cascaded_abort_restarted =
     let h : PresumedAbort stage.cascaded_abort_voted = lem_cascaded_abort_voted.3 in
-    let g : parent_crash.IsParentFront (record { collecting = false; own_prepare = false; commit = false;
-        abort = false; end = false }) stage.cascaded_abort_voted = grind arith in
-    (h, g, refl, (parent_crash_law.parent_restarts (record { collecting = false; own_prepare = false;
-        commit = false; abort = false; end = false }) stage.cascaded_abort_voted h g).invariant)
+    let g : parent_crash.IsParentFront (record {
+      collecting = false;
+      own_prepare = false;
+      commit = false;
+      abort = false;
+      end = false;
+    }) stage.cascaded_abort_voted = grind arith in (
+      h,
+      g,
+      refl,
+      (parent_crash_law.parent_restarts (record {
+        collecting = false;
+        own_prepare = false;
+        commit = false;
+        abort = false;
+        end = false;
+      }) stage.cascaded_abort_voted h g).invariant,
+    )
 
 pub lem_cascaded_abort_asked_back : Reaches PresumedAbort child.MayAsk child.asks
     stage.cascaded_abort_restarted stage.cascaded_abort_asked_back

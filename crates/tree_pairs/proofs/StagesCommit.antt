@@ -1,6 +1,5 @@
 -- The stages of whole runs, under Presumed Commit.
-use Rattle.std.proofs.Common.{◌≡◌, ◌⊎◌, inl, inr, refl, Bool, true, false, arith}
-use Rattle.tree_pairs.specs.Reading.{Reading, Phase, Active, Collecting, Closed}
+use Rattle.std.proofs.Common.{refl, true, false, arith}
 use Rattle.tree_pairs.specs.Standing as standing
 use Rattle.tree_pairs.specs.Invariant.{PresumedCommit}
 use Rattle.tree_pairs.specs.Opened.{opened, Reaches}
@@ -83,17 +82,39 @@ lem_flat_commit_obeyed =
     let g : child.MayLearnCommit stage.flat_commit_trimmed = grind arith in
     (h, g, refl, (child_law.commits stage.flat_commit_trimmed h g).invariant)
 
-pub lem_flat_commit_restarted : Reaches PresumedCommit (child_crash.IsChildFront (record { prepared = true;
-    learnt_commit = false; learnt_abort = false; heuristic = false;
-    forgot = false })) (child_crash.child_restarts (record { prepared = true; learnt_commit = false;
-    learnt_abort = false; heuristic = false;
-    forgot = false })) stage.flat_commit_obeyed stage.flat_commit_restarted
+pub lem_flat_commit_restarted : Reaches PresumedCommit (child_crash.IsChildFront (record {
+  prepared = true;
+  learnt_commit = false;
+  learnt_abort = false;
+  heuristic = false;
+  forgot = false;
+})) (child_crash.child_restarts (record {
+  prepared = true;
+  learnt_commit = false;
+  learnt_abort = false;
+  heuristic = false;
+  forgot = false;
+})) stage.flat_commit_obeyed stage.flat_commit_restarted
 lem_flat_commit_restarted =
     let h : PresumedCommit stage.flat_commit_obeyed = lem_flat_commit_obeyed.3 in
-    let g : child_crash.IsChildFront (record { prepared = true; learnt_commit = false;
-        learnt_abort = false; heuristic = false; forgot = false }) stage.flat_commit_obeyed = grind arith in
-    (h, g, refl, (child_crash_law.child_restarts (record { prepared = true; learnt_commit = false;
-        learnt_abort = false; heuristic = false; forgot = false }) stage.flat_commit_obeyed h g).invariant)
+    let g : child_crash.IsChildFront (record {
+      prepared = true;
+      learnt_commit = false;
+      learnt_abort = false;
+      heuristic = false;
+      forgot = false;
+    }) stage.flat_commit_obeyed = grind arith in (
+      h,
+      g,
+      refl,
+      (child_crash_law.child_restarts (record {
+        prepared = true;
+        learnt_commit = false;
+        learnt_abort = false;
+        heuristic = false;
+        forgot = false;
+      }) stage.flat_commit_obeyed h g).invariant,
+    )
 
 pub lem_flat_commit_answered : Reaches PresumedCommit parent.MayPresumeCommit parent.answers_commit
     stage.flat_commit_restarted stage.flat_commit_answered
@@ -110,16 +131,39 @@ lem_flat_commit_obeyed_again =
     (h, g, refl, (child_law.commits stage.flat_commit_answered h g).invariant)
 
 pub lem_flat_abort_restarted : Reaches PresumedCommit
-    (parent_crash.IsParentFront (record { collecting = true; own_prepare = false; commit = false;
-    abort = false; end = false })) (parent_crash.parent_restarts (record { collecting = true;
-    own_prepare = false; commit = false; abort = false;
-    end = false })) stage.flat_commit_voted stage.flat_abort_restarted
+    (parent_crash.IsParentFront (record {
+      collecting = true;
+      own_prepare = false;
+      commit = false;
+      abort = false;
+      end = false;
+    })) (parent_crash.parent_restarts (record {
+      collecting = true;
+      own_prepare = false;
+      commit = false;
+      abort = false;
+      end = false;
+    })) stage.flat_commit_voted stage.flat_abort_restarted
 lem_flat_abort_restarted =
     let h : PresumedCommit stage.flat_commit_voted = (lem_flat_commit_voted).3 in
-    let g : parent_crash.IsParentFront (record { collecting = true; own_prepare = false; commit = false;
-        abort = false; end = false }) stage.flat_commit_voted = grind arith in
-    (h, g, refl, (parent_crash_law.parent_restarts (record { collecting = true; own_prepare = false;
-        commit = false; abort = false; end = false }) stage.flat_commit_voted h g).invariant)
+    let g : parent_crash.IsParentFront (record {
+      collecting = true;
+      own_prepare = false;
+      commit = false;
+      abort = false;
+      end = false;
+    }) stage.flat_commit_voted = grind arith in (
+      h,
+      g,
+      refl,
+      (parent_crash_law.parent_restarts (record {
+        collecting = true;
+        own_prepare = false;
+        commit = false;
+        abort = false;
+        end = false;
+      }) stage.flat_commit_voted h g).invariant,
+    )
 
 pub lem_flat_abort_obeyed : Reaches PresumedCommit child.MayLearnAbort child.rolls_back_forced
     stage.flat_abort_restarted stage.flat_abort_obeyed
@@ -276,16 +320,39 @@ lem_read_only_read_up =
     (h, g, refl, (cascaded_law.reads_up stage.read_only_heard h g).invariant)
 
 pub lem_read_only_restarted : Reaches PresumedCommit
-    (parent_crash.IsParentFront (record { collecting = true; own_prepare = false; commit = false;
-    abort = false; end = false })) (parent_crash.parent_restarts (record { collecting = true;
-    own_prepare = false; commit = false; abort = false;
-    end = false })) stage.read_only_read_up stage.read_only_restarted
+    (parent_crash.IsParentFront (record {
+      collecting = true;
+      own_prepare = false;
+      commit = false;
+      abort = false;
+      end = false;
+    })) (parent_crash.parent_restarts (record {
+      collecting = true;
+      own_prepare = false;
+      commit = false;
+      abort = false;
+      end = false;
+    })) stage.read_only_read_up stage.read_only_restarted
 lem_read_only_restarted =
     let h : PresumedCommit stage.read_only_read_up = lem_read_only_read_up.3 in
-    let g : parent_crash.IsParentFront (record { collecting = true; own_prepare = false; commit = false;
-        abort = false; end = false }) stage.read_only_read_up = grind arith in
-    (h, g, refl, (parent_crash_law.parent_restarts (record { collecting = true; own_prepare = false;
-        commit = false; abort = false; end = false }) stage.read_only_read_up h g).invariant)
+    let g : parent_crash.IsParentFront (record {
+      collecting = true;
+      own_prepare = false;
+      commit = false;
+      abort = false;
+      end = false;
+    }) stage.read_only_read_up = grind arith in (
+      h,
+      g,
+      refl,
+      (parent_crash_law.parent_restarts (record {
+        collecting = true;
+        own_prepare = false;
+        commit = false;
+        abort = false;
+        end = false;
+      }) stage.read_only_read_up h g).invariant,
+    )
 
 pub lem_read_only_committed_above : Reaches PresumedCommit cascaded.MayCommitAbove cascaded.commits_above
     stage.read_only_restarted stage.read_only_committed_above

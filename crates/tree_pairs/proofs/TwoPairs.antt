@@ -1,8 +1,5 @@
 -- One step, seen from the pair above and from the pair below.
-use Rattle.std.proofs.Common.{◌≡◌, ◌⊎◌, Bool, true, false, ◌||◌, ◌&&◌, not, arith}
-use Rattle.tree_pairs.specs.Reading.{Reading, Active, Collecting, Closed, is_live}
-use Rattle.tree_pairs.specs.Invariant.{Common}
-use Rattle.tree_pairs.specs.Chain.{IsBelow}
+use Rattle.std.proofs.Common.{◌≡◌, Bool, true, false, ◌&&◌, arith}
 use Rattle.tree_pairs.specs.TwoPairs.{Together, SameFront, OneStep, same}
 use Rattle.tree_pairs.specs.ChildMoves as child
 use Rattle.tree_pairs.specs.ChildCrash as child_crash

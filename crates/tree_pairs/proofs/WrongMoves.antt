@@ -1,7 +1,6 @@
 -- Each wrong move breaks the invariant, and where.
-use Rattle.std.proofs.Common.{◌≡◌, ◌⊎◌, inl, inr, refl, Bool, true, false, arith}
-use Rattle.tree_pairs.specs.Reading.{Reading, Phase, Active, Collecting, Closed}
-use Rattle.tree_pairs.specs.Standing.{IsCommitting, IsInDoubt, IsUnknownUnderCommit}
+use Rattle.std.proofs.Common.{arith}
+use Rattle.tree_pairs.specs.Standing.{IsCommitting, IsUnknownUnderCommit}
 use Rattle.tree_pairs.specs.Invariant.{PresumedAbort, PresumedCommit}
 use Rattle.tree_pairs.specs.CascadedMoves.{MayPromise}
 use Rattle.tree_pairs.specs.ParentMoves.{MayAskForVotes}
@@ -22,9 +21,11 @@ forgets_after_first_ack_breaks_falls h = grind arith
 
 pub forgets_after_first_ack_breaks : wrong.Breaks PresumedAbort IsCommitting wrong.forgets_after_first_ack
     under_abort.flat_commit_decided
-forgets_after_first_ack_breaks =
-    (abort_stage.lem_flat_commit_decided.3, forgets_after_first_ack_breaks_guard,
-    forgets_after_first_ack_breaks_falls)
+forgets_after_first_ack_breaks = (
+  abort_stage.lem_flat_commit_decided.3,
+  forgets_after_first_ack_breaks_guard,
+  forgets_after_first_ack_breaks_falls,
+)
 
 prepare_before_collecting_breaks_guard : MayAskForVotes under_commit.flat_commit_accepted
 prepare_before_collecting_breaks_guard = grind arith
@@ -35,9 +36,11 @@ prepare_before_collecting_breaks_falls h = grind arith
 
 pub prepare_before_collecting_breaks : wrong.Breaks PresumedCommit MayAskForVotes
     wrong.prepare_before_collecting under_commit.flat_commit_accepted
-prepare_before_collecting_breaks =
-    (commit_stage.lem_flat_commit_accepted.3, prepare_before_collecting_breaks_guard,
-    prepare_before_collecting_breaks_falls)
+prepare_before_collecting_breaks = (
+  commit_stage.lem_flat_commit_accepted.3,
+  prepare_before_collecting_breaks_guard,
+  prepare_before_collecting_breaks_falls,
+)
 
 boot_reused_breaks_guard : IsUp under_abort.flat_commit_voted
 boot_reused_breaks_guard = grind arith
@@ -69,9 +72,11 @@ obeys_contradicting_commit_breaks_falls h = grind arith
 
 pub obeys_contradicting_commit_breaks : wrong.Breaks PresumedCommit HasAborted
     wrong.obeys_contradicting_commit under_commit.cascaded_abort_passed
-obeys_contradicting_commit_breaks =
-    (commit_stage.lem_cascaded_abort_passed.3, obeys_contradicting_commit_breaks_guard,
-    obeys_contradicting_commit_breaks_falls)
+obeys_contradicting_commit_breaks = (
+  commit_stage.lem_cascaded_abort_passed.3,
+  obeys_contradicting_commit_breaks_guard,
+  obeys_contradicting_commit_breaks_falls,
+)
 
 trim_drops_commit_breaks_guard : IsUnknownUnderCommit under_commit.flat_commit_decided
 trim_drops_commit_breaks_guard = grind arith
@@ -106,9 +111,11 @@ commits_on_votes_so_far_breaks_falls h = grind arith
 
 pub commits_on_votes_so_far_breaks : wrong.Breaks PresumedAbort Waiting wrong.commits_on_votes_so_far
     under_abort.flat_commit_asked
-commits_on_votes_so_far_breaks =
-    (abort_stage.lem_flat_commit_asked.3, commits_on_votes_so_far_breaks_guard,
-    commits_on_votes_so_far_breaks_falls)
+commits_on_votes_so_far_breaks = (
+  abort_stage.lem_flat_commit_asked.3,
+  commits_on_votes_so_far_breaks_guard,
+  commits_on_votes_so_far_breaks_falls,
+)
 
 pub wrong_moves : WrongMoves
 wrong_moves = record {

@@ -1,7 +1,7 @@
 -- What a cascaded coordinator does as a parent, because of what its own parent told it; and what becomes
 -- true above it.
-use Rattle.std.specs.Prelude.{◌≡◌, Bool, true, false, ◌||◌, ◌&&◌, ◌⊎◌}
-use Rattle.tree_pairs.specs.Reading.{Reading, Phase, Active, Collecting, Closed}
+use Rattle.std.specs.Prelude.{◌≡◌, true, false, ◌||◌, ◌&&◌}
+use Rattle.tree_pairs.specs.Reading.{Reading, Active, Collecting, Closed}
 use Rattle.tree_pairs.specs.Standing.{HasVote, Waits, Consents}
 
 -- JOIN made the case.
@@ -65,8 +65,13 @@ pub record MayPromise (r : Reading) : Type 0 where
   pub all_voted : HasVote r
 
 abbrev pub promises : Reading → Reading
-promises r = record r { phase = Closed; own_prepare_kept = true; own_prepare_forced = true;
-    own_prepare_ever = true; names = r.accepted && r.first_yes }
+promises r = record r {
+  phase = Closed;
+  own_prepare_kept = true;
+  own_prepare_forced = true;
+  own_prepare_ever = true;
+  names = r.accepted && r.first_yes;
+}
 
 -- COMMIT found the case Prepared. True answers of the pair above: the outcome is commit.
 pub record MayPassCommit (r : Reading) : Type 0 where
@@ -77,8 +82,12 @@ pub record MayPassCommit (r : Reading) : Type 0 where
 
 -- Presumed Abort: Commit, which names whom Prepare named, is forced; COMMIT goes to each.
 abbrev pub passes_commit_forced : Reading → Reading
-passes_commit_forced r = record r { commit_kept = true; commit_forced = true; owed = r.names;
-    sent_commit = r.names || r.sent_commit }
+passes_commit_forced r = record r {
+  commit_kept = true;
+  commit_forced = true;
+  owed = r.names;
+  sent_commit = r.names || r.sent_commit;
+}
 
 -- Presumed Commit: Commit is written unforced; COMMIT goes to each; the case is forgotten.
 abbrev pub passes_commit : Reading → Reading
@@ -98,5 +107,9 @@ passes_abort r = record r { refused = true; abort_kept = true; sent_abort = r.na
 
 -- Presumed Commit: Abort, which names whom Prepare named, is forced; ABORT goes to each.
 abbrev pub passes_abort_forced : Reading → Reading
-passes_abort_forced r = record r { refused = true; abort_kept = true; owed = r.names;
-    sent_abort = r.names || r.sent_abort }
+passes_abort_forced r = record r {
+  refused = true;
+  abort_kept = true;
+  owed = r.names;
+  sent_abort = r.names || r.sent_abort;
+}

@@ -1,8 +1,7 @@
 -- How the pairs of a tree hang together: the child of one pair is the parent of the next.
-use Rattle.std.specs.Prelude.{◌≡◌, Bool, true, false, ◌⊎◌, ◌&&◌, List, [], ◌∷◌}
+use Rattle.std.specs.Prelude.{◌≡◌, true, false, ◌⊎◌, ◌&&◌, List, [], ◌∷◌}
 use Rattle.tree_pairs.specs.Reading.{Reading, is_live}
 use Rattle.tree_pairs.specs.Standing.{Consents, IsInDoubt}
-use Rattle.tree_pairs.specs.Keeps.{Keeps}
 use Rattle.tree_pairs.specs.RootMoves.{MayDecide}
 use Rattle.tree_pairs.specs.CascadedMoves.{MayCommitAbove}
 

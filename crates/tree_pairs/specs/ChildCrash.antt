@@ -1,5 +1,5 @@
 -- What a device's fault and a restart do at the child.
-use Rattle.std.specs.Prelude.{◌≡◌, Bool, true, false, not, ◌||◌, ◌&&◌, ◌⊎◌}
+use Rattle.std.specs.Prelude.{◌≡◌, Bool, true, false, not, ◌||◌, ◌&&◌}
 use Rattle.tree_pairs.specs.Reading.{Reading}
 use Rattle.tree_pairs.specs.Standing.{IsInDoubt, IsHeuristic}
 
@@ -38,8 +38,11 @@ pub record MayFailChild (r : Reading) : Type 0 where
   pub up : r.child_failed ≡ false
 
 abbrev pub child_fails : Reading → Reading
-child_fails r = record r { child_failed = true; ticket_open = false;
-    child_refused = r.ticket_open || r.child_refused }
+child_fails r = record r {
+  child_failed = true;
+  ticket_open = false;
+  child_refused = r.ticket_open || r.child_refused;
+}
 
 -- It failed behind the promise, which was written and perhaps not forced; nothing was sent.
 pub record MayFailToPromise (r : Reading) : Type 0 where
@@ -56,8 +59,11 @@ pub record MayFailToLearnCommit (r : Reading) : Type 0 where
   pub in_doubt : IsInDoubt r
 
 abbrev pub fails_to_commit : Reading → Reading
-fails_to_commit r = record r { child_failed = true; learnt_commit_kept = true;
-    child_committed = not r.heuristic_kept || r.child_committed }
+fails_to_commit r = record r {
+  child_failed = true;
+  learnt_commit_kept = true;
+  child_committed = not r.heuristic_kept || r.child_committed;
+}
 
 pub record MayFailToLearnAbort (r : Reading) : Type 0 where
   pub up : r.child_failed ≡ false
@@ -75,8 +81,11 @@ pub record MayFailToDecideAlone (r : Reading) : Type 0 where
   pub undecided : r.heuristic_kept ≡ false
 
 abbrev pub fails_to_decide_alone : Bool → Reading → Reading
-fails_to_decide_alone commit r = record r { child_failed = true; heuristic_kept = true;
-    heuristic_commits = commit }
+fails_to_decide_alone commit r = record r {
+  child_failed = true;
+  heuristic_kept = true;
+  heuristic_commits = commit;
+}
 
 pub record MayFailToForget (r : Reading) : Type 0 where
   pub manager : r.child_is_manager ≡ true
@@ -93,28 +102,28 @@ pub record MayHardenFailedChild (front : ChildFront) (r : Reading) : Type 0 wher
 
 abbrev pub hardens_failed_child : ChildFront → Reading → Reading
 hardens_failed_child front r = record r {
-    prepared_forced = front.prepared;
-    prepared_ever = front.prepared || r.prepared_ever;
-    learnt_commit_forced = front.learnt_commit;
-    learnt_abort_forced = front.learnt_abort;
-    heuristic_forced = front.heuristic;
-    heuristic_ever = front.heuristic || r.heuristic_ever;
-    forgot_forced = front.forgot;
-    forgot_ever = front.forgot || r.forgot_ever;
-  }
+  prepared_forced = front.prepared;
+  prepared_ever = front.prepared || r.prepared_ever;
+  learnt_commit_forced = front.learnt_commit;
+  learnt_abort_forced = front.learnt_abort;
+  heuristic_forced = front.heuristic;
+  heuristic_ever = front.heuristic || r.heuristic_ever;
+  forgot_forced = front.forgot;
+  forgot_ever = front.forgot || r.forgot_ever;
+}
 
 -- The first half of a restart: memory is gone, and the log is cut to a front that holds the forced one.
 abbrev pub child_loses : ChildFront → Reading → Reading
 child_loses front r = record r {
-    child_failed = true;
-    ticket_open = false;
-    child_refused = r.ticket_open || (r.prepared_kept && not front.prepared) || r.child_refused;
-    prepared_kept = front.prepared;
-    learnt_commit_kept = front.learnt_commit;
-    learnt_abort_kept = front.learnt_abort;
-    heuristic_kept = front.heuristic;
-    forgot_kept = front.forgot;
-  }
+  child_failed = true;
+  ticket_open = false;
+  child_refused = r.ticket_open || (r.prepared_kept && not front.prepared) || r.child_refused;
+  prepared_kept = front.prepared;
+  learnt_commit_kept = front.learnt_commit;
+  learnt_abort_kept = front.learnt_abort;
+  heuristic_kept = front.heuristic;
+  forgot_kept = front.forgot;
+}
 
 -- The second half: all that is left is forced with the new boot, and a ticket in doubt asks.
 pub record MayReopenChild (r : Reading) : Type 0 where
@@ -122,20 +131,20 @@ pub record MayReopenChild (r : Reading) : Type 0 where
 
 abbrev pub child_reopens : Reading → Reading
 child_reopens r = record r {
-    child_failed = false;
-    ticket_open = false;
-    prepared_forced = r.prepared_kept;
-    prepared_ever = r.prepared_kept || r.prepared_ever;
-    learnt_commit_forced = r.learnt_commit_kept;
-    learnt_abort_forced = r.learnt_abort_kept;
-    heuristic_forced = r.heuristic_kept;
-    heuristic_ever = r.heuristic_kept || r.heuristic_ever;
-    forgot_forced = r.forgot_kept;
-    forgot_ever = r.forgot_kept || r.forgot_ever;
-    sent_inquire =
-        (r.prepared_kept && not r.learnt_commit_kept && not r.learnt_abort_kept && not r.forgot_kept) ||
-        r.sent_inquire;
-  }
+  child_failed = false;
+  ticket_open = false;
+  prepared_forced = r.prepared_kept;
+  prepared_ever = r.prepared_kept || r.prepared_ever;
+  learnt_commit_forced = r.learnt_commit_kept;
+  learnt_abort_forced = r.learnt_abort_kept;
+  heuristic_forced = r.heuristic_kept;
+  heuristic_ever = r.heuristic_kept || r.heuristic_ever;
+  forgot_forced = r.forgot_kept;
+  forgot_ever = r.forgot_kept || r.forgot_ever;
+  sent_inquire =
+      (r.prepared_kept && not r.learnt_commit_kept && not r.learnt_abort_kept && not r.forgot_kept) ||
+      r.sent_inquire;
+}
 
 -- A whole restart.
 abbrev pub child_restarts : ChildFront → Reading → Reading

@@ -18,8 +18,13 @@ pub record MayVote (r : Reading) : Type 0 where
 
 -- The promise is forced, then YES goes up.
 abbrev pub votes_yes : Reading → Reading
-votes_yes r = record r { ticket_open = false; prepared_kept = true; prepared_forced = true;
-    prepared_ever = true; sent_yes = true }
+votes_yes r = record r {
+  ticket_open = false;
+  prepared_kept = true;
+  prepared_forced = true;
+  prepared_ever = true;
+  sent_yes = true;
+}
 
 abbrev pub votes_no : Reading → Reading
 votes_no r = record r { ticket_open = false; child_refused = true; sent_no = true }
@@ -68,13 +73,19 @@ pub record MayLearnCommit (r : Reading) : Type 0 where
 
 -- Presumed Abort: Committed, Commit or Told is forced, then ACK goes up.
 abbrev pub commits_forced : Reading → Reading
-commits_forced r = record r { learnt_commit_kept = true; learnt_commit_forced = true;
-    child_committed = not r.heuristic_kept || r.child_committed; sent_ack = true }
+commits_forced r = record r {
+  learnt_commit_kept = true;
+  learnt_commit_forced = true;
+  child_committed = not r.heuristic_kept || r.child_committed;
+  sent_ack = true;
+}
 
 -- Presumed Commit: the same record unforced, and no ACK.
 abbrev pub commits : Reading → Reading
-commits r = record r { learnt_commit_kept = true;
-    child_committed = not r.heuristic_kept || r.child_committed }
+commits r = record r {
+  learnt_commit_kept = true;
+  child_committed = not r.heuristic_kept || r.child_committed;
+}
 
 -- ABORT found the ticket in doubt.
 pub record MayLearnAbort (r : Reading) : Type 0 where
@@ -88,8 +99,12 @@ rolls_back r = record r { child_refused = true; learnt_abort_kept = true }
 
 -- Presumed Commit: the same record is forced, then ACK goes up.
 abbrev pub rolls_back_forced : Reading → Reading
-rolls_back_forced r = record r { child_refused = true; learnt_abort_kept = true;
-    learnt_abort_forced = true; sent_ack = true }
+rolls_back_forced r = record r {
+  child_refused = true;
+  learnt_abort_kept = true;
+  learnt_abort_forced = true;
+  sent_ack = true;
+}
 
 -- Presumed Abort: COMMIT came again, to a ticket that is not known or that learnt the commit.
 pub record MayAcknowledgeCommit (r : Reading) : Type 0 where
@@ -122,8 +137,12 @@ pub record MayDecideAlone (r : Reading) : Type 0 where
   pub undecided : r.heuristic_kept ≡ false
 
 abbrev pub decides_alone : Bool → Reading → Reading
-decides_alone commit r = record r { heuristic_kept = true; heuristic_forced = true; heuristic_ever = true;
-    heuristic_commits = commit }
+decides_alone commit r = record r {
+  heuristic_kept = true;
+  heuristic_forced = true;
+  heuristic_ever = true;
+  heuristic_commits = commit;
+}
 
 -- An operator forgets a branch that was decided so.
 pub record MayForget (r : Reading) : Type 0 where
@@ -140,15 +159,15 @@ pub record MayHardenChild (r : Reading) : Type 0 where
 
 abbrev pub hardens_child : Reading → Reading
 hardens_child r = record r {
-    prepared_forced = r.prepared_kept;
-    prepared_ever = r.prepared_kept || r.prepared_ever;
-    learnt_commit_forced = r.learnt_commit_kept;
-    learnt_abort_forced = r.learnt_abort_kept;
-    heuristic_forced = r.heuristic_kept;
-    heuristic_ever = r.heuristic_kept || r.heuristic_ever;
-    forgot_forced = r.forgot_kept;
-    forgot_ever = r.forgot_kept || r.forgot_ever;
-  }
+  prepared_forced = r.prepared_kept;
+  prepared_ever = r.prepared_kept || r.prepared_ever;
+  learnt_commit_forced = r.learnt_commit_kept;
+  learnt_abort_forced = r.learnt_abort_kept;
+  heuristic_forced = r.heuristic_kept;
+  heuristic_ever = r.heuristic_kept || r.heuristic_ever;
+  forgot_forced = r.forgot_kept;
+  forgot_ever = r.forgot_kept || r.forgot_ever;
+}
 
 -- A trim of the child's log takes a ticket that is not known, with all its records.
 pub record MayTrimChild (r : Reading) : Type 0 where
@@ -157,14 +176,14 @@ pub record MayTrimChild (r : Reading) : Type 0 where
 
 abbrev pub trims_child : Reading → Reading
 trims_child r = record r {
-    prepared_kept = false;
-    prepared_forced = false;
-    learnt_commit_kept = false;
-    learnt_commit_forced = false;
-    learnt_abort_kept = false;
-    learnt_abort_forced = false;
-    heuristic_kept = false;
-    heuristic_forced = false;
-    forgot_kept = false;
-    forgot_forced = false;
-  }
+  prepared_kept = false;
+  prepared_forced = false;
+  learnt_commit_kept = false;
+  learnt_commit_forced = false;
+  learnt_abort_kept = false;
+  learnt_abort_forced = false;
+  heuristic_kept = false;
+  heuristic_forced = false;
+  forgot_kept = false;
+  forgot_forced = false;
+}

@@ -1,6 +1,6 @@
 -- What holds of every pair at every point of every run.
-use Rattle.std.specs.Prelude.{◌≡◌, Bool, true, false, ◌⊎◌}
-use Rattle.tree_pairs.specs.Reading.{Reading, Active, Collecting, is_live}
+use Rattle.std.specs.Prelude.{◌≡◌, true, false, ◌⊎◌}
+use Rattle.tree_pairs.specs.Reading.{Reading, Active, is_live}
 use Rattle.tree_pairs.specs.Standing.{IsSettled, Consents, VotedFor}
 
 -- What an unknown case of the parent has: nothing.

@@ -1,5 +1,5 @@
 -- What it means that a move keeps the invariant.
-use Rattle.std.specs.Prelude.{◌≡◌, Bool, true}
+use Rattle.std.specs.Prelude.{◌≡◌, true}
 use Rattle.tree_pairs.specs.Reading.{Reading}
 
 -- What was once true of a pair and is true for ever: the outcome, who took part, who ended how, what was

@@ -1,7 +1,6 @@
 -- Each move of the protocol keeps the invariant of a pair: the laws, one record for each group of moves and
 -- presumption.
 use Rattle.std.specs.Prelude.{Bool}
-use Rattle.tree_pairs.specs.Reading.{Reading}
 use Rattle.tree_pairs.specs.Standing as standing
 use Rattle.tree_pairs.specs.Invariant.{PresumedAbort, PresumedCommit}
 use Rattle.tree_pairs.specs.Keeps.{Keeps}

@@ -1,6 +1,6 @@
 -- The reading of a tree that was just opened: nothing has happened.
-use Rattle.std.specs.Prelude.{◌≡◌, Bool, true, false}
-use Rattle.tree_pairs.specs.Reading.{Reading, Phase, Active, Collecting, Closed}
+use Rattle.std.specs.Prelude.{◌≡◌, Bool, false}
+use Rattle.tree_pairs.specs.Reading.{Reading, Closed}
 use Rattle.tree_pairs.specs.Invariant.{PresumedAbort, PresumedCommit}
 
 -- The parent is the root, or is cascaded; the child is a manager, or a coordinator.

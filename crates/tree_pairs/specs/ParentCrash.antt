@@ -1,7 +1,6 @@
 -- What a device's fault and a restart do at the parent.
-use Rattle.std.specs.Prelude.{◌≡◌, Bool, true, false, not, ◌||◌, ◌&&◌, ◌⊎◌}
-use Rattle.tree_pairs.specs.Reading.{Reading, Phase, Active, Collecting, Closed, is_live}
-use Rattle.tree_pairs.specs.Standing.{Waits}
+use Rattle.std.specs.Prelude.{◌≡◌, Bool, true, false, not, ◌||◌, ◌&&◌}
+use Rattle.tree_pairs.specs.Reading.{Reading, Active, Collecting, Closed, is_live}
 use Rattle.tree_pairs.specs.ParentMoves.{is_told_to_abort}
 
 -- Which of the parent's records of the case a front of its log holds.
@@ -46,8 +45,13 @@ pub record MayFailToCollect (r : Reading) : Type 0 where
   pub active : r.phase ≡ Active
 
 abbrev pub fails_to_collect : Reading → Reading
-fails_to_collect r = record r { failed = true; phase = Closed; refused = true; collecting_kept = true;
-    collects = r.accepted }
+fails_to_collect r = record r {
+  failed = true;
+  phase = Closed;
+  refused = true;
+  collecting_kept = true;
+  collects = r.accepted;
+}
 
 -- It failed behind the Abort of a case that waits for votes.
 abbrev pub fails_to_abort : Reading → Reading
@@ -55,12 +59,22 @@ fails_to_abort r = record r { failed = true; phase = Closed; refused = true; abo
 
 -- Presumed Commit: the Abort names whom ABORT would have gone to.
 abbrev pub fails_to_abort_naming : Reading → Reading
-fails_to_abort_naming r = record r { failed = true; phase = Closed; refused = true; abort_kept = true;
-    owed = is_told_to_abort r }
+fails_to_abort_naming r = record r {
+  failed = true;
+  phase = Closed;
+  refused = true;
+  abort_kept = true;
+  owed = is_told_to_abort r;
+}
 
 abbrev pub fails_to_hear_no : Reading → Reading
-fails_to_hear_no r = record r { failed = true; phase = Closed; first_no = true; refused = true;
-    abort_kept = true }
+fails_to_hear_no r = record r {
+  failed = true;
+  phase = Closed;
+  first_no = true;
+  refused = true;
+  abort_kept = true;
+}
 
 -- Presumed Commit: it failed behind the End of a case whose children all voted READ; nothing was told or
 -- sent.
@@ -73,16 +87,24 @@ fails_to_end_read_only r = record r { failed = true; phase = Closed; refused = t
 
 -- It failed behind the root's Commit; nothing was sent or told, and the Commit may be lost.
 abbrev pub fails_to_decide_naming : Reading → Reading
-fails_to_decide_naming r = record r { failed = true; phase = Closed; commit_kept = true;
-    owed = r.accepted && r.first_yes }
+fails_to_decide_naming r = record r {
+  failed = true;
+  phase = Closed;
+  commit_kept = true;
+  owed = r.accepted && r.first_yes;
+}
 
 abbrev pub fails_to_decide : Reading → Reading
 fails_to_decide r = record r { failed = true; phase = Closed; commit_kept = true }
 
 -- It failed behind a cascaded case's Prepare; no YES was sent.
 abbrev pub fails_to_promise_up : Reading → Reading
-fails_to_promise_up r = record r { failed = true; phase = Closed; own_prepare_kept = true;
-    names = r.accepted && r.first_yes }
+fails_to_promise_up r = record r {
+  failed = true;
+  phase = Closed;
+  own_prepare_kept = true;
+  names = r.accepted && r.first_yes;
+}
 
 -- It failed behind a cascaded case's Commit or Abort.
 abbrev pub fails_to_pass_commit_naming : Reading → Reading
@@ -108,33 +130,33 @@ pub record MayHardenFailedParent (front : ParentFront) (r : Reading) : Type 0 wh
 
 abbrev pub hardens_failed_parent : ParentFront → Reading → Reading
 hardens_failed_parent front r = record r {
-    collecting_forced = front.collecting;
-    own_prepare_forced = front.own_prepare;
-    own_prepare_ever = front.own_prepare || r.own_prepare_ever;
-    commit_forced = front.commit;
-    outcome = (r.parent_is_root && front.commit) || r.outcome;
-  }
+  collecting_forced = front.collecting;
+  own_prepare_forced = front.own_prepare;
+  own_prepare_ever = front.own_prepare || r.own_prepare_ever;
+  commit_forced = front.commit;
+  outcome = (r.parent_is_root && front.commit) || r.outcome;
+}
 
 -- The first half of a restart: memory is gone, and the log is cut to a front that holds the forced one. The
 -- case is
 -- refused if it could still be decided, or if its Commit (the root's) or its Prepare was lost.
 abbrev pub parent_loses : ParentFront → Reading → Reading
 parent_loses front r = record r {
-    failed = true;
-    phase = Closed;
-    accepted = false;
-    acked = false;
-    refused = is_live r.phase || (r.parent_is_root && r.commit_kept && not front.commit) ||
-        (r.own_prepare_kept && not front.own_prepare) || r.refused;
-    collecting_kept = front.collecting;
-    own_prepare_kept = front.own_prepare;
-    commit_kept = front.commit;
-    abort_kept = front.abort;
-    end_kept = front.end;
-    collects = front.collecting && r.collects;
-    names = front.own_prepare && r.names;
-    owed = (front.commit || front.abort) && r.owed;
-  }
+  failed = true;
+  phase = Closed;
+  accepted = false;
+  acked = false;
+  refused = is_live r.phase || (r.parent_is_root && r.commit_kept && not front.commit) ||
+      (r.own_prepare_kept && not front.own_prepare) || r.refused;
+  collecting_kept = front.collecting;
+  own_prepare_kept = front.own_prepare;
+  commit_kept = front.commit;
+  abort_kept = front.abort;
+  end_kept = front.end;
+  collects = front.collecting && r.collects;
+  names = front.own_prepare && r.names;
+  owed = (front.commit || front.abort) && r.owed;
+}
 
 -- Presumed Commit: a Collecting with nothing behind it is undecided. The restart writes its Abort, naming
 -- all that it
@@ -158,28 +180,28 @@ pub record MayReopenParent (r : Reading) : Type 0 where
 
 abbrev pub parent_reopens_naming : Reading → Reading
 parent_reopens_naming r = record r {
-    failed = false;
-    own_prepare_forced = r.own_prepare_kept;
-    own_prepare_ever = r.own_prepare_kept || r.own_prepare_ever;
-    commit_forced = r.commit_kept;
-    outcome = (r.parent_is_root && r.commit_kept) || r.outcome;
-    sent_commit = (r.commit_kept && not r.end_kept && r.owed) || r.sent_commit;
-  }
+  failed = false;
+  own_prepare_forced = r.own_prepare_kept;
+  own_prepare_ever = r.own_prepare_kept || r.own_prepare_ever;
+  commit_forced = r.commit_kept;
+  outcome = (r.parent_is_root && r.commit_kept) || r.outcome;
+  sent_commit = (r.commit_kept && not r.end_kept && r.owed) || r.sent_commit;
+}
 
 -- Presumed Commit: an undecided case aborts, and an aborted one sends ABORT to all that it owes it.
 abbrev pub parent_reopens : Reading → Reading
 parent_reopens r = record r {
-    failed = false;
-    collecting_forced = r.collecting_kept;
-    own_prepare_forced = r.own_prepare_kept;
-    own_prepare_ever = r.own_prepare_kept || r.own_prepare_ever;
-    commit_forced = r.commit_kept;
-    outcome = (r.parent_is_root && r.commit_kept) || r.outcome;
-    abort_kept = is_undecided r || r.abort_kept;
-    owed = (is_undecided r && r.collects) || r.owed;
-    sent_abort = (is_undecided r && r.collects) || (r.abort_kept && not r.end_kept && r.owed) ||
-        r.sent_abort;
-  }
+  failed = false;
+  collecting_forced = r.collecting_kept;
+  own_prepare_forced = r.own_prepare_kept;
+  own_prepare_ever = r.own_prepare_kept || r.own_prepare_ever;
+  commit_forced = r.commit_kept;
+  outcome = (r.parent_is_root && r.commit_kept) || r.outcome;
+  abort_kept = is_undecided r || r.abort_kept;
+  owed = (is_undecided r && r.collects) || r.owed;
+  sent_abort = (is_undecided r && r.collects) || (r.abort_kept && not r.end_kept && r.owed) ||
+      r.sent_abort;
+}
 
 -- A whole restart, under Presumed Abort and under Presumed Commit.
 abbrev pub parent_restarts_naming : ParentFront → Reading → Reading

@@ -1,8 +1,8 @@
 -- What a coordinator does as a parent, root or cascaded: it joins children, asks them, hears them, answers
 -- and forgets.
 use Rattle.std.specs.Prelude.{◌≡◌, Bool, true, false, not, ◌||◌, ◌&&◌, ◌⊎◌}
-use Rattle.tree_pairs.specs.Reading.{Reading, Phase, Active, Collecting, Closed}
-use Rattle.tree_pairs.specs.Standing.{IsUnknownUnderAbort, IsUnknownUnderCommit, IsCommitting, IsAborting, IsStranger, HasVote}
+use Rattle.tree_pairs.specs.Reading.{Reading, Active, Collecting, Closed}
+use Rattle.tree_pairs.specs.Standing.{IsUnknownUnderAbort, IsUnknownUnderCommit, IsCommitting, IsAborting, IsStranger}
 
 -- A first JOINED of the child came to its Active case.
 pub record MayAccept (r : Reading) : Type 0 where
@@ -25,8 +25,13 @@ asks_for_votes r = record r { phase = Collecting; sent_prepare = r.accepted || r
 
 -- Presumed Commit: Collecting, which names the accepted children, is forced first.
 abbrev pub collects_votes : Reading → Reading
-collects_votes r = record r { phase = Collecting; collecting_kept = true; collecting_forced = true;
-    collects = r.accepted; sent_prepare = r.accepted || r.sent_prepare }
+collects_votes r = record r {
+  phase = Collecting;
+  collecting_kept = true;
+  collecting_forced = true;
+  collects = r.accepted;
+  sent_prepare = r.accepted || r.sent_prepare;
+}
 
 -- The case waits for votes, and the ticket's first vote came.
 pub record MayHearYes (r : Reading) : Type 0 where
@@ -57,13 +62,23 @@ pub record MayHearNo (r : Reading) : Type 0 where
 -- Presumed Abort: Abort is written unforced; the ticket, which said NO, is sent nothing; the root tells
 -- `aborted`.
 abbrev pub hears_no : Reading → Reading
-hears_no r = record r { phase = Closed; first_no = true; refused = true; abort_kept = true;
-    told_aborted = r.parent_is_root || r.told_aborted }
+hears_no r = record r {
+  phase = Closed;
+  first_no = true;
+  refused = true;
+  abort_kept = true;
+  told_aborted = r.parent_is_root || r.told_aborted;
+}
 
 -- Presumed Commit: Abort is forced and does not name the ticket.
 abbrev pub hears_no_forced : Reading → Reading
-hears_no_forced r = record r { phase = Closed; first_no = true; refused = true; abort_kept = true;
-    told_aborted = r.parent_is_root || r.told_aborted }
+hears_no_forced r = record r {
+  phase = Closed;
+  first_no = true;
+  refused = true;
+  abort_kept = true;
+  told_aborted = r.parent_is_root || r.told_aborted;
+}
 
 -- Another child's NO, an abort act or an ABORT from above ended a case that waits for votes.
 pub record MayAbort (r : Reading) : Type 0 where
@@ -74,21 +89,36 @@ abbrev pub is_told_to_abort : Reading → Bool
 is_told_to_abort r = r.accepted && not r.first_read
 
 abbrev pub aborts : Reading → Reading
-aborts r = record r { phase = Closed; refused = true; abort_kept = true;
-    told_aborted = r.parent_is_root || r.told_aborted; sent_abort = is_told_to_abort r || r.sent_abort }
+aborts r = record r {
+  phase = Closed;
+  refused = true;
+  abort_kept = true;
+  told_aborted = r.parent_is_root || r.told_aborted;
+  sent_abort = is_told_to_abort r || r.sent_abort;
+}
 
 -- Presumed Commit: Abort is forced and names to whom ABORT goes.
 abbrev pub aborts_forced : Reading → Reading
-aborts_forced r = record r { phase = Closed; refused = true; abort_kept = true; owed = is_told_to_abort r;
-    told_aborted = r.parent_is_root || r.told_aborted; sent_abort = is_told_to_abort r || r.sent_abort }
+aborts_forced r = record r {
+  phase = Closed;
+  refused = true;
+  abort_kept = true;
+  owed = is_told_to_abort r;
+  told_aborted = r.parent_is_root || r.told_aborted;
+  sent_abort = is_told_to_abort r || r.sent_abort;
+}
 
 -- An abort act or an ABORT ends an Active case; nothing is written.
 pub record MayGiveUp (r : Reading) : Type 0 where
   pub active : r.phase ≡ Active
 
 abbrev pub gives_up : Reading → Reading
-gives_up r = record r { phase = Closed; refused = true; told_aborted = r.parent_is_root || r.told_aborted;
-    sent_abort = r.accepted || r.sent_abort }
+gives_up r = record r {
+  phase = Closed;
+  refused = true;
+  told_aborted = r.parent_is_root || r.told_aborted;
+  sent_abort = r.accepted || r.sent_abort;
+}
 
 -- An ACK of the ticket came. (It counts where one is owed; before that it does no harm.)
 pub record MayHearAck (r : Reading) : Type 0 where
@@ -139,25 +169,25 @@ pub record MayHardenParent (r : Reading) : Type 0 where
 
 abbrev pub hardens_parent : Reading → Reading
 hardens_parent r = record r {
-    collecting_forced = r.collecting_kept;
-    own_prepare_forced = r.own_prepare_kept;
-    own_prepare_ever = r.own_prepare_kept || r.own_prepare_ever;
-    commit_forced = r.commit_kept;
-    outcome = (r.parent_is_root && r.commit_kept) || r.outcome;
-  }
+  collecting_forced = r.collecting_kept;
+  own_prepare_forced = r.own_prepare_kept;
+  own_prepare_ever = r.own_prepare_kept || r.own_prepare_ever;
+  commit_forced = r.commit_kept;
+  outcome = (r.parent_is_root && r.commit_kept) || r.outcome;
+}
 
 -- A trim of the parent's log takes an unknown case with all its records.
 abbrev pub trims_parent : Reading → Reading
 trims_parent r = record r {
-    collecting_kept = false;
-    collecting_forced = false;
-    own_prepare_kept = false;
-    own_prepare_forced = false;
-    commit_kept = false;
-    commit_forced = false;
-    abort_kept = false;
-    end_kept = false;
-    collects = false;
-    names = false;
-    owed = false;
-  }
+  collecting_kept = false;
+  collecting_forced = false;
+  own_prepare_kept = false;
+  own_prepare_forced = false;
+  commit_kept = false;
+  commit_forced = false;
+  abort_kept = false;
+  end_kept = false;
+  collects = false;
+  names = false;
+  owed = false;
+}

@@ -1,7 +1,7 @@
 -- What the invariant promises of a pair, now and in every later world.
 use Rattle.std.specs.Prelude.{◌≡◌, Bool, true, false, ◌⊎◌, ◌||◌}
-use Rattle.tree_pairs.specs.Reading.{Reading, Phase, is_live}
-use Rattle.tree_pairs.specs.Standing.{IsInDoubt, IsSettled, VotedFor, MismatchStands, Waits}
+use Rattle.tree_pairs.specs.Reading.{Reading}
+use Rattle.tree_pairs.specs.Standing.{IsInDoubt, VotedFor, Waits}
 use Rattle.tree_pairs.specs.ChildMoves.{MayRepeatYes, votes_yes}
 use Rattle.tree_pairs.specs.Keeps.{Later}
 

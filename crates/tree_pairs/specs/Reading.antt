@@ -25,7 +25,6 @@ pub record Reading : Type 0 where
   pub child_is_manager : Bool
   -- The transaction's outcome is commit: a Commit was once in the forced front of the root's log.
   pub outcome : Bool
-
   -- The parent's process and memory.
   -- A device failed, or the process is down: it does nothing until its restart.
   pub failed : Bool
@@ -37,7 +36,6 @@ pub record Reading : Type 0 where
   pub accepted : Bool
   -- An ACK of the ticket was heard behind the decision, since the last restart.
   pub acked : Bool
-
   -- What happened at the parent, ever.
   -- The case accepted the ticket.
   pub took_part : Bool
@@ -50,13 +48,11 @@ pub record Reading : Type 0 where
   pub told_aborted : Bool
   -- The case ended without a commit: it gave up, learnt an abort, or died before it had consented.
   pub refused : Bool
-
   -- The parent as a child of the pair above (always so at a root that was begun).
   -- The case takes part: it is the root's, or was accepted by a case that takes part.
   pub took_part_up : Bool
   -- It sent READ.
   pub read_up : Bool
-
   -- The parent's log: the record stands in the kept list, stands in its forced front, was ever in a forced
   -- front.
   pub collecting_kept : Bool
@@ -73,7 +69,6 @@ pub record Reading : Type 0 where
   pub collects : Bool
   pub names : Bool
   pub owed : Bool
-
   -- The child.
   -- A device failed, or the process is down: it does nothing until its restart.
   pub child_failed : Bool
@@ -103,7 +98,6 @@ pub record Reading : Type 0 where
   pub forgot_kept : Bool
   pub forgot_forced : Bool
   pub forgot_ever : Bool
-
   -- Each message between the two that was ever sent.
   pub sent_prepare : Bool
   pub sent_yes : Bool

@@ -1,6 +1,6 @@
 -- What only the root does: it begins, and it decides.
-use Rattle.std.specs.Prelude.{◌≡◌, Bool, true, false, ◌||◌, ◌&&◌}
-use Rattle.tree_pairs.specs.Reading.{Reading, Phase, Active, Collecting, Closed}
+use Rattle.std.specs.Prelude.{◌≡◌, true, false, ◌||◌, ◌&&◌}
+use Rattle.tree_pairs.specs.Reading.{Reading, Active, Collecting, Closed}
 use Rattle.tree_pairs.specs.Standing.{HasVote}
 
 -- A transaction with a fresh number.
@@ -42,11 +42,23 @@ pub record MayDecide (r : Reading) : Type 0 where
 
 -- Presumed Abort: Commit, which names those that voted YES, is forced; then COMMIT goes to each of them.
 abbrev pub decides_naming : Reading → Reading
-decides_naming r = record r { phase = Closed; commit_kept = true; commit_forced = true;
-    owed = r.accepted && r.first_yes; outcome = true; told_committed = true;
-    sent_commit = (r.accepted && r.first_yes) || r.sent_commit }
+decides_naming r = record r {
+  phase = Closed;
+  commit_kept = true;
+  commit_forced = true;
+  owed = r.accepted && r.first_yes;
+  outcome = true;
+  told_committed = true;
+  sent_commit = (r.accepted && r.first_yes) || r.sent_commit;
+}
 
 -- Presumed Commit: Commit is forced and names nobody.
 abbrev pub decides : Reading → Reading
-decides r = record r { phase = Closed; commit_kept = true; commit_forced = true; outcome = true;
-    told_committed = true; sent_commit = (r.accepted && r.first_yes) || r.sent_commit }
+decides r = record r {
+  phase = Closed;
+  commit_kept = true;
+  commit_forced = true;
+  outcome = true;
+  told_committed = true;
+  sent_commit = (r.accepted && r.first_yes) || r.sent_commit;
+}

@@ -1,6 +1,6 @@
 -- Whole runs: each stage's reading has the invariant, and comes from the one before by a move whose guard
 -- holds there.
-use Rattle.std.specs.Prelude.{Bool, true, false}
+use Rattle.std.specs.Prelude.{true, false}
 use Rattle.tree_pairs.specs.Standing as standing
 use Rattle.tree_pairs.specs.Invariant.{PresumedAbort, PresumedCommit}
 use Rattle.tree_pairs.specs.Opened.{opened, Reaches}
@@ -40,23 +40,29 @@ pub record RunsUnderAbort : Type 0 where
       stages_abort.flat_commit_ended stages_abort.flat_commit_trimmed
   pub flat_commit_trimmed_below : Reaches PresumedAbort child.MayTrimChild child.trims_child
       stages_abort.flat_commit_trimmed stages_abort.flat_commit_trimmed_below
-
   -- An aborted run: another manager votes NO; then this one loses its record of the abort, asks, and gets
   -- the presumption.
   pub flat_abort_aborted : Reaches PresumedAbort parent.MayAbort parent.aborts
       stages_abort.flat_commit_voted stages_abort.flat_abort_aborted
   pub flat_abort_obeyed : Reaches PresumedAbort child.MayLearnAbort child.rolls_back
       stages_abort.flat_abort_aborted stages_abort.flat_abort_obeyed
-  pub flat_abort_restarted : Reaches PresumedAbort (child_crash.IsChildFront (record { prepared = true;
-      learnt_commit = false; learnt_abort = false; heuristic = false;
-      forgot = false })) (child_crash.child_restarts (record { prepared = true; learnt_commit = false;
-      learnt_abort = false; heuristic = false;
-      forgot = false })) stages_abort.flat_abort_obeyed stages_abort.flat_abort_restarted
+  pub flat_abort_restarted : Reaches PresumedAbort (child_crash.IsChildFront (record {
+    prepared = true;
+    learnt_commit = false;
+    learnt_abort = false;
+    heuristic = false;
+    forgot = false;
+  })) (child_crash.child_restarts (record {
+    prepared = true;
+    learnt_commit = false;
+    learnt_abort = false;
+    heuristic = false;
+    forgot = false;
+  })) stages_abort.flat_abort_obeyed stages_abort.flat_abort_restarted
   pub flat_abort_answered : Reaches PresumedAbort parent.MayPresumeAbort parent.answers_abort
       stages_abort.flat_abort_restarted stages_abort.flat_abort_answered
   pub flat_abort_obeyed_again : Reaches PresumedAbort child.MayLearnAbort child.rolls_back
       stages_abort.flat_abort_answered stages_abort.flat_abort_obeyed_again
-
   -- A manager's operator rolls back a branch that is then committed, and forgets it.
   pub operator_decided_alone : Reaches PresumedAbort child.MayDecideAlone (child.decides_alone false)
       stages_abort.flat_commit_voted stages_abort.operator_decided_alone
@@ -68,7 +74,6 @@ pub record RunsUnderAbort : Type 0 where
       stages_abort.operator_decided stages_abort.operator_told
   pub operator_forgotten : Reaches PresumedAbort child.MayForget child.forgets stages_abort.operator_told
       stages_abort.operator_forgotten
-
   -- A committed run of a cascaded coordinator and a manager below it.
   pub cascaded_commit_born : Reaches PresumedAbort cascaded.MayBeBorn cascaded.is_born (opened false true)
       stages_abort.cascaded_commit_born
@@ -97,7 +102,6 @@ pub record RunsUnderAbort : Type 0 where
       stages_abort.cascaded_commit_obeyed stages_abort.cascaded_commit_acked
   pub cascaded_commit_ended : Reaches PresumedAbort parent.MayEndCommit parent.ends
       stages_abort.cascaded_commit_acked stages_abort.cascaded_commit_ended
-
   -- An aborted run of a cascaded coordinator and another below it: it restarts while it waits for votes,
   -- and its child asks.
   pub cascaded_abort_born : Reaches PresumedAbort cascaded.MayBeBorn cascaded.is_born (opened false false)
@@ -113,10 +117,19 @@ pub record RunsUnderAbort : Type 0 where
   pub cascaded_abort_voted : Reaches PresumedAbort child.MayVote child.votes_yes
       stages_abort.cascaded_abort_asked stages_abort.cascaded_abort_voted
   pub cascaded_abort_restarted : Reaches PresumedAbort
-      (parent_crash.IsParentFront (record { collecting = false; own_prepare = false; commit = false;
-      abort = false; end = false })) (parent_crash.parent_restarts_naming (record { collecting = false;
-      own_prepare = false; commit = false; abort = false;
-      end = false })) stages_abort.cascaded_abort_voted stages_abort.cascaded_abort_restarted
+      (parent_crash.IsParentFront (record {
+        collecting = false;
+        own_prepare = false;
+        commit = false;
+        abort = false;
+        end = false;
+      })) (parent_crash.parent_restarts_naming (record {
+        collecting = false;
+        own_prepare = false;
+        commit = false;
+        abort = false;
+        end = false;
+      })) stages_abort.cascaded_abort_voted stages_abort.cascaded_abort_restarted
   pub cascaded_abort_asked_back : Reaches PresumedAbort child.MayAsk child.asks
       stages_abort.cascaded_abort_restarted stages_abort.cascaded_abort_asked_back
   pub cascaded_abort_answered : Reaches PresumedAbort parent.MayPresumeAbort parent.answers_abort
@@ -146,22 +159,38 @@ pub record RunsUnderCommit : Type 0 where
       stages_commit.flat_commit_decided stages_commit.flat_commit_trimmed
   pub flat_commit_obeyed : Reaches PresumedCommit child.MayLearnCommit child.commits
       stages_commit.flat_commit_trimmed stages_commit.flat_commit_obeyed
-  pub flat_commit_restarted : Reaches PresumedCommit (child_crash.IsChildFront (record { prepared = true;
-      learnt_commit = false; learnt_abort = false; heuristic = false;
-      forgot = false })) (child_crash.child_restarts (record { prepared = true; learnt_commit = false;
-      learnt_abort = false; heuristic = false;
-      forgot = false })) stages_commit.flat_commit_obeyed stages_commit.flat_commit_restarted
+  pub flat_commit_restarted : Reaches PresumedCommit (child_crash.IsChildFront (record {
+    prepared = true;
+    learnt_commit = false;
+    learnt_abort = false;
+    heuristic = false;
+    forgot = false;
+  })) (child_crash.child_restarts (record {
+    prepared = true;
+    learnt_commit = false;
+    learnt_abort = false;
+    heuristic = false;
+    forgot = false;
+  })) stages_commit.flat_commit_obeyed stages_commit.flat_commit_restarted
   pub flat_commit_answered : Reaches PresumedCommit parent.MayPresumeCommit parent.answers_commit
       stages_commit.flat_commit_restarted stages_commit.flat_commit_answered
   pub flat_commit_obeyed_again : Reaches PresumedCommit child.MayLearnCommit child.commits
       stages_commit.flat_commit_answered stages_commit.flat_commit_obeyed_again
-
   -- An aborted run: the root restarts while it waits for votes.
   pub flat_abort_restarted : Reaches PresumedCommit
-      (parent_crash.IsParentFront (record { collecting = true; own_prepare = false; commit = false;
-      abort = false; end = false })) (parent_crash.parent_restarts (record { collecting = true;
-      own_prepare = false; commit = false; abort = false;
-      end = false })) stages_commit.flat_commit_voted stages_commit.flat_abort_restarted
+      (parent_crash.IsParentFront (record {
+        collecting = true;
+        own_prepare = false;
+        commit = false;
+        abort = false;
+        end = false;
+      })) (parent_crash.parent_restarts (record {
+        collecting = true;
+        own_prepare = false;
+        commit = false;
+        abort = false;
+        end = false;
+      })) stages_commit.flat_commit_voted stages_commit.flat_abort_restarted
   pub flat_abort_obeyed : Reaches PresumedCommit child.MayLearnAbort child.rolls_back_forced
       stages_commit.flat_abort_restarted stages_commit.flat_abort_obeyed
   pub flat_abort_acked : Reaches PresumedCommit parent.MayHearAck parent.hears_ack
@@ -170,7 +199,6 @@ pub record RunsUnderCommit : Type 0 where
       stages_commit.flat_abort_acked stages_commit.flat_abort_ended
   pub flat_abort_trimmed : Reaches PresumedCommit standing.IsUnknownUnderCommit parent.trims_parent
       stages_commit.flat_abort_ended stages_commit.flat_abort_trimmed
-
   -- A committed run of a cascaded coordinator and a manager below it.
   pub cascaded_commit_born : Reaches PresumedCommit cascaded.MayBeBorn cascaded.is_born (opened false true)
       stages_commit.cascaded_commit_born
@@ -195,7 +223,6 @@ pub record RunsUnderCommit : Type 0 where
       stages_commit.cascaded_commit_committed_above stages_commit.cascaded_commit_passed
   pub cascaded_commit_obeyed : Reaches PresumedCommit child.MayLearnCommit child.commits
       stages_commit.cascaded_commit_passed stages_commit.cascaded_commit_obeyed
-
   -- An aborted run of a cascaded coordinator and a manager below it.
   pub cascaded_abort_passed : Reaches PresumedCommit cascaded.MayPassAbort cascaded.passes_abort_forced
       stages_commit.cascaded_commit_promised stages_commit.cascaded_abort_passed
@@ -205,7 +232,6 @@ pub record RunsUnderCommit : Type 0 where
       stages_commit.cascaded_abort_obeyed stages_commit.cascaded_abort_acked
   pub cascaded_abort_ended : Reaches PresumedCommit parent.MayEndAbort parent.ends
       stages_commit.cascaded_abort_acked stages_commit.cascaded_abort_ended
-
   -- A cascaded coordinator whose one child voted READ loses its End at a restart, and aborts although the
   -- transaction may commit.
   pub read_only_read : Reaches PresumedCommit child.MayVote child.votes_read
@@ -214,10 +240,18 @@ pub record RunsUnderCommit : Type 0 where
       stages_commit.read_only_read stages_commit.read_only_heard
   pub read_only_read_up : Reaches PresumedCommit cascaded.MayReadUp cascaded.reads_up_collected
       stages_commit.read_only_heard stages_commit.read_only_read_up
-  pub read_only_restarted : Reaches PresumedCommit (parent_crash.IsParentFront (record { collecting = true;
-      own_prepare = false; commit = false; abort = false;
-      end = false })) (parent_crash.parent_restarts (record { collecting = true; own_prepare = false;
-      commit = false; abort = false;
-      end = false })) stages_commit.read_only_read_up stages_commit.read_only_restarted
+  pub read_only_restarted : Reaches PresumedCommit (parent_crash.IsParentFront (record {
+    collecting = true;
+    own_prepare = false;
+    commit = false;
+    abort = false;
+    end = false;
+  })) (parent_crash.parent_restarts (record {
+    collecting = true;
+    own_prepare = false;
+    commit = false;
+    abort = false;
+    end = false;
+  })) stages_commit.read_only_read_up stages_commit.read_only_restarted
   pub read_only_committed_above : Reaches PresumedCommit cascaded.MayCommitAbove cascaded.commits_above
       stages_commit.read_only_restarted stages_commit.read_only_committed_above

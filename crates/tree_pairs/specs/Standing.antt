@@ -1,6 +1,6 @@
 -- What is said of a pair in the protocol's words.
-use Rattle.std.specs.Prelude.{◌≡◌, Bool, true, false, ◌⊎◌}
-use Rattle.tree_pairs.specs.Reading.{Reading, Phase, Active, Collecting, is_live}
+use Rattle.std.specs.Prelude.{◌≡◌, true, false, ◌⊎◌}
+use Rattle.tree_pairs.specs.Reading.{Reading, is_live}
 
 -- The child.
 

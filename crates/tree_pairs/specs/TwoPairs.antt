@@ -1,7 +1,7 @@
 -- One step of a cascaded coordinator, seen from the pair above it and from a pair below it: the two
 -- readings of the one
 -- case change alike. So what one pair proves of its child, the next may use of its parent.
-use Rattle.std.specs.Prelude.{◌≡◌, Bool, true, false, ◌&&◌}
+use Rattle.std.specs.Prelude.{◌≡◌, true, false, ◌&&◌}
 use Rattle.tree_pairs.specs.Reading.{Reading}
 use Rattle.tree_pairs.specs.Invariant.{Common}
 use Rattle.tree_pairs.specs.Chain.{IsBelow}

@@ -1,9 +1,9 @@
 -- Wrong moves, each close to a right one. There is a reading that has the invariant and the wrong move's
 -- guard, and the
 -- moved reading does not have the invariant: so no proof can let the move pass.
-use Rattle.std.specs.Prelude.{◌≡◌, Bool, true, false, ◌⊎◌, ◌&&◌, ◌||◌}
-use Rattle.tree_pairs.specs.Reading.{Reading, Phase, Active, Collecting, Closed}
-use Rattle.tree_pairs.specs.Standing.{IsCommitting, IsInDoubt, IsUnknownUnderCommit, HasVote}
+use Rattle.std.specs.Prelude.{◌≡◌, true, false, ◌||◌}
+use Rattle.tree_pairs.specs.Reading.{Reading, Collecting}
+use Rattle.tree_pairs.specs.Standing.{IsCommitting, IsUnknownUnderCommit}
 use Rattle.tree_pairs.specs.Invariant.{PresumedAbort, PresumedCommit}
 use Rattle.tree_pairs.specs.RootMoves.{decides_naming}
 use Rattle.tree_pairs.specs.CascadedMoves.{MayPromise, reads_up, passes_commit}
@@ -22,8 +22,12 @@ forgets_after_first_ack r = ends r
 
 -- PREPARE goes out behind a Collecting that is not forced.
 abbrev pub prepare_before_collecting : Reading → Reading
-prepare_before_collecting r = record r { phase = Collecting; collecting_kept = true; collects = r.accepted;
-    sent_prepare = r.accepted || r.sent_prepare }
+prepare_before_collecting r = record r {
+  phase = Collecting;
+  collecting_kept = true;
+  collects = r.accepted;
+  sent_prepare = r.accepted || r.sent_prepare;
+}
 
 -- A restart gives out the last boot again, and with it the ticket's number: it is not asked to be fresh.
 abbrev pub boot_reused : Reading → Reading
@@ -50,8 +54,13 @@ trim_drops_commit r = record r { commit_kept = false; commit_forced = false }
 
 -- A manager that is told to commit drops its operator's decision.
 abbrev pub told_drops_decision : Reading → Reading
-told_drops_decision r = record r { heuristic_kept = false; heuristic_forced = false;
-    learnt_commit_kept = true; learnt_commit_forced = true; sent_ack = true }
+told_drops_decision r = record r {
+  heuristic_kept = false;
+  heuristic_forced = false;
+  learnt_commit_kept = true;
+  learnt_commit_forced = true;
+  sent_ack = true;
+}
 
 -- The root commits on the votes that have come.
 abbrev pub commits_on_votes_so_far : Reading → Reading

@@ -1,5 +1,12 @@
 //! Every move of the protocol keeps the invariant of a pair.
-ghost use Rattle.tree_pairs.specs.Laws.{ChildRowsUnderAbort, ChildRowsUnderCommit, HeuristicRowsUnderAbort, HeuristicRowsUnderCommit, ChildCrashesUnderAbort, ChildCrashesUnderCommit, ParentRowsUnderAbort, ParentRowsUnderCommit, RootRowsUnderAbort, RootRowsUnderCommit, CascadedRowsUnderAbort, CascadedRowsUnderCommit, ParentCrashesUnderAbort, ParentCrashesUnderCommit, LogMovesUnderAbort, LogMovesUnderCommit};
+ghost use Rattle.tree_pairs.specs.Laws.{ChildRowsUnderAbort, ChildRowsUnderCommit};
+ghost use Rattle.tree_pairs.specs.Laws.{HeuristicRowsUnderAbort, HeuristicRowsUnderCommit};
+ghost use Rattle.tree_pairs.specs.Laws.{ChildCrashesUnderAbort, ChildCrashesUnderCommit};
+ghost use Rattle.tree_pairs.specs.Laws.{ParentRowsUnderAbort, ParentRowsUnderCommit};
+ghost use Rattle.tree_pairs.specs.Laws.{RootRowsUnderAbort, RootRowsUnderCommit};
+ghost use Rattle.tree_pairs.specs.Laws.{CascadedRowsUnderAbort, CascadedRowsUnderCommit};
+ghost use Rattle.tree_pairs.specs.Laws.{ParentCrashesUnderAbort, ParentCrashesUnderCommit};
+ghost use Rattle.tree_pairs.specs.Laws.{LogMovesUnderAbort, LogMovesUnderCommit};
 
 /// Each row of a child keeps the invariant.
 pub fn child_rows()
