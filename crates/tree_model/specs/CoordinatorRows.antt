@@ -1,0 +1,400 @@
+-- The reaction table of coordinators (R*): for each standing and input of a case what is written, told and sent,
+-- and the new view. One row, one definition, named by standing and input.
+use Rattle.std.specs.Prelude.{◌+◌, Bool, true, false, if◌then◌else◌, Option, Some, None, List, [], ◌∷◌, ◌++◌, map, filter, not}
+use Rattle.tree_model.specs.declared.names.Case.{Case}
+use Rattle.tree_model.specs.declared.names.ProcessId.{ProcessId}
+use Rattle.tree_model.specs.declared.names.Ticket.{Ticket}
+use Rattle.tree_model.specs.declared.names.Outcome.{Outcome}
+use Rattle.tree_model.specs.declared.names.Outcome.TheVariants.{Committed as CommittedOutcome, Aborted as AbortedOutcome}
+use Rattle.tree_model.specs.declared.names.Presumption.{Presumption}
+use Rattle.tree_model.specs.declared.names.Presumption.TheVariants.{PresumeAbort, PresumeCommit}
+use Rattle.tree_model.specs.declared.messages.Op.{Op}
+use Rattle.tree_model.specs.declared.messages.Message.{Message}
+use Rattle.tree_model.specs.declared.messages.Message.TheVariants.{Join, Joined, Work, Prepare, Yes, No, Read, Commit, Abort, Ack, Inquire}
+use Rattle.tree_model.specs.declared.messages.Envelope.{Envelope}
+use Rattle.tree_model.specs.declared.records.Record.{Record}
+use Rattle.tree_model.specs.declared.records.Record.TheVariants.{Collecting as CollectingRecord, Prepare as PrepareRecord, Commit as CommitRecord, Abort as AbortRecord, End as EndRecord}
+use Rattle.tree_model.specs.declared.standings.Standing.{Standing}
+use Rattle.tree_model.specs.declared.standings.Standing.TheVariants.{Unknown, Active, Collecting, Prepared, Committing, Aborting}
+use Rattle.tree_model.specs.declared.standings.Vote.{Vote}
+use Rattle.tree_model.specs.declared.standings.Vote.TheVariants.{Yes as VoteYes, No as VoteNo, Read as VoteRead}
+use Rattle.tree_model.specs.declared.events.Conclusion.{Conclusion}
+use Rattle.tree_model.specs.declared.events.Conclusion.TheVariants.{Committed as ConcludedCommitted, Aborted as ConcludedAborted, ReadOnly}
+use Rattle.tree_model.specs.Names.{same_ticket, child_case, presumed}
+use Rattle.tree_model.specs.Records.{in_list, none_of}
+use Rattle.tree_model.specs.Nodes.{Written}
+use Rattle.tree_model.specs.Memory.{has_child, is_counted, all_voted, yes_of, undecided_of, works_of}
+use Rattle.tree_model.specs.Standings.{CoordinatorView, unknown_view}
+
+-- a coordinator in one of its cases; the root has no parent
+pub record Seat : Type 0 where
+  pub me : ProcessId
+  pub parent : Option ProcessId
+  pub own : Case
+
+-- what a row does: at most one record, what is told, the messages, the ticket accepted, the first vote counted
+pub record Row : Type 0 where
+  pub written : List Written
+  pub told : Option Conclusion
+  pub letters : List Envelope
+  pub accepts : List Ticket
+  pub counts : List (Ticket × Vote)
+  pub view : CoordinatorView
+
+-- Parts of rows.
+
+abbrev pub forced : Record → List Written
+forced r = record { entry = r; is_forced = true } ∷ []
+
+abbrev pub plain : Record → List Written
+plain r = record { entry = r; is_forced = false } ∷ []
+
+abbrev pub post : ProcessId → ProcessId → Message → Envelope
+post me q m = record { from = me; to = q; message = m }
+
+abbrev pub posted_up : ProcessId → Option ProcessId → Message → List Envelope
+posted_up me None m = []
+posted_up me (Some p) m = post me p m ∷ []
+
+-- a message to the parent; the root has none
+abbrev pub up : Seat → Message → List Envelope
+up s m = posted_up s.me s.parent m
+
+abbrev pub to_child : Seat → (Case → Message) → Ticket → Envelope
+to_child s m t = post s.me t.child (m (child_case s.own.txn t))
+
+-- the same message to each of the children, in order of acceptance
+abbrev pub each : Seat → (Case → Message) → List Ticket → List Envelope
+each s m ts = map (to_child s m) ts
+
+abbrev pub told_by : Option ProcessId → Conclusion → Option Conclusion
+told_by None a = Some a
+told_by (Some p) a = None
+
+-- what the root tells its application; others tell nothing
+abbrev pub tells : Seat → Conclusion → Option Conclusion
+tells s a = told_by s.parent a
+
+abbrev pub quiet : CoordinatorView → Row
+quiet v = record { written = []; told = None; letters = []; accepts = []; counts = []; view = v }
+
+abbrev pub sends : List Envelope → CoordinatorView → Row
+sends ls v = record { written = []; told = None; letters = ls; accepts = []; counts = []; view = v }
+
+-- the case waits for these, or is forgotten where there are none
+abbrev pub awaits : Standing → List Ticket → CoordinatorView → CoordinatorView
+awaits s ts v = if none_of ts then unknown_view else record v { standing = s; named = v.named ++ ts; owed = ts }
+
+-- Active.
+
+abbrev pub active_join : Seat → ProcessId → CoordinatorView → Row
+active_join s q v = if has_child v.accepted q then quiet v else sends (post s.me q (Join s.own) ∷ []) v
+
+abbrev pub active_joined : Ticket → CoordinatorView → Row
+active_joined t v =
+    if has_child v.accepted t.child then quiet v
+    else record { written = []; told = None; letters = []; accepts = t ∷ []; counts = []; view = record v { accepted = v.accepted ++ t ∷ [] } }
+
+abbrev pub active_work : Seat → Ticket → Op → CoordinatorView → Row
+active_work s t op v =
+    sends (post s.me t.child (Work (child_case s.own.txn t) (works_of v.works t + 1) op) ∷ []) (record v { works = v.works ++ t ∷ [] })
+
+-- the commit act or PREPARE, where nobody takes part
+abbrev pub active_commit_alone : Seat → Row
+active_commit_alone s =
+    record { written = []; told = tells s ReadOnly; letters = up s (Read s.own); accepts = []; counts = []; view = unknown_view }
+
+abbrev pub prepares : Seat → CoordinatorView → List Envelope
+prepares s v = map (λ t. post s.me t.child (Prepare (child_case s.own.txn t) (works_of v.works t))) v.accepted
+
+abbrev pub active_commit_with : Seat → CoordinatorView → Presumption → Row
+active_commit_with s v PresumeAbort = sends (prepares s v) (record v { standing = Collecting })
+active_commit_with s v PresumeCommit =
+    record {
+      written = forced (CollectingRecord s.own v.accepted);
+      told = None;
+      letters = prepares s v;
+      accepts = [];
+      counts = [];
+      view = record v { standing = Collecting; named = v.named ++ v.accepted };
+    }
+
+-- the commit act, or PREPARE
+abbrev pub active_commit : Seat → CoordinatorView → Row
+active_commit s v = if none_of v.accepted then active_commit_alone s else active_commit_with s v s.own.txn.presumption
+
+-- an abort under Presumed Commit is acknowledged
+abbrev pub acknowledges_abort : Seat → Presumption → List Envelope
+acknowledges_abort s PresumeAbort = []
+acknowledges_abort s PresumeCommit = up s (Ack s.own AbortedOutcome)
+
+-- the abort act, or ABORT
+abbrev pub active_abort : Seat → CoordinatorView → Row
+active_abort s v =
+    record {
+      written = [];
+      told = tells s ConcludedAborted;
+      letters = acknowledges_abort s s.own.txn.presumption ++ each s Abort v.accepted;
+      accepts = [];
+      counts = [];
+      view = unknown_view;
+    }
+
+-- Collecting.
+
+-- why a case that collects votes aborts
+pub data Reason : Type 0 where
+  ByVote : Reason
+  ByAct : Reason
+  ByAbort : Reason
+
+-- what the parent hears of the abort
+abbrev pub abort_heard_above : Seat → Reason → List Envelope
+abort_heard_above s ByVote = up s (No s.own)
+abort_heard_above s ByAct = []
+abort_heard_above s ByAbort = acknowledges_abort s s.own.txn.presumption
+
+abbrev pub collecting_abort_by : Seat → Reason → CoordinatorView → List Ticket → Presumption → Row
+collecting_abort_by s why v us PresumeAbort =
+    record {
+      written = plain (AbortRecord s.own []);
+      told = tells s ConcludedAborted;
+      letters = abort_heard_above s why ++ each s Abort us;
+      accepts = [];
+      counts = [];
+      view = unknown_view;
+    }
+collecting_abort_by s why v us PresumeCommit =
+    record {
+      written = forced (AbortRecord s.own us);
+      told = tells s ConcludedAborted;
+      letters = abort_heard_above s why ++ each s Abort us;
+      accepts = [];
+      counts = [];
+      view = awaits Aborting us v;
+    }
+
+-- the first vote NO, the abort act, or ABORT
+abbrev pub collecting_abort : Seat → Reason → CoordinatorView → Row
+collecting_abort s why v = collecting_abort_by s why v (undecided_of v.accepted v.votes) s.own.txn.presumption
+
+abbrev pub read_only_end : Seat → Presumption → List Written
+read_only_end s PresumeAbort = []
+read_only_end s PresumeCommit = plain (EndRecord s.own)
+
+-- the last vote, where all read only
+abbrev pub collecting_read_only : Seat → Row
+collecting_read_only s =
+    record {
+      written = read_only_end s s.own.txn.presumption;
+      told = tells s ReadOnly;
+      letters = up s (Read s.own);
+      accepts = [];
+      counts = [];
+      view = unknown_view;
+    }
+
+abbrev pub root_commits : Seat → CoordinatorView → List Ticket → Presumption → Row
+root_commits s v ys PresumeAbort =
+    record {
+      written = forced (CommitRecord s.own ys);
+      told = Some ConcludedCommitted;
+      letters = each s Commit ys;
+      accepts = [];
+      counts = [];
+      view = awaits Committing ys v;
+    }
+root_commits s v ys PresumeCommit =
+    record {
+      written = forced (CommitRecord s.own []);
+      told = Some ConcludedCommitted;
+      letters = each s Commit ys;
+      accepts = [];
+      counts = [];
+      view = unknown_view;
+    }
+
+abbrev pub cascaded_prepares : Seat → CoordinatorView → List Ticket → Row
+cascaded_prepares s v ys =
+    record {
+      written = forced (PrepareRecord s.own ys);
+      told = None;
+      letters = up s (Yes s.own);
+      accepts = [];
+      counts = [];
+      view = record v { standing = Prepared; promised = v.promised ++ ys; named = v.named ++ ys };
+    }
+
+abbrev pub decides : Seat → CoordinatorView → List Ticket → Option ProcessId → Row
+decides s v ys None = root_commits s v ys s.own.txn.presumption
+decides s v ys (Some p) = cascaded_prepares s v ys
+
+-- the last vote, and none was NO
+abbrev pub collecting_full : Seat → CoordinatorView → Row
+collecting_full s v =
+    let ys = yes_of v.accepted v.votes in
+    if none_of ys then collecting_read_only s else decides s v ys s.parent
+
+abbrev pub collecting_after : Seat → CoordinatorView → Vote → Row
+collecting_after s v VoteNo = collecting_abort s ByVote v
+collecting_after s v _ = if all_voted v.accepted v.votes then collecting_full s v else quiet v
+
+-- a vote; the first of an accepted ticket counts
+abbrev pub collecting_vote : Seat → Ticket → Vote → CoordinatorView → Row
+collecting_vote s t w v =
+    if is_counted v.accepted v.votes t
+    then record (collecting_after s (record v { votes = v.votes ++ (t, w) ∷ [] }) w) { counts = (t, w) ∷ [] }
+    else quiet v
+
+-- Prepared, below the root.
+
+abbrev pub prepared_commit_by : Seat → CoordinatorView → Presumption → Row
+prepared_commit_by s v PresumeAbort =
+    record {
+      written = forced (CommitRecord s.own v.promised);
+      told = None;
+      letters = up s (Ack s.own CommittedOutcome) ++ each s Commit v.promised;
+      accepts = [];
+      counts = [];
+      view = awaits Committing v.promised v;
+    }
+prepared_commit_by s v PresumeCommit =
+    record {
+      written = plain (CommitRecord s.own []);
+      told = None;
+      letters = each s Commit v.promised;
+      accepts = [];
+      counts = [];
+      view = unknown_view;
+    }
+
+abbrev pub prepared_commit : Seat → CoordinatorView → Row
+prepared_commit s v = prepared_commit_by s v s.own.txn.presumption
+
+abbrev pub prepared_abort_by : Seat → CoordinatorView → Presumption → Row
+prepared_abort_by s v PresumeAbort =
+    record {
+      written = plain (AbortRecord s.own []);
+      told = None;
+      letters = each s Abort v.promised;
+      accepts = [];
+      counts = [];
+      view = unknown_view;
+    }
+prepared_abort_by s v PresumeCommit =
+    record {
+      written = forced (AbortRecord s.own v.promised);
+      told = None;
+      letters = up s (Ack s.own AbortedOutcome) ++ each s Abort v.promised;
+      accepts = [];
+      counts = [];
+      view = awaits Aborting v.promised v;
+    }
+
+abbrev pub prepared_abort : Seat → CoordinatorView → Row
+prepared_abort s v = prepared_abort_by s v s.own.txn.presumption
+
+abbrev pub prepared_prepare : Seat → CoordinatorView → Row
+prepared_prepare s v = sends (up s (Yes s.own)) v
+
+abbrev pub prepared_ask : Seat → CoordinatorView → Row
+prepared_ask s v = sends (up s (Inquire s.own)) v
+
+-- Committing and Aborting.
+
+abbrev pub committing_commit : Seat → CoordinatorView → Row
+committing_commit s v = sends (up s (Ack s.own CommittedOutcome)) v
+
+abbrev pub aborting_abort : Seat → CoordinatorView → Row
+aborting_abort s v = sends (up s (Ack s.own AbortedOutcome)) v
+
+abbrev pub aborting_prepare : Seat → CoordinatorView → Row
+aborting_prepare s v = sends (up s (No s.own)) v
+
+-- the others that owe an acknowledgement
+unfoldable pub other_tickets : Ticket → List Ticket → List Ticket
+other_tickets t ts = filter (λ u. not (same_ticket t u)) ts
+
+abbrev pub decided_ack_by : Seat → List Ticket → CoordinatorView → Row
+decided_ack_by s left v =
+    if none_of left
+    then record { written = plain (EndRecord s.own); told = None; letters = []; accepts = []; counts = []; view = unknown_view }
+    else quiet (record v { owed = left })
+
+-- an acknowledgement that agrees with the decision; the last one that is owed ends the case
+abbrev pub decided_ack : Seat → Ticket → CoordinatorView → Row
+decided_ack s t v = if in_list v.owed t then decided_ack_by s (other_tickets t v.owed) v else quiet v
+
+-- the message that tells an outcome
+abbrev pub tells_outcome : Outcome → Case → Message
+tells_outcome CommittedOutcome = Commit
+tells_outcome AbortedOutcome = Abort
+
+abbrev pub decided_inquiry : Seat → Outcome → Ticket → CoordinatorView → Row
+decided_inquiry s o t v = sends (to_child s (tells_outcome o) t ∷ []) v
+
+-- Unknown.
+
+abbrev pub unknown_prepare : Seat → CoordinatorView → Row
+unknown_prepare s v = sends (up s (No s.own)) v
+
+abbrev pub unknown_commit_by : Seat → CoordinatorView → Presumption → Row
+unknown_commit_by s v PresumeAbort = sends (up s (Ack s.own CommittedOutcome)) v
+unknown_commit_by s v PresumeCommit = quiet v
+
+abbrev pub unknown_commit : Seat → CoordinatorView → Row
+unknown_commit s v = unknown_commit_by s v s.own.txn.presumption
+
+abbrev pub unknown_abort : Seat → CoordinatorView → Row
+unknown_abort s v = sends (acknowledges_abort s s.own.txn.presumption) v
+
+-- an inquiry without information gets what is presumed
+abbrev pub unknown_inquiry : Seat → Ticket → CoordinatorView → Row
+unknown_inquiry s t v = sends (to_child s (tells_outcome (presumed s.own.txn.presumption)) t ∷ []) v
+
+-- The table by messages.
+
+-- a vote of a child
+abbrev pub on_vote : Seat → Ticket → Vote → CoordinatorView → Standing → Row
+on_vote s t w v Collecting = collecting_vote s t w v
+on_vote s t w v _ = quiet v
+
+abbrev pub on_ack : Seat → Ticket → Outcome → CoordinatorView → Standing → Row
+on_ack s t CommittedOutcome v Committing = decided_ack s t v
+on_ack s t AbortedOutcome v Aborting = decided_ack s t v
+on_ack s t _ v _ = quiet v
+
+-- an inquiry of a child that belongs to the case
+abbrev pub on_inquiry : Seat → Ticket → CoordinatorView → Standing → Row
+on_inquiry s t v Committing = decided_inquiry s CommittedOutcome t v
+on_inquiry s t v Aborting = decided_inquiry s AbortedOutcome t v
+on_inquiry s t v Unknown = unknown_inquiry s t v
+on_inquiry s t v _ = quiet v
+
+abbrev pub on_joined : Ticket → CoordinatorView → Standing → Row
+on_joined t v Active = active_joined t v
+on_joined t v _ = quiet v
+
+-- PREPARE of the parent
+abbrev pub on_prepare : Seat → CoordinatorView → Standing → Row
+on_prepare s v Active = active_commit s v
+on_prepare s v Prepared = prepared_prepare s v
+on_prepare s v Aborting = aborting_prepare s v
+on_prepare s v Unknown = unknown_prepare s v
+on_prepare s v _ = quiet v
+
+-- COMMIT of the parent
+abbrev pub on_commit : Seat → CoordinatorView → Standing → Row
+on_commit s v Prepared = prepared_commit s v
+on_commit s v Committing = committing_commit s v
+on_commit s v Unknown = unknown_commit s v
+on_commit s v _ = quiet v
+
+-- ABORT of the parent
+abbrev pub on_abort : Seat → CoordinatorView → Standing → Row
+on_abort s v Active = active_abort s v
+on_abort s v Collecting = collecting_abort s ByAbort v
+on_abort s v Prepared = prepared_abort s v
+on_abort s v Aborting = aborting_abort s v
+on_abort s v Unknown = unknown_abort s v
+on_abort s v _ = quiet v

@@ -1,0 +1,17 @@
+pub mod Errors
+pub mod Names
+pub mod NameLaws
+pub mod Texts
+pub mod Records
+pub mod Nodes
+pub mod Memory
+pub mod Standings
+pub mod CoordinatorRows
+pub mod ManagerRows
+pub mod Reactions
+pub mod Store
+pub mod Restarts
+pub mod World
+pub mod Outcomes
+pub mod Plays
+pub mod Rows

@@ -1,0 +1,154 @@
+-- The reaction table of resource managers: for each standing and input of a branch what is written and sent, and
+-- the new view. What the manager's data answer comes with the input.
+use Rattle.std.specs.Prelude.{◌+◌, ℕ, Bool, true, false, ◌==◌, ◌&&◌, not, if◌then◌else◌, Option, Some, None, List, [], ◌∷◌, ◌++◌}
+use Rattle.tree_model.specs.declared.names.Case.{Case}
+use Rattle.tree_model.specs.declared.names.ProcessId.{ProcessId}
+use Rattle.tree_model.specs.declared.names.Outcome.{Outcome}
+use Rattle.tree_model.specs.declared.names.Outcome.TheVariants.{Committed as CommittedOutcome, Aborted as AbortedOutcome}
+use Rattle.tree_model.specs.declared.names.Presumption.{Presumption}
+use Rattle.tree_model.specs.declared.names.Presumption.TheVariants.{PresumeAbort, PresumeCommit}
+use Rattle.tree_model.specs.declared.messages.Message.{Message}
+use Rattle.tree_model.specs.declared.messages.Message.TheVariants.{Yes, No, Read, Ack, Inquire}
+use Rattle.tree_model.specs.declared.messages.Envelope.{Envelope}
+use Rattle.tree_model.specs.declared.records.Branch.{Branch}
+use Rattle.tree_model.specs.declared.records.Branch.TheVariants.{Case as CaseBranch}
+use Rattle.tree_model.specs.declared.records.Record.{Record}
+use Rattle.tree_model.specs.declared.records.Record.TheVariants.{Prepared as PreparedRecord, Committed, RolledBack, HeurCommit, HeurRollback, Told, Forgot}
+use Rattle.tree_model.specs.declared.standings.Standing.{Standing}
+use Rattle.tree_model.specs.declared.standings.Standing.TheVariants.{Unknown, Active, Prepared, Heuristic}
+use Rattle.tree_model.specs.Names.{same_outcome}
+use Rattle.tree_model.specs.Nodes.{Written, DataAnswer, Holding, ReadsOnly, Holds}
+use Rattle.tree_model.specs.Standings.{ManagerView, unknown_branch, standing_branch}
+use Rattle.tree_model.specs.CoordinatorRows.{forced, plain, post}
+
+-- a manager in one of its branches
+pub record Leaf : Type 0 where
+  pub me : ProcessId
+  pub parent : ProcessId
+  pub own : Case
+
+-- what a row does
+pub record LeafRow : Type 0 where
+  pub written : List Written
+  pub letters : List Envelope
+  pub view : ManagerView
+
+abbrev pub unmoved : ManagerView → LeafRow
+unmoved v = record { written = []; letters = []; view = v }
+
+abbrev pub replies : Leaf → Message → ManagerView → LeafRow
+replies l m v = record { written = []; letters = post l.me l.parent m ∷ []; view = v }
+
+-- the record of the branch
+abbrev pub own_branch : Leaf → Branch
+own_branch l = CaseBranch l.own
+
+-- an outcome that the presumption does not cover is forced and acknowledged; one that it covers is neither
+abbrev pub is_acknowledged : Presumption → Outcome → Bool
+is_acknowledged PresumeAbort CommittedOutcome = true
+is_acknowledged PresumeCommit AbortedOutcome = true
+is_acknowledged _ _ = false
+
+abbrev pub acknowledgement : Leaf → Outcome → List Envelope
+acknowledgement l o = if is_acknowledged l.own.txn.presumption o then post l.me l.parent (Ack l.own o) ∷ [] else []
+
+abbrev pub written_as : Leaf → Outcome → Record → List Written
+written_as l o r = record { entry = r; is_forced = is_acknowledged l.own.txn.presumption o } ∷ []
+
+-- Active.
+
+-- WORK i: done in order, and nothing after a refusal
+abbrev pub active_work : ℕ → Bool → ManagerView → LeafRow
+active_work i does v =
+    if (i == v.done + 1) && not v.spoiled
+    then unmoved (if does then record v { done = i } else record v { spoiled = true })
+    else unmoved v
+
+abbrev pub active_prepare_holding : Leaf → Holding → LeafRow
+active_prepare_holding l ReadsOnly = replies l (Read l.own) unknown_branch
+active_prepare_holding l (Holds ws) =
+    record {
+      written = forced (PreparedRecord (own_branch l) ws);
+      letters = post l.me l.parent (Yes l.own) ∷ [];
+      view = standing_branch Prepared None;
+    }
+
+-- PREPARE n: only where all n works are done
+abbrev pub active_prepare : Leaf → ℕ → Holding → ManagerView → LeafRow
+active_prepare l n holding v =
+    if (v.done == n) && not v.spoiled then active_prepare_holding l holding else replies l (No l.own) unknown_branch
+
+abbrev pub active_abort : Leaf → LeafRow
+active_abort l = record { written = []; letters = acknowledgement l AbortedOutcome; view = unknown_branch }
+
+-- Prepared.
+
+abbrev pub ends_record : Leaf → Outcome → Record
+ends_record l CommittedOutcome = Committed (own_branch l)
+ends_record l AbortedOutcome = RolledBack (own_branch l)
+
+-- COMMIT or ABORT
+abbrev pub prepared_outcome : Leaf → Outcome → LeafRow
+prepared_outcome l o = record { written = written_as l o (ends_record l o); letters = acknowledgement l o; view = unknown_branch }
+
+-- Prepared and Heuristic
+
+abbrev pub promised_prepare : Leaf → ManagerView → LeafRow
+promised_prepare l v = replies l (Yes l.own) v
+
+abbrev pub untold_ask : Leaf → ManagerView → LeafRow
+untold_ask l v = replies l (Inquire l.own) v
+
+abbrev pub decides_record : Leaf → Outcome → Record
+decides_record l CommittedOutcome = HeurCommit (own_branch l)
+decides_record l AbortedOutcome = HeurRollback (own_branch l)
+
+-- an operator decides
+abbrev pub prepared_decide : Leaf → Outcome → LeafRow
+prepared_decide l o = record { written = forced (decides_record l o); letters = []; view = standing_branch Heuristic None }
+
+-- Heuristic.
+
+-- the outcome comes: the first one is noted, the same again is acknowledged again
+abbrev pub heuristic_outcome : Leaf → Outcome → ManagerView → Option Outcome → LeafRow
+heuristic_outcome l o v None =
+    record { written = written_as l o (Told (own_branch l) o); letters = acknowledgement l o; view = standing_branch Heuristic (Some o) }
+heuristic_outcome l o v (Some told) =
+    if same_outcome told o then record { written = []; letters = acknowledgement l o; view = v } else unmoved v
+
+abbrev pub heuristic_forget : Leaf → LeafRow
+heuristic_forget l = record { written = forced (Forgot (own_branch l)); letters = []; view = unknown_branch }
+
+-- Unknown.
+
+abbrev pub unknown_prepare : Leaf → ManagerView → LeafRow
+unknown_prepare l v = replies l (No l.own) v
+
+abbrev pub unknown_outcome : Leaf → Outcome → ManagerView → LeafRow
+unknown_outcome l o v = record { written = []; letters = acknowledgement l o; view = v }
+
+-- The table by messages.
+
+abbrev pub on_work : ℕ → Bool → ManagerView → Standing → LeafRow
+on_work i does v Active = active_work i does v
+on_work i does v _ = unmoved v
+
+abbrev pub on_prepare : Leaf → ℕ → Holding → ManagerView → Standing → LeafRow
+on_prepare l n holding v Active = active_prepare l n holding v
+on_prepare l n holding v Prepared = promised_prepare l v
+on_prepare l n holding v Heuristic = promised_prepare l v
+on_prepare l n holding v Unknown = unknown_prepare l v
+on_prepare l n holding v _ = unmoved v
+
+abbrev pub on_commit : Leaf → ManagerView → Standing → LeafRow
+on_commit l v Prepared = prepared_outcome l CommittedOutcome
+on_commit l v Heuristic = heuristic_outcome l CommittedOutcome v v.told
+on_commit l v Unknown = unknown_outcome l CommittedOutcome v
+on_commit l v _ = unmoved v
+
+abbrev pub on_abort : Leaf → ManagerView → Standing → LeafRow
+on_abort l v Active = active_abort l
+on_abort l v Prepared = prepared_outcome l AbortedOutcome
+on_abort l v Heuristic = heuristic_outcome l AbortedOutcome v v.told
+on_abort l v Unknown = unknown_outcome l AbortedOutcome v
+on_abort l v _ = unmoved v

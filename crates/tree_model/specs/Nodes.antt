@@ -1,0 +1,188 @@
+-- A process: its log, its histories, and what it has heard.
+use Rattle.std.specs.Prelude.{Bool, true, false, ℕ, if◌then◌else◌, Option, Some, None, List, [], ◌∷◌, ◌++◌, map, take, drop}
+use Rattle.std.specs.List.{list_any}
+use Rattle.tree_model.specs.declared.names.Case.{Case}
+use Rattle.tree_model.specs.declared.names.ProcessId.{ProcessId}
+use Rattle.tree_model.specs.declared.names.Kind.{Kind}
+use Rattle.tree_model.specs.declared.names.Kind.TheVariants.{Coordinator, Manager}
+use Rattle.tree_model.specs.declared.names.Ticket.{Ticket}
+use Rattle.tree_model.specs.declared.names.Txn.{Txn}
+use Rattle.tree_model.specs.declared.messages.Envelope.{Envelope}
+use Rattle.tree_model.specs.declared.records.Record.{Record}
+use Rattle.tree_model.specs.declared.records.Record.TheVariants.{Opened}
+use Rattle.tree_model.specs.declared.records.Write.{Write}
+use Rattle.tree_model.specs.declared.records.Logged.{Logged}
+use Rattle.tree_model.specs.declared.standings.Vote.{Vote}
+use Rattle.tree_model.specs.declared.events.Input.{Input}
+use Rattle.tree_model.specs.declared.events.Told.{Told}
+use Rattle.tree_model.specs.declared.events.Reaction.{Reaction}
+use Rattle.tree_model.specs.declared.trees.TreeEntry.{TreeEntry}
+use Rattle.tree_model.specs.Names.{same_process}
+use Rattle.tree_model.specs.Records.{kind_of, subject_of}
+
+-- Where a process sits.
+
+pub data Role : Type 0 where
+  AtRoot : Role
+  -- a cascaded coordinator, with its parent
+  Below : ProcessId → Role
+  -- a resource manager, with its parent
+  AtLeaf : ProcessId → Role
+
+pub record Place : Type 0 where
+  pub me : ProcessId
+  pub role : Role
+  pub tree : List TreeEntry
+
+-- the process is listed
+unfoldable pub is_listed : List TreeEntry → ProcessId → Bool
+is_listed tree q = list_any (λ e. same_process e.id q) tree
+
+abbrev pub is_parent : ProcessId → Option ProcessId → Bool
+is_parent p None = false
+is_parent p (Some q) = same_process q p
+
+-- the first process is a child of the second
+unfoldable pub is_child : List TreeEntry → ProcessId → ProcessId → Bool
+is_child [] q p = false
+is_child (e ∷ es) q p = if same_process e.id q then is_parent p e.parent else is_child es q p
+
+abbrev pub role_by : Kind → Option ProcessId → Role
+role_by Coordinator None = AtRoot
+role_by Coordinator (Some p) = Below p
+role_by Manager None = AtRoot
+role_by Manager (Some p) = AtLeaf p
+
+abbrev pub is_leaf : Role → Bool
+is_leaf (AtLeaf p) = true
+is_leaf _ = false
+
+-- the role of a listed process
+unfoldable pub role_of : List TreeEntry → ProcessId → Role
+role_of [] q = AtRoot
+role_of (e ∷ es) q = if same_process e.id q then role_by e.kind e.parent else role_of es q
+
+abbrev pub place_of : List TreeEntry → ProcessId → Place
+place_of tree q = record { me = q; role = role_of tree q; tree = tree }
+
+-- What a manager's data answer.
+
+-- to xa_prepare: the branch wrote nothing, or it holds these writes
+pub data Holding : Type 0 where
+  ReadsOnly : Holding
+  Holds : List Write → Holding
+
+-- to xa_start (is it XA_OK), to the operation (is it done), and to xa_prepare
+pub record DataAnswer : Type 0 where
+  pub starts : Bool
+  pub does : Bool
+  pub holding : Holding
+
+-- an input, with what a manager's data answer to it
+pub record Heard : Type 0 where
+  pub input : Input
+  pub data_answer : DataAnswer
+
+-- A process.
+
+-- The forced front of its log and the records behind it; what it has handled since its last restart; whether its
+-- device failed; and histories that only grow, the newest first: every record ever appended, every record that was
+-- ever in the forced front, the tickets that each case accepted, the first vote of each, what was told, and the
+-- transactions that a restart found undecided.
+pub record Node : Type 0 where
+  pub forced : List Record
+  pub loose : List Record
+  pub heard : List Heard
+  pub failed : Bool
+  pub life : List Record
+  pub durable : List Record
+  pub accepted : List (Case × Ticket)
+  pub voted : List (Case × (Ticket × Vote))
+  pub told : List Told
+  pub dropped : List Txn
+
+-- the records that stand
+abbrev pub kept : Node → List Record
+kept n = n.forced ++ n.loose
+
+-- a process whose log was empty, as it opens
+abbrev pub opened_node : Node
+opened_node = record { forced = Opened 1 ∷ []; loose = []; heard = []; failed = false; life = Opened 1 ∷ []; durable = Opened 1 ∷ []; accepted = []; voted = []; told = []; dropped = [] }
+
+-- What a step does.
+
+-- a record with its force
+pub record Written : Type 0 where
+  pub entry : Record
+  pub is_forced : Bool
+
+-- The transaction begun, the records appended (unforced ones first), what was told, the messages, the tickets
+-- accepted, the first votes counted, and for a trim the number of records kept.
+pub record Effect : Type 0 where
+  pub begun : Option Txn
+  pub written : List Written
+  pub told : Option Told
+  pub letters : List Envelope
+  pub accepts : List (Case × Ticket)
+  pub counts : List (Case × (Ticket × Vote))
+  pub remains : Option ℕ
+
+abbrev pub no_effect : Effect
+no_effect = record { begun = None; written = []; told = None; letters = []; accepts = []; counts = []; remains = None }
+
+abbrev pub entries_written : List Written → List Record
+entries_written ws = map (λ w. w.entry) ws
+
+abbrev pub is_any_forced : List Written → Bool
+is_any_forced ws = list_any (λ w. w.is_forced) ws
+
+abbrev pub told_first : Option Told → List Told → List Told
+told_first None ts = ts
+told_first (Some t) ts = t ∷ ts
+
+-- how a trace shows a record
+abbrev pub logged_of : Written → Logged
+logged_of w = record { kind = kind_of w.entry; subject = subject_of w.entry; forced = w.is_forced }
+
+-- how an entry of the journal shows an effect
+abbrev pub reaction_of : Effect → Reaction
+reaction_of e = record { begun = e.begun; written = map logged_of e.written; told = e.told; letters = e.letters; kept = e.remains }
+
+-- A process after an event that appended these records. One force makes the whole log the forced front.
+abbrev pub appends : Node → List Written → Node
+appends n ws =
+    let new = entries_written ws in
+    if is_any_forced ws
+    then record n { forced = kept n ++ new; loose = []; life = new ++ n.life; durable = new ++ (kept n ++ n.durable) }
+    else record n { loose = n.loose ++ new; life = new ++ n.life }
+
+-- a process after an input that it handled
+abbrev pub after : Node → Heard → Effect → Node
+after n h e =
+    let written = appends n e.written in
+    record written {
+      heard = n.heard ++ h ∷ [];
+      accepted = e.accepts ++ n.accepted;
+      voted = e.counts ++ n.voted;
+      told = told_first e.told n.told;
+    }
+
+-- A process whose device failed: so many of the records were appended, and so many of those behind the forced
+-- front came into it. Nothing is sent or told.
+abbrev pub fails_with : Node → List Record → ℕ → ℕ → Node
+fails_with n new appended forced =
+    let left = take appended new in
+    let behind = n.loose ++ left in
+    record n {
+      forced = n.forced ++ take forced behind;
+      loose = drop forced behind;
+      failed = true;
+      life = left ++ n.life;
+      durable = take forced behind ++ n.durable;
+    }
+
+-- a process whose device failed in an input, which counts as heard
+abbrev pub fails_in : Node → Heard → Effect → ℕ → ℕ → Node
+fails_in n h e appended forced =
+    let failed = fails_with n (entries_written e.written) appended forced in
+    record failed { heard = n.heard ++ h ∷ []; accepted = e.accepts ++ n.accepted; voted = e.counts ++ n.voted }

@@ -1,0 +1,185 @@
+-- How transactions end, and the headline.
+use Rattle.std.specs.Prelude.{◌≡◌, ◌≢◌, ◌⊎◌, ℕ, Bool, true, false, ◌&&◌, ◌||◌, if◌then◌else◌, Option, Some, None, List, [], ◌∷◌, ◌++◌}
+use Rattle.std.specs.List.{list_any}
+use Rattle.tree_model.specs.declared.names.Case.{Case}
+use Rattle.tree_model.specs.declared.names.ProcessId.{ProcessId}
+use Rattle.tree_model.specs.declared.names.Ticket.{Ticket}
+use Rattle.tree_model.specs.declared.names.Txn.{Txn}
+use Rattle.tree_model.specs.declared.names.Outcome.{Outcome}
+use Rattle.tree_model.specs.declared.names.Outcome.TheVariants.{Committed as CommittedOutcome, Aborted as AbortedOutcome}
+use Rattle.tree_model.specs.declared.messages.Message.{Message}
+use Rattle.tree_model.specs.declared.messages.Message.TheVariants.{Joined, Yes, Read, Commit, Abort}
+use Rattle.tree_model.specs.declared.messages.Envelope.{Envelope}
+use Rattle.tree_model.specs.declared.records.Record.{Record}
+use Rattle.tree_model.specs.declared.standings.Standing.TheVariants.{Active}
+use Rattle.tree_model.specs.declared.standings.Vote.{Vote}
+use Rattle.tree_model.specs.declared.standings.Vote.TheVariants.{Yes as VoteYes, Read as VoteRead}
+use Rattle.tree_model.specs.declared.events.Act.{Act}
+use Rattle.tree_model.specs.declared.events.Act.TheVariants.{Decide, Forget}
+use Rattle.tree_model.specs.declared.events.Input.TheVariants.{Act as ActInput}
+use Rattle.tree_model.specs.declared.events.Happening.{Happening}
+use Rattle.tree_model.specs.declared.events.Happening.TheVariants.{Input as Handles}
+use Rattle.tree_model.specs.declared.events.Conclusion.{Conclusion}
+use Rattle.tree_model.specs.declared.events.Conclusion.TheVariants.{Aborted as ConcludedAborted}
+use Rattle.tree_model.specs.declared.events.Told.{Told}
+use Rattle.tree_model.specs.declared.trees.TreeEntry.{TreeEntry}
+use Rattle.tree_model.specs.Names.{same_txn, same_ticket, same_case, root_case, child_case, process_of}
+use Rattle.tree_model.specs.Records.{has, is_commit, is_abort, is_prepare, is_prepared, is_committed, is_rolled_back, is_heuristic, is_decided, is_told, is_forgot}
+use Rattle.tree_model.specs.Nodes.{Role, AtRoot, Below, AtLeaf, role_of, place_of, Node, kept, Written}
+use Rattle.tree_model.specs.Standings.{manager_view}
+use Rattle.tree_model.specs.World.{World, Made, IsRun, Continues}
+
+-- Histories.
+
+-- a message that was ever sent passes the test
+unfoldable pub sent : (Message → Bool) → List Envelope → Bool
+sent q es = list_any (λ e. q e.message) es
+
+abbrev pub is_joined_message : Case → Ticket → Message → Bool
+is_joined_message c t (Joined d u) = same_case d c && same_ticket u t
+is_joined_message c t _ = false
+
+abbrev pub is_yes_message : Case → Message → Bool
+is_yes_message c (Yes d) = same_case d c
+is_yes_message c _ = false
+
+abbrev pub is_read_message : Case → Message → Bool
+is_read_message c (Read d) = same_case d c
+is_read_message c _ = false
+
+abbrev pub is_outcome_message : Outcome → Case → Message → Bool
+is_outcome_message CommittedOutcome c (Commit d) = same_case d c
+is_outcome_message CommittedOutcome c _ = false
+is_outcome_message AbortedOutcome c (Abort d) = same_case d c
+is_outcome_message AbortedOutcome c _ = false
+
+-- the case accepted the ticket, at some step of the run
+abbrev pub has_accepted : Node → Case → Ticket → Bool
+has_accepted n c t = list_any (λ a. same_case a.0 c && same_ticket a.1 t) n.accepted
+
+-- the case has heard this as the ticket's first vote, at some step of the run
+abbrev pub has_heard_vote : Node → Case → Ticket → (Vote → Bool) → Bool
+has_heard_vote n c t q = list_any (λ a. same_case a.0 c && (same_ticket a.1.0 t && q a.1.1)) n.voted
+
+-- a record that passes the first test was appended after one that passes the second; the list has the newest first
+abbrev pub follows : (Record → Bool) → (Record → Bool) → List Record → Bool
+follows q r [] = false
+follows q r (x ∷ xs) = (q x && has r xs) || follows q r xs
+
+-- Outcomes.
+
+-- the root's commit of the transaction was in its forced front
+unfoldable pub is_commit_outcome : World → Txn → Bool
+is_commit_outcome w x = has (is_commit (root_case x)) (w.at x.root).durable
+
+-- the outcome of a transaction: commit, if the root's commit was ever in its forced front; else abort
+abbrev pub outcome_of : World → Txn → Outcome
+outcome_of w x = if is_commit_outcome w x then CommittedOutcome else AbortedOutcome
+
+-- a ticket takes part: the root's case accepted it, or the case of a ticket that takes part
+pub data TakesPart (w : World) (x : Txn) : Ticket → Type 0 where
+  at_root : (t : Ticket) → has_accepted (w.at x.root) (root_case x) t ≡ true → TakesPart w x t
+  below : (u t : Ticket) → TakesPart w x u → has_accepted (w.at u.child) (child_case x u) t ≡ true → TakesPart w x t
+
+abbrev pub is_aborted : Conclusion → Bool
+is_aborted ConcludedAborted = true
+is_aborted _ = false
+
+abbrev pub is_told_aborted : Txn → Told → Bool
+is_told_aborted x t = same_txn t.txn x && is_aborted t.conclusion
+
+-- the root ends a transaction: by a commit that was in its forced front; by an Abort record, by telling `aborted`, or
+-- by a restart that finds it undecided
+abbrev pub root_ends : Node → Txn → Outcome → Bool
+root_ends n x CommittedOutcome = has (is_commit (root_case x)) n.durable
+root_ends n x AbortedOutcome =
+    has (is_abort (root_case x)) n.life || list_any (is_told_aborted x) n.told || list_any (λ y. same_txn y x) n.dropped
+
+-- a cascaded coordinator ends a transaction by its decision after its promise
+abbrev pub cascaded_ends : Node → Case → Outcome → Bool
+cascaded_ends n c CommittedOutcome = follows (is_commit c) (is_prepare c) n.life
+cascaded_ends n c AbortedOutcome = follows (is_abort c) (is_prepare c) n.life
+
+-- a manager ends a transaction by what it wrote after its promise
+abbrev pub manager_ends : Node → Case → Outcome → Bool
+manager_ends n c CommittedOutcome = follows (is_committed c) (is_prepared c) n.life
+manager_ends n c AbortedOutcome = follows (is_rolled_back c) (is_prepared c) n.life
+
+-- a manager's ticket that takes part and is active no longer, without a promise and without the vote READ
+pub record DiesUnprepared (tree : List TreeEntry) (w : World) (x : Txn) (t : Ticket) : Type 0 where
+  pub takes_part : TakesPart w x t
+  pub is_active_no_longer : (manager_view (place_of tree t.child) (w.at t.child) (child_case x t)).standing ≢ Active
+  pub never_promised : has (is_prepared (child_case x t)) (w.at t.child).life ≡ false
+  pub never_read : sent (is_read_message (child_case x t)) w.net ≡ false
+
+abbrev pub EndsIn : Role → List TreeEntry → World → Txn → Ticket → Outcome → Type 0
+EndsIn AtRoot tree w x t o = ⊥
+EndsIn (Below p) tree w x t o = cascaded_ends (w.at t.child) (child_case x t) o ≡ true
+EndsIn (AtLeaf p) tree w x t o = (manager_ends (w.at t.child) (child_case x t) o ≡ true) ⊎ ((o ≡ AbortedOutcome) × DiesUnprepared tree w x t)
+
+-- the process of the ticket ends the transaction by the outcome. `readonly`, heuristic records and Told are no ends.
+abbrev pub Ends : List TreeEntry → World → Txn → Ticket → Outcome → Type 0
+Ends tree w x t o = EndsIn (role_of tree t.child) tree w x t o
+
+-- Doubt.
+
+abbrev pub has_promised : Case → Record → Bool
+has_promised c r = is_prepare c r || is_prepared c r || is_heuristic c r
+
+abbrev pub has_concluded : Case → Record → Bool
+has_concluded c r = is_commit c r || is_abort c r || is_committed c r || is_rolled_back c r || is_told c r || is_forgot c r
+
+-- the case has promised, or was decided by an operator, and no outcome has reached it
+pub record InDoubt (n : Node) (c : Case) : Type 0 where
+  pub promised : has (has_promised c) (kept n) ≡ true
+  pub not_concluded : has (has_concluded c) (kept n) ≡ false
+
+-- The headline.
+
+-- no two ends of one transaction differ: each is its outcome
+pub record Agreement (tree : List TreeEntry) (w : World) : Type 0 where
+  pub root_agrees : (x : Txn) (o : Outcome) → role_of tree x.root ≡ AtRoot → root_ends (w.at x.root) x o ≡ true → o ≡ outcome_of w x
+  pub others_agree : (x : Txn) (t : Ticket) (o : Outcome) → Ends tree w x t o → o ≡ outcome_of w x
+
+abbrev pub is_consent : Vote → Bool
+is_consent VoteYes = true
+is_consent VoteRead = true
+is_consent _ = false
+
+-- the case that accepted the ticket: the root's, or that of the ticket above
+pub data IsAcceptor (w : World) (x : Txn) (t : Ticket) : Case → Type 0 where
+  by_root : has_accepted (w.at x.root) (root_case x) t ≡ true → IsAcceptor w x t (root_case x)
+  by_ticket : (u : Ticket) → has_accepted (w.at u.child) (child_case x u) t ≡ true → IsAcceptor w x t (child_case x u)
+
+-- commit is decided only where every participant voted yes or read-only, and a manager's yes was behind its forced promise
+pub record CommitRule (tree : List TreeEntry) (w : World) : Type 0 where
+  pub all_consented : (x : Txn) (t : Ticket) (c : Case) → is_commit_outcome w x ≡ true → TakesPart w x t → IsAcceptor w x t c
+      → has_heard_vote (w.at (process_of c)) c t is_consent ≡ true
+  pub yes_was_forced : (x : Txn) (t : Ticket) (p : ProcessId) → role_of tree t.child ≡ AtLeaf p
+      → sent (is_yes_message (child_case x t)) w.net ≡ true → has (is_prepared (child_case x t)) (w.at t.child).durable ≡ true
+
+-- each COMMIT and each ABORT that finds its case in doubt tells the outcome, in this world and in every later one
+pub record TrueAnswers (tree : List TreeEntry) (w : World) : Type 0 where
+  pub tells_outcome : (x : Txn) (t : Ticket) (o : Outcome) → sent (is_outcome_message o (child_case x t)) w.net ≡ true
+      → InDoubt (w.at t.child) (child_case x t)
+      → (es : List Made) (later : World) → Continues tree w es later → o ≡ outcome_of later x
+
+-- an operator's decision that was ever in the forced front is in it until a Forgot of its case was appended
+pub record StandingMismatches (tree : List TreeEntry) (w : World) : Type 0 where
+  pub stands : (c : Case) (o : Outcome) → has (is_decided c o) (w.at (process_of c)).durable ≡ true
+      → (has (is_decided c o) (w.at (process_of c)).forced ≡ true) ⊎ (has (is_forgot c) (w.at (process_of c)).life ≡ true)
+
+-- a step that makes such a record handles such an act
+pub record ByOperatorAlone (es : List Made) : Type 0 where
+  pub decided : (c : Case) (e : Made) → list_any (λ w. is_heuristic c w.entry) e.effect.written ≡ true
+      → (o : Outcome) × (e.move.step.happening ≡ Handles (ActInput (Decide c o)))
+  pub forgot : (c : Case) (e : Made) → list_any (λ w. is_forgot c w.entry) e.effect.written ≡ true
+      → e.move.step.happening ≡ Handles (ActInput (Forget c))
+
+-- Over every list of sends, deliveries, losses, repeats, restarts, trims and inquiries in a tree.
+pub record Headline (tree : List TreeEntry) (es : List Made) (w : World) : Type 0 where
+  pub agreement : Agreement tree w
+  pub commit_rule : CommitRule tree w
+  pub true_answers : TrueAnswers tree w
+  pub standing_mismatches : StandingMismatches tree w
+  pub by_operator_alone : ByOperatorAlone es

@@ -1,0 +1,180 @@
+-- A list of events as moves, where each manager is a plain leaf: it locks nothing, does all work that comes in order,
+-- and votes YES if one of its works was a put or a del. Restarts name the number of records that stay.
+use Rattle.std.specs.Prelude.{◌+◌, ◌-◌, ◌==◌, ℕ, zero, suc, Bool, true, false, ◌&&◌, not, if◌then◌else◌, Option, Some, None, List, [], ◌∷◌, ◌++◌, fold, length, slice_get}
+use Rattle.std.specs.List.{list_any}
+use Rattle.tree_model.specs.declared.names.Case.{Case}
+use Rattle.tree_model.specs.declared.names.ProcessId.{ProcessId}
+use Rattle.tree_model.specs.declared.messages.Op.{Op}
+use Rattle.tree_model.specs.declared.messages.Op.TheVariants.{Put, Get, Delete}
+use Rattle.tree_model.specs.declared.messages.Message.{Message}
+use Rattle.tree_model.specs.declared.messages.Message.TheVariants.{Work, Prepare}
+use Rattle.tree_model.specs.declared.messages.Envelope.{Envelope}
+use Rattle.tree_model.specs.declared.records.Write.{Write}
+use Rattle.tree_model.specs.declared.events.Act.{Act}
+use Rattle.tree_model.specs.declared.events.Act.TheVariants.{Begin, Join as JoinAct, Work as WorkAct, Commit as CommitAct, Abort as AbortAct, Ask, Decide, Forget}
+use Rattle.tree_model.specs.declared.events.Input.{Input}
+use Rattle.tree_model.specs.declared.events.Input.TheVariants.{Act as ActInput, Message as MessageInput}
+use Rattle.tree_model.specs.declared.events.Happening.{Happening}
+use Rattle.tree_model.specs.declared.events.Happening.TheVariants.{Input as Handles, Restart, Trim}
+use Rattle.tree_model.specs.declared.events.StepError.{StepError}
+use Rattle.tree_model.specs.declared.events.StepError.TheVariants.{NoSuch}
+use Rattle.tree_model.specs.declared.trees.TreeEntry.{TreeEntry}
+use Rattle.tree_model.specs.Names.{same_case, process_of, root_case}
+use Rattle.tree_model.specs.Records.{same_bytes}
+use Rattle.tree_model.specs.Texts.{reaction_lines, logged_text}
+use Rattle.tree_model.specs.Nodes.{place_of, is_listed, Node, Heard, DataAnswer, Holding, ReadsOnly, Holds, Effect, reaction_of}
+use Rattle.tree_model.specs.World.{World, opened_world, Move, Stepped, Refuses, Makes, node_makes, put_at, Made}
+
+-- Plain leaves.
+
+-- the works done of a branch, and its writes: each key once, in order of its first write, with its last value
+pub record Worked : Type 0 where
+  pub done : ℕ
+  pub writes : List Write
+
+abbrev pub with_write : List Write → List ℕ → Option (List ℕ) → List Write
+with_write [] k v = record { key = k; value = v } ∷ []
+with_write (w ∷ ws) k v = if same_bytes w.key k then record { key = k; value = v } ∷ ws else w ∷ with_write ws k v
+
+abbrev pub op_writes : List Write → Op → List Write
+op_writes ws (Put k v) = with_write ws k (Some v)
+op_writes ws (Delete k) = with_write ws k None
+op_writes ws (Get k) = ws
+
+abbrev pub worked_by : Case → Worked → Input → Worked
+worked_by c w (MessageInput n (Work d i op)) =
+    if same_case d c && (i == w.done + 1) then record { done = i; writes = op_writes w.writes op } else w
+worked_by c w _ = w
+
+abbrev pub held_writes : List Write → Holding
+held_writes [] = ReadsOnly
+held_writes (w ∷ ws) = Holds (w ∷ ws)
+
+unfoldable pub writes_heard : List Heard → Case → List Write
+writes_heard hs c = (fold (λ w h. worked_by c w h.input) (record { done = 0; writes = [] }) hs).writes
+
+abbrev pub plain_holding : List Heard → Message → Holding
+plain_holding hs (Prepare c n) = held_writes (writes_heard hs c)
+plain_holding hs _ = ReadsOnly
+
+-- what a plain leaf's data answer to a message
+abbrev pub plain_answer : Node → Input → DataAnswer
+plain_answer n (MessageInput k m) = record { starts = true; does = true; holding = plain_holding n.heard m }
+plain_answer n (ActInput a) = record { starts = true; does = true; holding = ReadsOnly }
+
+-- Events.
+
+pub data Play : Type 0 where
+  Acts : Act → Play
+  Delivers : ℕ → Play
+  -- delivers the least numbered message not delivered yet, again and again, at most 10,000 times
+  Settles : Play
+  Restarts : ProcessId → ℕ → Play
+  Trims : ProcessId → Play
+
+-- the world, the moves made (the newest first), and the numbers of the messages delivered
+pub record Player : Type 0 where
+  pub world : World
+  pub moves : List Made
+  pub delivered : List ℕ
+
+abbrev pub first_player : Player
+first_player = record { world = opened_world; moves = []; delivered = [] }
+
+pub data Played : Type 0 where
+  Goes : Player → Played
+  Stops : StepError → Player → Played
+
+-- the process of an act: the root for a transaction of its own, else the process of the case
+abbrev pub process_of_act : ProcessId → Act → ProcessId
+process_of_act root (Begin p) = root
+process_of_act root (JoinAct c q) = process_of c
+process_of_act root (WorkAct c q op) = process_of c
+process_of_act root (CommitAct x) = x.root
+process_of_act root (AbortAct x) = x.root
+process_of_act root (Ask c) = process_of c
+process_of_act root (Decide c o) = process_of c
+process_of_act root (Forget c) = process_of c
+
+abbrev pub move_of : ProcessId → Happening → DataAnswer → Move
+move_of q happening a = record { step = record { process = q; happening = happening; fault = None }; data_answer = a }
+
+abbrev pub played : Player → Move → List ℕ → Stepped → Played
+played p m delivered (Refuses e) = Stops e p
+played p m delivered (Makes e n) =
+    Goes (record {
+      world = record { at = put_at m.step.process n p.world.at; net = p.world.net ++ e.letters };
+      moves = record { move = m; effect = e } ∷ p.moves;
+      delivered = delivered;
+    })
+
+abbrev pub plays_move : List TreeEntry → Player → Move → List ℕ → Played
+plays_move tree p m delivered =
+    let q = m.step.process in
+    if is_listed tree q then played p m delivered (node_makes (place_of tree q) (p.world.at q) m) else Stops NoSuch p
+
+abbrev pub plays_input : List TreeEntry → Player → ProcessId → Input → List ℕ → Played
+plays_input tree p q i delivered = plays_move tree p (move_of q (Handles i) (plain_answer (p.world.at q) i)) delivered
+
+abbrev pub delivers : List TreeEntry → Player → ℕ → Option Envelope → Played
+delivers tree p k None = Stops NoSuch p
+delivers tree p k (Some e) = plays_input tree p e.to (MessageInput k e.message) (k ∷ p.delivered)
+
+-- the message with this number, from 1
+abbrev pub sent_as : List Envelope → ℕ → Option Envelope
+sent_as net zero = None
+sent_as net (suc k) = slice_get net k
+
+abbrev pub is_in : List ℕ → ℕ → Bool
+is_in ks k = list_any (λ j. j == k) ks
+
+-- the least number from k on, among so many, that was not delivered
+abbrev pub least_open : List ℕ → ℕ → ℕ → Option ℕ
+least_open delivered k zero = None
+least_open delivered k (suc more) = if is_in delivered k then least_open delivered (k + 1) more else Some k
+
+abbrev pub settle_next : (Player → Played) → List TreeEntry → Player → Option ℕ → Played
+settle_next again tree p None = Goes p
+settle_next again tree p (Some k) = then_again (delivers tree p k (sent_as p.world.net k))
+  where
+  then_again : Played → Played
+  then_again (Goes q) = again q
+  then_again (Stops e q) = Stops e q
+
+abbrev pub settles : ℕ → List TreeEntry → Player → Played
+settles zero tree p = Goes p
+settles (suc fuel) tree p = settle_next (settles fuel tree) tree p (least_open p.delivered 1 (length p.world.net))
+
+abbrev pub plays : List TreeEntry → ProcessId → Player → Play → Played
+plays tree root p (Acts a) = plays_input tree p (process_of_act root a) (ActInput a) p.delivered
+plays tree root p (Delivers k) = delivers tree p k (sent_as p.world.net k)
+plays tree root p Settles = settles 10000 tree p
+plays tree root p (Restarts q k) = plays_move tree p (move_of q (Restart k) (record { starts = true; does = true; holding = ReadsOnly })) p.delivered
+plays tree root p (Trims q) = plays_move tree p (move_of q Trim (record { starts = true; does = true; holding = ReadsOnly })) p.delivered
+
+abbrev pub plays_on : List TreeEntry → ProcessId → Played → Play → Played
+plays_on tree root (Goes p) e = plays tree root p e
+plays_on tree root (Stops e p) _ = Stops e p
+
+-- all the events, in order, up to the first that is refused
+abbrev pub plays_all : List TreeEntry → ProcessId → List Play → Played
+plays_all tree root es = fold (plays_on tree root) (Goes first_player) es
+
+-- The lines of a run.
+
+pub record Lines : Type 0 where
+  pub sent : ℕ
+  pub lines : List (List ℕ)
+
+abbrev pub lines_of : List Made → Lines
+lines_of [] = record { sent = 0; lines = [] }
+lines_of (e ∷ es) =
+    let before = lines_of es in
+    record {
+      sent = before.sent + length e.effect.letters;
+      lines = before.lines ++ reaction_lines e.move.step.process.0 before.sent (reaction_of e.effect);
+    }
+
+abbrev pub played_lines : Played → List (List ℕ)
+played_lines (Goes p) = (lines_of p.moves).lines
+played_lines (Stops e p) = (lines_of p.moves).lines

@@ -1,0 +1,180 @@
+-- Where a case stands at a process, and the process's view of it: read off its kept records and the heard inputs.
+use Rattle.std.specs.Prelude.{ℕ, Bool, true, false, not, ◌&&◌, ◌||◌, if◌then◌else◌, Option, Some, None, List, [], ◌∷◌, ◌++◌, filter, find, fold}
+use Rattle.tree_model.specs.declared.names.Case.{Case}
+use Rattle.tree_model.specs.declared.names.Ticket.{Ticket}
+use Rattle.tree_model.specs.declared.names.Txn.{Txn}
+use Rattle.tree_model.specs.declared.names.Outcome.{Outcome}
+use Rattle.tree_model.specs.declared.names.Outcome.TheVariants.{Committed as CommittedOutcome, Aborted as AbortedOutcome}
+use Rattle.tree_model.specs.declared.names.Presumption.{Presumption}
+use Rattle.tree_model.specs.declared.names.Presumption.TheVariants.{PresumeAbort, PresumeCommit}
+use Rattle.tree_model.specs.declared.records.Branch.{Branch}
+use Rattle.tree_model.specs.declared.records.Branch.TheVariants.{Case as CaseBranch}
+use Rattle.tree_model.specs.declared.records.Record.{Record}
+use Rattle.tree_model.specs.declared.records.Record.TheVariants.{Prepared as PreparedRecord, Committed, RolledBack, Direct, HeurCommit, HeurRollback, Told, Forgot}
+use Rattle.tree_model.specs.declared.standings.Standing.{Standing}
+use Rattle.tree_model.specs.declared.standings.Standing.TheVariants.{Unknown, Active, Collecting, Prepared, Committing, Aborting, Heuristic}
+use Rattle.tree_model.specs.declared.standings.Vote.{Vote}
+use Rattle.tree_model.specs.Names.{same_txn, same_case, root_case}
+use Rattle.tree_model.specs.Records.{has, in_list, none_of, same_branch, is_collecting, is_prepare, is_commit, is_abort, is_end, named_by, promised_by, owing_by, cases_in}
+use Rattle.tree_model.specs.Nodes.{Place, Role, AtRoot, Below, AtLeaf, Node, kept}
+use Rattle.tree_model.specs.Memory.{Memory, Phase, Idle, Open, Asked, Over, memory_of, has_acked}
+
+-- A coordinator.
+
+-- Its standing; the accepted tickets, their first votes, a ticket for each work sent; the tickets that its Prepare
+-- record names, those that any of its records names, and those that still owe an acknowledgement.
+pub record CoordinatorView : Type 0 where
+  pub standing : Standing
+  pub accepted : List Ticket
+  pub votes : List (Ticket × Vote)
+  pub works : List Ticket
+  pub promised : List Ticket
+  pub named : List Ticket
+  pub owed : List Ticket
+
+-- the view of a case of which nothing is known
+abbrev pub unknown_view : CoordinatorView
+unknown_view = record { standing = Unknown; accepted = []; votes = []; works = []; promised = []; named = []; owed = [] }
+
+abbrev pub unless_none : Bool → Standing → Standing
+unless_none true s = Unknown
+unless_none false s = s
+
+-- with no record of the case: under Presumed Commit votes are collected behind a record only
+abbrev pub phase_standing : Presumption → Phase → Standing
+phase_standing p Open = Active
+phase_standing PresumeAbort Asked = Collecting
+phase_standing _ _ = Unknown
+
+-- by the records End, Commit, Abort, Prepare, Collecting, whether the decision names nobody, and what was heard
+abbrev pub standing_by : Bool → Bool → Bool → Bool → Bool → Bool → Standing → Standing
+standing_by true _ _ _ _ none heard = Unknown
+standing_by false true _ _ _ none heard = unless_none none Committing
+standing_by false false true _ _ none heard = unless_none none Aborting
+standing_by false false false true _ none heard = Prepared
+standing_by false false false false true none heard = Collecting
+standing_by false false false false false none heard = heard
+
+abbrev pub coordinator_standing : List Record → Case → Memory → Standing
+coordinator_standing rs c m =
+    standing_by (has (is_end c) rs) (has (is_commit c) rs) (has (is_abort c) rs) (has (is_prepare c) rs) (has (is_collecting c) rs) (none_of (owing_by c rs)) (phase_standing c.txn.presumption m.phase)
+
+-- the outcome by which a case that waits for acknowledgements was decided
+abbrev pub decided_outcome : Standing → Outcome
+decided_outcome Committing = CommittedOutcome
+decided_outcome _ = AbortedOutcome
+
+-- the tickets of the list that have not acknowledged the outcome
+unfoldable pub still_owed : List (Ticket × Outcome) → Outcome → List Ticket → List Ticket
+still_owed acks o ts = filter (λ t. not (has_acked acks o t)) ts
+
+-- a case that is Unknown has nothing else
+abbrev pub known_view : Standing → CoordinatorView → CoordinatorView
+known_view Unknown v = unknown_view
+known_view _ v = v
+
+abbrev pub view_at : Standing → List Record → Case → Memory → CoordinatorView
+view_at s rs c m =
+    known_view s (record {
+      standing = s;
+      accepted = m.accepted;
+      votes = m.votes;
+      works = m.works;
+      promised = promised_by c rs;
+      named = named_by c rs;
+      owed = still_owed m.acks (decided_outcome s) (owing_by c rs);
+    })
+
+unfoldable pub coordinator_view : Place → Node → Case → CoordinatorView
+coordinator_view place n c =
+    let m = memory_of place n c in
+    view_at (coordinator_standing (kept n) c m) (kept n) c m
+
+-- Whose case a child is of.
+
+-- the child is accepted in the case, or a kept record of it names the child
+abbrev pub belongs : Memory → List Record → Case → Ticket → Bool
+belongs m rs c t = in_list m.accepted t || in_list (named_by c rs) t
+
+-- any case of the process: what it remembers of itself is the same in each
+abbrev pub some_case : Place → Case
+some_case place = record { txn = record { root = place.me; boot = 0; sequence = 0; presumption = PresumeAbort }; ticket = None }
+
+-- the cases of the transaction that may have children: at the root its own; below it the recorded ones, then those
+-- issued in this boot
+abbrev pub own_cases : Role → Place → Node → Txn → List Case
+own_cases AtRoot place n x = root_case x ∷ []
+own_cases _ place n x = filter (λ c. same_txn c.txn x) (cases_in (kept n) ++ (memory_of place n (some_case place)).issued)
+
+-- the first case of the transaction to which the child belongs
+abbrev pub case_of_child : Place → Node → Txn → Ticket → Option Case
+case_of_child place n x t =
+    find (λ c. belongs (memory_of place n c) (kept n) c t) (own_cases place.role place n x)
+
+-- A manager.
+
+-- Its standing; how many works are done, and whether one was refused; the outcome that it was told after an
+-- operator's decision.
+pub record ManagerView : Type 0 where
+  pub standing : Standing
+  pub done : ℕ
+  pub spoiled : Bool
+  pub told : Option Outcome
+
+abbrev pub unknown_branch : ManagerView
+unknown_branch = record { standing = Unknown; done = 0; spoiled = false; told = None }
+
+-- what the last record of a branch says
+pub data Mark : Type 0 where
+  Unmarked : Mark
+  Promised : Mark
+  -- an operator decided it
+  Decided : Mark
+  -- and it was told this outcome
+  ToldOf : Outcome → Mark
+  Finished : Mark
+
+abbrev pub mark_after : Branch → Mark → Record → Mark
+mark_after b m (PreparedRecord d ws) = if same_branch d b then Promised else m
+mark_after b m (Committed d) = if same_branch d b then Finished else m
+mark_after b m (RolledBack d) = if same_branch d b then Finished else m
+mark_after b m (Direct d ws) = if same_branch d b then Finished else m
+mark_after b m (HeurCommit d) = if same_branch d b then Decided else m
+mark_after b m (HeurRollback d) = if same_branch d b then Decided else m
+mark_after b m (Told d o) = if same_branch d b then ToldOf o else m
+mark_after b m (Forgot d) = if same_branch d b then Finished else m
+mark_after b m _ = m
+
+unfoldable pub mark_of : Branch → List Record → Mark
+mark_of b rs = fold (mark_after b) Unmarked rs
+
+-- a branch that is Active has its works; one that is Heuristic has what it was told
+abbrev pub active_branch : Memory → ManagerView
+active_branch m = record { standing = Active; done = m.done; spoiled = m.spoiled; told = None }
+
+abbrev pub standing_branch : Standing → Option Outcome → ManagerView
+standing_branch s told = record { standing = s; done = 0; spoiled = false; told = told }
+
+abbrev pub heard_branch : Memory → Phase → ManagerView
+heard_branch m Open = active_branch m
+heard_branch m _ = unknown_branch
+
+abbrev pub marked_branch : Memory → Mark → ManagerView
+marked_branch m Unmarked = heard_branch m m.phase
+marked_branch m Promised = standing_branch Prepared None
+marked_branch m Decided = standing_branch Heuristic None
+marked_branch m (ToldOf o) = standing_branch Heuristic (Some o)
+marked_branch m Finished = unknown_branch
+
+unfoldable pub manager_view : Place → Node → Case → ManagerView
+manager_view place n c = marked_branch (memory_of place n c) (mark_of (CaseBranch c) (kept n))
+
+-- Any process.
+
+abbrev pub standing_in : Role → Place → Node → Case → Standing
+standing_in (AtLeaf p) place n c = (manager_view place n c).standing
+standing_in _ place n c = (coordinator_view place n c).standing
+
+-- where the case stands
+abbrev pub standing_of : Place → Node → Case → Standing
+standing_of place n c = standing_in place.role place n c

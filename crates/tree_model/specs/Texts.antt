@@ -1,0 +1,143 @@
+-- The spelling of names, messages and records in scripts and traces.
+use Rattle.std.specs.Prelude.{ℕ, ◌+◌, Bool, true, false, List, [], ◌∷◌, ◌++◌, codes, Option, Some, None}
+use Rattle.std.specs.Fmt.{decimal}
+use Rattle.tree_model.specs.declared.names.Case.{Case}
+use Rattle.tree_model.specs.declared.names.Ticket.{Ticket}
+use Rattle.tree_model.specs.declared.names.Txn.{Txn}
+use Rattle.tree_model.specs.declared.names.Outcome.{Outcome}
+use Rattle.tree_model.specs.declared.names.Outcome.TheVariants.{Committed as CommittedOutcome, Aborted as AbortedOutcome}
+use Rattle.tree_model.specs.declared.names.Presumption.{Presumption}
+use Rattle.tree_model.specs.declared.names.Presumption.TheVariants.{PresumeAbort, PresumeCommit}
+use Rattle.tree_model.specs.declared.messages.Op.{Op}
+use Rattle.tree_model.specs.declared.messages.Op.TheVariants.{Put, Get, Delete}
+use Rattle.tree_model.specs.declared.messages.Message.{Message}
+use Rattle.tree_model.specs.declared.messages.Message.TheVariants.{Join, Joined, Work, Prepare, Yes, No, Read, Commit, Abort, Ack, Inquire}
+use Rattle.tree_model.specs.declared.messages.Envelope.{Envelope}
+use Rattle.tree_model.specs.declared.records.RecordKind.{RecordKind}
+use Rattle.tree_model.specs.declared.records.RecordKind.TheVariants.{Opened as OpenedKind, Collecting as CollectingKind, Prepare as PrepareKind, Commit as CommitKind, Abort as AbortKind, End as EndKind, Prepared as PreparedKind, Committed as CommittedKind, RolledBack as RolledBackKind, Direct as DirectKind, HeurCommit as HeurCommitKind, HeurRollback as HeurRollbackKind, Told as ToldKind, Forgot as ForgotKind, Base as BaseKind, Pair as PairKind}
+use Rattle.tree_model.specs.declared.records.Subject.{Subject}
+use Rattle.tree_model.specs.declared.records.Subject.TheVariants.{Boot, Case as OfCase, Other}
+use Rattle.tree_model.specs.declared.records.Logged.{Logged}
+use Rattle.tree_model.specs.declared.events.Conclusion.{Conclusion}
+use Rattle.tree_model.specs.declared.events.Conclusion.TheVariants.{Committed as ConcludedCommitted, Aborted as ConcludedAborted, ReadOnly}
+use Rattle.tree_model.specs.declared.events.Told.{Told}
+use Rattle.tree_model.specs.declared.events.Reaction.{Reaction}
+
+-- Names.
+
+abbrev pub presumption_letter : Presumption → List ℕ
+presumption_letter PresumeAbort = codes "a"
+presumption_letter PresumeCommit = codes "c"
+
+-- a transaction: its presumption's letter, its boot and its number
+abbrev pub txn_text : Txn → List ℕ
+txn_text x = presumption_letter x.presumption ++ decimal x.boot ++ codes "." ++ decimal x.sequence
+
+-- a ticket: its child, the child's boot and its number
+abbrev pub ticket_text : Ticket → List ℕ
+ticket_text t = decimal t.child.0 ++ codes "." ++ decimal t.boot ++ codes "." ++ decimal t.number
+
+abbrev pub ticket_part : Option Ticket → List ℕ
+ticket_part None = []
+ticket_part (Some t) = codes "@" ++ ticket_text t
+
+-- a case: its transaction, and below the root `@` and the ticket
+abbrev pub case_text : Case → List ℕ
+case_text c = txn_text c.txn ++ ticket_part c.ticket
+
+-- Messages.
+
+abbrev pub op_text : Op → List ℕ
+op_text (Put key value) = codes "put " ++ key ++ codes " " ++ value
+op_text (Get key) = codes "get " ++ key
+op_text (Delete key) = codes "del " ++ key
+
+abbrev pub outcome_word : Outcome → List ℕ
+outcome_word CommittedOutcome = codes "commit"
+outcome_word AbortedOutcome = codes "abort"
+
+abbrev pub message_text : Message → List ℕ
+message_text (Join c) = codes "JOIN " ++ case_text c
+message_text (Joined c t) = codes "JOINED " ++ case_text c ++ codes " " ++ ticket_text t
+message_text (Work c i op) = codes "WORK " ++ case_text c ++ codes " " ++ decimal i ++ codes " " ++ op_text op
+message_text (Prepare c n) = codes "PREPARE " ++ case_text c ++ codes " " ++ decimal n
+message_text (Yes c) = codes "YES " ++ case_text c
+message_text (No c) = codes "NO " ++ case_text c
+message_text (Read c) = codes "READ " ++ case_text c
+message_text (Commit c) = codes "COMMIT " ++ case_text c
+message_text (Abort c) = codes "ABORT " ++ case_text c
+message_text (Ack c o) = codes "ACK " ++ case_text c ++ codes " " ++ outcome_word o
+message_text (Inquire c) = codes "INQUIRE " ++ case_text c
+
+-- a message with its number, its sender and its receiver
+abbrev pub envelope_text : ℕ → Envelope → List ℕ
+envelope_text n e = decimal n ++ codes " " ++ decimal e.from.0 ++ codes "->" ++ decimal e.to.0 ++ codes " " ++ message_text e.message
+
+-- Records and what was told.
+
+abbrev pub kind_word : RecordKind → List ℕ
+kind_word OpenedKind = codes "Opened"
+kind_word CollectingKind = codes "Collecting"
+kind_word PrepareKind = codes "Prepare"
+kind_word CommitKind = codes "Commit"
+kind_word AbortKind = codes "Abort"
+kind_word EndKind = codes "End"
+kind_word PreparedKind = codes "Prepared"
+kind_word CommittedKind = codes "Committed"
+kind_word RolledBackKind = codes "RolledBack"
+kind_word DirectKind = codes "Direct"
+kind_word HeurCommitKind = codes "HeurCommit"
+kind_word HeurRollbackKind = codes "HeurRollback"
+kind_word ToldKind = codes "Told"
+kind_word ForgotKind = codes "Forgot"
+kind_word BaseKind = codes "Base"
+kind_word PairKind = codes "Pair"
+
+-- what a record is of: the boot or the case, with the space before it
+abbrev pub subject_text : Subject → List ℕ
+subject_text (Boot n) = codes " " ++ decimal n
+subject_text (OfCase c) = codes " " ++ case_text c
+subject_text Other = []
+
+abbrev pub force_word : Bool → List ℕ
+force_word true = codes " forced"
+force_word false = codes " plain"
+
+abbrev pub logged_text : ℕ → Logged → List ℕ
+logged_text p l = codes "log " ++ decimal p ++ codes " " ++ kind_word l.kind ++ subject_text l.subject ++ force_word l.forced
+
+abbrev pub conclusion_word : Conclusion → List ℕ
+conclusion_word ConcludedCommitted = codes "committed"
+conclusion_word ConcludedAborted = codes "aborted"
+conclusion_word ReadOnly = codes "readonly"
+
+abbrev pub told_text : Told → List ℕ
+told_text t = codes "told " ++ txn_text t.txn ++ codes " " ++ conclusion_word t.conclusion
+
+-- The lines of a step: what was begun, logged, told and sent, and what a trim kept.
+
+abbrev pub begun_lines : Option Txn → List (List ℕ)
+begun_lines None = []
+begun_lines (Some x) = (codes "begin " ++ txn_text x) ∷ []
+
+abbrev pub logged_lines : ℕ → List Logged → List (List ℕ)
+logged_lines p [] = []
+logged_lines p (l ∷ ls) = logged_text p l ∷ logged_lines p ls
+
+abbrev pub told_lines : Option Told → List (List ℕ)
+told_lines None = []
+told_lines (Some t) = told_text t ∷ []
+
+-- messages are numbered over the whole run: so many were sent before these
+abbrev pub envelope_lines : ℕ → List Envelope → List (List ℕ)
+envelope_lines n [] = []
+envelope_lines n (e ∷ es) = envelope_text (n + 1) e ∷ envelope_lines (n + 1) es
+
+abbrev pub kept_lines : ℕ → Option ℕ → List (List ℕ)
+kept_lines p None = []
+kept_lines p (Some n) = (codes "trim " ++ decimal p ++ codes " " ++ decimal n) ∷ []
+
+-- the lines of a reaction of a process before which so many messages were sent
+abbrev pub reaction_lines : ℕ → ℕ → Reaction → List (List ℕ)
+reaction_lines p sent r =
+    begun_lines r.begun ++ logged_lines p r.written ++ told_lines r.told ++ envelope_lines sent r.letters ++ kept_lines p r.kept

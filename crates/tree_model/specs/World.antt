@@ -1,0 +1,170 @@
+-- The whole tree: every process, and every message ever sent. A step is made at one process.
+use Rattle.std.specs.Prelude.{◌≡◌, ◌≤◌, ◌-◌, ℕ, Bool, true, false, if◌then◌else◌, Option, Some, None, List, [], ◌∷◌, ◌++◌, slice_get, take, filter, map, ⊤}
+use Rattle.tree_model.specs.declared.names.ProcessId.{ProcessId}
+use Rattle.tree_model.specs.declared.messages.Message.{Message}
+use Rattle.tree_model.specs.declared.messages.Envelope.{Envelope}
+use Rattle.tree_model.specs.declared.events.Act.{Act}
+use Rattle.tree_model.specs.declared.events.Input.{Input}
+use Rattle.tree_model.specs.declared.events.Input.TheVariants.{Act as ActInput, Message as MessageInput}
+use Rattle.tree_model.specs.declared.events.Happening.{Happening}
+use Rattle.tree_model.specs.declared.events.Happening.TheVariants.{Input as Handles, Restart, Trim}
+use Rattle.tree_model.specs.declared.events.Fault.{Fault}
+use Rattle.tree_model.specs.declared.events.Step.{Step}
+use Rattle.tree_model.specs.declared.events.Entry.{Entry}
+use Rattle.tree_model.specs.declared.events.StepError.{StepError}
+use Rattle.tree_model.specs.declared.events.StepError.TheVariants.{Failed, NoSuch}
+use Rattle.tree_model.specs.declared.trees.TreeEntry.{TreeEntry}
+use Rattle.tree_model.specs.Names.{same_process}
+use Rattle.tree_model.specs.Nodes.{Place, place_of, is_listed, Node, opened_node, Heard, DataAnswer, Effect, after, fails_in, reaction_of}
+use Rattle.tree_model.specs.Reactions.{Reacts, Refused, Does, reacts}
+use Rattle.tree_model.specs.Restarts.{restart_effect, restarted, restart_fails, trim_effect, trims, trim_fails}
+
+-- One process.
+
+-- a step, with what a manager's data answer in it
+pub record Move : Type 0 where
+  pub step : Step
+  pub data_answer : DataAnswer
+
+-- a move at its process: it is refused, or has an effect and leaves a process
+pub data Stepped : Type 0 where
+  Refuses : StepError → Stepped
+  Makes : Effect → Node → Stepped
+
+-- what a device's failure lets through of an effect: a front of the records; nothing is sent or told
+abbrev pub fault_effect : Effect → ℕ → Effect
+fault_effect e appended =
+    record { begun = None; written = take appended e.written; told = None; letters = []; accepts = e.accepts; counts = e.counts; remains = None }
+
+abbrev pub input_makes : Node → Heard → Option Fault → Reacts → Stepped
+input_makes n h fault (Refused e) = Refuses e
+input_makes n h None (Does e) = Makes e (after n h e)
+input_makes n h (Some f) (Does e) = Makes (fault_effect e f.appended) (fails_in n h e f.appended f.forced)
+
+abbrev pub restart_makes : Place → Node → ℕ → Option Fault → Stepped
+restart_makes place n k None = Makes (restart_effect place n k) (restarted place n k)
+restart_makes place n k (Some f) = Makes (fault_effect (restart_effect place n k) f.appended) (restart_fails place n k f.appended f.forced)
+
+abbrev pub trim_makes : Place → Node → Option Fault → Stepped
+trim_makes place n None = Makes (trim_effect place n) (trims place n)
+trim_makes place n (Some f) = Makes (fault_effect (trim_effect place n) 0) (trim_fails place n f.appended)
+
+abbrev pub happening_makes : Place → Node → Move → Happening → Stepped
+happening_makes place n m (Handles i) =
+    let h : Heard = record { input = i; data_answer = m.data_answer } in input_makes n h m.step.fault (reacts place n h)
+happening_makes place n m (Restart k) = restart_makes place n k m.step.fault
+happening_makes place n m Trim = if n.failed then Refuses Failed else trim_makes place n m.step.fault
+
+-- a move of the process; one that has failed takes nothing but its restart
+unfoldable pub node_makes : Place → Node → Move → Stepped
+node_makes place n m = happening_makes place n m m.step.happening
+
+-- The tree.
+
+pub record World : Type 0 where
+  pub at : ProcessId → Node
+  -- every message that was ever sent; the first has number 1
+  pub net : List Envelope
+
+-- every process has opened an empty log
+abbrev pub opened_world : World
+opened_world = record { at = λ q. opened_node; net = [] }
+
+abbrev pub put_at : ProcessId → Node → (ProcessId → Node) → ProcessId → Node
+put_at q n f r = if same_process q r then n else f r
+
+-- what a move at its process makes of the world
+abbrev pub world_stepped : World → ProcessId → Stepped → Option (Effect × World)
+world_stepped w q (Refuses e) = None
+world_stepped w q (Makes e n) = Some (e, record { at = put_at q n w.at; net = w.net ++ e.letters })
+
+unfoldable pub world_makes : List TreeEntry → World → Move → Option (Effect × World)
+world_makes tree w m =
+    let q = m.step.process in
+    if is_listed tree q then world_stepped w q (node_makes (place_of tree q) (w.at q) m) else None
+
+-- a message that stands in the net, with its number, for the process
+pub record IsSent (net : List Envelope) (q : ProcessId) (number : ℕ) (message : Message) : Type 0 where
+  pub sender : ProcessId
+  pub counted : 1 ≤ number
+  pub stands : slice_get net (number - 1) ≡ Some (record { from = sender; to = q; message = message })
+
+abbrev pub InputStands : List Envelope → ProcessId → Input → Type 0
+InputStands net q (ActInput a) = ⊤
+InputStands net q (MessageInput number message) = IsSent net q number message
+
+-- a delivered message was sent to the process; a loss is a message that is not delivered, a repeat one delivered twice
+abbrev pub Stands : List Envelope → ProcessId → Happening → Type 0
+Stands net q (Handles i) = InputStands net q i
+Stands net q _ = ⊤
+
+-- Runs.
+
+-- a move with its effect
+pub record Made : Type 0 where
+  pub move : Move
+  pub effect : Effect
+
+-- The moves made, the newest first, lead from the opened tree to the world.
+pub data IsRun (tree : List TreeEntry) : List Made → World → Type 0 where
+  opens : IsRun tree [] opened_world
+  makes : (es : List Made) (w : World) (m : Move) (e : Effect) (w' : World)
+      → IsRun tree es w
+      → Stands w.net m.step.process m.step.happening
+      → world_makes tree w m ≡ Some (e, w')
+      → IsRun tree (record { move = m; effect = e } ∷ es) w'
+
+-- The later moves, the newest first, lead from one world to another.
+pub data Continues (tree : List TreeEntry) (start : World) : List Made → World → Type 0 where
+  stays : Continues tree start [] start
+  goes_on : (es : List Made) (w : World) (m : Move) (e : Effect) (w' : World)
+      → Continues tree start es w
+      → Stands w.net m.step.process m.step.happening
+      → world_makes tree w m ≡ Some (e, w')
+      → Continues tree start (record { move = m; effect = e } ∷ es) w'
+
+-- The world is told process by process.
+
+-- the moves of one process
+unfoldable pub made_by : ProcessId → List Made → List Made
+made_by q [] = []
+made_by q (e ∷ es) = if same_process e.move.step.process q then e ∷ made_by q es else made_by q es
+
+abbrev pub node_left : Node → Stepped → Node
+node_left n (Refuses e) = n
+node_left n (Makes e n') = n'
+
+-- a process is what its own moves make of it
+unfoldable pub node_by : Place → List Made → Node
+node_by place [] = opened_node
+node_by place (e ∷ es) = node_left (node_by place es) (node_makes place (node_by place es) e.move)
+
+-- the net is the messages of the moves, one after another
+unfoldable pub net_by : List Made → List Envelope
+net_by [] = []
+net_by (e ∷ es) = net_by es ++ e.effect.letters
+
+-- The journal.
+
+-- the process of an entry
+abbrev pub process_of_entry : Entry → ProcessId
+process_of_entry e = e.step.process
+
+-- the entries of a process
+unfoldable pub entries_of : ProcessId → List Entry → List Entry
+entries_of q es = filter (λ e. same_process (process_of_entry e) q) es
+
+abbrev pub entry_of : Made → Entry
+entry_of e = record { step = e.move.step; reaction = reaction_of e.effect }
+
+-- moves, the newest first, as entries, the oldest first
+unfoldable pub journal_of : List Made → List Entry
+journal_of [] = []
+journal_of (e ∷ es) = journal_of es ++ entry_of e ∷ []
+
+-- a list of entries whose steps are a run
+pub record IsJournal (tree : List TreeEntry) (entries : List Entry) : Type 0 where
+  pub moves : List Made
+  pub world : World
+  pub is_run : IsRun tree moves world
+  pub shown : journal_of moves ≡ entries

@@ -1,0 +1,158 @@
+//! Events, inputs, steps and what they lead to.
+
+ghost use Rattle.std.specs.Prelude.{◌≡◌};
+ghost use Rattle.tree_model.specs.Errors.{step_error_number};
+
+use crate::lists::Sequence;
+use crate::messages::{Letters, Message, Op};
+use crate::names::{Case, Outcome, Presumption, ProcessId, Txn};
+use crate::records::Logged;
+use thiserror::Error;
+
+/// What an application or an operator asks of one process.
+#[derive(Debug, Drop)]
+pub enum Act {
+    /// The root begins a transaction.
+    Begin(Presumption),
+    /// The case invites a child.
+    Join(Case, ProcessId),
+    /// The case has a child do a piece of work.
+    Work(Case, ProcessId, Op),
+    Commit(Txn),
+    Abort(Txn),
+    /// A case in doubt asks its parent for the outcome.
+    Ask(Case),
+    /// A manager's operator decides a prepared branch (a heuristic decision, C193).
+    Decide(Case, Outcome),
+    /// A heuristic decision may be forgotten.
+    Forget(Case),
+}
+
+/// What a process handles: an act, or a message with its number in the net (from 1).
+#[derive(Debug, Drop)]
+pub enum Input {
+    Act(Act),
+    Message(u64, Message),
+}
+
+/// An event of a script.
+#[derive(Debug, Drop)]
+pub enum Event {
+    Act(Act),
+    /// Delivers the message with this number.
+    Deliver(u64),
+    /// Delivers the least numbered message that was not delivered yet, again and again, at most 10,000 times.
+    Settle,
+    /// Restarts a process, which keeps so many bytes behind its forced front; all of them, where no number stands.
+    Restart(ProcessId, Option<u64>),
+    Trim(ProcessId),
+}
+
+/// What happens at one process.
+#[derive(Debug, Drop)]
+pub enum Happening {
+    Input(Input),
+    /// So many records behind the forced front are kept.
+    Restart(u64),
+    Trim,
+}
+
+/// What a device's failure left of an event: how many of its records were appended, and how many of the records
+/// behind the old forced front are in the new one.
+#[derive(Clone, Copy, Debug, PartialEq, Eq)]
+pub struct Fault {
+    pub appended: u64,
+    pub forced: u64,
+}
+
+/// One atomic step of the whole system: what happened at which process, and the device's failure in it.
+#[derive(Debug, Drop)]
+pub struct Step {
+    pub process: ProcessId,
+    pub happening: Happening,
+    pub fault: Option<Fault>,
+}
+
+/// How a transaction was concluded for the application.
+#[derive(Clone, Copy, Debug, PartialEq, Eq)]
+pub enum Conclusion {
+    Committed,
+    Aborted,
+    ReadOnly,
+}
+
+/// What the application was told.
+#[derive(Clone, Copy, Debug, PartialEq, Eq)]
+pub struct Told {
+    pub txn: Txn,
+    pub conclusion: Conclusion,
+}
+
+/// What a step led to: the transaction begun, the records made, what was told, the messages, and for a trim the
+/// number of records kept. One with nothing in it takes no memory.
+#[derive(Debug, Drop)]
+pub struct Reaction {
+    pub begun: Option<Txn>,
+    pub written: Sequence<Logged>,
+    pub told: Option<Told>,
+    pub letters: Letters,
+    pub kept: Option<u64>,
+}
+
+/// A step with its reaction.
+#[derive(Debug, Drop)]
+pub struct Entry {
+    pub step: Step,
+    pub reaction: Reaction,
+}
+
+/// Why a step was refused. After all but `Device` nothing has changed.
+#[derive(Clone, Copy, Debug, PartialEq, Eq, Error)]
+pub enum StepError {
+    /// A growth was refused.
+    #[error("out of memory")]
+    Memory,
+    /// The device failed; the process answers `Failed` until its restart.
+    #[error("the device failed")]
+    Device,
+    /// No such case stands at the process.
+    #[error("no such case here")]
+    UnknownTxn,
+    /// The process is no child of this one, or for work no accepted child that is a manager.
+    #[error("not a child that can take it")]
+    NotAChild,
+    /// Commit or abort was asked already, or PREPARE came (but a case that collects votes takes an abort).
+    #[error("the case is closed")]
+    Closed,
+    /// The process's device failed, and it was not restarted yet.
+    #[error("the process has failed")]
+    Failed,
+    /// A question or a heuristic decision for a case that is not in doubt here.
+    #[error("the case is not in doubt here")]
+    NotInDoubt,
+    /// The case has no heuristic decision here.
+    #[error("nothing to forget")]
+    NothingToForget,
+    /// No process or no message has this number.
+    #[error("no such process or message")]
+    NoSuch,
+}
+
+impl StepError {
+    /// The number that is printed, 1 to 9.
+    pub fn number(self) -> u8
+        ensures { result ≡ step_error_number self }
+    {
+        match self {
+            StepError::Memory => 1,
+            StepError::Device => 2,
+            StepError::UnknownTxn => 3,
+            StepError::NotAChild => 4,
+            StepError::Closed => 5,
+            StepError::Failed => 6,
+            StepError::NotInDoubt => 7,
+            StepError::NothingToForget => 8,
+            StepError::NoSuch => 9,
+        }
+    }
+}

@@ -1,0 +1,21 @@
+//! The names, messages, records and steps of the commit protocols.
+#![tactic(auto)]
+
+mod events;
+pub mod law;
+mod lists;
+mod messages;
+mod names;
+mod records;
+mod standings;
+mod trees;
+
+pub use events::{
+    Act, Conclusion, Entry, Event, Fault, Happening, Input, Reaction, Step, StepError, Told,
+};
+pub use lists::Sequence;
+pub use messages::{Bytes, Envelope, Letters, Message, Op};
+pub use names::{Case, Kind, Outcome, Presumption, ProcessId, Ticket, Tickets, Txn};
+pub use records::{Branch, Logged, Record, RecordKind, Subject, Write, Writes};
+pub use standings::{Standing, Vote};
+pub use trees::{MOST_LEVELS, MOST_PROCESSES, Tree, TreeEntry, TreeError};

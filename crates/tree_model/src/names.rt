@@ -1,0 +1,57 @@
+//! Processes, transactions, tickets and cases.
+
+use crate::lists::Sequence;
+
+/// A process of the tree, by its number.
+#[derive(Clone, Copy, Debug, PartialEq, Eq, PartialOrd, Ord, Hash)]
+pub struct ProcessId(pub u32);
+
+/// What a process is: a coordinator (the root or below it), or a resource manager at a leaf.
+#[derive(Clone, Copy, Debug, PartialEq, Eq)]
+pub enum Kind {
+    Coordinator,
+    Manager,
+}
+
+/// What an inquiry gets where its case has left no information (R*: Presumed Abort, Presumed Commit).
+#[derive(Clone, Copy, Debug, PartialEq, Eq, Hash)]
+pub enum Presumption {
+    PresumeAbort,
+    PresumeCommit,
+}
+
+/// How a transaction ends.
+#[derive(Clone, Copy, Debug, PartialEq, Eq)]
+pub enum Outcome {
+    Committed,
+    Aborted,
+}
+
+/// A transaction's name: the root that began it, the root's boot, its number in that boot (both from 1), and the
+/// presumption that the root chose.
+#[derive(Clone, Copy, Debug, PartialEq, Eq, Hash)]
+pub struct Txn {
+    pub root: ProcessId,
+    pub boot: u64,
+    pub sequence: u64,
+    pub presumption: Presumption,
+}
+
+/// A child's promise to take part in one case of its parent: the child, its boot, and the number in that boot
+/// (both from 1). It is issued once and never again.
+#[derive(Clone, Copy, Debug, PartialEq, Eq, Hash)]
+pub struct Ticket {
+    pub child: ProcessId,
+    pub boot: u64,
+    pub number: u64,
+}
+
+/// Tickets, in order of acceptance.
+pub type Tickets = Sequence<Ticket>;
+
+/// A transaction at one process: at the root with no ticket, elsewhere with the process's own.
+#[derive(Clone, Copy, Debug, PartialEq, Eq, Hash)]
+pub struct Case {
+    pub txn: Txn,
+    pub ticket: Option<Ticket>,
+}

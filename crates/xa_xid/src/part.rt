@@ -1,0 +1,80 @@
+//! A part of an XID: at most 64 bytes, kept in place.
+
+ghost use Rattle.std.specs.Prelude.{◌≡◌, ◌≤◌, length, nat_eq};
+ghost use Rattle.std.specs.Cmp.Lexicographic.{pointwise, nat_list_eq_equiv};
+ghost use Rattle.std.specs.Cmp.{partial_equiv_from_equiv};
+ghost use Rattle.std.specs.Cmp.Rules.{hashing};
+ghost use Rattle.std.specs.Hash as fed;
+ghost use Rattle.std.proofs.Common.{rules};
+
+use std::hash::{Hash, Hasher};
+use std::marker::Model;
+
+/// At most 64 bytes.
+#[derive(Clone, Copy, Debug)]
+pub struct Part {
+    len: u8,
+    bytes: [u8; 64],
+}
+
+impl Model for Part {
+    ghost use Rattle.std.specs.Prelude.{ℕ, List, length, take};
+    ghost use Rattle.xa_xid.specs.Part.{IsPart, filled, filled_again};
+
+    ghost Value = { List ℕ };
+
+    ghost view = { λ p. take p.len p.bytes };
+
+    ghost invariant = { λ p. IsPart p.len p.bytes };
+
+    ghost inverse = { λ part. record { len = length part; bytes = filled part } };
+
+    ghost inverse_ok = { λ p h. filled_again p.len p.bytes h };
+}
+
+impl Part {
+    /// The part of these bytes.
+    pub fn new(bytes: &[u8]) -> Self
+        requires { length bytes.now ≤ 64 }
+        ensures { result ≡ bytes.now }
+    {
+        let mut filled = [0; 64];
+        filled[..bytes.len()].copy_from_slice(bytes);
+        Part {
+            len: bytes.len() as u8,
+            bytes: filled,
+        }
+    }
+
+    /// The bytes of the part.
+    pub fn as_slice(&self) -> &[u8]
+        ensures value { result.now ≡ self.now }
+        ensures length { length result.now ≤ 64 }
+    {
+        &self.bytes[..self.len as usize]
+    }
+}
+
+impl PartialEq for Part {
+    ghost eq = { pointwise nat_eq };
+
+    ghost laws = { partial_equiv_from_equiv nat_list_eq_equiv };
+
+    fn eq(&self, other: &Part) -> bool {
+        self.as_slice() == other.as_slice()
+    }
+}
+
+impl Eq for Part {
+    ghost laws = { nat_list_eq_equiv };
+}
+
+impl Hash for Part {
+    ghost hash_input = { fed.slice fed.u8 };
+
+    ghost respects_eq = { Prim.search (hashing, rules) };
+
+    fn hash<H: Hasher>(&self, state: &mut H) {
+        self.as_slice().hash(state);
+    }
+}
