@@ -1,0 +1,5 @@
+pub mod Lists
+pub mod Memories
+pub mod LeafHalves
+pub mod ReadingSteps
+pub mod LeafRows

@@ -1,0 +1,44 @@
+-- What a step at the child's process leaves of a reading.
+use Rattle.std.proofs.Common.{◌≡◌, ◌∙◌, Bool, true, false, ◌||◌, ◌&&◌, not, List, ◌++◌, refl, ap, arith}
+use Rattle.tree_model.specs.declared.names.Case.{Case}
+use Rattle.tree_model.specs.declared.names.ProcessId.{ProcessId}
+use Rattle.tree_model.specs.declared.names.Ticket.{Ticket}
+use Rattle.tree_model.specs.declared.names.Txn.{Txn}
+use Rattle.tree_model.specs.declared.trees.TreeEntry.{TreeEntry}
+use Rattle.tree_model.specs.Names.{same_process, child_case, process_of}
+use Rattle.tree_model.specs.NameLaws.{same_process_tells}
+use Rattle.tree_model.specs.Nodes.{Node, AtLeaf, Role, place_of, role_of, is_leaf, Effect}
+use Rattle.tree_model.specs.World.{World, put_at}
+use Rattle.tree_model.specs.Outcomes.{is_commit_outcome}
+use Rattle.tree_pairs.specs.Reading.{Reading}
+use Rattle.tree_pairs.specs.ChildMoves as move
+use Rattle.tree_readings.specs.ReadingOf.{reading_of, reading_from, is_root_ticket, parent_half, child_half, wire, ParentHalf, ChildHalf, Wire, is_dead}
+use Rattle.tree_readings.specs.Halves.{promised, hardened}
+use Rattle.tree_readings.specs.Steps.{made_at, IsLeafPair}
+
+same_process-refl : (q : ProcessId) → same_process q q ≡ true
+same_process-refl q = grind (arith, same_process_tells)
+
+outcome_elsewhere : (w : World) (q : ProcessId) (n : Node) (e : Effect) (x : Txn) → same_process q x.root ≡ false
+    → is_commit_outcome (made_at w q n e) x ≡ is_commit_outcome w x
+unfolding is_commit_outcome
+outcome_elsewhere w q n e x other = rw other
+
+-- a step at the child moves its half and the net
+pub at_child : (tree : List TreeEntry) (w : World) (above : Bool) (c : Case) (t : Ticket) (p : ProcessId) → IsLeafPair tree c t p → (n : Node) (e : Effect)
+    → reading_of tree (made_at w t.child n e) above c t
+    ≡ reading_from (is_root_ticket c.ticket) true (is_commit_outcome w c.txn) above
+        (parent_half (place_of tree (process_of c)) (w.at (process_of c)) c t)
+        (child_half (record { me = t.child; role = AtLeaf p; tree = tree }) n (child_case c.txn t))
+        (wire c t (w.net ++ e.letters))
+at_child tree w above c t p pair n e =
+    rw (pair.leaf, outcome_elsewhere w t.child n e c.txn pair.root_elsewhere, pair.parent_elsewhere, same_process-refl t.child)
+
+-- the reading before it, in the same form
+pub before : (tree : List TreeEntry) (w : World) (above : Bool) (c : Case) (t : Ticket) (p : ProcessId) → IsLeafPair tree c t p
+    → reading_from (is_root_ticket c.ticket) true (is_commit_outcome w c.txn) above
+        (parent_half (place_of tree (process_of c)) (w.at (process_of c)) c t)
+        (child_half (record { me = t.child; role = AtLeaf p; tree = tree }) (w.at t.child) (child_case c.txn t))
+        (wire c t w.net)
+    ≡ reading_of tree w above c t
+before tree w above c t p pair = rw (pair.leaf)

@@ -1,0 +1,20 @@
+-- How one event of a process changes its half of a reading.
+use Rattle.std.specs.Prelude.{Bool, true, false, ◌||◌}
+use Rattle.tree_readings.specs.ReadingOf.{ChildHalf}
+
+-- a record was forced: all that stood before it is
+abbrev pub hardened : ChildHalf → ChildHalf
+hardened k = record k {
+    prepared_forced = k.prepared_kept;
+    prepared_ever = k.prepared_kept || k.prepared_ever;
+    learnt_commit_forced = k.learnt_commit_kept;
+    learnt_abort_forced = k.learnt_abort_kept;
+    heuristic_forced = k.heuristic_kept;
+    heuristic_ever = k.heuristic_kept || k.heuristic_ever;
+    forgot_forced = k.forgot_kept;
+    forgot_ever = k.forgot_kept || k.forgot_ever;
+  }
+
+-- the promise was forced
+abbrev pub promised : ChildHalf → ChildHalf
+promised k = record (hardened k) { is_open = false; prepared_kept = true; prepared_forced = true; prepared_ever = true }

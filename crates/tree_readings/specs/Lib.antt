@@ -1,0 +1,3 @@
+pub mod ReadingOf
+pub mod Halves
+pub mod Steps

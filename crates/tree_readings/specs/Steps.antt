@@ -1,0 +1,23 @@
+-- How an input of one process moves the readings of the world.
+use Rattle.std.specs.Prelude.{◌≡◌, Bool, true, false, List, ◌++◌}
+use Rattle.tree_model.specs.declared.names.Case.{Case}
+use Rattle.tree_model.specs.declared.names.ProcessId.{ProcessId}
+use Rattle.tree_model.specs.declared.names.Ticket.{Ticket}
+use Rattle.tree_model.specs.declared.trees.TreeEntry.{TreeEntry}
+use Rattle.tree_model.specs.Names.{same_process, process_of}
+use Rattle.tree_model.specs.Nodes.{Node, AtLeaf, role_of, Heard, Effect, after}
+use Rattle.tree_model.specs.World.{World, put_at}
+
+-- a world after a step of one process that left this node and sent the messages of this effect
+abbrev pub made_at : World → ProcessId → Node → Effect → World
+made_at w q n e = record { at = put_at q n w.at; net = w.net ++ e.letters }
+
+-- a world after an input that a process handled
+abbrev pub handled : World → ProcessId → Heard → Effect → World
+handled w q h e = made_at w q (after (w.at q) h e) e
+
+-- The child of the pair is a manager below this parent, and neither the parent's process nor the root.
+pub record IsLeafPair (tree : List TreeEntry) (c : Case) (t : Ticket) (p : ProcessId) : Type 0 where
+  pub leaf : role_of tree t.child ≡ AtLeaf p
+  pub parent_elsewhere : same_process t.child (process_of c) ≡ false
+  pub root_elsewhere : same_process t.child c.txn.root ≡ false
