@@ -7,14 +7,14 @@ use Rattle.tree_model.specs.declared.names.Txn.{Txn}
 use Rattle.tree_model.specs.declared.trees.TreeEntry.{TreeEntry}
 use Rattle.tree_model.specs.Names.{same_process, child_case, process_of}
 use Rattle.tree_model.specs.NameLaws.{same_process_tells}
-use Rattle.tree_model.specs.Nodes.{Node, AtLeaf, Role, place_of, role_of, is_leaf, Effect}
+use Rattle.tree_model.specs.Nodes.{Node, AtLeaf, Below, Role, place_of, role_of, is_leaf, Effect}
 use Rattle.tree_model.specs.World.{World, put_at}
 use Rattle.tree_model.specs.Outcomes.{is_commit_outcome}
 use Rattle.tree_pairs.specs.Reading.{Reading}
 use Rattle.tree_pairs.specs.ChildMoves as move
 use Rattle.tree_readings.specs.ReadingOf.{reading_of, reading_from, is_root_ticket, parent_half, child_half, wire, ParentHalf, ChildHalf, Wire, is_dead}
 use Rattle.tree_readings.specs.Halves.{promised, hardened}
-use Rattle.tree_readings.specs.Steps.{made_at, IsLeafPair}
+use Rattle.tree_readings.specs.Steps.{made_at, IsLeafPair, IsCascadedPair}
 
 same_process-refl : (q : ProcessId) → same_process q q ≡ true
 same_process-refl q = grind (arith, same_process_tells)
@@ -42,3 +42,22 @@ pub before : (tree : List TreeEntry) (w : World) (above : Bool) (c : Case) (t : 
         (wire c t w.net)
     ≡ reading_of tree w above c t
 before tree w above c t p pair = rw (pair.leaf)
+
+-- The pair's parent is a cascaded coordinator below this process: neither the child's process nor the root.
+-- A step at it moves its half and the net.
+pub at_cascaded : (tree : List TreeEntry) (w : World) (above : Bool) (c : Case) (t : Ticket) (p : ProcessId) → IsCascadedPair tree c t p → (n : Node) (e : Effect)
+    → reading_of tree (made_at w (process_of c) n e) above c t
+    ≡ reading_from false (is_leaf (role_of tree t.child)) (is_commit_outcome w c.txn) above
+        (parent_half (record { me = process_of c; role = Below p; tree = tree }) n c t)
+        (child_half (place_of tree t.child) (w.at t.child) (child_case c.txn t))
+        (wire c t (w.net ++ e.letters))
+at_cascaded tree w above c t p pair n e =
+    rw (pair.cascaded, pair.below, outcome_elsewhere w (process_of c) n e c.txn pair.root_elsewhere, pair.child_elsewhere, same_process-refl (process_of c))
+
+pub before_cascaded : (tree : List TreeEntry) (w : World) (above : Bool) (c : Case) (t : Ticket) (p : ProcessId) → IsCascadedPair tree c t p
+    → reading_from false (is_leaf (role_of tree t.child)) (is_commit_outcome w c.txn) above
+        (parent_half (record { me = process_of c; role = Below p; tree = tree }) (w.at (process_of c)) c t)
+        (child_half (place_of tree t.child) (w.at t.child) (child_case c.txn t))
+        (wire c t w.net)
+    ≡ reading_of tree w above c t
+before_cascaded tree w above c t p pair = rw (pair.cascaded, pair.below)

@@ -1,6 +1,6 @@
 -- How one event of a process changes its half of a reading.
 use Rattle.std.specs.Prelude.{Bool, true, false, ◌||◌}
-use Rattle.tree_readings.specs.ReadingOf.{ChildHalf}
+use Rattle.tree_readings.specs.ReadingOf.{ChildHalf, ParentHalf}
 
 -- a record was forced: all that stood before it is
 abbrev pub hardened : ChildHalf → ChildHalf
@@ -18,3 +18,7 @@ hardened k = record k {
 -- the promise was forced
 abbrev pub promised : ChildHalf → ChildHalf
 promised k = record (hardened k) { is_open = false; prepared_kept = true; prepared_forced = true; prepared_ever = true }
+
+-- an Abort that names nobody was written behind the promise, unforced
+abbrev pub aborts_promise : ParentHalf → ParentHalf
+aborts_promise p = record p { abort_kept = true; obeyed_abort = true }

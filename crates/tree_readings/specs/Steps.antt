@@ -5,8 +5,9 @@ use Rattle.tree_model.specs.declared.names.ProcessId.{ProcessId}
 use Rattle.tree_model.specs.declared.names.Ticket.{Ticket}
 use Rattle.tree_model.specs.declared.trees.TreeEntry.{TreeEntry}
 use Rattle.tree_model.specs.Names.{same_process, process_of}
-use Rattle.tree_model.specs.Nodes.{Node, AtLeaf, role_of, Heard, Effect, after}
+use Rattle.tree_model.specs.Nodes.{Node, AtLeaf, Below, role_of, Heard, Effect, after}
 use Rattle.tree_model.specs.World.{World, put_at}
+use Rattle.tree_readings.specs.ReadingOf.{is_root_ticket}
 
 -- a world after a step of one process that left this node and sent the messages of this effect
 abbrev pub made_at : World → ProcessId → Node → Effect → World
@@ -21,3 +22,10 @@ pub record IsLeafPair (tree : List TreeEntry) (c : Case) (t : Ticket) (p : Proce
   pub leaf : role_of tree t.child ≡ AtLeaf p
   pub parent_elsewhere : same_process t.child (process_of c) ≡ false
   pub root_elsewhere : same_process t.child c.txn.root ≡ false
+
+-- The parent of the pair is a cascaded coordinator below this process, and neither the child's process nor the root.
+pub record IsCascadedPair (tree : List TreeEntry) (c : Case) (t : Ticket) (p : ProcessId) : Type 0 where
+  pub cascaded : is_root_ticket c.ticket ≡ false
+  pub below : role_of tree (process_of c) ≡ Below p
+  pub child_elsewhere : same_process (process_of c) t.child ≡ false
+  pub root_elsewhere : same_process (process_of c) c.txn.root ≡ false
