@@ -60,7 +60,7 @@ reading-aborted : (manager outcome above : Bool) (p : ParentHalf) (k : ChildHalf
     → reading_from false manager outcome above (aborts_promise p) k (record v { abort = p.names || v.abort }) ≡ move.passes_abort (reading_from false manager outcome above p k v)
 reading-aborted manager outcome above p k v = refl
 
-row_aborts : (tree : List TreeEntry) (w : World) (above : Bool) (c : Case) (t : Ticket) (p : ProcessId) → IsCascadedPair tree c t p → (i : ℕ) (h : Heard) (e : Effect) (s : Seat) → h.input ≡ MessageInput i (Abort c)
+pub row_aborts : (tree : List TreeEntry) (w : World) (above : Bool) (c : Case) (t : Ticket) (p : ProcessId) → IsCascadedPair tree c t p → (i : ℕ) (h : Heard) (e : Effect) (s : Seat) → h.input ≡ MessageInput i (Abort c)
     → e.written ≡ plain (AbortRecord c []) → e.accepts ≡ [] → e.counts ≡ [] → e.told ≡ None
     → e.letters ≡ each s Abort (promised_by c (kept (w.at (process_of c)))) → s.own.txn ≡ c.txn
     → (coordinator_view (record { me = process_of c; role = Below p; tree = tree }) (w.at (process_of c)) c).standing ≡ Prepared

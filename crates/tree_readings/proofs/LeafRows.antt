@@ -59,7 +59,7 @@ moved : (root outcome above : Bool) (p : ParentHalf) (k k' : ChildHalf) (v v' : 
 moved root outcome above p k k' v v' e f =
     ap (λ a. reading_from root true outcome above p a v) e ∙ ap (λ a. reading_from root true outcome above p k' a) f
 
-row_yes : (tree : List TreeEntry) (w : World) (above : Bool) (c : Case) (t : Ticket) (p : ProcessId) → IsLeafPair tree c t p → (h : Heard) (e : Effect) (ws : List Write)
+pub row_yes : (tree : List TreeEntry) (w : World) (above : Bool) (c : Case) (t : Ticket) (p : ProcessId) → IsLeafPair tree c t p → (h : Heard) (e : Effect) (ws : List Write)
     → e.written ≡ forced (PreparedRecord (CaseBranch (child_case c.txn t)) ws) → e.letters ≡ post t.child p (Yes (child_case c.txn t)) ∷ []
     → (w.at t.child).failed ≡ false → (manager_view (record { me = t.child; role = AtLeaf p; tree = tree }) (w.at t.child) (child_case c.txn t)).standing ≡ ActiveStanding
     → reading_of tree (handled w t.child h e) above c t ≡ move.votes_yes (move.hardens_child (reading_of tree w above c t))

@@ -6,3 +6,5 @@ pub mod LeafRows
 pub mod Named
 pub mod CoordinatorHalves
 pub mod CascadedRows
+pub mod Delivered
+pub mod StepLaws

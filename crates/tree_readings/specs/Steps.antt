@@ -1,12 +1,16 @@
 -- How an input of one process moves the readings of the world.
-use Rattle.std.specs.Prelude.{◌≡◌, Bool, true, false, List, ◌++◌}
+use Rattle.std.specs.Prelude.{◌≡◌, ℕ, Bool, true, false, Option, Some, None, List, ◌++◌}
 use Rattle.tree_model.specs.declared.names.Case.{Case}
 use Rattle.tree_model.specs.declared.names.ProcessId.{ProcessId}
 use Rattle.tree_model.specs.declared.names.Ticket.{Ticket}
+use Rattle.tree_model.specs.declared.messages.Message.{Message}
+use Rattle.tree_model.specs.declared.events.Input.TheVariants.{Message as MessageInput}
+use Rattle.tree_model.specs.declared.events.Happening.TheVariants.{Input as Handles}
+use Rattle.tree_model.specs.declared.events.Step.{Step}
 use Rattle.tree_model.specs.declared.trees.TreeEntry.{TreeEntry}
 use Rattle.tree_model.specs.Names.{same_process, process_of}
-use Rattle.tree_model.specs.Nodes.{Node, AtLeaf, Below, role_of, Heard, Effect, after}
-use Rattle.tree_model.specs.World.{World, put_at}
+use Rattle.tree_model.specs.Nodes.{Node, AtLeaf, Below, role_of, Heard, DataAnswer, Effect, after}
+use Rattle.tree_model.specs.World.{World, Move, put_at}
 use Rattle.tree_readings.specs.ReadingOf.{is_root_ticket}
 
 -- a world after a step of one process that left this node and sent the messages of this effect
@@ -29,3 +33,7 @@ pub record IsCascadedPair (tree : List TreeEntry) (c : Case) (t : Ticket) (p : P
   pub below : role_of tree (process_of c) ≡ Below p
   pub child_elsewhere : same_process (process_of c) t.child ≡ false
   pub root_elsewhere : same_process (process_of c) c.txn.root ≡ false
+
+-- a message is delivered to a process, and its device does not fail
+abbrev pub delivers : ProcessId → ℕ → Message → DataAnswer → Move
+delivers q i message a = record { step = record { process = q; happening = Handles (MessageInput i message); fault = None }; data_answer = a }

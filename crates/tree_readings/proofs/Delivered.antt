@@ -1,0 +1,39 @@
+-- A message that a process handles: the world that its step makes.
+use Rattle.std.proofs.Common.{if◌then◌else◌, ◌≡◌, ◌∙◌, ap, sym, subst, Bool, true, false, List, [], ◌∷◌, ◌++◌, Option, Some, None, refl, ℕ, arith}
+use Rattle.tree_model.specs.declared.names.ProcessId.{ProcessId}
+use Rattle.tree_model.specs.declared.messages.Message.{Message}
+use Rattle.tree_model.specs.declared.events.Input.TheVariants.{Message as MessageInput}
+use Rattle.tree_model.specs.declared.events.StepError.TheVariants.{Failed}
+use Rattle.tree_model.specs.declared.trees.TreeEntry.{TreeEntry}
+use Rattle.tree_model.specs.Nodes.{Node, Heard, DataAnswer, Effect, Role, after, place_of, role_of, is_listed}
+use Rattle.tree_model.specs.Reactions.{Reacts, Refused, Does, reacts, hears}
+use Rattle.tree_model.specs.World.{World, Stepped, Makes, Refuses, world_makes, world_stepped, node_makes, input_makes}
+use Rattle.tree_readings.specs.Steps.{handled, delivers}
+
+pair_same : {A B : Type 0} (d p q : A × B) → Some p ≡ Some q → p ≡ q
+pair_same d p q h = cc
+
+delivered_by : (b f : Bool) (w : World) (q : ProcessId) (h : Heard) (made : Effect) (e : Effect) (w' : World)
+    → (if b then world_stepped w q (input_makes (w.at q) h None (if f then Refused Failed else Does made)) else None) ≡ Some (e, w')
+    → (f ≡ false) × (w' ≡ handled w q h made)
+delivered_by true false w q h made e w' s =
+    let both : (made, handled w q h made) ≡ (e, w') = pair_same (e, w') (made, handled w q h made) (e, w') s in
+    (refl, sym (ap (λ (x : Effect × World). x.1) both))
+delivered_by true true w q h made e w' s = absurd (cc)
+delivered_by false f w q h made e w' s = absurd (cc)
+
+-- the process was up, and did what its role hears
+pub delivered : (tree : List TreeEntry) (w : World) (q : ProcessId) (i : ℕ) (message : Message) (a : DataAnswer) (e : Effect) (w' : World)
+    → world_makes tree w (delivers q i message a) ≡ Some (e, w')
+    → ((w.at q).failed ≡ false) × (w' ≡ handled w q (record { input = MessageInput i message; data_answer = a }) (hears (role_of tree q) (place_of tree q) (w.at q) a message))
+unfolding world_makes node_makes reacts
+delivered tree w q i message a e w' s =
+    delivered_by (is_listed tree q) (w.at q).failed w q (record { input = MessageInput i message; data_answer = a }) (hears (role_of tree q) (place_of tree q) (w.at q) a message) e w' s
+
+-- the same, where the process's role is known
+pub delivered_as : (tree : List TreeEntry) (w : World) (q : ProcessId) (role : Role) (i : ℕ) (message : Message) (a : DataAnswer) (e : Effect) (w' : World)
+    → role_of tree q ≡ role → world_makes tree w (delivers q i message a) ≡ Some (e, w')
+    → ((w.at q).failed ≡ false) × (w' ≡ handled w q (record { input = MessageInput i message; data_answer = a }) (hears role (record { me = q; role = role; tree = tree }) (w.at q) a message))
+delivered_as tree w q role i message a e w' known s =
+    let both = delivered tree w q i message a e w' s in
+    (both.0, subst (λ (r : Role). w' ≡ handled w q (record { input = MessageInput i message; data_answer = a }) (hears r (record { me = q; role = r; tree = tree }) (w.at q) a message)) known both.1)

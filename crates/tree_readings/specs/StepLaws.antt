@@ -1,0 +1,46 @@
+-- The world's steps are moves of the pairs: one law for a row of each kind.
+use Rattle.std.specs.Prelude.{◌≡◌, ◌==◌, ◌&&◌, not, ℕ, Bool, true, false, Option, Some, None, List}
+use Rattle.tree_model.specs.declared.names.Case.{Case}
+use Rattle.tree_model.specs.declared.names.ProcessId.{ProcessId}
+use Rattle.tree_model.specs.declared.names.Ticket.{Ticket}
+use Rattle.tree_model.specs.declared.names.Presumption.TheVariants.{PresumeAbort, PresumeCommit}
+use Rattle.tree_model.specs.declared.messages.Message.TheVariants.{Prepare, Abort}
+use Rattle.tree_model.specs.declared.records.Write.{Write}
+use Rattle.tree_model.specs.declared.standings.Standing.TheVariants.{Active, Prepared}
+use Rattle.tree_model.specs.declared.trees.TreeEntry.{TreeEntry}
+use Rattle.tree_model.specs.Names.{child_case, process_of}
+use Rattle.tree_model.specs.Records.{has, is_prepare}
+use Rattle.tree_model.specs.Nodes.{place_of, Node, DataAnswer, Holds, Effect}
+use Rattle.tree_model.specs.Standings.{ManagerView, manager_view, coordinator_view}
+use Rattle.tree_model.specs.World.{World, world_makes}
+use Rattle.tree_pairs.specs.ChildMoves.{votes_yes, hardens_child}
+use Rattle.tree_pairs.specs.CascadedMoves.{passes_abort}
+use Rattle.tree_readings.specs.ReadingOf.{reading_of}
+use Rattle.tree_readings.specs.Steps.{IsLeafPair, IsCascadedPair, delivers}
+
+-- The branch is Active, all its works are done, and its data hold these writes.
+pub record IsReady (v : ManagerView) (n : ℕ) (a : DataAnswer) (ws : List Write) : Type 0 where
+  pub active : v.standing ≡ Active
+  pub done : ((v.done == n) && not v.spoiled) ≡ true
+  pub holds : a.holding ≡ Holds ws
+
+-- PREPARE at a ready branch is the move of the vote YES, behind the force of what stood before.
+abbrev pub ManagerVotesYes : Type 0
+ManagerVotesYes = (tree : List TreeEntry) (w w' : World) (above : Bool) (c : Case) (t : Ticket) (p : ProcessId) (i n : ℕ)
+    (a : DataAnswer) (ws : List Write) (e : Effect)
+    → IsLeafPair tree c t p
+    → IsReady (manager_view (place_of tree t.child) (w.at t.child) (child_case c.txn t)) n a ws
+    → world_makes tree w (delivers t.child i (Prepare (child_case c.txn t) n) a) ≡ Some (e, w')
+    → reading_of tree w' above c t ≡ votes_yes (hardens_child (reading_of tree w above c t))
+
+-- ABORT at a Prepared coordinator, under Presumed Abort, is the move of passing it on, for each of its children. (What is
+-- kept was once appended.)
+abbrev pub CascadedPassesAbort : Type 0
+CascadedPassesAbort = (tree : List TreeEntry) (w w' : World) (above : Bool) (c : Case) (t : Ticket) (p : ProcessId) (i : ℕ)
+    (a : DataAnswer) (e : Effect)
+    → IsCascadedPair tree c t p
+    → c.txn.presumption ≡ PresumeAbort
+    → (coordinator_view (place_of tree (process_of c)) (w.at (process_of c)) c).standing ≡ Prepared
+    → has (is_prepare c) (w.at (process_of c)).life ≡ true
+    → world_makes tree w (delivers (process_of c) i (Abort c) a) ≡ Some (e, w')
+    → reading_of tree w' above c t ≡ passes_abort (reading_of tree w above c t)
