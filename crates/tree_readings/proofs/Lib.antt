@@ -8,3 +8,4 @@ pub mod CoordinatorHalves
 pub mod CascadedRows
 pub mod Delivered
 pub mod StepLaws
+pub mod RootHalves

@@ -1,5 +1,5 @@
 -- Who is named, and who is sent to.
-use Rattle.std.proofs.Common.{◌≡◌, ◌∙◌, ℕ, Bool, true, false, ◌||◌, ◌&&◌, if◌then◌else◌, List, [], ◌∷◌, ◌++◌, map, refl, sym, ap, arith}
+use Rattle.std.proofs.Common.{◌≡◌, ◌∙◌, ℕ, Bool, true, false, ◌||◌, ◌&&◌, if◌then◌else◌, List, [], ◌∷◌, ◌++◌, map, filter, refl, sym, ap, arith}
 use Rattle.std.specs.List.{list_any, flat_map}
 use Rattle.std.proofs.lemmas.List.Folds.{list_any-append}
 use Rattle.tree_model.specs.declared.names.Case.{Case}
@@ -10,8 +10,11 @@ use Rattle.tree_model.specs.declared.messages.Message.TheVariants.{Commit, Abort
 use Rattle.tree_model.specs.declared.messages.Envelope.{Envelope}
 use Rattle.tree_model.specs.declared.records.Record.{Record}
 use Rattle.tree_model.specs.declared.records.Record.TheVariants.{Opened, Collecting, Prepare, Commit as CommitRecord, Abort as AbortRecord, End, Prepared, Committed, RolledBack, Direct, HeurCommit, HeurRollback, Told, Forgot, Base, Pair}
+use Rattle.tree_model.specs.declared.standings.Vote.{Vote}
+use Rattle.tree_model.specs.declared.standings.Vote.TheVariants.{Yes as VoteYes}
+use Rattle.tree_model.specs.Memory.{yes_of, voted_so}
 use Rattle.tree_model.specs.Names.{same_case, same_ticket, same_txn, child_case}
-use Rattle.tree_model.specs.NameLaws.{same_txn-refl, names}
+use Rattle.tree_model.specs.NameLaws.{same_txn-refl, same_ticket-refl, names}
 use Rattle.tree_model.specs.Records.{has, in_list, promised_by, promised_in, owing_by, owing_in}
 use Rattle.tree_model.specs.CoordinatorRows.{Seat, each, to_child}
 use Rattle.tree_model.specs.Outcomes.{sent}
@@ -76,3 +79,19 @@ sent-each_none s m (u ∷ us) q f = ap (λ b. b || list_any (λ e. q e.message) 
 
 pub same_child : (c : Case) (u t : Ticket) → same_case (child_case c.txn u) (child_case c.txn t) ≡ same_ticket u t
 same_child c u t = grind (arith, names)
+
+-- the tickets of a list that voted so
+in_list-step : (b q r p : Bool) (u t : Ticket) (vs : List (Ticket × Vote)) (rest : List Ticket) → in_list rest t ≡ (r && p) → voted_so VoteYes vs u ≡ b → voted_so VoteYes vs t ≡ p → same_ticket u t ≡ q
+    → in_list (if b then u ∷ rest else rest) t ≡ ((q || r) && p)
+unfolding in_list
+in_list-step b true r p u t vs rest rec e f g = grind (arith, names)
+in_list-step b false r p u t vs rest rec e f g = grind (arith, names)
+
+pub in_list-yes : (ts : List Ticket) (vs : List (Ticket × Vote)) (t : Ticket) → in_list (yes_of ts vs) t ≡ (in_list ts t && voted_so VoteYes vs t)
+unfolding in_list yes_of
+in_list-yes [] vs t = refl
+in_list-yes (u ∷ us) vs t = in_list-step (voted_so VoteYes vs u) (same_ticket u t) (list_any (λ a. same_ticket a t) us) (voted_so VoteYes vs t) u t vs (filter (voted_so VoteYes vs) us) (in_list-yes us vs t) refl refl refl
+
+pub voted_so-last : (vs : List (Ticket × Vote)) (t : Ticket) → voted_so VoteYes (vs ++ (t, VoteYes) ∷ []) t ≡ true
+unfolding voted_so
+voted_so-last vs t = grind (arith, list_any-append, same_ticket-refl)

@@ -5,16 +5,17 @@ use Rattle.tree_model.specs.declared.names.ProcessId.{ProcessId}
 use Rattle.tree_model.specs.declared.names.Ticket.{Ticket}
 use Rattle.tree_model.specs.declared.names.Txn.{Txn}
 use Rattle.tree_model.specs.declared.trees.TreeEntry.{TreeEntry}
-use Rattle.tree_model.specs.Names.{same_process, child_case, process_of}
+use Rattle.tree_model.specs.Names.{same_process, child_case, process_of, root_case}
+use Rattle.tree_model.specs.Records.{has, is_commit}
 use Rattle.tree_model.specs.NameLaws.{same_process_tells}
-use Rattle.tree_model.specs.Nodes.{Node, AtLeaf, Below, Role, place_of, role_of, is_leaf, Effect}
+use Rattle.tree_model.specs.Nodes.{Node, AtRoot, AtLeaf, Below, Role, place_of, role_of, is_leaf, Effect}
 use Rattle.tree_model.specs.World.{World, put_at}
 use Rattle.tree_model.specs.Outcomes.{is_commit_outcome}
 use Rattle.tree_pairs.specs.Reading.{Reading}
 use Rattle.tree_pairs.specs.ChildMoves as move
 use Rattle.tree_readings.specs.ReadingOf.{reading_of, reading_from, is_root_ticket, parent_half, child_half, wire, ParentHalf, ChildHalf, Wire, is_dead}
 use Rattle.tree_readings.specs.Halves.{promised, hardened}
-use Rattle.tree_readings.specs.Steps.{made_at, IsLeafPair, IsCascadedPair}
+use Rattle.tree_readings.specs.Steps.{made_at, IsLeafPair, IsCascadedPair, IsRootPair}
 
 same_process-refl : (q : ProcessId) → same_process q q ≡ true
 same_process-refl q = grind (arith, same_process_tells)
@@ -61,3 +62,26 @@ pub before_cascaded : (tree : List TreeEntry) (w : World) (above : Bool) (c : Ca
         (wire c t w.net)
     ≡ reading_of tree w above c t
 before_cascaded tree w above c t p pair = rw (pair.cascaded, pair.below)
+
+-- The pair's parent is the root's case: a step at the root moves its half, the outcome and the net.
+
+outcome_here : (w : World) (n : Node) (e : Effect) (x : Txn) → is_commit_outcome (made_at w x.root n e) x ≡ has (is_commit (root_case x)) n.durable
+unfolding is_commit_outcome
+outcome_here w n e x = rw (same_process-refl x.root)
+
+pub at_root : (tree : List TreeEntry) (w : World) (above : Bool) (x : Txn) (t : Ticket) → IsRootPair tree x t → (n : Node) (e : Effect)
+    → reading_of tree (made_at w x.root n e) above (root_case x) t
+    ≡ reading_from true (is_leaf (role_of tree t.child)) (has (is_commit (root_case x)) n.durable) above
+        (parent_half (record { me = x.root; role = AtRoot; tree = tree }) n (root_case x) t)
+        (child_half (place_of tree t.child) (w.at t.child) (child_case x t))
+        (wire (root_case x) t (w.net ++ e.letters))
+at_root tree w above x t pair n e =
+    rw (pair.root, outcome_here w n e x, pair.child_elsewhere, same_process-refl x.root)
+
+pub before_root : (tree : List TreeEntry) (w : World) (above : Bool) (x : Txn) (t : Ticket) → IsRootPair tree x t
+    → reading_from true (is_leaf (role_of tree t.child)) (is_commit_outcome w x) above
+        (parent_half (record { me = x.root; role = AtRoot; tree = tree }) (w.at x.root) (root_case x) t)
+        (child_half (place_of tree t.child) (w.at t.child) (child_case x t))
+        (wire (root_case x) t w.net)
+    ≡ reading_of tree w above (root_case x) t
+before_root tree w above x t pair = rw (pair.root)

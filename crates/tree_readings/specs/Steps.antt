@@ -3,13 +3,14 @@ use Rattle.std.specs.Prelude.{◌≡◌, ℕ, Bool, true, false, Option, Some, N
 use Rattle.tree_model.specs.declared.names.Case.{Case}
 use Rattle.tree_model.specs.declared.names.ProcessId.{ProcessId}
 use Rattle.tree_model.specs.declared.names.Ticket.{Ticket}
+use Rattle.tree_model.specs.declared.names.Txn.{Txn}
 use Rattle.tree_model.specs.declared.messages.Message.{Message}
 use Rattle.tree_model.specs.declared.events.Input.TheVariants.{Message as MessageInput}
 use Rattle.tree_model.specs.declared.events.Happening.TheVariants.{Input as Handles}
 use Rattle.tree_model.specs.declared.events.Step.{Step}
 use Rattle.tree_model.specs.declared.trees.TreeEntry.{TreeEntry}
 use Rattle.tree_model.specs.Names.{same_process, process_of}
-use Rattle.tree_model.specs.Nodes.{Node, AtLeaf, Below, role_of, Heard, DataAnswer, Effect, after}
+use Rattle.tree_model.specs.Nodes.{Node, AtRoot, AtLeaf, Below, role_of, Heard, DataAnswer, Effect, after}
 use Rattle.tree_model.specs.World.{World, Move, put_at}
 use Rattle.tree_readings.specs.ReadingOf.{is_root_ticket}
 
@@ -37,3 +38,8 @@ pub record IsCascadedPair (tree : List TreeEntry) (c : Case) (t : Ticket) (p : P
 -- a message is delivered to a process, and its device does not fail
 abbrev pub delivers : ProcessId → ℕ → Message → DataAnswer → Move
 delivers q i message a = record { step = record { process = q; happening = Handles (MessageInput i message); fault = None }; data_answer = a }
+
+-- The parent of the pair is the root's case of this transaction, and the child is another process.
+pub record IsRootPair (tree : List TreeEntry) (x : Txn) (t : Ticket) : Type 0 where
+  pub root : role_of tree x.root ≡ AtRoot
+  pub child_elsewhere : same_process x.root t.child ≡ false
