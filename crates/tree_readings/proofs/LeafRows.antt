@@ -30,12 +30,12 @@ use Rattle.tree_readings.proofs.ReadingSteps.{at_child, before}
 and-false : (a : Bool) → (a && false) ≡ false
 and-false a = grind arith
 
-dead-live : (a b c : Bool) → is_dead a true b c ≡ false
+pub dead-live : (a b c : Bool) → is_dead a true b c ≡ false
 unfolding is_dead
 dead-live true b c = refl
 dead-live false b c = refl
 
-dead-promised : (a b c : Bool) → is_dead true a b c ≡ false
+pub dead-promised : (a b c : Bool) → is_dead true a b c ≡ false
 unfolding is_dead
 dead-promised a b c = refl
 

@@ -9,3 +9,4 @@ pub mod CascadedRows
 pub mod Delivered
 pub mod StepLaws
 pub mod RootHalves
+pub mod RootRows
