@@ -10,3 +10,4 @@ pub mod Delivered
 pub mod StepLaws
 pub mod RootHalves
 pub mod RootRows
+pub mod RootStep

@@ -1,22 +1,28 @@
 -- The world's steps are moves of the pairs: one law for a row of each kind.
-use Rattle.std.specs.Prelude.{◌≡◌, ◌==◌, ◌&&◌, not, ℕ, Bool, true, false, Option, Some, None, List}
+use Rattle.std.specs.Prelude.{◌≡◌, ◌==◌, ◌&&◌, not, ℕ, Bool, true, false, Option, Some, None, List, [], ◌∷◌, ◌++◌}
 use Rattle.tree_model.specs.declared.names.Case.{Case}
 use Rattle.tree_model.specs.declared.names.ProcessId.{ProcessId}
 use Rattle.tree_model.specs.declared.names.Ticket.{Ticket}
 use Rattle.tree_model.specs.declared.names.Presumption.TheVariants.{PresumeAbort, PresumeCommit}
-use Rattle.tree_model.specs.declared.messages.Message.TheVariants.{Prepare, Abort}
+use Rattle.tree_model.specs.declared.names.Txn.{Txn}
+use Rattle.tree_model.specs.declared.standings.Vote.TheVariants.{Yes as VoteYes}
+use Rattle.tree_model.specs.Memory.{is_counted, all_voted}
+use Rattle.tree_model.specs.declared.messages.Message.TheVariants.{Prepare, Abort, Yes}
 use Rattle.tree_model.specs.declared.records.Write.{Write}
-use Rattle.tree_model.specs.declared.standings.Standing.TheVariants.{Active, Prepared}
+use Rattle.tree_model.specs.declared.standings.Standing.TheVariants.{Active, Collecting, Prepared}
 use Rattle.tree_model.specs.declared.trees.TreeEntry.{TreeEntry}
-use Rattle.tree_model.specs.Names.{child_case, process_of}
+use Rattle.tree_model.specs.Names.{child_case, root_case, process_of}
 use Rattle.tree_model.specs.Records.{has, is_prepare}
 use Rattle.tree_model.specs.Nodes.{place_of, Node, DataAnswer, Holds, Effect}
-use Rattle.tree_model.specs.Standings.{ManagerView, manager_view, coordinator_view}
+use Rattle.tree_model.specs.Standings.{CoordinatorView, ManagerView, manager_view, coordinator_view, case_of_child}
 use Rattle.tree_model.specs.World.{World, world_makes}
 use Rattle.tree_pairs.specs.ChildMoves.{votes_yes, hardens_child}
+use Rattle.tree_pairs.specs.Invariant.{PresumedAbort}
+use Rattle.tree_pairs.specs.ParentMoves.{hears_yes, hardens_parent}
+use Rattle.tree_pairs.specs.RootMoves.{decides_naming}
 use Rattle.tree_pairs.specs.CascadedMoves.{passes_abort}
 use Rattle.tree_readings.specs.ReadingOf.{reading_of}
-use Rattle.tree_readings.specs.Steps.{IsLeafPair, IsCascadedPair, delivers}
+use Rattle.tree_readings.specs.Steps.{IsRootPair, IsLeafPair, IsCascadedPair, delivers}
 
 -- The branch is Active, all its works are done, and its data hold these writes.
 pub record IsReady (v : ManagerView) (n : ℕ) (a : DataAnswer) (ws : List Write) : Type 0 where
@@ -44,3 +50,22 @@ CascadedPassesAbort = (tree : List TreeEntry) (w w' : World) (above : Bool) (c :
     → has (is_prepare c) (w.at (process_of c)).life ≡ true
     → world_makes tree w (delivers (process_of c) i (Abort c) a) ≡ Some (e, w')
     → reading_of tree w' above c t ≡ passes_abort (reading_of tree w above c t)
+
+-- The vote YES of this ticket is the last one that the root waits for: the root's case collects votes, the ticket is
+-- its own, has not voted before, and with its vote all have voted.
+pub record IsLastVote (v : CoordinatorView) (found : Option Case) (x : Txn) (t : Ticket) : Type 0 where
+  pub collecting : v.standing ≡ Collecting
+  pub belongs : found ≡ Some (root_case x)
+  pub first : is_counted v.accepted v.votes t ≡ true
+  pub last : all_voted v.accepted (v.votes ++ (t, VoteYes) ∷ []) ≡ true
+
+-- The last vote, under Presumed Abort, is the moves of hearing it and of the root's decision, behind the force of what
+-- stood before, for the pair of the ticket whose vote it is.
+abbrev pub RootDecides : Type 0
+RootDecides = (tree : List TreeEntry) (w w' : World) (above : Bool) (x : Txn) (t : Ticket) (i : ℕ) (a : DataAnswer) (e : Effect)
+    → IsRootPair tree x t
+    → x.presumption ≡ PresumeAbort
+    → PresumedAbort (reading_of tree w above (root_case x) t)
+    → IsLastVote (coordinator_view (place_of tree x.root) (w.at x.root) (root_case x)) (case_of_child (place_of tree x.root) (w.at x.root) x t) x t
+    → world_makes tree w (delivers x.root i (Yes (child_case x t)) a) ≡ Some (e, w')
+    → reading_of tree w' above (root_case x) t ≡ decides_naming (hears_yes (hardens_parent (reading_of tree w above (root_case x) t)))

@@ -1,0 +1,17 @@
+//! One row of each kind: the world's step makes its move on the reading of a pair.
+ghost use Rattle.tree_readings.specs.StepLaws.{CascadedPassesAbort, ManagerVotesYes, RootDecides};
+
+/// A manager votes YES.
+pub fn manager_votes_yes()
+    ensures moves { ManagerVotesYes }
+{}
+
+/// The root decides at the last vote.
+pub fn root_decides()
+    ensures moves { RootDecides }
+{}
+
+/// A cascaded coordinator passes an ABORT on.
+pub fn cascaded_passes_abort()
+    ensures moves { CascadedPassesAbort }
+{}
