@@ -122,12 +122,14 @@ pub lem_flat_abort_restarted : Reaches PresumedAbort (child_crash.IsChildFront (
   learnt_commit = false;
   learnt_abort = false;
   heuristic = false;
+  heuristic_commits = false;
   forgot = false;
 })) (child_crash.child_restarts (record {
   prepared = true;
   learnt_commit = false;
   learnt_abort = false;
   heuristic = false;
+  heuristic_commits = false;
   forgot = false;
 })) stage.flat_abort_obeyed stage.flat_abort_restarted
 lem_flat_abort_restarted =
@@ -137,6 +139,7 @@ lem_flat_abort_restarted =
       learnt_commit = false;
       learnt_abort = false;
       heuristic = false;
+      heuristic_commits = false;
       forgot = false;
     }) stage.flat_abort_obeyed = grind arith in (
       h,
@@ -147,6 +150,7 @@ lem_flat_abort_restarted =
         learnt_commit = false;
         learnt_abort = false;
         heuristic = false;
+        heuristic_commits = false;
         forgot = false;
       }) stage.flat_abort_obeyed h g).invariant,
     )

@@ -87,12 +87,14 @@ pub lem_flat_commit_restarted : Reaches PresumedCommit (child_crash.IsChildFront
   learnt_commit = false;
   learnt_abort = false;
   heuristic = false;
+  heuristic_commits = false;
   forgot = false;
 })) (child_crash.child_restarts (record {
   prepared = true;
   learnt_commit = false;
   learnt_abort = false;
   heuristic = false;
+  heuristic_commits = false;
   forgot = false;
 })) stage.flat_commit_obeyed stage.flat_commit_restarted
 lem_flat_commit_restarted =
@@ -102,6 +104,7 @@ lem_flat_commit_restarted =
       learnt_commit = false;
       learnt_abort = false;
       heuristic = false;
+      heuristic_commits = false;
       forgot = false;
     }) stage.flat_commit_obeyed = grind arith in (
       h,
@@ -112,6 +115,7 @@ lem_flat_commit_restarted =
         learnt_commit = false;
         learnt_abort = false;
         heuristic = false;
+        heuristic_commits = false;
         forgot = false;
       }) stage.flat_commit_obeyed h g).invariant,
     )

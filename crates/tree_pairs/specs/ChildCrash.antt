@@ -1,5 +1,5 @@
 -- What a device's fault and a restart do at the child.
-use Rattle.std.specs.Prelude.{◌≡◌, Bool, true, false, not, ◌||◌, ◌&&◌}
+use Rattle.std.specs.Prelude.{◌≡◌, Bool, true, false, not, ◌||◌, ◌&&◌, ◌⊎◌}
 use Rattle.tree_pairs.specs.Reading.{Reading}
 use Rattle.tree_pairs.specs.Standing.{IsInDoubt, IsHeuristic}
 
@@ -9,6 +9,8 @@ pub record ChildFront : Type 0 where
   pub learnt_commit : Bool
   pub learnt_abort : Bool
   pub heuristic : Bool
+  -- An operator's decision that is left, or was ever forced, was to commit.
+  pub heuristic_commits : Bool
   pub forgot : Bool
 
 -- A front of the kept list that holds the forced front: nothing of it was lost, nothing is new, and no
@@ -32,6 +34,8 @@ pub record IsChildFront (front : ChildFront) (r : Reading) : Type 0 where
       → front.heuristic ≡ true
   pub abort_behind_heuristic : front.learnt_abort ≡ true → r.heuristic_kept ≡ true → front.heuristic ≡ true
   pub forgot_behind_heuristic : front.forgot ≡ true → front.heuristic ≡ true
+  pub same_decision : (front.heuristic ≡ true) ⊎ (r.heuristic_ever ≡ true)
+      → front.heuristic_commits ≡ r.heuristic_commits
 
 -- A device failed in an event that wrote nothing of the ticket, or the process went down.
 pub record MayFailChild (r : Reading) : Type 0 where

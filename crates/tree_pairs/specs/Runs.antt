@@ -51,12 +51,14 @@ pub record RunsUnderAbort : Type 0 where
     learnt_commit = false;
     learnt_abort = false;
     heuristic = false;
+    heuristic_commits = false;
     forgot = false;
   })) (child_crash.child_restarts (record {
     prepared = true;
     learnt_commit = false;
     learnt_abort = false;
     heuristic = false;
+    heuristic_commits = false;
     forgot = false;
   })) stages_abort.flat_abort_obeyed stages_abort.flat_abort_restarted
   pub flat_abort_answered : Reaches PresumedAbort parent.MayPresumeAbort parent.answers_abort
@@ -164,12 +166,14 @@ pub record RunsUnderCommit : Type 0 where
     learnt_commit = false;
     learnt_abort = false;
     heuristic = false;
+    heuristic_commits = false;
     forgot = false;
   })) (child_crash.child_restarts (record {
     prepared = true;
     learnt_commit = false;
     learnt_abort = false;
     heuristic = false;
+    heuristic_commits = false;
     forgot = false;
   })) stages_commit.flat_commit_obeyed stages_commit.flat_commit_restarted
   pub flat_commit_answered : Reaches PresumedCommit parent.MayPresumeCommit parent.answers_commit
