@@ -27,7 +27,7 @@ use Rattle.tree_readings.proofs.Lists.{sent-push}
 use Rattle.tree_readings.proofs.LeafHalves.{leaf_promised}
 use Rattle.tree_readings.proofs.ReadingSteps.{at_child, before}
 
-and-false : (a : Bool) → (a && false) ≡ false
+pub and-false : (a : Bool) → (a && false) ≡ false
 and-false a = grind arith
 
 pub dead-live : (a b c : Bool) → is_dead a true b c ≡ false

@@ -11,3 +11,4 @@ pub mod StepLaws
 pub mod RootHalves
 pub mod RootRows
 pub mod RootStep
+pub mod LeafCrash

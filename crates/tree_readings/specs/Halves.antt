@@ -1,7 +1,12 @@
 -- How one event of a process changes its half of a reading.
-use Rattle.std.specs.Prelude.{Bool, true, false, ◌||◌}
+use Rattle.std.specs.Prelude.{Bool, true, false, ◌||◌, ◌&&◌, List}
+use Rattle.tree_model.specs.declared.names.Case.{Case}
+use Rattle.tree_model.specs.declared.names.Outcome.TheVariants.{Committed as CommittedOutcome}
+use Rattle.tree_model.specs.declared.records.Record.{Record}
+use Rattle.tree_model.specs.Records.{has, is_abort, is_prepare, is_heuristic, is_decided, is_forgot}
+use Rattle.tree_pairs.specs.ChildCrash.{ChildFront}
 use Rattle.tree_pairs.specs.Reading.{Phase, Closed}
-use Rattle.tree_readings.specs.ReadingOf.{ChildHalf, ParentHalf}
+use Rattle.tree_readings.specs.ReadingOf.{ChildHalf, ParentHalf, is_promise, is_learnt_commit, is_learnt_abort}
 
 -- a record was forced: all that stood before it is
 abbrev pub hardened : ChildHalf → ChildHalf
@@ -44,3 +49,33 @@ commits_naming named p = record (hardened_parent p) {
     commit_forced = true;
     owed = named || p.owed;
   }
+
+-- What a list of records holds of the ticket's case; of an operator's decision also what was ever forced.
+abbrev pub child_front : Case → List Record → List Record → ChildFront
+child_front d rs durable = record {
+    prepared = has (is_promise d) rs;
+    learnt_commit = has (is_learnt_commit d) rs;
+    learnt_abort = has (is_learnt_abort d) rs || (has (is_abort d) rs && has (is_prepare d) rs);
+    heuristic = has (is_heuristic d) rs;
+    heuristic_commits = has (is_decided d CommittedOutcome) rs || has (is_decided d CommittedOutcome) durable;
+    forgot = has (is_forgot d) rs;
+  }
+
+-- The device failed in an event that wrote nothing of the case, and the forced front moved on to this one.
+abbrev pub failed_half : ChildFront → ChildHalf → ChildHalf
+failed_half front k = record k {
+    failed = true;
+    is_open = false;
+    prepared_forced = front.prepared;
+    prepared_ever = front.prepared || k.prepared_ever;
+    learnt_commit_forced = front.learnt_commit;
+    learnt_abort_forced = front.learnt_abort;
+    heuristic_forced = front.heuristic;
+    heuristic_ever = front.heuristic || k.heuristic_ever;
+    forgot_forced = front.forgot;
+    forgot_ever = front.forgot || k.forgot_ever;
+  }
+
+-- It failed behind the promise.
+abbrev pub failed_promise : ChildFront → ChildHalf → ChildHalf
+failed_promise front k = record (failed_half front k) { prepared_kept = true }
