@@ -4,11 +4,12 @@ use Rattle.tree_model.specs.declared.names.ProcessId.{ProcessId}
 use Rattle.tree_model.specs.declared.messages.Message.{Message}
 use Rattle.tree_model.specs.declared.events.Input.TheVariants.{Message as MessageInput}
 use Rattle.tree_model.specs.declared.events.StepError.TheVariants.{Failed}
+use Rattle.tree_model.specs.declared.events.Fault.{Fault}
 use Rattle.tree_model.specs.declared.trees.TreeEntry.{TreeEntry}
-use Rattle.tree_model.specs.Nodes.{Node, Heard, DataAnswer, Effect, Role, after, place_of, role_of, is_listed}
+use Rattle.tree_model.specs.Nodes.{Node, Heard, DataAnswer, Effect, Role, after, fails_in, place_of, role_of, is_listed}
 use Rattle.tree_model.specs.Reactions.{Reacts, Refused, Does, reacts, hears}
-use Rattle.tree_model.specs.World.{World, Stepped, Makes, Refuses, world_makes, world_stepped, node_makes, input_makes}
-use Rattle.tree_readings.specs.Steps.{handled, delivers}
+use Rattle.tree_model.specs.World.{World, Stepped, Makes, Refuses, world_makes, world_stepped, node_makes, input_makes, fault_effect}
+use Rattle.tree_readings.specs.Steps.{handled, made_at, delivers, fails_at}
 
 pair_same : {A B : Type 0} (d p q : A × B) → Some p ≡ Some q → p ≡ q
 pair_same d p q h = cc
@@ -37,3 +38,32 @@ pub delivered_as : (tree : List TreeEntry) (w : World) (q : ProcessId) (role : R
 delivered_as tree w q role i message a e w' known s =
     let both = delivered tree w q i message a e w' s in
     (both.0, subst (λ (r : Role). w' ≡ handled w q (record { input = MessageInput i message; data_answer = a }) (hears r (record { me = q; role = r; tree = tree }) (w.at q) a message)) known both.1)
+
+-- The same with a fault.
+
+failed_by : (b u : Bool) (w : World) (q : ProcessId) (h : Heard) (made : Effect) (f : Fault) (e : Effect) (w' : World)
+    → (if b then world_stepped w q (input_makes (w.at q) h (Some f) (if u then Refused Failed else Does made)) else None) ≡ Some (e, w')
+    → (u ≡ false) × (w' ≡ made_at w q (fails_in (w.at q) h made f.appended f.forced) (fault_effect made f.appended))
+failed_by true false w q h made f e w' s =
+    let left = made_at w q (fails_in (w.at q) h made f.appended f.forced) (fault_effect made f.appended) in
+    let both : (fault_effect made f.appended, left) ≡ (e, w') = pair_same (e, w') (fault_effect made f.appended, left) (e, w') s in
+    (refl, sym (ap (λ (x : Effect × World). x.1) both))
+failed_by true true w q h made f e w' s = absurd (cc)
+failed_by false u w q h made f e w' s = absurd (cc)
+
+failed_in : (tree : List TreeEntry) (w : World) (q : ProcessId) (i : ℕ) (message : Message) (a : DataAnswer) (f : Fault) (e : Effect) (w' : World)
+    → world_makes tree w (fails_at q i message a f) ≡ Some (e, w')
+    → ((w.at q).failed ≡ false) × (w' ≡ made_at w q (fails_in (w.at q) (record { input = MessageInput i message; data_answer = a }) (hears (role_of tree q) (place_of tree q) (w.at q) a message) f.appended f.forced)
+        (fault_effect (hears (role_of tree q) (place_of tree q) (w.at q) a message) f.appended))
+unfolding world_makes node_makes reacts
+failed_in tree w q i message a f e w' s =
+    failed_by (is_listed tree q) (w.at q).failed w q (record { input = MessageInput i message; data_answer = a }) (hears (role_of tree q) (place_of tree q) (w.at q) a message) f e w' s
+
+pub failed_as : (tree : List TreeEntry) (w : World) (q : ProcessId) (role : Role) (i : ℕ) (message : Message) (a : DataAnswer) (f : Fault) (e : Effect) (w' : World)
+    → role_of tree q ≡ role → world_makes tree w (fails_at q i message a f) ≡ Some (e, w')
+    → ((w.at q).failed ≡ false) × (w' ≡ made_at w q (fails_in (w.at q) (record { input = MessageInput i message; data_answer = a }) (hears role (record { me = q; role = role; tree = tree }) (w.at q) a message) f.appended f.forced)
+        (fault_effect (hears role (record { me = q; role = role; tree = tree }) (w.at q) a message) f.appended))
+failed_as tree w q role i message a f e w' known s =
+    let both = failed_in tree w q i message a f e w' s in
+    (both.0, subst (λ (r : Role). w' ≡ made_at w q (fails_in (w.at q) (record { input = MessageInput i message; data_answer = a }) (hears r (record { me = q; role = r; tree = tree }) (w.at q) a message) f.appended f.forced)
+        (fault_effect (hears r (record { me = q; role = r; tree = tree }) (w.at q) a message) f.appended)) known both.1)

@@ -51,7 +51,7 @@ decided-cut q fo f b dur = rw (has-append q (take f b) dur) (or-subset' (has q (
 decided-nil : (q : Record → Bool) (fo l : List Record) (f : ℕ) (dur : List Record) → (has q (fo ++ l) || has q (take f (l ++ []) ++ dur)) ≡ (has q (fo ++ l) || has q dur)
 decided-nil q fo l f dur = subst (λ (x : Bool). (x || has q (take f (l ++ []) ++ dur)) ≡ (x || has q dur)) (has-nil_behind q fo l) (decided-cut q fo f (l ++ []) dur)
 
-half_fails : (s s' : Standing) (n : Node) (h : Heard) (e : Effect) (f : ℕ) (d : Case) → IsOld (is_promise d) n → IsOld (is_heuristic d) n → IsOld (is_forgot d) n
+pub half_fails : (s s' : Standing) (n : Node) (h : Heard) (e : Effect) (f : ℕ) (d : Case) → IsOld (is_promise d) n → IsOld (is_heuristic d) n → IsOld (is_forgot d) n
     → child_half_at s' (fails_in n h e zero f) d ≡ failed_half (child_front d (n.forced ++ take f (n.loose ++ [])) n.durable) (child_half_at s n d)
 half_fails s s' n h e f d o1 o2 o3 =
     let b = n.loose ++ [] in
@@ -63,7 +63,7 @@ decided-push : (q : Record → Bool) (fo l : List Record) (r : Record) (f : ℕ)
 decided-push q fo l r f dur e =
     subst (λ (x : Bool). (x || has q (take f (l ++ r ∷ []) ++ dur)) ≡ (x || has q dur)) (has-push_behind q fo l r ∙ ap (λ (x : Bool). x || has q (fo ++ l)) e) (decided-cut q fo f (l ++ r ∷ []) dur)
 
-half_fails_to_promise : (s s' : Standing) (n : Node) (h : Heard) (e : Effect) (a f : ℕ) (d : Case) (ws : List Write) → e.written ≡ forced (PreparedRecord (CaseBranch d) ws)
+pub half_fails_to_promise : (s s' : Standing) (n : Node) (h : Heard) (e : Effect) (a f : ℕ) (d : Case) (ws : List Write) → e.written ≡ forced (PreparedRecord (CaseBranch d) ws)
     → IsOld (is_promise d) n → IsOld (is_heuristic d) n → IsOld (is_forgot d) n
     → child_half_at s' (fails_in n h e (suc a) f) d
     ≡ failed_promise (child_front d (n.forced ++ take f (n.loose ++ PreparedRecord (CaseBranch d) ws ∷ [])) n.durable) (child_half_at s n d)
@@ -84,12 +84,20 @@ refused-fails : (o p e f n i r : Bool) → QuietWhileOpen n i p e r → (f ≡ t
 unfolding is_dead
 refused-fails o p e f n i r quiet sub = grind arith
 
-reading-fails : (root outcome above : Bool) (p : ParentHalf) (k : ChildHalf) (v : Wire) (front : ChildFront)
+pub reading-fails : (root outcome above : Bool) (p : ParentHalf) (k : ChildHalf) (v : Wire) (front : ChildFront)
     → QuietWhileOpen k.is_open v.issued k.prepared_kept k.prepared_ever v.read → (front.prepared ≡ true → k.prepared_kept ≡ true)
     → reading_from root true outcome above p (failed_half front k) v ≡ crash.hardens_failed_child front (crash.child_fails (reading_from root true outcome above p k v))
 reading-fails root outcome above p k v front quiet sub =
     rw (and-false v.issued, refused-fails k.obeyed_abort k.prepared_kept k.prepared_ever front.prepared k.is_open v.issued v.read quiet sub)
 
-reading-fails_to_promise : (root outcome above : Bool) (p : ParentHalf) (k : ChildHalf) (v : Wire) (front : ChildFront) → k.is_open ≡ true
+pub reading-fails_to_promise : (root outcome above : Bool) (p : ParentHalf) (k : ChildHalf) (v : Wire) (front : ChildFront) → k.is_open ≡ true
     → reading_from root true outcome above p (failed_promise front k) v ≡ crash.hardens_failed_child front (crash.fails_to_promise (reading_from root true outcome above p k v))
 reading-fails_to_promise root outcome above p k v front e = rw e (simp (and-false, dead-live, dead-promised))
+
+-- what the new front holds was kept
+front-out : (q : Record → Bool) (fo x y : List Record) → has q (fo ++ x) ≡ true → has q (fo ++ (x ++ y)) ≡ true
+unfolding has
+front-out q fo x y e = grind (arith, list_any-append)
+
+pub front-kept : (q : Record → Bool) (fo : List Record) (f : ℕ) (b : List Record) → has q (fo ++ take f b) ≡ true → has q (fo ++ b) ≡ true
+front-kept q fo f b e = subst (λ (l : List Record). has q (fo ++ l) ≡ true) (take-append-drop f b) (front-out q fo (take f b) (drop f b) e)

@@ -39,7 +39,7 @@ pub dead-promised : (a b c : Bool) → is_dead true a b c ≡ false
 unfolding is_dead
 dead-promised a b c = refl
 
-open_by : (f : Bool) (s : Standing) → f ≡ false → s ≡ ActiveStanding → is_live (phase_by f s) ≡ true
+pub open_by : (f : Bool) (s : Standing) → f ≡ false → s ≡ ActiveStanding → is_live (phase_by f s) ≡ true
 open_by f s e1 e2 = rw (e1, e2)
 
 -- The net.
@@ -54,7 +54,7 @@ reading-promised : (root outcome above : Bool) (p : ParentHalf) (k : ChildHalf) 
 reading-promised root outcome above p k v e = rw e (simp (and-false, dead-live, dead-promised))
 
 -- the child's half and the net were moved
-moved : (root outcome above : Bool) (p : ParentHalf) (k k' : ChildHalf) (v v' : Wire) → k ≡ k' → v ≡ v'
+pub moved : (root outcome above : Bool) (p : ParentHalf) (k k' : ChildHalf) (v v' : Wire) → k ≡ k' → v ≡ v'
     → reading_from root true outcome above p k v ≡ reading_from root true outcome above p k' v'
 moved root outcome above p k k' v v' e f =
     ap (λ a. reading_from root true outcome above p a v) e ∙ ap (λ a. reading_from root true outcome above p k' a) f

@@ -12,3 +12,4 @@ pub mod RootHalves
 pub mod RootRows
 pub mod RootStep
 pub mod LeafCrash
+pub mod FaultStep

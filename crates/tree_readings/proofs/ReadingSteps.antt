@@ -17,7 +17,7 @@ use Rattle.tree_readings.specs.ReadingOf.{reading_of, reading_from, is_root_tick
 use Rattle.tree_readings.specs.Halves.{promised, hardened}
 use Rattle.tree_readings.specs.Steps.{made_at, IsLeafPair, IsCascadedPair, IsRootPair}
 
-same_process-refl : (q : ProcessId) → same_process q q ≡ true
+pub same_process-refl : (q : ProcessId) → same_process q q ≡ true
 same_process-refl q = grind (arith, same_process_tells)
 
 outcome_elsewhere : (w : World) (q : ProcessId) (n : Node) (e : Effect) (x : Txn) → same_process q x.root ≡ false

@@ -27,7 +27,7 @@ use Rattle.tree_readings.proofs.LeafRows.{row_yes}
 use Rattle.tree_readings.proofs.CascadedRows.{row_aborts}
 use Rattle.tree_readings.proofs.CoordinatorHalves.{standing-by_records}
 
-effect_yes : (place : Place) (p : ProcessId) (k : Node) (a : DataAnswer) (d : Case) (n : ℕ) (ws : List Write) → IsReady (manager_view place k d) n a ws
+pub effect_yes : (place : Place) (p : ProcessId) (k : Node) (a : DataAnswer) (d : Case) (n : ℕ) (ws : List Write) → IsReady (manager_view place k d) n a ws
     → manager_hears place p k a (Prepare d n) ≡ leaf_effect (active_prepare_holding (leaf_of place p d) (Holds ws))
 effect_yes place p k a d n ws r =
     let v = manager_view place k d in

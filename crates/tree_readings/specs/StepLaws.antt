@@ -1,5 +1,5 @@
 -- The world's steps are moves of the pairs: one law for a row of each kind.
-use Rattle.std.specs.Prelude.{◌≡◌, ◌==◌, ◌&&◌, not, ℕ, Bool, true, false, Option, Some, None, List, [], ◌∷◌, ◌++◌}
+use Rattle.std.specs.Prelude.{◌≡◌, ◌==◌, ◌&&◌, not, ℕ, zero, suc, Bool, true, false, Option, Some, None, List, [], ◌∷◌, ◌++◌}
 use Rattle.tree_model.specs.declared.names.Case.{Case}
 use Rattle.tree_model.specs.declared.names.ProcessId.{ProcessId}
 use Rattle.tree_model.specs.declared.names.Ticket.{Ticket}
@@ -17,12 +17,16 @@ use Rattle.tree_model.specs.Nodes.{place_of, Node, DataAnswer, Holds, Effect}
 use Rattle.tree_model.specs.Standings.{CoordinatorView, ManagerView, manager_view, coordinator_view, case_of_child}
 use Rattle.tree_model.specs.World.{World, world_makes}
 use Rattle.tree_pairs.specs.ChildMoves.{votes_yes, hardens_child}
-use Rattle.tree_pairs.specs.Invariant.{PresumedAbort}
+use Rattle.tree_model.specs.declared.events.Fault.{Fault}
+use Rattle.tree_pairs.specs.Reading.{Reading}
+use Rattle.tree_pairs.specs.ChildCrash.{child_fails, fails_to_promise, hardens_failed_child}
+use Rattle.tree_pairs.specs.Invariant.{Common, PresumedAbort}
+use Rattle.tree_readings.specs.Halves.{child_front}
 use Rattle.tree_pairs.specs.ParentMoves.{hears_yes, hardens_parent}
 use Rattle.tree_pairs.specs.RootMoves.{decides_naming}
 use Rattle.tree_pairs.specs.CascadedMoves.{passes_abort}
 use Rattle.tree_readings.specs.ReadingOf.{reading_of}
-use Rattle.tree_readings.specs.Steps.{IsRootPair, IsLeafPair, IsCascadedPair, delivers}
+use Rattle.tree_readings.specs.Steps.{IsRootPair, IsLeafPair, IsCascadedPair, delivers, fails_at}
 
 -- The branch is Active, all its works are done, and its data hold these writes.
 pub record IsReady (v : ManagerView) (n : ℕ) (a : DataAnswer) (ws : List Write) : Type 0 where
@@ -69,3 +73,21 @@ RootDecides = (tree : List TreeEntry) (w w' : World) (above : Bool) (x : Txn) (t
     → IsLastVote (coordinator_view (place_of tree x.root) (w.at x.root) (root_case x)) (case_of_child (place_of tree x.root) (w.at x.root) x t) x t
     → world_makes tree w (delivers x.root i (Yes (child_case x t)) a) ≡ Some (e, w')
     → reading_of tree w' above (root_case x) t ≡ decides_naming (hears_yes (hardens_parent (reading_of tree w above (root_case x) t)))
+
+-- What a fault makes of the reading, by how many records were appended.
+abbrev pub promise_fault : ℕ → Reading → Reading
+promise_fault zero r = child_fails r
+promise_fault (suc k) r = fails_to_promise r
+
+-- A fault at PREPARE of a ready branch is the move of failing, before its promise or behind it, and then the forced
+-- front has moved on to where it is.
+abbrev pub ManagerFails : Type 0
+ManagerFails = (tree : List TreeEntry) (w w' : World) (above : Bool) (c : Case) (t : Ticket) (p : ProcessId) (i n : ℕ)
+    (a : DataAnswer) (ws : List Write) (f : Fault) (e : Effect)
+    → IsLeafPair tree c t p
+    → Common (reading_of tree w above c t)
+    → IsReady (manager_view (place_of tree t.child) (w.at t.child) (child_case c.txn t)) n a ws
+    → world_makes tree w (fails_at t.child i (Prepare (child_case c.txn t) n) a f) ≡ Some (e, w')
+    → reading_of tree w' above c t
+    ≡ hardens_failed_child (child_front (child_case c.txn t) (w'.at t.child).forced (w.at t.child).durable)
+        (promise_fault f.appended (reading_of tree w above c t))

@@ -8,6 +8,7 @@ use Rattle.tree_model.specs.declared.messages.Message.{Message}
 use Rattle.tree_model.specs.declared.events.Input.TheVariants.{Message as MessageInput}
 use Rattle.tree_model.specs.declared.events.Happening.TheVariants.{Input as Handles}
 use Rattle.tree_model.specs.declared.events.Step.{Step}
+use Rattle.tree_model.specs.declared.events.Fault.{Fault}
 use Rattle.tree_model.specs.declared.trees.TreeEntry.{TreeEntry}
 use Rattle.tree_model.specs.Names.{same_process, process_of}
 use Rattle.tree_model.specs.Nodes.{Node, AtRoot, AtLeaf, Below, role_of, Heard, DataAnswer, Effect, after}
@@ -43,3 +44,7 @@ delivers q i message a = record { step = record { process = q; happening = Handl
 pub record IsRootPair (tree : List TreeEntry) (x : Txn) (t : Ticket) : Type 0 where
   pub root : role_of tree x.root ≡ AtRoot
   pub child_elsewhere : same_process x.root t.child ≡ false
+
+-- The same, and the device fails in it.
+abbrev pub fails_at : ProcessId → ℕ → Message → DataAnswer → Fault → Move
+fails_at q i message a f = record { step = record { process = q; happening = Handles (MessageInput i message); fault = Some f }; data_answer = a }
