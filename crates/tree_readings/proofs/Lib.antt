@@ -13,3 +13,4 @@ pub mod RootRows
 pub mod RootStep
 pub mod LeafCrash
 pub mod FaultStep
+pub mod Inquiries

@@ -13,6 +13,7 @@ use Rattle.tree_model.specs.declared.trees.TreeEntry.{TreeEntry}
 use Rattle.tree_model.specs.Names.{same_process, process_of}
 use Rattle.tree_model.specs.Nodes.{Node, AtRoot, AtLeaf, Below, role_of, Heard, DataAnswer, Effect, after}
 use Rattle.tree_model.specs.World.{World, Move, put_at}
+use Rattle.tree_model.specs.Standings.{Mark, Unmarked, Promised, Decided, ToldOf, Finished}
 use Rattle.tree_readings.specs.ReadingOf.{is_root_ticket}
 
 -- a world after a step of one process that left this node and sent the messages of this effect
@@ -48,3 +49,11 @@ pub record IsRootPair (tree : List TreeEntry) (x : Txn) (t : Ticket) : Type 0 wh
 -- The same, and the device fails in it.
 abbrev pub fails_at : ProcessId → ℕ → Message → DataAnswer → Fault → Move
 fails_at q i message a f = record { step = record { process = q; happening = Handles (MessageInput i message); fault = Some f }; data_answer = a }
+
+-- A branch whose last record says this asks its parent at a restart.
+abbrev pub asks_by : Mark → Bool
+asks_by Promised = true
+asks_by Decided = true
+asks_by Unmarked = false
+asks_by (ToldOf o) = false
+asks_by Finished = false
