@@ -6,10 +6,11 @@ use Rattle.tree_model.specs.declared.events.Input.TheVariants.{Message as Messag
 use Rattle.tree_model.specs.declared.events.StepError.TheVariants.{Failed}
 use Rattle.tree_model.specs.declared.events.Fault.{Fault}
 use Rattle.tree_model.specs.declared.trees.TreeEntry.{TreeEntry}
-use Rattle.tree_model.specs.Nodes.{Node, Heard, DataAnswer, Effect, Role, after, fails_in, place_of, role_of, is_listed}
+use Rattle.tree_model.specs.Nodes.{Node, Heard, DataAnswer, Effect, Place, Role, after, fails_in, place_of, role_of, is_listed}
 use Rattle.tree_model.specs.Reactions.{Reacts, Refused, Does, reacts, hears}
-use Rattle.tree_model.specs.World.{World, Stepped, Makes, Refuses, world_makes, world_stepped, node_makes, input_makes, fault_effect}
-use Rattle.tree_readings.specs.Steps.{handled, made_at, delivers, fails_at}
+use Rattle.tree_model.specs.World.{World, Stepped, Makes, Refuses, world_makes, world_stepped, node_makes, input_makes, restart_makes, fault_effect}
+use Rattle.tree_model.specs.Restarts.{restarted, restart_effect}
+use Rattle.tree_readings.specs.Steps.{handled, made_at, delivers, fails_at, restarts_at}
 
 pair_same : {A B : Type 0} (d p q : A × B) → Some p ≡ Some q → p ≡ q
 pair_same d p q h = cc
@@ -67,3 +68,25 @@ failed_as tree w q role i message a f e w' known s =
     let both = failed_in tree w q i message a f e w' s in
     (both.0, subst (λ (r : Role). w' ≡ made_at w q (fails_in (w.at q) (record { input = MessageInput i message; data_answer = a }) (hears r (record { me = q; role = r; tree = tree }) (w.at q) a message) f.appended f.forced)
         (fault_effect (hears r (record { me = q; role = r; tree = tree }) (w.at q) a message) f.appended)) known both.1)
+
+-- A restart.
+
+restarted_by : (b : Bool) (w : World) (q : ProcessId) (place : Place) (k : ℕ) (e : Effect) (w' : World)
+    → (if b then world_stepped w q (restart_makes place (w.at q) k None) else None) ≡ Some (e, w')
+    → w' ≡ made_at w q (restarted place (w.at q) k) (restart_effect place (w.at q) k)
+restarted_by true w q place k e w' s =
+    let left = made_at w q (restarted place (w.at q) k) (restart_effect place (w.at q) k) in
+    let both : (restart_effect place (w.at q) k, left) ≡ (e, w') = pair_same (e, w') (restart_effect place (w.at q) k, left) (e, w') s in
+    sym (ap (λ (x : Effect × World). x.1) both)
+restarted_by false w q place k e w' s = absurd (cc)
+
+restarted_in : (tree : List TreeEntry) (w : World) (q : ProcessId) (k : ℕ) (a : DataAnswer) (e : Effect) (w' : World)
+    → world_makes tree w (restarts_at q k a) ≡ Some (e, w') → w' ≡ made_at w q (restarted (place_of tree q) (w.at q) k) (restart_effect (place_of tree q) (w.at q) k)
+unfolding world_makes node_makes
+restarted_in tree w q k a e w' s = restarted_by (is_listed tree q) w q (place_of tree q) k e w' s
+
+pub restarted_as : (tree : List TreeEntry) (w : World) (q : ProcessId) (role : Role) (k : ℕ) (a : DataAnswer) (e : Effect) (w' : World)
+    → role_of tree q ≡ role → world_makes tree w (restarts_at q k a) ≡ Some (e, w')
+    → w' ≡ made_at w q (restarted (record { me = q; role = role; tree = tree }) (w.at q) k) (restart_effect (record { me = q; role = role; tree = tree }) (w.at q) k)
+restarted_as tree w q role k a e w' known s =
+    subst (λ (r : Role). w' ≡ made_at w q (restarted (record { me = q; role = r; tree = tree }) (w.at q) k) (restart_effect (record { me = q; role = r; tree = tree }) (w.at q) k)) known (restarted_in tree w q k a e w' s)

@@ -14,3 +14,4 @@ pub mod RootStep
 pub mod LeafCrash
 pub mod FaultStep
 pub mod Inquiries
+pub mod RestartStep

@@ -1,5 +1,5 @@
 -- How one event of a process changes its half of a reading.
-use Rattle.std.specs.Prelude.{Bool, true, false, ◌||◌, ◌&&◌, List}
+use Rattle.std.specs.Prelude.{Bool, true, false, not, ◌||◌, ◌&&◌, List}
 use Rattle.tree_model.specs.declared.names.Case.{Case}
 use Rattle.tree_model.specs.declared.names.Outcome.TheVariants.{Committed as CommittedOutcome}
 use Rattle.tree_model.specs.declared.records.Record.{Record}
@@ -79,3 +79,28 @@ failed_half front k = record k {
 -- It failed behind the promise.
 abbrev pub failed_promise : ChildFront → ChildHalf → ChildHalf
 failed_promise front k = record (failed_half front k) { prepared_kept = true }
+
+-- The process restarted with this front.
+abbrev pub restarted_half : ChildFront → ChildHalf → ChildHalf
+restarted_half front k = record k {
+    failed = false;
+    is_open = false;
+    prepared_kept = front.prepared;
+    prepared_forced = front.prepared;
+    prepared_ever = front.prepared || k.prepared_ever;
+    learnt_commit_kept = front.learnt_commit;
+    learnt_commit_forced = front.learnt_commit;
+    learnt_abort_kept = front.learnt_abort;
+    learnt_abort_forced = front.learnt_abort;
+    heuristic_kept = front.heuristic;
+    heuristic_forced = front.heuristic;
+    heuristic_ever = front.heuristic || k.heuristic_ever;
+    heuristic_commits = front.heuristic_commits;
+    forgot_kept = front.forgot;
+    forgot_forced = front.forgot;
+    forgot_ever = front.forgot || k.forgot_ever;
+  }
+
+-- A front leaves its case in doubt.
+abbrev pub is_in_doubt : ChildFront → Bool
+is_in_doubt front = front.prepared && not front.learnt_commit && not front.learnt_abort && not front.forgot

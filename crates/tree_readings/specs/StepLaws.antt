@@ -14,19 +14,22 @@ use Rattle.tree_model.specs.declared.trees.TreeEntry.{TreeEntry}
 use Rattle.tree_model.specs.Names.{child_case, root_case, process_of}
 use Rattle.tree_model.specs.Records.{has, is_prepare}
 use Rattle.tree_model.specs.Nodes.{place_of, Node, DataAnswer, Holds, Effect}
-use Rattle.tree_model.specs.Standings.{CoordinatorView, ManagerView, manager_view, coordinator_view, case_of_child}
+use Rattle.tree_model.specs.Standings.{CoordinatorView, ManagerView, manager_view, coordinator_view, case_of_child, mark_of}
+use Rattle.tree_model.specs.declared.records.Record.{Record}
+use Rattle.tree_model.specs.declared.records.Branch.TheVariants.{Case as CaseBranch}
+use Rattle.tree_model.specs.Restarts.{left_of}
 use Rattle.tree_model.specs.World.{World, world_makes}
 use Rattle.tree_pairs.specs.ChildMoves.{votes_yes, hardens_child}
 use Rattle.tree_model.specs.declared.events.Fault.{Fault}
 use Rattle.tree_pairs.specs.Reading.{Reading}
-use Rattle.tree_pairs.specs.ChildCrash.{child_fails, fails_to_promise, hardens_failed_child}
+use Rattle.tree_pairs.specs.ChildCrash.{ChildFront, IsChildFront, child_fails, fails_to_promise, hardens_failed_child, child_restarts}
 use Rattle.tree_pairs.specs.Invariant.{Common, PresumedAbort}
-use Rattle.tree_readings.specs.Halves.{child_front}
+use Rattle.tree_readings.specs.Halves.{child_front, is_in_doubt}
 use Rattle.tree_pairs.specs.ParentMoves.{hears_yes, hardens_parent}
 use Rattle.tree_pairs.specs.RootMoves.{decides_naming}
 use Rattle.tree_pairs.specs.CascadedMoves.{passes_abort}
 use Rattle.tree_readings.specs.ReadingOf.{reading_of}
-use Rattle.tree_readings.specs.Steps.{IsRootPair, IsLeafPair, IsCascadedPair, delivers, fails_at}
+use Rattle.tree_readings.specs.Steps.{IsRootPair, IsLeafPair, IsCascadedPair, delivers, fails_at, restarts_at, asks_by}
 
 -- The branch is Active, all its works are done, and its data hold these writes.
 pub record IsReady (v : ManagerView) (n : ℕ) (a : DataAnswer) (ws : List Write) : Type 0 where
@@ -91,3 +94,20 @@ ManagerFails = (tree : List TreeEntry) (w w' : World) (above : Bool) (c : Case) 
     → reading_of tree w' above c t
     ≡ hardens_failed_child (child_front (child_case c.txn t) (w'.at t.child).forced (w.at t.child).durable)
         (promise_fault f.appended (reading_of tree w above c t))
+
+-- The last record of the branch asks exactly where its records leave it in doubt: its log is in order.
+abbrev pub LastRecordTells : Case → List Record → ChildFront → Type 0
+LastRecordTells d rs front = asks_by (mark_of (CaseBranch d) rs) ≡ is_in_doubt front
+
+-- A manager's restart is the move of a restart, with what it left of its log.
+abbrev pub ManagerRestarts : Type 0
+ManagerRestarts = (tree : List TreeEntry) (w w' : World) (above : Bool) (c : Case) (t : Ticket) (p : ProcessId) (k : ℕ)
+    (a : DataAnswer) (e : Effect)
+    → IsLeafPair tree c t p
+    → Common (reading_of tree w above c t)
+    → (let d = child_case c.txn t in let left = left_of (w.at t.child) k in
+       let front = child_front d left (w.at t.child).durable in
+       IsChildFront front (reading_of tree w above c t) × LastRecordTells d left front)
+    → world_makes tree w (restarts_at t.child k a) ≡ Some (e, w')
+    → reading_of tree w' above c t
+    ≡ child_restarts (child_front (child_case c.txn t) (left_of (w.at t.child) k) (w.at t.child).durable) (reading_of tree w above c t)

@@ -6,7 +6,7 @@ use Rattle.tree_model.specs.declared.names.Ticket.{Ticket}
 use Rattle.tree_model.specs.declared.names.Txn.{Txn}
 use Rattle.tree_model.specs.declared.messages.Message.{Message}
 use Rattle.tree_model.specs.declared.events.Input.TheVariants.{Message as MessageInput}
-use Rattle.tree_model.specs.declared.events.Happening.TheVariants.{Input as Handles}
+use Rattle.tree_model.specs.declared.events.Happening.TheVariants.{Input as Handles, Restart}
 use Rattle.tree_model.specs.declared.events.Step.{Step}
 use Rattle.tree_model.specs.declared.events.Fault.{Fault}
 use Rattle.tree_model.specs.declared.trees.TreeEntry.{TreeEntry}
@@ -57,3 +57,7 @@ asks_by Decided = true
 asks_by Unmarked = false
 asks_by (ToldOf o) = false
 asks_by Finished = false
+
+-- A process restarts; so many records behind the forced front are kept, and its device does not fail.
+abbrev pub restarts_at : ProcessId → ℕ → DataAnswer → Move
+restarts_at q k a = record { step = record { process = q; happening = Restart k; fault = None }; data_answer = a }
