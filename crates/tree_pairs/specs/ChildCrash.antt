@@ -126,6 +126,7 @@ child_loses front r = record r {
   learnt_commit_kept = front.learnt_commit;
   learnt_abort_kept = front.learnt_abort;
   heuristic_kept = front.heuristic;
+  heuristic_commits = front.heuristic_commits;
   forgot_kept = front.forgot;
 }
 

@@ -1,5 +1,6 @@
 //! One row of each kind: the world's step makes its move on the reading of a pair.
-ghost use Rattle.tree_readings.specs.StepLaws.{CascadedPassesAbort, ManagerVotesYes, RootDecides};
+ghost use Rattle.tree_readings.specs.StepLaws.{CascadedPassesAbort, RootDecides};
+ghost use Rattle.tree_readings.specs.StepLaws.{ManagerFails, ManagerRestarts, ManagerVotesYes};
 
 /// A manager votes YES.
 pub fn manager_votes_yes()
@@ -14,4 +15,14 @@ pub fn root_decides()
 /// A cascaded coordinator passes an ABORT on.
 pub fn cascaded_passes_abort()
     ensures moves { CascadedPassesAbort }
+{}
+
+/// A device fails as a manager promises.
+pub fn manager_fails()
+    ensures moves { ManagerFails }
+{}
+
+/// A manager restarts.
+pub fn manager_restarts()
+    ensures moves { ManagerRestarts }
 {}
