@@ -15,3 +15,4 @@ pub mod LeafCrash
 pub mod FaultStep
 pub mod Inquiries
 pub mod RestartStep
+pub mod Trimmed

@@ -6,7 +6,7 @@ use Rattle.tree_model.specs.declared.names.Ticket.{Ticket}
 use Rattle.tree_model.specs.declared.names.Txn.{Txn}
 use Rattle.tree_model.specs.declared.messages.Message.{Message}
 use Rattle.tree_model.specs.declared.events.Input.TheVariants.{Message as MessageInput}
-use Rattle.tree_model.specs.declared.events.Happening.TheVariants.{Input as Handles, Restart}
+use Rattle.tree_model.specs.declared.events.Happening.TheVariants.{Input as Handles, Restart, Trim}
 use Rattle.tree_model.specs.declared.events.Step.{Step}
 use Rattle.tree_model.specs.declared.events.Fault.{Fault}
 use Rattle.tree_model.specs.declared.trees.TreeEntry.{TreeEntry}
@@ -61,3 +61,7 @@ asks_by Finished = false
 -- A process restarts; so many records behind the forced front are kept, and its device does not fail.
 abbrev pub restarts_at : ProcessId → ℕ → DataAnswer → Move
 restarts_at q k a = record { step = record { process = q; happening = Restart k; fault = None }; data_answer = a }
+
+-- A process trims its log, and its device does not fail.
+abbrev pub trims_at : ProcessId → DataAnswer → Move
+trims_at q a = record { step = record { process = q; happening = Trim; fault = None }; data_answer = a }
