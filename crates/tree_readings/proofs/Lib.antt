@@ -16,3 +16,4 @@ pub mod FaultStep
 pub mod Inquiries
 pub mod RestartStep
 pub mod Trimmed
+pub mod TrimStep

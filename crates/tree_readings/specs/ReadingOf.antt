@@ -1,5 +1,5 @@
 -- The reading of a pair, read off the world: the parent's process, the child's process and the net.
-use Rattle.std.specs.Prelude.{Bool, true, false, not, ◌&&◌, ◌||◌, if◌then◌else◌, Option, Some, None, List, [], ◌∷◌, ◌++◌}
+use Rattle.std.specs.Prelude.{Bool, true, false, ◌&&◌, ◌||◌, Option, Some, None, List}
 use Rattle.std.specs.List.{list_any}
 use Rattle.tree_model.specs.declared.names.Case.{Case}
 use Rattle.tree_model.specs.declared.names.Ticket.{Ticket}
@@ -7,7 +7,7 @@ use Rattle.tree_model.specs.declared.names.Txn.{Txn}
 use Rattle.tree_model.specs.declared.names.Outcome.{Outcome}
 use Rattle.tree_model.specs.declared.names.Outcome.TheVariants.{Committed as CommittedOutcome, Aborted as AbortedOutcome}
 use Rattle.tree_model.specs.declared.messages.Message.{Message}
-use Rattle.tree_model.specs.declared.messages.Message.TheVariants.{Joined, Prepare, Yes, No, Read, Commit, Abort, Ack, Inquire}
+use Rattle.tree_model.specs.declared.messages.Message.TheVariants.{Joined, Prepare, No, Ack, Inquire}
 use Rattle.tree_model.specs.declared.messages.Envelope.{Envelope}
 use Rattle.tree_model.specs.declared.records.Record.{Record}
 use Rattle.tree_model.specs.declared.records.Record.TheVariants.{Collecting as CollectingRecord, Prepare as PrepareRecord, Commit as CommitRecord, Abort as AbortRecord, Told as ToldRecord}
@@ -17,14 +17,14 @@ use Rattle.tree_model.specs.declared.standings.Vote.{Vote}
 use Rattle.tree_model.specs.declared.standings.Vote.TheVariants.{Yes as VoteYes, No as VoteNo, Read as VoteRead}
 use Rattle.tree_model.specs.declared.events.Told.{Told}
 use Rattle.tree_model.specs.declared.events.Conclusion.{Conclusion}
-use Rattle.tree_model.specs.declared.events.Conclusion.TheVariants.{Committed as ConcludedCommitted, Aborted as ConcludedAborted, ReadOnly}
+use Rattle.tree_model.specs.declared.events.Conclusion.TheVariants.{Committed as ConcludedCommitted}
 use Rattle.tree_model.specs.declared.names.Presumption.{Presumption}
 use Rattle.tree_model.specs.declared.names.Presumption.TheVariants.{PresumeAbort, PresumeCommit}
 use Rattle.tree_model.specs.declared.trees.TreeEntry.{TreeEntry}
-use Rattle.tree_model.specs.Names.{same_txn, same_ticket, same_case, child_case, process_of}
+use Rattle.tree_model.specs.Names.{same_txn, same_case, child_case, process_of}
 use Rattle.tree_model.specs.Records.{has, in_list, is_branch, is_collecting, is_prepare, is_commit, is_abort, is_end, is_prepared, is_committed, is_rolled_back, is_heuristic, is_decided, is_forgot}
 use Rattle.tree_model.specs.Nodes.{Place, place_of, role_of, is_leaf, Node, kept}
-use Rattle.tree_model.specs.Memory.{Memory, Phase as MemoryPhase, Idle, Open, Asked, Over, memory_of, voted_so, has_acked}
+use Rattle.tree_model.specs.Memory.{Memory, Phase as MemoryPhase, Idle, Open, Asked, Over, memory_of, has_acked}
 use Rattle.tree_model.specs.Standings.{standing_of}
 use Rattle.tree_model.specs.World.{World}
 use Rattle.tree_model.specs.Outcomes.{sent, has_accepted, has_heard_vote, is_commit_outcome, is_yes_message, is_read_message, is_outcome_message, is_joined_message, is_told_aborted, follows}
@@ -184,7 +184,8 @@ parent_half_at s m n c t =
       first_read = has_heard_vote n c t (is_vote VoteRead);
       told_committed = list_any (is_told_committed c.txn) n.told;
       told_aborted = list_any (is_told_aborted c.txn) n.told;
-      begun = is_begun m.phase || list_any (is_told_of_txn c.txn) n.told || list_any (λ y. same_txn y c.txn) n.dropped || has (is_commit c) n.life;
+      begun = is_begun m.phase || list_any (is_told_of_txn c.txn) n.told || list_any
+          (λ y. same_txn y c.txn) n.dropped || has (is_commit c) n.life;
       obeyed_abort = follows (is_abort c) (is_prepare c) n.life;
       collecting_kept = has (is_collecting c) (kept n);
       collecting_forced = has (is_collecting c) n.forced;
@@ -238,12 +239,15 @@ child_half_at s k d =
       prepared_ever = has (is_promise d) k.durable;
       learnt_commit_kept = has (is_learnt_commit d) (kept k);
       learnt_commit_forced = has (is_learnt_commit d) k.forced;
-      learnt_abort_kept = has (is_learnt_abort d) (kept k) || (has (is_abort d) (kept k) && has (is_prepare d) (kept k));
-      learnt_abort_forced = has (is_learnt_abort d) k.forced || (has (is_abort d) k.forced && has (is_prepare d) k.forced);
+      learnt_abort_kept = has (is_learnt_abort d) (kept k) ||
+          (has (is_abort d) (kept k) && has (is_prepare d) (kept k));
+      learnt_abort_forced = has (is_learnt_abort d) k.forced ||
+          (has (is_abort d) k.forced && has (is_prepare d) k.forced);
       heuristic_kept = has (is_heuristic d) (kept k);
       heuristic_forced = has (is_heuristic d) k.forced;
       heuristic_ever = has (is_heuristic d) k.durable;
-      heuristic_commits = has (is_decided d CommittedOutcome) (kept k) || has (is_decided d CommittedOutcome) k.durable;
+      heuristic_commits = has (is_decided d CommittedOutcome) (kept k) || has
+          (is_decided d CommittedOutcome) k.durable;
       forgot_kept = has (is_forgot d) (kept k);
       forgot_forced = has (is_forgot d) k.forced;
       forgot_ever = has (is_forgot d) k.durable;
@@ -318,7 +322,9 @@ reading_from root manager outcome above p k v =
       first_read = p.first_read;
       told_committed = root && p.told_committed;
       told_aborted = root && p.told_aborted;
-      refused = is_refused root (is_dead (p.commit_kept || outcome) (is_live p.phase) p.begun false) p.obeyed_abort (is_dead (p.own_prepare_kept || p.own_prepare_ever) (is_live p.phase) v.given v.read_up);
+      refused = is_refused root (is_dead (p.commit_kept || outcome) (is_live p.phase) p.begun false)
+          p.obeyed_abort (is_dead (p.own_prepare_kept || p.own_prepare_ever) (is_live p.phase) v.given
+          v.read_up);
       took_part_up = is_participant root (is_born root p.begun v.given) above;
       read_up = v.read_up;
       collecting_kept = p.collecting_kept;
@@ -336,7 +342,8 @@ reading_from root manager outcome above p k v =
       child_failed = k.failed;
       issued = v.issued;
       ticket_open = v.issued && k.is_open;
-      child_refused = k.obeyed_abort || is_dead (k.prepared_kept || k.prepared_ever) k.is_open v.issued v.read;
+      child_refused = k.obeyed_abort || is_dead (k.prepared_kept || k.prepared_ever) k.is_open v.issued
+          v.read;
       child_committed = k.committed;
       prepared_kept = k.prepared_kept;
       prepared_forced = k.prepared_forced;
@@ -370,6 +377,6 @@ is_root_ticket (Some u) = false
 abbrev pub reading_of : List TreeEntry → World → Bool → Case → Ticket → Reading
 reading_of tree w above c t =
     reading_from (is_root_ticket c.ticket) (is_leaf (role_of tree t.child)) (is_commit_outcome w c.txn) above
-      (parent_half (place_of tree (process_of c)) (w.at (process_of c)) c t)
-      (child_half (place_of tree t.child) (w.at t.child) (child_case c.txn t))
-      (wire c t w.net)
+    (parent_half (place_of tree (process_of c)) (w.at (process_of c)) c t)
+    (child_half (place_of tree t.child) (w.at t.child) (child_case c.txn t))
+    (wire c t w.net)

@@ -1,5 +1,5 @@
 -- How an input of one process moves the readings of the world.
-use Rattle.std.specs.Prelude.{◌≡◌, ℕ, Bool, true, false, Option, Some, None, List, ◌++◌}
+use Rattle.std.specs.Prelude.{◌≡◌, ℕ, Bool, true, false, Some, None, List, ◌++◌}
 use Rattle.tree_model.specs.declared.names.Case.{Case}
 use Rattle.tree_model.specs.declared.names.ProcessId.{ProcessId}
 use Rattle.tree_model.specs.declared.names.Ticket.{Ticket}
@@ -7,7 +7,6 @@ use Rattle.tree_model.specs.declared.names.Txn.{Txn}
 use Rattle.tree_model.specs.declared.messages.Message.{Message}
 use Rattle.tree_model.specs.declared.events.Input.TheVariants.{Message as MessageInput}
 use Rattle.tree_model.specs.declared.events.Happening.TheVariants.{Input as Handles, Restart, Trim}
-use Rattle.tree_model.specs.declared.events.Step.{Step}
 use Rattle.tree_model.specs.declared.events.Fault.{Fault}
 use Rattle.tree_model.specs.declared.trees.TreeEntry.{TreeEntry}
 use Rattle.tree_model.specs.Names.{same_process, process_of}
@@ -39,7 +38,10 @@ pub record IsCascadedPair (tree : List TreeEntry) (c : Case) (t : Ticket) (p : P
 
 -- a message is delivered to a process, and its device does not fail
 abbrev pub delivers : ProcessId → ℕ → Message → DataAnswer → Move
-delivers q i message a = record { step = record { process = q; happening = Handles (MessageInput i message); fault = None }; data_answer = a }
+delivers q i message a = record {
+  step = record { process = q; happening = Handles (MessageInput i message); fault = None };
+  data_answer = a;
+}
 
 -- The parent of the pair is the root's case of this transaction, and the child is another process.
 pub record IsRootPair (tree : List TreeEntry) (x : Txn) (t : Ticket) : Type 0 where
@@ -48,7 +50,10 @@ pub record IsRootPair (tree : List TreeEntry) (x : Txn) (t : Ticket) : Type 0 wh
 
 -- The same, and the device fails in it.
 abbrev pub fails_at : ProcessId → ℕ → Message → DataAnswer → Fault → Move
-fails_at q i message a f = record { step = record { process = q; happening = Handles (MessageInput i message); fault = Some f }; data_answer = a }
+fails_at q i message a f = record {
+  step = record { process = q; happening = Handles (MessageInput i message); fault = Some f };
+  data_answer = a;
+}
 
 -- A branch whose last record says this asks its parent at a restart.
 abbrev pub asks_by : Mark → Bool
@@ -60,7 +65,10 @@ asks_by Finished = false
 
 -- A process restarts; so many records behind the forced front are kept, and its device does not fail.
 abbrev pub restarts_at : ProcessId → ℕ → DataAnswer → Move
-restarts_at q k a = record { step = record { process = q; happening = Restart k; fault = None }; data_answer = a }
+restarts_at q k a = record {
+  step = record { process = q; happening = Restart k; fault = None };
+  data_answer = a;
+}
 
 -- A process trims its log, and its device does not fail.
 abbrev pub trims_at : ProcessId → DataAnswer → Move

@@ -1,5 +1,5 @@
 //! One row of each kind: the world's step makes its move on the reading of a pair.
-ghost use Rattle.tree_readings.specs.StepLaws.{CascadedPassesAbort, RootDecides};
+ghost use Rattle.tree_readings.specs.StepLaws.{CascadedPassesAbort, RootDecides, RootTrims};
 ghost use Rattle.tree_readings.specs.StepLaws.{ManagerFails, ManagerRestarts, ManagerVotesYes};
 
 /// A manager votes YES.
@@ -25,4 +25,9 @@ pub fn manager_fails()
 /// A manager restarts.
 pub fn manager_restarts()
     ensures moves { ManagerRestarts }
+{}
+
+/// The root trims its log.
+pub fn root_trims()
+    ensures moves { RootTrims }
 {}
