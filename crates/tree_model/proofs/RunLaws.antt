@@ -1,11 +1,10 @@
 -- A run, told process by process.
-use Rattle.std.proofs.Common.{if◌then◌else◌, ◌≡◌, ◌≢◌, ◌⊎◌, ◌∙◌, ap, sym, inl, inr, Bool, true, false, List, [], ◌∷◌, ◌++◌, Option, Some, None, refl, arith, subst}
+use Rattle.std.proofs.Common.{if◌then◌else◌, ◌≡◌, ◌∙◌, ap, sym, inl, inr, Bool, true, false, List, ◌∷◌, ◌++◌, Some, None, refl, subst}
 use Rattle.tree_model.specs.declared.names.ProcessId.{ProcessId}
 use Rattle.tree_model.specs.declared.trees.TreeEntry.{TreeEntry}
-use Rattle.tree_model.specs.Names.{same_process}
 use Rattle.tree_model.specs.NameLaws.{same_process_tells}
 use Rattle.tree_model.specs.Nodes.{place_of, is_listed, Node, Effect}
-use Rattle.tree_model.specs.World.{World, Move, Stepped, Refuses, Makes, node_makes, world_makes, world_stepped, put_at, Made, IsRun, opens, makes, made_by, node_by, node_left, net_by}
+use Rattle.tree_model.specs.World.{World, Move, Stepped, Refuses, Makes, node_makes, world_makes, world_stepped, put_at, Made, IsRun, opens, makes, made_by, node_by, net_by}
 
 -- what a move makes of the world is what it makes of its process
 pub record MakesAt (tree : List TreeEntry) (w : World) (m : Move) (e : Effect) (w' : World) : Type 0 where
@@ -44,11 +43,11 @@ node_step : (tree : List TreeEntry) (es : List Made) (w : World) (m : Move) (e :
 unfolding made_by node_by
 node_step tree es w m e w' p before h =
     rw h.world (elim (same_process_tells m.step.process p) [
-      inl t ↦
-        let P : ProcessId → Type 0 = λ q. node_makes (place_of tree q) (w.at q) m ≡ Makes e h.node in
-        let made : node_makes (place_of tree p) (w.at p) m ≡ Makes e h.node = subst P t.1 h.made in
-        let again : node_makes (place_of tree p) (node_by (place_of tree p) (made_by p es)) m ≡ Makes e h.node = rw before at made in
-        rw (t.0, again) refl
+      | inl t ↦
+          let P : ProcessId → Type 0 = λ q. node_makes (place_of tree q) (w.at q) m ≡ Makes e h.node in
+          let made : node_makes (place_of tree p) (w.at p) m ≡ Makes e h.node = subst P t.1 h.made in
+          let again : node_makes (place_of tree p) (node_by (place_of tree p) (made_by p es)) m ≡ Makes e h.node = rw before at made in
+          rw (t.0, again) refl
       | inr f ↦ rw f.0 before
     ])
 

@@ -1,9 +1,11 @@
 pub mod Errors
 pub mod Names
+pub mod Branches
 pub mod NameLaws
 pub mod Texts
 pub mod Records
 pub mod Nodes
+pub mod Trees
 pub mod Memory
 pub mod Standings
 pub mod CoordinatorRows
@@ -14,4 +16,6 @@ pub mod Restarts
 pub mod World
 pub mod Outcomes
 pub mod Plays
+pub mod Views
+pub mod Counts
 pub mod Rows

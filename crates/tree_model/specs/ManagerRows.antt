@@ -1,6 +1,6 @@
 -- The reaction table of resource managers: for each standing and input of a branch what is written and sent, and
 -- the new view. What the manager's data answer comes with the input.
-use Rattle.std.specs.Prelude.{◌+◌, ℕ, Bool, true, false, ◌==◌, ◌&&◌, not, if◌then◌else◌, Option, Some, None, List, [], ◌∷◌, ◌++◌}
+use Rattle.std.specs.Prelude.{◌+◌, ℕ, Bool, true, false, ◌==◌, ◌&&◌, not, if◌then◌else◌, Option, Some, None, List, [], ◌∷◌}
 use Rattle.tree_model.specs.declared.names.Case.{Case}
 use Rattle.tree_model.specs.declared.names.ProcessId.{ProcessId}
 use Rattle.tree_model.specs.declared.names.Outcome.{Outcome}
@@ -17,9 +17,9 @@ use Rattle.tree_model.specs.declared.records.Record.TheVariants.{Prepared as Pre
 use Rattle.tree_model.specs.declared.standings.Standing.{Standing}
 use Rattle.tree_model.specs.declared.standings.Standing.TheVariants.{Unknown, Active, Prepared, Heuristic}
 use Rattle.tree_model.specs.Names.{same_outcome}
-use Rattle.tree_model.specs.Nodes.{Written, DataAnswer, Holding, ReadsOnly, Holds}
+use Rattle.tree_model.specs.Nodes.{Written, Holding, ReadsOnly, Holds}
 use Rattle.tree_model.specs.Standings.{ManagerView, unknown_branch, standing_branch}
-use Rattle.tree_model.specs.CoordinatorRows.{forced, plain, post}
+use Rattle.tree_model.specs.CoordinatorRows.{forced, post}
 
 -- a manager in one of its branches
 pub record Leaf : Type 0 where

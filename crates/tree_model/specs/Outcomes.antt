@@ -1,5 +1,5 @@
 -- How transactions end, and the headline.
-use Rattle.std.specs.Prelude.{◌≡◌, ◌≢◌, ◌⊎◌, ℕ, Bool, true, false, ◌&&◌, ◌||◌, if◌then◌else◌, Option, Some, None, List, [], ◌∷◌, ◌++◌}
+use Rattle.std.specs.Prelude.{◌≡◌, ◌≢◌, ◌⊎◌, Bool, true, false, ◌&&◌, ◌||◌, if◌then◌else◌, List, [], ◌∷◌}
 use Rattle.std.specs.List.{list_any}
 use Rattle.tree_model.specs.declared.names.Case.{Case}
 use Rattle.tree_model.specs.declared.names.ProcessId.{ProcessId}
@@ -14,10 +14,8 @@ use Rattle.tree_model.specs.declared.records.Record.{Record}
 use Rattle.tree_model.specs.declared.standings.Standing.TheVariants.{Active}
 use Rattle.tree_model.specs.declared.standings.Vote.{Vote}
 use Rattle.tree_model.specs.declared.standings.Vote.TheVariants.{Yes as VoteYes, Read as VoteRead}
-use Rattle.tree_model.specs.declared.events.Act.{Act}
 use Rattle.tree_model.specs.declared.events.Act.TheVariants.{Decide, Forget}
 use Rattle.tree_model.specs.declared.events.Input.TheVariants.{Act as ActInput}
-use Rattle.tree_model.specs.declared.events.Happening.{Happening}
 use Rattle.tree_model.specs.declared.events.Happening.TheVariants.{Input as Handles}
 use Rattle.tree_model.specs.declared.events.Conclusion.{Conclusion}
 use Rattle.tree_model.specs.declared.events.Conclusion.TheVariants.{Aborted as ConcludedAborted}
@@ -25,9 +23,9 @@ use Rattle.tree_model.specs.declared.events.Told.{Told}
 use Rattle.tree_model.specs.declared.trees.TreeEntry.{TreeEntry}
 use Rattle.tree_model.specs.Names.{same_txn, same_ticket, same_case, root_case, child_case, process_of}
 use Rattle.tree_model.specs.Records.{has, is_commit, is_abort, is_prepare, is_prepared, is_committed, is_rolled_back, is_heuristic, is_decided, is_told, is_forgot}
-use Rattle.tree_model.specs.Nodes.{Role, AtRoot, Below, AtLeaf, role_of, place_of, Node, kept, Written}
+use Rattle.tree_model.specs.Nodes.{Role, AtRoot, Below, AtLeaf, role_of, place_of, Node, kept}
 use Rattle.tree_model.specs.Standings.{manager_view}
-use Rattle.tree_model.specs.World.{World, Made, IsRun, Continues}
+use Rattle.tree_model.specs.World.{World, Made, Continues}
 
 -- Histories.
 

@@ -1,6 +1,6 @@
 -- A list of events as moves, where each manager is a plain leaf: it locks nothing, does all work that comes in order,
 -- and votes YES if one of its works was a put or a del. Restarts name the number of records that stay.
-use Rattle.std.specs.Prelude.{◌+◌, ◌-◌, ◌==◌, ℕ, zero, suc, Bool, true, false, ◌&&◌, not, if◌then◌else◌, Option, Some, None, List, [], ◌∷◌, ◌++◌, fold, length, slice_get}
+use Rattle.std.specs.Prelude.{◌+◌, ◌==◌, ℕ, zero, suc, Bool, true, ◌&&◌, if◌then◌else◌, Option, Some, None, List, [], ◌∷◌, ◌++◌, fold, length, slice_get}
 use Rattle.std.specs.List.{list_any}
 use Rattle.tree_model.specs.declared.names.Case.{Case}
 use Rattle.tree_model.specs.declared.names.ProcessId.{ProcessId}
@@ -19,10 +19,10 @@ use Rattle.tree_model.specs.declared.events.Happening.TheVariants.{Input as Hand
 use Rattle.tree_model.specs.declared.events.StepError.{StepError}
 use Rattle.tree_model.specs.declared.events.StepError.TheVariants.{NoSuch}
 use Rattle.tree_model.specs.declared.trees.TreeEntry.{TreeEntry}
-use Rattle.tree_model.specs.Names.{same_case, process_of, root_case}
+use Rattle.tree_model.specs.Names.{same_case, process_of}
 use Rattle.tree_model.specs.Records.{same_bytes}
-use Rattle.tree_model.specs.Texts.{reaction_lines, logged_text}
-use Rattle.tree_model.specs.Nodes.{place_of, is_listed, Node, Heard, DataAnswer, Holding, ReadsOnly, Holds, Effect, reaction_of}
+use Rattle.tree_model.specs.Texts.{reaction_lines}
+use Rattle.tree_model.specs.Nodes.{place_of, is_listed, Node, Heard, DataAnswer, Holding, ReadsOnly, Holds, reaction_of}
 use Rattle.tree_model.specs.World.{World, opened_world, Move, Stepped, Refuses, Makes, node_makes, put_at, Made}
 
 -- Plain leaves.
@@ -137,9 +137,9 @@ abbrev pub settle_next : (Player → Played) → List TreeEntry → Player → O
 settle_next again tree p None = Goes p
 settle_next again tree p (Some k) = then_again (delivers tree p k (sent_as p.world.net k))
   where
-  then_again : Played → Played
-  then_again (Goes q) = again q
-  then_again (Stops e q) = Stops e q
+    then_again : Played → Played
+    then_again (Goes q) = again q
+    then_again (Stops e q) = Stops e q
 
 abbrev pub settles : ℕ → List TreeEntry → Player → Played
 settles zero tree p = Goes p

@@ -1,7 +1,7 @@
 -- What a process does with an input: an effect, or a refusal after which nothing has changed.
 -- The refusals come in this order: no such process (9), the process has failed (6), no such case here (3), the case is
 -- not in doubt (7) or has nothing to forget (8), it is closed (5), the child cannot take it (4).
-use Rattle.std.specs.Prelude.{◌+◌, ℕ, Bool, true, false, if◌then◌else◌, Option, Some, None, List, [], ◌∷◌, ◌++◌, map}
+use Rattle.std.specs.Prelude.{Bool, true, false, if◌then◌else◌, Option, Some, None, List, [], ◌∷◌, map}
 use Rattle.tree_model.specs.declared.names.Case.{Case}
 use Rattle.tree_model.specs.declared.names.ProcessId.{ProcessId}
 use Rattle.tree_model.specs.declared.names.Ticket.{Ticket}
@@ -25,12 +25,12 @@ use Rattle.tree_model.specs.declared.events.StepError.{StepError}
 use Rattle.tree_model.specs.declared.events.StepError.TheVariants.{UnknownTxn, NotAChild, Closed, Failed, NotInDoubt, NothingToForget, NoSuch}
 use Rattle.tree_model.specs.declared.events.Told.{Told}
 use Rattle.tree_model.specs.declared.trees.TreeEntry.{TreeEntry}
-use Rattle.tree_model.specs.Names.{child_case, root_case, presumed, process_of}
+use Rattle.tree_model.specs.Names.{child_case, root_case, presumed}
 use Rattle.tree_model.specs.Records.{boot_of}
 use Rattle.tree_model.specs.Nodes.{Role, AtRoot, Below, AtLeaf, Place, is_listed, is_child, is_leaf, role_of, DataAnswer, Heard, Node, kept, Effect, no_effect}
 use Rattle.tree_model.specs.Memory.{Memory, memory_of, next_txn, next_ticket, active_ticket, ticket_of_child, of_ticket}
 use Rattle.tree_model.specs.Standings.{CoordinatorView, ManagerView, coordinator_view, manager_view, some_case, case_of_child}
-use Rattle.tree_model.specs.CoordinatorRows.{Seat, Row, quiet, post, active_join, active_work, active_commit, active_abort, collecting_abort, ByAct, prepared_ask, tells_outcome, on_vote, on_ack, on_inquiry, on_joined, on_prepare, on_commit, on_abort}
+use Rattle.tree_model.specs.CoordinatorRows.{Seat, Row, post, active_join, active_work, active_commit, active_abort, collecting_abort, ByAct, prepared_ask, tells_outcome, on_vote, on_ack, on_inquiry, on_joined, on_prepare, on_commit, on_abort}
 use Rattle.tree_model.specs.ManagerRows.{Leaf, LeafRow, prepared_decide, heuristic_forget, untold_ask}
 use Rattle.tree_model.specs.ManagerRows as leaf
 

@@ -1,11 +1,9 @@
 -- Restart and trim of one process.
-use Rattle.std.specs.Prelude.{◌+◌, ℕ, zero, suc, Bool, true, false, not, ◌&&◌, ◌||◌, if◌then◌else◌, Option, Some, None, List, [], ◌∷◌, ◌++◌, take, filter, map, length}
+use Rattle.std.specs.Prelude.{◌+◌, ℕ, zero, suc, Bool, true, false, not, ◌&&◌, if◌then◌else◌, Option, Some, None, List, [], ◌∷◌, ◌++◌, take, filter, map, length}
 use Rattle.std.specs.List.{list_any, flat_map}
 use Rattle.tree_model.specs.declared.names.Case.{Case}
 use Rattle.tree_model.specs.declared.names.ProcessId.{ProcessId}
-use Rattle.tree_model.specs.declared.names.Ticket.{Ticket}
 use Rattle.tree_model.specs.declared.names.Txn.{Txn}
-use Rattle.tree_model.specs.declared.messages.Message.{Message}
 use Rattle.tree_model.specs.declared.messages.Message.TheVariants.{Commit, Abort, Inquire}
 use Rattle.tree_model.specs.declared.messages.Envelope.{Envelope}
 use Rattle.tree_model.specs.declared.records.Branch.{Branch}
@@ -19,10 +17,10 @@ use Rattle.tree_model.specs.declared.events.Told.{Told}
 use Rattle.tree_model.specs.declared.events.Act.TheVariants.{Begin}
 use Rattle.tree_model.specs.declared.events.Input.{Input}
 use Rattle.tree_model.specs.declared.events.Input.TheVariants.{Act as ActInput, Message as MessageInput}
-use Rattle.tree_model.specs.Names.{same_txn, same_case, root_case}
+use Rattle.tree_model.specs.Names.{same_txn, root_case}
 use Rattle.tree_model.specs.Records.{has, is_commit, record_case, record_branch, prepares_branch, cases_in, boot_of}
-use Rattle.tree_model.specs.Nodes.{Role, AtRoot, Below, AtLeaf, Place, Node, kept, Heard, Written, Effect, entries_written, fails_with}
-use Rattle.tree_model.specs.Memory.{Memory, fresh_memory, memory_of, next_txn}
+use Rattle.tree_model.specs.Nodes.{Role, AtRoot, Below, AtLeaf, Place, Node, kept, Heard, Written, Effect, fails_with}
+use Rattle.tree_model.specs.Memory.{fresh_memory}
 use Rattle.tree_model.specs.Standings.{CoordinatorView, ManagerView, coordinator_standing, view_at, marked_branch, Mark, Unmarked, Finished, mark_of}
 use Rattle.tree_model.specs.CoordinatorRows.{Seat, each, up, post}
 use Rattle.tree_model.specs.Store.{stored, base_records}

@@ -1,5 +1,5 @@
 -- The spelling of names, messages and records in scripts and traces.
-use Rattle.std.specs.Prelude.{ℕ, ◌+◌, Bool, true, false, List, [], ◌∷◌, ◌++◌, codes, Option, Some, None}
+use Rattle.std.specs.Prelude.{◌≡◌, ◌<◌, ◌^◌, ℕ, ◌+◌, Bool, true, false, List, [], ◌∷◌, ◌++◌, codes, Option, Some, None}
 use Rattle.std.specs.Fmt.{decimal}
 use Rattle.tree_model.specs.declared.names.Case.{Case}
 use Rattle.tree_model.specs.declared.names.Ticket.{Ticket}
@@ -141,3 +141,25 @@ kept_lines p (Some n) = (codes "trim " ++ decimal p ++ codes " " ++ decimal n) �
 abbrev pub reaction_lines : ℕ → ℕ → Reaction → List (List ℕ)
 reaction_lines p sent r =
     begun_lines r.begun ++ logged_lines p r.written ++ told_lines r.told ++ envelope_lines sent r.letters ++ kept_lines p r.kept
+
+-- Which names have a text of their own.
+
+-- numbers that the fields of a name can be
+pub record FitsName (boot number : ℕ) : Type 0 where
+  pub boot_fits : boot < 2 ^ 64
+  pub number_fits : number < 2 ^ 64
+
+abbrev pub FitsOwner : Option Ticket → Type 0
+FitsOwner None = Unit {0}
+FitsOwner (Some t) = (t.child.0 < 2 ^ 64) × FitsName t.boot t.number
+
+abbrev pub FitsCase : Case → Type 0
+FitsCase c = FitsName c.txn.boot c.txn.sequence × FitsOwner c.ticket
+
+-- no two cases of one root have one text
+abbrev pub TellsCases : Case → Case → Type 0
+TellsCases c d = FitsCase c → FitsCase d → c.txn.root ≡ d.txn.root → case_text c ≡ case_text d → c ≡ d
+
+-- no two tickets have one text
+abbrev pub TellsTickets : Ticket → Ticket → Type 0
+TellsTickets t u = FitsOwner (Some t) → FitsOwner (Some u) → ticket_text t ≡ ticket_text u → t ≡ u

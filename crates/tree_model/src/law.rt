@@ -1,9 +1,18 @@
 //! Laws of the definitions, each on a function with an empty body.
 
-ghost use Rattle.std.specs.Prelude.{◌≡◌, List};
+ghost use Rattle.std.specs.Prelude.{◌≡◌, ◌↔◌, true, ℕ, List};
+ghost use Rattle.tree_model.specs.declared.names.Ticket.{Ticket};
+ghost use Rattle.tree_model.specs.Names.{same_case, same_process, same_ticket, same_txn};
+ghost use Rattle.tree_model.specs.Texts.{TellsCases, TellsTickets};
+ghost use Rattle.tree_model.specs.CoordinatorRows.{Seat};
+ghost use Rattle.tree_model.specs.Counts.{CommittedUpdateCosts};
 ghost use Rattle.tree_model.specs.declared.names.ProcessId.{ProcessId};
 ghost use Rattle.tree_model.specs.declared.trees.TreeEntry.{TreeEntry};
-ghost use Rattle.tree_model.specs.Nodes.{place_of};
+ghost use Rattle.tree_model.specs.declared.names.Case.{Case};
+ghost use Rattle.tree_model.specs.declared.names.Presumption.{Presumption};
+ghost use Rattle.tree_model.specs.declared.names.Txn.{Txn};
+ghost use Rattle.tree_model.specs.Nodes.{DataAnswer, Node, place_of};
+ghost use Rattle.tree_model.specs.Views.{ManagerViews, RootBegins, RootViews};
 ghost use Rattle.tree_model.specs.World.{IsRun, Made, World, made_by, net_by, node_by};
 ghost use Rattle.tree_model.specs.Rows.{Runs, flat_pa_commit, flat_pc_commit, late_no_vote_pa, root_restart_collecting_pc, late_inquiry_after_trim_pa, cascaded_abort_after_prepare_pc, cascaded_readonly_vote_end_lost_pc, heuristic_rollback_mismatch, late_no_vote_pc, readonly_transactions, root_restart_committing_pa, forgotten_ticket_votes_no, cascaded_restart_pa, heuristic_rollback_forgotten, heuristic_forgotten_before_vote, cascaded_pa_commit, ask_before_prepare, ask_after_commit, commit_again_after_end, commit_again_before_votes, trim_manager_twice, collecting_in_doubt_pc, cascaded_in_doubt_pa};
 
@@ -40,4 +49,34 @@ pub fn processes_are_their_moves()
     ensures processes { (tree : List TreeEntry) (es : List Made) (w : World) → IsRun tree es w → (p : ProcessId)
         → w.at p ≡ node_by (place_of tree p) (made_by p es) }
     ensures net { (tree : List TreeEntry) (es : List Made) (w : World) → IsRun tree es w → w.net ≡ net_by es }
+{}
+
+/// A manager's new view, as its reaction table gives it, is what its extended lists read as.
+pub fn manager_views_follow_the_table()
+    ensures { (me p : ProcessId) (tree : List TreeEntry) (n : Node) (d : Case) → ManagerViews me p tree n d }
+{}
+
+/// The root's new view, as its reaction table gives it, is what its extended lists read as.
+pub fn root_views_follow_the_table()
+    ensures rows { (me : ProcessId) (tree : List TreeEntry) (n : Node) (x : Txn) → RootViews me tree n x }
+    ensures begins { (me : ProcessId) (tree : List TreeEntry) (n : Node) (p : Presumption) (a : DataAnswer) → RootBegins me tree n p a }
+{}
+
+/// What a committed update of a flat tree costs its root and each of its managers.
+pub fn committed_update_costs()
+    ensures { (s : Seat) (n : ℕ) → CommittedUpdateCosts s n }
+{}
+
+/// The tests of names tell exactly which names are one.
+pub fn names_tell()
+    ensures process { (a b : ProcessId) → (same_process a b ≡ true) ↔ (a ≡ b) }
+    ensures txn { (a b : Txn) → (same_txn a b ≡ true) ↔ (a ≡ b) }
+    ensures ticket { (a b : Ticket) → (same_ticket a b ≡ true) ↔ (a ≡ b) }
+    ensures case { (a b : Case) → (same_case a b ≡ true) ↔ (a ≡ b) }
+{}
+
+/// No two names are spelled alike: no two tickets, and no two cases of one root.
+pub fn names_are_spelled_apart()
+    ensures tickets { (t u : Ticket) → TellsTickets t u }
+    ensures cases { (c d : Case) → TellsCases c d }
 {}

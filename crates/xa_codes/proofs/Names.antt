@@ -24,12 +24,15 @@ read bits (w ∷ ws) = and_then (flag_named w) (λ flag. read (bit_or bits flag)
 
 -- what is read is named so
 abbrev Named : ℕ → List (List ℕ) → ℕ → Type 0
-Named bits ws n = (flags : List ℕ) × (map flag_named ws ≡ map (λ f. Some f) flags) × (n ≡ fold bit_or bits flags)
+Named bits ws n = (flags : List ℕ) × (map flag_named ws ≡ map (λ f. Some f) flags)
+    × (n ≡ fold bit_or bits flags)
 
-taken_first : (bits n : ℕ) (w : List ℕ) (ws : List (List ℕ)) (o : Option ℕ) → flag_named w ≡ o → and_then o (λ flag. read (bit_or bits flag) ws) ≡ Some n
+taken_first : (bits n : ℕ) (w : List ℕ) (ws : List (List ℕ)) (o : Option ℕ) → flag_named w ≡ o
+    → and_then o (λ flag. read (bit_or bits flag) ws) ≡ Some n
     → ((b : ℕ) → read b ws ≡ Some n → Named b ws n) → Named bits (w ∷ ws) n
 taken_first bits n w ws None is e more = cc
-taken_first bits n w ws (Some f) is e more = let h : Named (bit_or bits f) ws n = more (bit_or bits f) e in (f ∷ h.0, cc, h.2)
+taken_first bits n w ws (Some f) is e more = let h : Named (bit_or bits f) ws n = more (bit_or bits f) e in
+    (f ∷ h.0, cc, h.2)
 
 taken : (bits n : ℕ) (ws : List (List ℕ)) → read bits ws ≡ Some n → Named bits ws n
 unfolding read
@@ -37,7 +40,8 @@ taken bits n [] e = ([], refl, cc)
 taken bits n (w ∷ ws) e = taken_first bits n w ws (flag_named w) refl e (λ b r. taken b n ws r)
 
 -- and what is named so is read
-again : (bits : ℕ) (ws : List (List ℕ)) (flags : List ℕ) → map flag_named ws ≡ map (λ f. Some f) flags → read bits ws ≡ Some (fold bit_or bits flags)
+again : (bits : ℕ) (ws : List (List ℕ)) (flags : List ℕ) → map flag_named ws ≡ map (λ f. Some f) flags
+    → read bits ws ≡ Some (fold bit_or bits flags)
 unfolding read
 again bits [] [] e = refl
 again bits [] (f ∷ fs) e = cc
@@ -51,8 +55,11 @@ again bits (w ∷ ws) (f ∷ fs) e =
 abbrev is_plain : List ℕ → Bool
 is_plain w = list_all (λ b. not (eqb b 43)) w
 
-plain_one : (w v : List ℕ) (n f : ℕ) (rest : Option ℕ) (same : Bool) → same ≡ bytes_eq w v → is_plain v ≡ true → (rest ≡ Some f → is_plain w ≡ true) → cond same (Some n) rest ≡ Some f → is_plain w ≡ true
-plain_one w v n f rest true is plain others e = let k : w ≡ v = (bytes_eq-Decides w v).0 (sym is) in rw k plain
+plain_one : (w v : List ℕ) (n f : ℕ) (rest : Option ℕ) (same : Bool) → same ≡ bytes_eq w v
+    → is_plain v ≡ true → (rest ≡ Some f → is_plain w ≡ true) → cond same (Some n) rest ≡ Some f
+    → is_plain w ≡ true
+plain_one w v n f rest true is plain others e = let k : w ≡ v = (bytes_eq-Decides w v).0 (sym is) in rw k
+    plain
 plain_one w v n f rest false is plain others e = others e
 
 plain_name : (w : List ℕ) (f : ℕ) → flag_named w ≡ Some f → is_plain w ≡ true
@@ -79,25 +86,32 @@ not_plus true e = cc
 not_plus false e = refl
 
 no_plus : (w : List ℕ) → is_plain w ≡ true → All (λ b. eqb b 43 ≡ false) w
-no_plus w e = λ k d lt. not_plus (eqb (get_or w k d) 43) (AllPass-from_list_all (λ b. not (eqb b 43)) w e k d lt)
+no_plus w e = λ k d lt. not_plus (eqb (get_or w k d) 43)
+    (AllPass-from_list_all (λ b. not (eqb b 43)) w e k d lt)
 
-plain_first : (w : List ℕ) (o : Option ℕ) (flags : List ℕ) (ws : List (List ℕ)) → map flag_named (w ∷ ws) ≡ map (λ f. Some f) flags → All (λ b. eqb b 43 ≡ false) w
+plain_first : (w : List ℕ) (o : Option ℕ) (flags : List ℕ) (ws : List (List ℕ))
+    → map flag_named (w ∷ ws) ≡ map (λ f. Some f) flags → All (λ b. eqb b 43 ≡ false) w
 plain_first w o [] ws e = cc
 plain_first w o (f ∷ fs) ws e = let first : flag_named w ≡ Some f = cc in no_plus w (plain_name w f first)
 
-more_named : (w : List ℕ) (ws : List (List ℕ)) (flags : List ℕ) → map flag_named (w ∷ ws) ≡ map (λ f. Some f) flags → (fs : List ℕ) × (map flag_named ws ≡ map (λ f. Some f) fs)
+more_named : (w : List ℕ) (ws : List (List ℕ)) (flags : List ℕ)
+    → map flag_named (w ∷ ws) ≡ map (λ f. Some f) flags
+    → (fs : List ℕ) × (map flag_named ws ≡ map (λ f. Some f) fs)
 more_named w ws [] e = cc
 more_named w ws (f ∷ fs) e = (fs, cc)
 
 -- the words of joined names are the names
-parted : (w : List ℕ) (ws : List (List ℕ)) (flags : List ℕ) → map flag_named (w ∷ ws) ≡ map (λ f. Some f) flags → words (join_with_byte 43 (w ∷ ws)) ≡ w ∷ ws
+parted : (w : List ℕ) (ws : List (List ℕ)) (flags : List ℕ)
+    → map flag_named (w ∷ ws) ≡ map (λ f. Some f) flags → words (join_with_byte 43 (w ∷ ws)) ≡ w ∷ ws
 parted w [] flags e = slice_split_none (λ b. eqb b 43) w (plain_first w None flags [] e)
 parted w (v ∷ ws) flags e =
     let more = more_named w (v ∷ ws) flags e in
-    slice_split_at (λ b. eqb b 43) w 43 (join_with_byte 43 (v ∷ ws)) (plain_first w None flags (v ∷ ws) e) refl
+    slice_split_at (λ b. eqb b 43) w 43 (join_with_byte 43 (v ∷ ws)) (plain_first w None flags (v ∷ ws) e)
+    refl
     ∙ ap (λ (x : List (List ℕ)). w ∷ x) (parted v ws more.0 more.1)
 
-joined : (names : List (List ℕ)) (flags : List ℕ) → 0 < length names → map flag_named names ≡ map (λ f. Some f) flags → words (join_with_byte 43 names) ≡ names
+joined : (names : List (List ℕ)) (flags : List ℕ) → 0 < length names
+    → map flag_named names ≡ map (λ f. Some f) flags → words (join_with_byte 43 names) ≡ names
 joined [] flags some e = absurd (omega arith)
 joined (w ∷ ws) flags some e = parted w ws flags e
 
@@ -119,7 +133,8 @@ unnamed text bits e (names, flags, some, is, named, or) =
     cc
 
 -- one more word
-pub goes_on : (bits flag : ℕ) (text : List ℕ) (i : ℕ) (total : Option ℕ) (name : List ℕ) → (i < length (words text)) × (name ≡ get_or (words text) i name) → flag_named name ≡ Some flag
+pub goes_on : (bits flag : ℕ) (text : List ℕ) (i : ℕ) (total : Option ℕ) (name : List ℕ)
+    → (i < length (words text)) × (name ≡ get_or (words text) i name) → flag_named name ≡ Some flag
     → read bits (drop i (words text)) ≡ total → read (bit_or bits flag) (drop (i + 1) (words text)) ≡ total
 unfolding read
 goes_on bits flag text i total name at named so_far =
@@ -127,7 +142,8 @@ goes_on bits flag text i total name at named so_far =
     let k : flag_named (get_or (words text) i name) ≡ Some flag = ap flag_named (sym at.1) ∙ named in
     sym (rw k at step) ∙ so_far
 
-pub stops : (bits : ℕ) (text : List ℕ) (i : ℕ) (total : Option ℕ) (name : List ℕ) → (i < length (words text)) × (name ≡ get_or (words text) i name) → flag_named name ≡ None
+pub stops : (bits : ℕ) (text : List ℕ) (i : ℕ) (total : Option ℕ) (name : List ℕ)
+    → (i < length (words text)) × (name ≡ get_or (words text) i name) → flag_named name ≡ None
     → read bits (drop i (words text)) ≡ total → total ≡ None
 unfolding read
 stops bits text i total name at named so_far =
@@ -135,6 +151,7 @@ stops bits text i total name at named so_far =
     let k : flag_named (get_or (words text) i name) ≡ None = ap flag_named (sym at.1) ∙ named in
     sym so_far ∙ (rw k at step)
 
-pub ends : (bits : ℕ) (text : List ℕ) (i : ℕ) (total : Option ℕ) → i ≡ length (words text) → read bits (drop i (words text)) ≡ total → total ≡ Some bits
+pub ends : (bits : ℕ) (text : List ℕ) (i : ℕ) (total : Option ℕ) → i ≡ length (words text)
+    → read bits (drop i (words text)) ≡ total → total ≡ Some bits
 unfolding read
 ends bits text i total is so_far = sym so_far ∙ at_drop_all (read bits) (words text) i (omega arith)

@@ -26,4 +26,6 @@ flag_named w =
 
 -- a text that is the names of one or more flags, joined by plus signs, and the bitwise or of these flags
 abbrev pub IsFlagText : List ℕ → ℕ → Type 0
-IsFlagText text bits = (names : List (List ℕ)) × (flags : List ℕ) × (0 < length names) × (text ≡ join_with_byte 43 names) × (map flag_named names ≡ map Some flags) × (bits ≡ fold bit_or 0 flags)
+IsFlagText text bits =
+    (names : List (List ℕ)) × (flags : List ℕ) × (0 < length names) × (text ≡ join_with_byte 43 names)
+    × (map flag_named names ≡ map Some flags) × (bits ≡ fold bit_or 0 flags)

@@ -14,7 +14,9 @@ pub record IsPart (len : ℕ) (bytes : List ℕ) : Type 0 where
   pub zeros : bytes ≡ filled (take len bytes)
 
 -- the array and the number of its bytes are those of the part
-pub filled_again : (len : ℕ) (bytes : List ℕ) → IsPart len bytes → ◌≡◌ {A = Inside} (record { len = length (take len bytes); bytes = filled (take len bytes) }) (record { len = len; bytes = bytes })
+pub filled_again : (len : ℕ) (bytes : List ℕ) → IsPart len bytes
+    → ◌≡◌ {A = Inside} (record { len = length (take len bytes); bytes = filled (take len bytes) })
+    (record { len = len; bytes = bytes })
 filled_again len bytes h =
     let fits = h.fits in
     let size = h.size in

@@ -1,9 +1,17 @@
 //! XIDs: the names of transaction branches.
 #![tactic(auto)]
 
+mod bytes;
 mod error;
+pub mod hexadecimal;
+pub mod numeral;
 mod part;
+mod text;
+pub mod word;
 mod xid;
 
 pub use error::XidError;
 pub use xid::{Xid, equal_by_parts};
+
+#[cfg(test)]
+mod tests;

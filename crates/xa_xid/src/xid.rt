@@ -50,17 +50,28 @@ impl Xid {
     /// Refused are, in this order, a negative format (BadFormat, whatever the lengths), a `gtrid` that is
     /// not 1 to 64 bytes long (GtridLength) and a `bqual` longer than 64 bytes (BqualLength).
     pub fn new(format: i32, gtrid: &[u8], bqual: &[u8]) -> Result<Self, XidError>
-        ensures ok { IfOk result (λ xid. (xid ≡ record { format = format; gtrid = gtrid.now; bqual = bqual.now })
+        ensures ok { IfOk result (λ xid.
+            (xid ≡ record { format = format; gtrid = gtrid.now; bqual = bqual.now })
             × (branch_fault format (length gtrid.now) (length bqual.now) ≡ None)) }
-        ensures err { IfErr result (λ error. branch_fault format (length gtrid.now) (length bqual.now) ≡ Some error) }
+        ensures err { IfErr result (λ error.
+            branch_fault format (length gtrid.now) (length bqual.now) ≡ Some error) }
     {
         match fault_of_branch(format, gtrid.len(), bqual.len()) {
             Some(error) => Err(error),
-            None => Ok(Xid {
-                format,
-                gtrid: Part::new(gtrid),
-                bqual: Part::new(bqual),
-            }),
+            None => Ok(Xid::of_parts(format, gtrid, bqual)),
+        }
+    }
+
+    /// The XID of parts in which nothing is wrong.
+    pub(crate) fn of_parts(format: i32, gtrid: &[u8], bqual: &[u8]) -> Self
+        requires { xid_fault format (length gtrid.now) (length bqual.now) ≡ None }
+        ensures value { result ≡ record { format = format; gtrid = gtrid.now; bqual = bqual.now } }
+        ensures sound { IsXid result }
+    {
+        Xid {
+            format,
+            gtrid: Part::new(gtrid),
+            bqual: Part::new(bqual),
         }
     }
 

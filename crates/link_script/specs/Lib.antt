@@ -1,0 +1,4 @@
+pub mod Names
+pub mod Events
+pub mod Documents
+pub mod Trace

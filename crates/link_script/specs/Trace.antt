@@ -1,0 +1,21 @@
+-- The text of a trace.
+use Rattle.std.specs.Prelude.{ℕ, ◌+◌, List, [], ◌∷◌, ◌++◌, length}
+use Rattle.std.specs.List.{flat_map}
+use Rattle.tree_model.specs.declared.events.Entry.{Entry}
+use Rattle.tree_model.specs.Texts.{reaction_lines}
+
+-- lines, each with its end
+abbrev pub line_text : List ℕ → List ℕ
+line_text line = line ++ 10 ∷ []
+
+abbrev pub lines_text : List (List ℕ) → List ℕ
+lines_text lines = flat_map line_text lines
+
+-- the text of an entry before which so many messages were sent
+unfoldable pub entry_text : ℕ → Entry → List ℕ
+entry_text sent e = lines_text (reaction_lines e.step.process.0 sent e.reaction)
+
+-- the text of these entries, before which so many messages were sent
+abbrev pub entries_text : ℕ → List Entry → List ℕ
+entries_text sent [] = []
+entries_text sent (e ∷ es) = entry_text sent e ++ entries_text (sent + length e.reaction.letters) es

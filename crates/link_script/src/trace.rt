@@ -1,0 +1,230 @@
+//! The text of a trace.
+
+ghost use Rattle.std.specs.Prelude.{◌≡◌, ◌+◌, ◌<◌, ◌^◌, ◌++◌, ◌∷◌, [], OnOk, IfOk, length, decimal, codes, flat_map};
+ghost use Rattle.tree_model.specs.Texts.{
+    txn_text, ticket_text, case_text as text_of_case, op_text, outcome_word as word_of_outcome, message_text,
+    envelope_text, kind_word as word_of_kind, subject_text, logged_text, conclusion_word as word_of_conclusion, told_text,
+    begun_lines, logged_lines, told_lines, envelope_lines, kept_lines
+};
+ghost use Rattle.link_script.specs.Trace.{lines_text, entry_text, entries_text};
+
+use itoa::Buffer;
+use std::alloc::{AllocError, Global};
+use tree_model::{
+    Case, Conclusion, Entry, Envelope, Logged, Message, Op, Outcome, Presumption, RecordKind, Subject,
+    Ticket, Told, Txn,
+};
+
+/// The name of a case, as `a1.1@2.1.1`.
+pub fn case_text(alloc: Global, case: &Case) -> Result<Vec<u8>, AllocError>
+    ensures { IfOk result (λ text. text.items ≡ text_of_case case.now) }
+{
+    let mut out = Vec::new(alloc);
+    push_case(&mut out, case)?;
+    Ok(out)
+}
+
+fn push(out: &mut Vec<u8>, text: &str) -> Result<(), AllocError>
+    ensures { OnOk result (out.new.items ≡ out.old.items ++ text.now) }
+{
+    out.extend_from_slice(text.as_bytes())
+}
+
+fn push_number(out: &mut Vec<u8>, number: u64) -> Result<(), AllocError>
+    ensures { OnOk result (out.new.items ≡ out.old.items ++ decimal number) }
+{
+    let mut buffer = Buffer::new();
+    push(out, buffer.format(number))
+}
+
+fn push_txn(out: &mut Vec<u8>, txn: &Txn) -> Result<(), AllocError>
+    ensures { OnOk result (out.new.items ≡ out.old.items ++ txn_text txn.now) }
+{
+    push(
+        out,
+        match txn.presumption {
+            Presumption::PresumeAbort => "a",
+            Presumption::PresumeCommit => "c",
+        },
+    )?;
+    push_number(out, txn.boot)?;
+    push(out, ".")?;
+    push_number(out, txn.sequence)
+}
+
+fn push_ticket(out: &mut Vec<u8>, ticket: &Ticket) -> Result<(), AllocError>
+    ensures { OnOk result (out.new.items ≡ out.old.items ++ ticket_text ticket.now) }
+{
+    push_number(out, u64::from(ticket.child.0))?;
+    push(out, ".")?;
+    push_number(out, ticket.boot)?;
+    push(out, ".")?;
+    push_number(out, ticket.number)
+}
+
+fn push_case(out: &mut Vec<u8>, case: &Case) -> Result<(), AllocError>
+    ensures { OnOk result (out.new.items ≡ out.old.items ++ text_of_case case.now) }
+{
+    push_txn(out, &case.txn)?;
+    match &case.ticket {
+        None => Ok(()),
+        Some(ticket) => {
+            push(out, "@")?;
+            push_ticket(out, ticket)
+        }
+    }
+}
+
+fn push_op(out: &mut Vec<u8>, op: &Op) -> Result<(), AllocError>
+    ensures { OnOk result (out.new.items ≡ out.old.items ++ op_text op.now) }
+{
+    match op {
+        Op::Put(key, value) => {
+            push(out, "put ")?;
+            out.extend_from_slice(key.as_slice())?;
+            push(out, " ")?;
+            out.extend_from_slice(value.as_slice())
+        }
+        Op::Get(key) => {
+            push(out, "get ")?;
+            out.extend_from_slice(key.as_slice())
+        }
+        Op::Delete(key) => {
+            push(out, "del ")?;
+            out.extend_from_slice(key.as_slice())
+        }
+    }
+}
+
+fn outcome_word(outcome: Outcome) -> &'static str
+    ensures { result.now ≡ word_of_outcome outcome }
+{
+    match outcome {
+        Outcome::Committed => "commit",
+        Outcome::Aborted => "abort",
+    }
+}
+
+/// A word, and a case behind it.
+fn push_named(out: &mut Vec<u8>, word: &str, case: &Case) -> Result<(), AllocError>
+    ensures { OnOk result (out.new.items ≡ out.old.items ++ (word.now ++ text_of_case case.now)) }
+{
+    push(out, word)?;
+    push_case(out, case)
+}
+
+/// A space, and a number behind it.
+fn push_space_number(out: &mut Vec<u8>, number: u64) -> Result<(), AllocError>
+    ensures { OnOk result (out.new.items ≡ out.old.items ++ (codes " " ++ decimal number)) }
+{
+    push(out, " ")?;
+    push_number(out, number)
+}
+
+fn push_message(out: &mut Vec<u8>, message: &Message) -> Result<(), AllocError>
+    ensures { OnOk result (out.new.items ≡ out.old.items ++ message_text message.now) }
+{
+    match message {
+        Message::Join(case) => push_named(out, "JOIN ", case),
+        Message::Joined(case, ticket) => {
+            push_named(out, "JOINED ", case)?;
+            push(out, " ")?;
+            push_ticket(out, ticket)
+        }
+        Message::Work(case, index, op) => {
+            push_named(out, "WORK ", case)?;
+            push_space_number(out, *index)?;
+            push(out, " ")?;
+            push_op(out, op)
+        }
+        Message::Prepare(case, count) => {
+            push_named(out, "PREPARE ", case)?;
+            push_space_number(out, *count)
+        }
+        Message::Yes(case) => push_named(out, "YES ", case),
+        Message::No(case) => push_named(out, "NO ", case),
+        Message::Read(case) => push_named(out, "READ ", case),
+        Message::Commit(case) => push_named(out, "COMMIT ", case),
+        Message::Abort(case) => push_named(out, "ABORT ", case),
+        Message::Ack(case, outcome) => {
+            push_named(out, "ACK ", case)?;
+            push(out, " ")?;
+            push(out, outcome_word(*outcome))
+        }
+        Message::Inquire(case) => push_named(out, "INQUIRE ", case),
+    }
+}
+
+fn push_envelope(out: &mut Vec<u8>, number: u64, envelope: &Envelope) -> Result<(), AllocError>
+    ensures { OnOk result (out.new.items ≡ out.old.items ++ envelope_text number envelope.now) }
+{
+    push_number(out, number)?;
+    push_space_number(out, u64::from(envelope.from.0))?;
+    push(out, "->")?;
+    push_number(out, u64::from(envelope.to.0))?;
+    push(out, " ")?;
+    push_message(out, &envelope.message)
+}
+
+fn kind_word(kind: RecordKind) -> &'static str
+    ensures { result.now ≡ word_of_kind kind }
+{
+    match kind {
+        RecordKind::Opened => "Opened",
+        RecordKind::Collecting => "Collecting",
+        RecordKind::Prepare => "Prepare",
+        RecordKind::Commit => "Commit",
+        RecordKind::Abort => "Abort",
+        RecordKind::End => "End",
+        RecordKind::Prepared => "Prepared",
+        RecordKind::Committed => "Committed",
+        RecordKind::RolledBack => "RolledBack",
+        RecordKind::Direct => "Direct",
+        RecordKind::HeurCommit => "HeurCommit",
+        RecordKind::HeurRollback => "HeurRollback",
+        RecordKind::Told => "Told",
+        RecordKind::Forgot => "Forgot",
+        RecordKind::Base => "Base",
+        RecordKind::Pair => "Pair",
+    }
+}
+
+fn push_subject(out: &mut Vec<u8>, subject: &Subject) -> Result<(), AllocError>
+    ensures { OnOk result (out.new.items ≡ out.old.items ++ subject_text subject.now) }
+{
+    match subject {
+        Subject::Boot(boot) => push_space_number(out, *boot),
+        Subject::Case(case) => push_named(out, " ", case),
+        Subject::Other => Ok(()),
+    }
+}
+
+fn push_logged(out: &mut Vec<u8>, process: u32, logged: &Logged) -> Result<(), AllocError>
+    ensures { OnOk result (out.new.items ≡ out.old.items ++ logged_text process logged.now) }
+{
+    push(out, "log ")?;
+    push_number(out, u64::from(process))?;
+    push(out, " ")?;
+    push(out, kind_word(logged.kind))?;
+    push_subject(out, &logged.subject)?;
+    push(out, if logged.forced { " forced" } else { " plain" })
+}
+
+fn conclusion_word(conclusion: Conclusion) -> &'static str
+    ensures { result.now ≡ word_of_conclusion conclusion }
+{
+    match conclusion {
+        Conclusion::Committed => "committed",
+        Conclusion::Aborted => "aborted",
+        Conclusion::ReadOnly => "readonly",
+    }
+}
+
+fn push_told(out: &mut Vec<u8>, told: &Told) -> Result<(), AllocError>
+    ensures { OnOk result (out.new.items ≡ out.old.items ++ told_text told.now) }
+{
+    push(out, "told ")?;
+    push_txn(out, &told.txn)?;
+    push(out, " ")?;
+    push(out, conclusion_word(told.conclusion))
+}

@@ -1,0 +1,5 @@
+use Rattle.tree_model.proofs.NameTests.{process_tells, txn_tells, ticket_tells, case_tells}
+use Rattle.tree_model.proofs.law.names_tell.Goals as goal
+
+pub returns : goal.returns
+returns c = record { process = λ a b. process_tells a b; txn = λ a b. txn_tells a b; ticket = λ a b. ticket_tells a b; case = λ a b. case_tells a b }

@@ -1,0 +1,15 @@
+use Rattle.std.proofs.Common.{refl}
+use Rattle.xa_xid.proofs.HexText.{decodes}
+use Rattle.xa_xid.proofs.hexadecimal.decode.Goals as goal
+
+pub unwrap-requires : goal.unwrap-requires
+unwrap-requires c =
+    let p = rw (decodes c.args.text.now c.requires.spelled.0 _ c.requires.spelled.1 c.requires.room) at
+    c.decode_to_slice.ensures.value in
+    rw p.0 refl
+
+pub returns : goal.returns
+returns c =
+    let p = rw (decodes c.args.text.now c.requires.spelled.0 _ c.requires.spelled.1 c.requires.room) at
+    c.decode_to_slice.ensures.value in
+    rw p.1 c.requires.spelled.1
