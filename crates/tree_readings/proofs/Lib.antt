@@ -17,3 +17,4 @@ pub mod Inquiries
 pub mod RestartStep
 pub mod Trimmed
 pub mod TrimStep
+pub mod OtherSteps

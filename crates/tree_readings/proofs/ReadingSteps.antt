@@ -17,7 +17,7 @@ use Rattle.tree_readings.specs.Steps.{made_at, IsLeafPair, IsCascadedPair, IsRoo
 pub same_process-refl : (q : ProcessId) → same_process q q ≡ true
 same_process-refl q = grind (arith, same_process_tells)
 
-outcome_elsewhere : (w : World) (q : ProcessId) (n : Node) (e : Effect) (x : Txn)
+pub outcome_elsewhere : (w : World) (q : ProcessId) (n : Node) (e : Effect) (x : Txn)
     → same_process q x.root ≡ false
     → is_commit_outcome (made_at w q n e) x ≡ is_commit_outcome w x
 unfolding is_commit_outcome

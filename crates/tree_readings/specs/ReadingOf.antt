@@ -380,3 +380,19 @@ reading_of tree w above c t =
     (parent_half (place_of tree (process_of c)) (w.at (process_of c)) c t)
     (child_half (place_of tree t.child) (w.at t.child) (child_case c.txn t))
     (wire c t w.net)
+
+-- no message of the pair
+abbrev pub no_wire : Wire
+no_wire = record {
+  issued = false;
+  given = false;
+  read_up = false;
+  prepare = false;
+  yes = false;
+  no = false;
+  read = false;
+  commit = false;
+  abort = false;
+  ack = false;
+  inquire = false;
+}

@@ -11,14 +11,14 @@ use Rattle.tree_model.specs.declared.messages.Message.TheVariants.{Prepare, Abor
 use Rattle.tree_model.specs.declared.records.Write.{Write}
 use Rattle.tree_model.specs.declared.standings.Standing.TheVariants.{Active, Collecting, Prepared}
 use Rattle.tree_model.specs.declared.trees.TreeEntry.{TreeEntry}
-use Rattle.tree_model.specs.Names.{child_case, root_case, process_of}
+use Rattle.tree_model.specs.Names.{child_case, root_case, process_of, same_case}
 use Rattle.tree_model.specs.Records.{has, is_prepare}
 use Rattle.tree_model.specs.Nodes.{place_of, kept, DataAnswer, Holds, Effect}
 use Rattle.tree_model.specs.Standings.{CoordinatorView, ManagerView, manager_view, coordinator_view, case_of_child, phase_standing, mark_of}
 use Rattle.tree_model.specs.declared.records.Record.{Record}
 use Rattle.tree_model.specs.declared.records.Branch.TheVariants.{Case as CaseBranch}
 use Rattle.tree_model.specs.Restarts.{left_of, is_known, recorded_view}
-use Rattle.tree_model.specs.World.{World, world_makes}
+use Rattle.tree_model.specs.World.{World, world_makes, Move}
 use Rattle.tree_pairs.specs.ChildMoves.{votes_yes, hardens_child}
 use Rattle.tree_model.specs.declared.events.Fault.{Fault}
 use Rattle.tree_pairs.specs.Reading.{Reading}
@@ -29,7 +29,7 @@ use Rattle.tree_pairs.specs.ParentMoves.{hears_yes, hardens_parent, trims_parent
 use Rattle.tree_pairs.specs.RootMoves.{decides_naming}
 use Rattle.tree_pairs.specs.CascadedMoves.{passes_abort}
 use Rattle.tree_readings.specs.ReadingOf.{reading_of}
-use Rattle.tree_readings.specs.Steps.{IsRootPair, IsLeafPair, IsCascadedPair, delivers, fails_at, restarts_at, trims_at, asks_by}
+use Rattle.tree_readings.specs.Steps.{IsRootPair, IsLeafPair, IsCascadedPair, delivers, fails_at, restarts_at, trims_at, asks_by, IsElsewhere, IsQuiet}
 
 -- The branch is Active, all its works are done, and its data hold these writes.
 pub record IsReady (v : ManagerView) (n : ℕ) (a : DataAnswer) (ws : List Write) : Type 0 where
@@ -132,3 +132,23 @@ RootTrims = (tree : List TreeEntry) (w w' : World) (above : Bool) (x : Txn) (t :
     ≡ phase_standing x.presumption (memory_of (place_of tree x.root) (w.at x.root) (root_case x)).phase
     → world_makes tree w (trims_at x.root a) ≡ Some (e, w')
     → reading_of tree w' above (root_case x) t ≡ trims_parent (reading_of tree w above (root_case x) t)
+
+-- A step of another process, that sends nothing of the pair, leaves its reading.
+abbrev pub OthersLeave : Type 0
+OthersLeave = (tree : List TreeEntry) (w w' : World) (above : Bool) (c : Case) (t : Ticket) (m : Move)
+    (e : Effect)
+    → IsElsewhere m.step.process c t
+    → IsQuiet c t e.letters
+    → world_makes tree w m ≡ Some (e, w')
+    → reading_of tree w' above c t ≡ reading_of tree w above c t
+
+-- PREPARE at a ready branch of another case forces what stands of this one.
+abbrev pub ManagerVotesElsewhere : Type 0
+ManagerVotesElsewhere = (tree : List TreeEntry) (w w' : World) (above : Bool) (c : Case) (t : Ticket)
+    (p : ProcessId) (other : Case)
+    (i n : ℕ) (a : DataAnswer) (ws : List Write) (e : Effect)
+    → IsLeafPair tree c t p
+    → same_case other (child_case c.txn t) ≡ false
+    → IsReady (manager_view (place_of tree t.child) (w.at t.child) other) n a ws
+    → world_makes tree w (delivers t.child i (Prepare other n) a) ≡ Some (e, w')
+    → reading_of tree w' above c t ≡ hardens_child (reading_of tree w above c t)

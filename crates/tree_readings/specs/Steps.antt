@@ -13,7 +13,8 @@ use Rattle.tree_model.specs.Names.{same_process, process_of}
 use Rattle.tree_model.specs.Nodes.{Node, AtRoot, AtLeaf, Below, role_of, Heard, DataAnswer, Effect, after}
 use Rattle.tree_model.specs.World.{World, Move, put_at}
 use Rattle.tree_model.specs.Standings.{Mark, Unmarked, Promised, Decided, ToldOf, Finished}
-use Rattle.tree_readings.specs.ReadingOf.{is_root_ticket}
+use Rattle.tree_readings.specs.ReadingOf.{is_root_ticket, wire, no_wire}
+use Rattle.tree_model.specs.declared.messages.Envelope.{Envelope}
 
 -- a world after a step of one process that left this node and sent the messages of this effect
 abbrev pub made_at : World → ProcessId → Node → Effect → World
@@ -73,3 +74,13 @@ restarts_at q k a = record {
 -- A process trims its log, and its device does not fail.
 abbrev pub trims_at : ProcessId → DataAnswer → Move
 trims_at q a = record { step = record { process = q; happening = Trim; fault = None }; data_answer = a }
+
+-- A process is neither the parent's nor the child's, nor the root.
+pub record IsElsewhere (q : ProcessId) (c : Case) (t : Ticket) : Type 0 where
+  pub not_parent : same_process q (process_of c) ≡ false
+  pub not_child : same_process q t.child ≡ false
+  pub not_root : same_process q c.txn.root ≡ false
+
+-- No message of the list is of the pair.
+abbrev pub IsQuiet : Case → Ticket → List Envelope → Type 0
+IsQuiet c t ls = wire c t ls ≡ no_wire

@@ -1,6 +1,7 @@
 //! One row of each kind: the world's step makes its move on the reading of a pair.
 ghost use Rattle.tree_readings.specs.StepLaws.{CascadedPassesAbort, RootDecides, RootTrims};
 ghost use Rattle.tree_readings.specs.StepLaws.{ManagerFails, ManagerRestarts, ManagerVotesYes};
+ghost use Rattle.tree_readings.specs.StepLaws.{ManagerVotesElsewhere, OthersLeave};
 
 /// A manager votes YES.
 pub fn manager_votes_yes()
@@ -30,4 +31,14 @@ pub fn manager_restarts()
 /// The root trims its log.
 pub fn root_trims()
     ensures moves { RootTrims }
+{}
+
+/// A manager votes YES for another of its tickets.
+pub fn manager_votes_elsewhere()
+    ensures moves { ManagerVotesElsewhere }
+{}
+
+/// A process that has nothing of the pair makes a step.
+pub fn others_leave()
+    ensures moves { OthersLeave }
 {}
