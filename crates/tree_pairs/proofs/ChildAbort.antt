@@ -1,0 +1,50 @@
+-- Each move of a child keeps the invariant, under Presumed Abort.
+use Rattle.std.proofs.Common.{Bool, arith}
+use Rattle.tree_pairs.specs.Invariant.{PresumedAbort as Inv}
+use Rattle.tree_pairs.specs.Keeps.{Keeps}
+use Rattle.tree_pairs.specs.ChildMoves as move
+
+pub issues : Keeps Inv move.MayIssue move.issues
+issues r h g = grind arith
+
+pub votes_yes : Keeps Inv move.MayVote move.votes_yes
+votes_yes r h g = grind arith
+
+pub votes_no : Keeps Inv move.MayVote move.votes_no
+votes_no r h g = grind arith
+
+pub votes_read : Keeps Inv move.MayVote move.votes_read
+votes_read r h g = grind arith
+
+pub drops : Keeps Inv move.MayDrop move.drops
+drops r h g = grind arith
+
+pub repeats_yes : Keeps Inv move.MayRepeatYes move.repeats_yes
+repeats_yes r h g = grind arith
+
+pub refuses : Keeps Inv move.MayRefuse move.refuses
+refuses r h g = grind arith
+
+pub asks : Keeps Inv move.MayAsk move.asks
+asks r h g = grind arith
+
+pub decides_alone : (commit : Bool) → Keeps Inv move.MayDecideAlone (move.decides_alone commit)
+decides_alone commit r h g = grind arith
+
+pub forgets : Keeps Inv move.MayForget move.forgets
+forgets r h g = grind arith
+
+pub hardens_child : Keeps Inv move.MayHardenChild move.hardens_child
+hardens_child r h g = grind arith
+
+pub trims_child : Keeps Inv move.MayTrimChild move.trims_child
+trims_child r h g = grind arith
+
+pub commits : Keeps Inv move.MayLearnCommit move.commits_forced
+commits r h g = grind arith
+
+pub rolls_back : Keeps Inv move.MayLearnAbort move.rolls_back
+rolls_back r h g = grind arith
+
+pub acknowledges : Keeps Inv move.MayAcknowledgeCommit move.acknowledges
+acknowledges r h g = grind arith

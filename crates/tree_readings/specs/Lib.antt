@@ -1,0 +1,4 @@
+pub mod ReadingOf
+pub mod Halves
+pub mod Steps
+pub mod StepLaws
