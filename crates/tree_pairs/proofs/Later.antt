@@ -1,7 +1,7 @@
 -- What is true for ever is true for ever.
-use Rattle.std.proofs.Common.{◌∙◌}
+use Rattle.std.proofs.Common.{refl, ◌∙◌}
 use Rattle.tree_pairs.specs.Reading.{Reading}
-use Rattle.tree_pairs.specs.Keeps.{Later}
+use Rattle.tree_pairs.specs.Keeps.{Later, Lateness}
 
 pub later-later : (r s t : Reading) → Later r s → Later s t → Later r t
 later-later r s t h g = record {
@@ -33,3 +33,37 @@ later-later r s t h g = record {
   sent_ack = λ e. g.sent_ack (h.sent_ack e);
   sent_inquire = λ e. g.sent_inquire (h.sent_inquire e);
 }
+
+pub later-now : (r : Reading) → Later r r
+later-now r = record {
+  outcome = λ e. e;
+  born = λ e. e;
+  took_part = λ e. e;
+  took_part_up = λ e. e;
+  first_yes = λ e. e;
+  first_no = λ e. e;
+  first_read = λ e. e;
+  told_committed = λ e. e;
+  told_aborted = λ e. e;
+  refused = λ e. e;
+  read_up = λ e. e;
+  own_prepare_ever = λ e. e;
+  issued = λ e. e;
+  child_refused = λ e. e;
+  child_committed = λ e. e;
+  prepared_ever = λ e. e;
+  heuristic_ever = λ e. e;
+  heuristic_commits = λ e. refl;
+  forgot_ever = λ e. e;
+  sent_prepare = λ e. e;
+  sent_yes = λ e. e;
+  sent_no = λ e. e;
+  sent_read = λ e. e;
+  sent_commit = λ e. e;
+  sent_abort = λ e. e;
+  sent_ack = λ e. e;
+  sent_inquire = λ e. e;
+}
+
+pub lateness : Lateness
+lateness = record { now = later-now; onward = later-later }

@@ -42,3 +42,8 @@ pub record Follows (Inv : Reading → Type 0) (old new : Reading) : Type 0 where
 -- A move keeps the invariant wherever its guard holds.
 abbrev pub Keeps : (Reading → Type 0) → (Reading → Type 0) → (Reading → Reading) → Type 0
 Keeps Inv May move = (r : Reading) → Inv r → May r → Follows Inv r (move r)
+
+-- What is later than now: now, and what is later than a later world.
+pub record Lateness : Type 0 where
+  pub now : (r : Reading) → Later r r
+  pub onward : (r s t : Reading) → Later r s → Later s t → Later r t

@@ -3,6 +3,7 @@
 ghost use Rattle.std.specs.Prelude.{true, false};
 ghost use Rattle.tree_pairs.specs.Chain.{Chain, ToldFromAbove};
 ghost use Rattle.tree_pairs.specs.Invariant.{PresumedAbort, PresumedCommit};
+ghost use Rattle.tree_pairs.specs.Keeps.{Lateness};
 ghost use Rattle.tree_pairs.specs.Opened.{Opens};
 ghost use Rattle.tree_pairs.specs.Promises.{Agreement, AuditedOutcome, CommitRule};
 ghost use Rattle.tree_pairs.specs.Promises.{StandingMismatches, TrueAnswers};
@@ -77,4 +78,9 @@ pub fn whole_runs()
 /// Each of these wrong moves breaks the invariant.
 pub fn wrong_moves()
     ensures breaks { WrongMoves }
+{}
+
+/// What is said of a later world holds of this one, and of each world later than a later one.
+pub fn later_worlds()
+    ensures later { Lateness }
 {}

@@ -104,7 +104,8 @@ phase_by false Committing = Closed
 phase_by false Aborting = Closed
 phase_by false Heuristic = Closed
 
--- A case that kept no promise, never forced one, is closed, was known and did not say READ has died: it never consents.
+-- A case that kept no promise, never forced one, is closed, was known and did not say READ has died: it
+-- never consents.
 unfoldable pub is_dead : Bool → Bool → Bool → Bool → Bool
 is_dead true live known read = false
 is_dead false true known read = false
@@ -289,7 +290,8 @@ wire c t net =
 
 -- The whole.
 
--- a case at the root is born as it is begun, another as its ticket is given; the root's case takes part as it is born
+-- a case at the root is born as it is begun, another as its ticket is given; the root's case takes part
+-- as it is born
 abbrev pub is_born : Bool → Bool → Bool → Bool
 is_born true begun given = begun
 is_born false begun given = given
@@ -298,13 +300,14 @@ abbrev pub is_participant : Bool → Bool → Bool → Bool
 is_participant true born above = born
 is_participant false born above = above
 
--- The root's case has refused if it is dead: closed, with no Commit kept and none that was ever forced. Another also
--- if it obeyed an abort.
+-- The root's case has refused if it is dead: closed, with no Commit kept and none that was ever forced.
+-- Another also if it obeyed an abort.
 abbrev pub is_refused : Bool → Bool → Bool → Bool → Bool
 is_refused true dead_at_root obeyed dead = dead_at_root
 is_refused false dead_at_root obeyed dead = obeyed || dead
 
--- Of what the pair is, the outcome, whether the parent's case takes part (by the pair above), and the three parts.
+-- Of what the pair is, the outcome, whether the parent's case takes part (by the pair above), and the
+-- three parts.
 abbrev pub reading_from : Bool → Bool → Bool → Bool → ParentHalf → ChildHalf → Wire → Reading
 reading_from root manager outcome above p k v =
     record {
@@ -373,7 +376,8 @@ abbrev pub is_root_ticket : Option Ticket → Bool
 is_root_ticket None = true
 is_root_ticket (Some u) = false
 
--- The reading of the parent's case c and the ticket t in a world; whether c takes part is what the pair above says.
+-- The reading of the parent's case c and the ticket t in a world; whether c takes part is what the pair
+-- above says.
 abbrev pub reading_of : List TreeEntry → World → Bool → Case → Ticket → Reading
 reading_of tree w above c t =
     reading_from (is_root_ticket c.ticket) (is_leaf (role_of tree t.child)) (is_commit_outcome w c.txn) above

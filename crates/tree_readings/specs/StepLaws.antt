@@ -47,8 +47,8 @@ ManagerVotesYes = (tree : List TreeEntry) (w w' : World) (above : Bool) (c : Cas
     → world_makes tree w (delivers t.child i (Prepare (child_case c.txn t) n) a) ≡ Some (e, w')
     → reading_of tree w' above c t ≡ votes_yes (hardens_child (reading_of tree w above c t))
 
--- ABORT at a Prepared coordinator, under Presumed Abort, is the move of passing it on, for each of its children. (What is
--- kept was once appended.)
+-- ABORT at a Prepared coordinator, under Presumed Abort, is the move of passing it on, for each of its
+-- children. (What is kept was once appended.)
 abbrev pub CascadedPassesAbort : Type 0
 CascadedPassesAbort = (tree : List TreeEntry) (w w' : World) (above : Bool) (c : Case) (t : Ticket)
     (p : ProcessId) (i : ℕ)
@@ -60,16 +60,16 @@ CascadedPassesAbort = (tree : List TreeEntry) (w w' : World) (above : Bool) (c :
     → world_makes tree w (delivers (process_of c) i (Abort c) a) ≡ Some (e, w')
     → reading_of tree w' above c t ≡ passes_abort (reading_of tree w above c t)
 
--- The vote YES of this ticket is the last one that the root waits for: the root's case collects votes, the ticket is
--- its own, has not voted before, and with its vote all have voted.
+-- The vote YES of this ticket is the last one that the root waits for: the root's case collects votes,
+-- the ticket is its own, has not voted before, and with its vote all have voted.
 pub record IsLastVote (v : CoordinatorView) (found : Option Case) (x : Txn) (t : Ticket) : Type 0 where
   pub collecting : v.standing ≡ Collecting
   pub belongs : found ≡ Some (root_case x)
   pub first : is_counted v.accepted v.votes t ≡ true
   pub last : all_voted v.accepted (v.votes ++ (t, VoteYes) ∷ []) ≡ true
 
--- The last vote, under Presumed Abort, is the moves of hearing it and of the root's decision, behind the force of what
--- stood before, for the pair of the ticket whose vote it is.
+-- The last vote, under Presumed Abort, is the moves of hearing it and of the root's decision, behind the
+-- force of what stood before, for the pair of the ticket whose vote it is.
 abbrev pub RootDecides : Type 0
 RootDecides = (tree : List TreeEntry) (w w' : World) (above : Bool) (x : Txn) (t : Ticket) (i : ℕ)
     (a : DataAnswer) (e : Effect)
@@ -87,8 +87,8 @@ abbrev pub promise_fault : ℕ → Reading → Reading
 promise_fault zero r = child_fails r
 promise_fault (suc k) r = fails_to_promise r
 
--- A fault at PREPARE of a ready branch is the move of failing, before its promise or behind it, and then the forced
--- front has moved on to where it is.
+-- A fault at PREPARE of a ready branch is the move of failing, before its promise or behind it, and then
+-- the forced front has moved on to where it is.
 abbrev pub ManagerFails : Type 0
 ManagerFails = (tree : List TreeEntry) (w w' : World) (above : Bool) (c : Case) (t : Ticket)
     (p : ProcessId) (i n : ℕ)
@@ -120,8 +120,8 @@ ManagerRestarts = (tree : List TreeEntry) (w w' : World) (above : Bool) (c : Cas
     ≡ child_restarts (child_front (child_case c.txn t) (left_of (w.at t.child) k) (w.at t.child).durable)
     (reading_of tree w above c t)
 
--- A trim of the root's log takes a case that its records leave Unknown: the move of trimming it. (With its records gone
--- the case stands where it stood: memory says the same of it.)
+-- A trim of the root's log takes a case that its records leave Unknown: the move of trimming it. (With
+-- its records gone the case stands where it stood: memory says the same of it.)
 abbrev pub RootTrims : Type 0
 RootTrims = (tree : List TreeEntry) (w w' : World) (above : Bool) (x : Txn) (t : Ticket) (a : DataAnswer)
     (e : Effect)

@@ -30,7 +30,8 @@ pub record IsLeafPair (tree : List TreeEntry) (c : Case) (t : Ticket) (p : Proce
   pub parent_elsewhere : same_process t.child (process_of c) ≡ false
   pub root_elsewhere : same_process t.child c.txn.root ≡ false
 
--- The parent of the pair is a cascaded coordinator below this process, and neither the child's process nor the root.
+-- The parent of the pair is a cascaded coordinator below this process, and neither the child's process
+-- nor the root.
 pub record IsCascadedPair (tree : List TreeEntry) (c : Case) (t : Ticket) (p : ProcessId) : Type 0 where
   pub cascaded : is_root_ticket c.ticket ≡ false
   pub below : role_of tree (process_of c) ≡ Below p
