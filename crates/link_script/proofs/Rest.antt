@@ -1,13 +1,15 @@
 -- What is left of a script, line by line.
-use Rattle.std.proofs.Common.{◌≡◌, ℕ, zero, suc, ◌+◌, ◌-◌, ◌≤◌, ◌<◌, Bool, true, false, cond, eqb, List, [], ◌∷◌, ◌++◌, length, get_or, take, drop, Option, Some, None, refl, ap, sym, ◌∙◌, arith, append_assoc, length-append, option_map, inl, inr}
+use Rattle.std.proofs.Common.{◌≡◌, ℕ, ◌+◌, ◌-◌, ◌≤◌, ◌<◌, Bool, true, false, ◌||◌, ◌⊎◌, eqb, List, [], ◌∷◌, ◌++◌, length, get_or, take, drop, Option, Some, None, refl, ap, sym, ◌∙◌, arith, append_assoc, length-append, option_map, inl, inr}
 use Rattle.std.proofs.lemmas.Bool.{cases_lt, lt-ltb, le-ltb}
 use Rattle.std.proofs.lemmas.Grind.{flat_map-append}
-use Rattle.std.proofs.lemmas.List.Sums.{fails_before_first}
-use Rattle.std.specs.List.{slice_split, position_or_len, before_first, after_first}
+use Rattle.std.proofs.lemmas.List.Sums.{fails_before_first, count_by-le-length}
+use Rattle.std.specs.List.{position_or_len, before_first, after_first}
 use Rattle.std.proofs.lemmas.List.{append-nil, take_at}
 use Rattle.std.proofs.lemmas.List.Splits.{slice_split_first, slice_split_none, length-slice_split}
 use Rattle.std.specs.Prelude.{codes}
 use Rattle.std.specs.List.{slice_range}
+use Rattle.std.specs.Str.Lines.{lines, lines_of_parts}
+use Rattle.std.proofs.lemmas.Bool.{cases_Bool}
 use Rattle.std.specs.Str.{IsUtf8, IsCharBoundary}
 use Rattle.std.proofs.lemmas.Str.{IsUtf8-drop, IsCharBoundary-after_ascii, IsCharBoundary-at_seam}
 use Rattle.std.proofs.lemmas.List.{get_or_at}
@@ -16,6 +18,9 @@ use Rattle.link_script.specs.Events.{same}
 use Rattle.xa_xid.specs.Words.{cut_at}
 use Rattle.xa_xid.proofs.Cuts.{cut_takes, some_is, drop_past}
 use Rattle.link_script.specs.Rules.{pieces, is_rule, last_rule, rule_or, around_rule}
+use Rattle.tree_model.specs.declared.trees.TreeEntry.{TreeEntry}
+use Rattle.link_script.specs.Documents.{IsTreeText}
+use Rattle.link_script.specs.Inputs.{HasTreeText}
 use Rattle.link_script.specs.Trace.{line_text, lines_text}
 
 abbrev pub with_fronts : List (List ℕ) → Option (List (List ℕ) × List (List ℕ)) → Option (List (List ℕ) × List (List ℕ))
@@ -99,16 +104,26 @@ goes_on text rest line more fronts e cut plain so_far =
     let step : around_rule (pieces rest) ≡ with_fronts (line ∷ []) (around_rule (pieces more)) = around_line rest line more cut ∙ rw plain refl in
     (text_is, sym (joined fronts line (around_rule (pieces more))) ∙ ap (with_fronts fronts) (sym step) ∙ so_far)
 
+either : (a b : Bool) → (a || b) ≡ true → (a ≡ true) ⊎ (b ≡ true)
+either true b h = inl refl
+either false b h = inr h
+
+rule_long : (line : List ℕ) → is_rule line ≡ true → 3 ≤ length line
+rule_long line rule =
+    elim (either (same line (codes "---")) (same line (codes "---\r")) rule) [
+      | inl h ↦ (let is : line ≡ codes "---" = (bytes_eq-Decides line (codes "---")).0 h in omega (arith, ap length is))
+      | inr h ↦ (let is : line ≡ codes "---\r" = (bytes_eq-Decides line (codes "---\r")).0 h in omega (arith, ap length is))
+    ]
+
 -- a line that is the rule
 pub found : (text rest line more : List ℕ) (fronts : List (List ℕ)) → text ≡ lines_text fronts ++ rest → cut_at 10 rest ≡ Some (pair line more) → is_rule line ≡ true
     → with_fronts fronts (around_rule (pieces rest)) ≡ around_rule (pieces text)
-    → (around_rule (pieces text) ≡ Some (both fronts (pieces more))) × (length (lines_text fronts) + length more < length text)
+    → (around_rule (pieces text) ≡ Some (both fronts (pieces more))) × (length (lines_text fronts) + length more + 3 ≤ length text)
 found text rest line more fronts e cut rule so_far =
     let here : rest ≡ line ++ 10 ∷ more = cut_takes 10 rest (pair line more) cut in
-    let step : around_rule (pieces rest) ≡ Some (both [] (pieces more)) = around_line rest line more cut ∙ rw rule refl in
-    (
+    let step : around_rule (pieces rest) ≡ Some (both [] (pieces more)) = around_line rest line more cut ∙ rw rule refl in (
       sym so_far ∙ ap (with_fronts fronts) step ∙ ap (λ (t : List (List ℕ)). Some (both t (pieces more))) (append-nil fronts),
-      omega (arith, ap length e, ap length here, length-append (lines_text fronts) rest, length-append line (10 ∷ more)),
+      omega (arith, ap length e, ap length here, length-append (lines_text fronts) rest, length-append line (10 ∷ more), rule_long line rule),
     )
 
 -- the last line, which has no line feed
@@ -118,11 +133,10 @@ last text rest fronts none so_far = sym so_far ∙ ap (λ (t : List (List ℕ)).
 
 pub last_found : (text rest : List ℕ) (fronts : List (List ℕ)) → text ≡ lines_text fronts ++ rest → cut_at 10 rest ≡ None
     → with_fronts fronts (around_rule (pieces rest)) ≡ around_rule (pieces text) → same rest (codes "---") ≡ true
-    → (around_rule (pieces text) ≡ Some (both fronts [])) × (length (lines_text fronts) + 0 < length text)
+    → (around_rule (pieces text) ≡ Some (both fronts [])) × (length (lines_text fronts) + 0 + 3 ≤ length text)
 last_found text rest fronts e none so_far rule =
     let is : rest ≡ codes "---" = (bytes_eq-Decides rest (codes "---")).0 rule in
-    let found : last_rule rest ≡ Some (both [] []) = rw rule refl in
-    (
+    let found : last_rule rest ≡ Some (both [] []) = rw rule refl in (
       last text rest fronts none so_far ∙ ap (with_fronts fronts) found ∙ ap (λ (t : List (List ℕ)). Some (both t [])) (append-nil fronts),
       omega (arith, ap length e, ap length is, length-append (lines_text fronts) rest),
     )
@@ -164,3 +178,28 @@ pub seam : (text rest : List ℕ) (fronts : List (List ℕ)) → text ≡ lines_
 seam text rest fronts e u =
     let n : length (lines_text fronts) ≡ length text - length rest = omega (arith, ap length e, length-append (lines_text fronts) rest) in
     rw (← n) (IsCharBoundary-at_seam text (lines_text fronts) rest e u)
+
+parts_few : (parts : List (List ℕ)) → length (lines_of_parts parts) ≤ length parts
+parts_few [] = omega arith
+parts_few (x ∷ []) = elim (cases_Bool (eqb (length x) 0)) [ inl t ↦ rw t (omega arith) | inr f ↦ rw f (omega arith) ]
+parts_few (x ∷ y ∷ more) = omega (arith, parts_few (y ∷ more))
+
+-- a text has at most one line more than bytes
+pub lines_few : (text : List ℕ) → length (lines text) ≤ length text + 1
+lines_few text = omega (arith, parts_few (pieces text), length-slice_split feed text, count_by-le-length feed text)
+
+-- there is one tree text
+pub no_tree : (bytes document : List ℕ) (fronts behind : List (List ℕ)) → around_rule (pieces bytes) ≡ Some (both fronts behind)
+    → document ≡ lines_text fronts → ((es : List TreeEntry) → IsTreeText document es → ⊥)
+    → (fs bs : List (List ℕ)) (tree : List TreeEntry) → HasTreeText bytes fs bs tree → ⊥
+no_tree bytes document fronts behind rule is none fs bs tree h =
+    let same : both fronts behind ≡ both fs bs = some_is (both fronts behind) (both fs bs) (sym rule ∙ h.rule) in
+    let text : IsTreeText (lines_text fs) tree = h.tree_text in
+    let one : lines_text fs ≡ document = ap (λ (p : List (List ℕ) × List (List ℕ)). lines_text p.0) (sym same) ∙ sym is in
+    none tree (rw one at text)
+
+-- the numbers of lines stay below those of bytes
+pub lines_fit : (document text : List ℕ) (behind : List ℕ) (fronts : List (List ℕ)) (count : ℕ) → document ≡ lines_text fronts
+    → length document + length behind + 3 ≤ length text → count ≡ length (lines behind) → length fronts + 1 + count < length text
+lines_fit document text behind fronts count is long few =
+    omega (arith, ap length is, fewer fronts, lines_few behind)

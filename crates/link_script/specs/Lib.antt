@@ -4,3 +4,4 @@ pub mod Documents
 pub mod Trace
 pub mod Rules
 pub mod Script
+pub mod Inputs

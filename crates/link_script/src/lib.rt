@@ -5,9 +5,11 @@ mod document;
 mod event;
 mod lines;
 mod names;
+mod script;
 mod trace;
 
-pub use document::{DocumentError, read_tree};
-pub use event::event_of;
-pub use lines::{LineError, around, count_asked, events_of, lines_of};
+pub use script::{MOST_EVENTS, ScriptError, ScriptFault, read};
 pub use trace::{case_text, push_entry, trace_text};
+
+#[cfg(test)]
+mod tests;

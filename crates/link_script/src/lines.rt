@@ -1,6 +1,6 @@
 //! The lines of a script.
 
-ghost use Rattle.std.specs.Prelude.{◌≡◌, ◌+◌, ◌<◌, ◌^◌, IfOk, IfErr, MatchOption, List, ℕ, Some, None, Ok, Err, length, map};
+ghost use Rattle.std.specs.Prelude.{◌≡◌, ◌+◌, ◌<◌, ◌≤◌, ◌^◌, IfOk, IfErr, MatchOption, List, ℕ, Some, None, Ok, Err, length, map};
 ghost use Rattle.std.specs.Str.Lines.{lines as lines_in, lines_of_parts};
 ghost use Rattle.link_script.specs.Rules.{pieces, is_rule as is_rule_at, around_rule};
 ghost use Rattle.link_script.specs.Trace.{lines_text};
@@ -53,7 +53,7 @@ pub fn around(text: &str) -> Option<(&str, u64, &str)>
     ensures { MatchOption result (around_rule (pieces text.now) ≡ None) (λ r.
         (fronts : List (List ℕ)) × (behind : List (List ℕ)) × (around_rule (pieces text.now) ≡ Some (fronts, behind))
         × (r.0.now ≡ lines_text fronts) × (r.1 ≡ length fronts) × (lines_in r.2.now ≡ lines_of_parts behind)
-        × (length r.0.now + length r.2.now < length text.now)) }
+        × (length r.0.now + length r.2.now + 3 ≤ length text.now)) }
 {
     let mut rest = text;
     let mut number = 0;
@@ -94,7 +94,12 @@ pub fn count_asked(lines: &[&str]) -> usize
 }
 
 /// The events of these lines, behind so many lines of the script.
-pub fn events_of(alloc: Global, root: ProcessId, before: u64, lines: &[&str]) -> Result<Vec<Event>, LineError>
+pub fn events_of(
+    alloc: Global,
+    root: ProcessId,
+    before: u64,
+    lines: &[&str],
+) -> Result<Vec<Event>, LineError>
     requires { before + length lines.now < 2 ^ 64 }
     ensures ok { IfOk result (λ v. events_at root (before + 1) (map (λ s. s.now) lines.now) ≡ Ok v.items) }
     ensures err { IfErr result (λ e. IsLineFault e (events_at root (before + 1) (map (λ s. s.now) lines.now))) }

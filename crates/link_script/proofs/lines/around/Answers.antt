@@ -1,4 +1,4 @@
-use Rattle.std.proofs.Common.{sym, ap, ◌∙◌, arith, refl, length, []}
+use Rattle.std.proofs.Common.{sym, ◌∙◌, arith, refl, []}
 use Rattle.link_script.proofs.Rest.{fewer_lines, document_range, goes_on, found, last_found, last_none, one_longer, text_behind}
 use Rattle.link_script.proofs.lines.around.Goals as goal
 
@@ -20,9 +20,13 @@ pub loop-line-preserved : goal.loop-line-preserved
 loop-line-preserved c =
     let h = c.loop-line.invariant in
     let g = goes_on c.args.text.now c.loop-line.rest.now c.in-Some.line.now c.in-Some.more.now h.0 h.1
-    (sym c.in-Some.ensures) (sym c.if-is_rule.ensures) h.3 in
-    (_, g.0, rw h.2 (one_longer h.0 c.in-Some.line.now), g.1,
-    text_behind c.loop-line.rest.now c.in-Some.line.now c.in-Some.more.now h.4 (sym c.in-Some.ensures))
+    (sym c.in-Some.ensures) (sym c.if-is_rule.ensures) h.3 in (
+      _,
+      g.0,
+      rw h.2 (one_longer h.0 c.in-Some.line.now),
+      g.1,
+      text_behind c.loop-line.rest.now c.in-Some.line.now c.in-Some.more.now h.4 (sym c.in-Some.ensures),
+    )
 
 pub returns-then-eq : goal.returns-then-eq
 returns-then-eq c =

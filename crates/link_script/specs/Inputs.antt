@@ -1,0 +1,69 @@
+-- Which bytes are a script, and what is wrong with others.
+use Rattle.std.specs.Prelude.{◌≡◌, ℕ, ◌+◌, ◌<◌, ◌≤◌, List, length, Option, Some, None, Result, Ok, Err, find}
+use Rattle.std.specs.Str.{IsUtf8}
+use Rattle.std.specs.Str.Lines.{lines_of_parts}
+use Rattle.tree_model.specs.declared.names.ProcessId.{ProcessId}
+use Rattle.tree_model.specs.declared.trees.TreeEntry.{TreeEntry}
+use Rattle.tree_model.specs.declared.events.Event.{Event}
+use Rattle.tree_model.specs.Trees.{IsTree, IsFirstFault, is_top}
+use Rattle.link_script.specs.declared.script.ScriptFault.{ScriptFault}
+use Rattle.link_script.specs.declared.script.ScriptFault.TheVariants.{Utf8, TreeText, Tree, TooLong, Line}
+use Rattle.link_script.specs.declared.script.ScriptError.{ScriptError}
+use Rattle.link_script.specs.declared.script.ScriptError.TheVariants.{Memory, Fault}
+use Rattle.link_script.specs.Documents.{IsTreeText}
+use Rattle.link_script.specs.Rules.{pieces, around_rule}
+use Rattle.link_script.specs.Script.{asked_in, events_at}
+use Rattle.link_script.specs.Trace.{lines_text}
+
+abbrev pub entry_id : Option TreeEntry → ProcessId
+entry_id None = record { 0 = 0 }
+entry_id (Some e) = e.id
+
+-- the process without a parent
+unfoldable pub root_of : List TreeEntry → ProcessId
+root_of es = entry_id (find is_top es)
+
+-- bytes that are text, with a tree text before the first line of three dashes
+pub record HasTreeText (bytes : List ℕ) (fronts behind : List (List ℕ)) (tree : List TreeEntry) : Type 0 where
+  pub text : IsUtf8 bytes
+  pub rule : around_rule (pieces bytes) ≡ Some (fronts, behind)
+  pub tree_text : IsTreeText (lines_text fronts) tree
+
+-- what the lines behind the rule ask for; the first of them is the second behind the tree text
+abbrev pub script_events : List (List ℕ) → List (List ℕ) → List TreeEntry → Result (List Event) ℕ
+script_events fronts behind tree = events_at (root_of tree) (length fronts + 1 + 1) (lines_of_parts behind)
+
+-- bytes that are a script of this tree and these events
+abbrev pub IsScript : List ℕ → List TreeEntry → List Event → Type 0
+IsScript bytes tree events =
+    (fronts : List (List ℕ)) × (behind : List (List ℕ)) × HasTreeText bytes fronts behind tree × IsTree tree
+    × (asked_in (lines_of_parts behind) ≤ 100000) × (script_events fronts behind tree ≡ Ok events)
+
+-- what is wrong with bytes, each fault where none of those above it is there
+abbrev pub IsScriptFault : List ℕ → ScriptFault → Type 0
+IsScriptFault bytes Utf8 = IsUtf8 bytes → ⊥
+IsScriptFault bytes TreeText =
+    IsUtf8 bytes × ((fronts behind : List (List ℕ)) (tree : List TreeEntry) → HasTreeText bytes fronts behind tree → ⊥)
+IsScriptFault bytes (Tree cause) =
+    (fronts : List (List ℕ)) × (behind : List (List ℕ)) × (tree : List TreeEntry)
+    × HasTreeText bytes fronts behind tree × IsFirstFault tree cause
+IsScriptFault bytes TooLong =
+    (fronts : List (List ℕ)) × (behind : List (List ℕ)) × (tree : List TreeEntry)
+    × HasTreeText bytes fronts behind tree × IsTree tree × (100000 < asked_in (lines_of_parts behind))
+IsScriptFault bytes (Line number) =
+    (fronts : List (List ℕ)) × (behind : List (List ℕ)) × (tree : List TreeEntry)
+    × HasTreeText bytes fronts behind tree × IsTree tree × (asked_in (lines_of_parts behind) ≤ 100000)
+    × (script_events fronts behind tree ≡ Err number)
+
+-- memory was refused, or there is this fault
+abbrev pub IsScriptError : List ℕ → ScriptError → Type 0
+IsScriptError bytes Memory = Unit {0}
+IsScriptError bytes (Fault fault) = IsScriptFault bytes fault
+
+-- the number of a fault
+abbrev pub script_fault_number : ScriptFault → ℕ
+script_fault_number TreeText = 1
+script_fault_number (Tree cause) = 2
+script_fault_number (Line number) = 3
+script_fault_number Utf8 = 4
+script_fault_number TooLong = 5

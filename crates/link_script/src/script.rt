@@ -1,0 +1,120 @@
+//! A whole script.
+
+ghost use Rattle.std.specs.Prelude.{◌≡◌, IfOk, IfErr, find};
+ghost use Rattle.std.specs.Option.{option_copied};
+ghost use Rattle.tree_model.specs.Trees.{is_top};
+ghost use Rattle.link_script.specs.Inputs.{root_of as root_id, script_fault_number, IsScript, IsScriptError};
+
+use crate::document::{DocumentError, read_tree};
+use crate::lines::{LineError, around, count_asked, events_of, lines_of};
+use std::alloc::{AllocError, Global};
+use std::str;
+use thiserror::Error;
+use tree_model::{Event, ProcessId, Tree, TreeEntry, TreeError};
+
+/// The most lines of a script that ask for an event.
+pub const MOST_EVENTS: usize = 100_000;
+
+/// What is wrong with a script. Each is judged over the whole input before the next.
+#[derive(Clone, Copy, Debug, PartialEq, Eq, Error)]
+pub enum ScriptFault {
+    /// The bytes are not UTF-8.
+    #[error("the script is not UTF-8")]
+    Utf8,
+    /// The text before the first line `---` is the TOML text of no tree, or there is no such line.
+    #[error("the tree text cannot be read")]
+    TreeText,
+    /// The processes of the tree text are no tree.
+    #[error("the processes are no tree: {0}")]
+    Tree(TreeError),
+    /// More than 100,000 lines ask for an event.
+    #[error("the script has more than 100000 event lines")]
+    TooLong,
+    /// The line of this number, counted from the input's first from 1 on, asks for no event; those before it do.
+    #[error("line {0} is the line of no event")]
+    Line(u64),
+}
+
+impl ScriptFault {
+    /// The number that is printed, 1 to 5.
+    pub fn number(self) -> u8
+        ensures { result ≡ script_fault_number self }
+    {
+        match self {
+            ScriptFault::TreeText => 1,
+            ScriptFault::Tree(_) => 2,
+            ScriptFault::Line(_) => 3,
+            ScriptFault::Utf8 => 4,
+            ScriptFault::TooLong => 5,
+        }
+    }
+}
+
+/// Why a script could not be read.
+#[derive(Clone, Copy, Debug, PartialEq, Eq, Error)]
+pub enum ScriptError {
+    #[error("out of memory")]
+    Memory,
+    #[error("{0}")]
+    Fault(ScriptFault),
+}
+
+impl From<AllocError> for ScriptError {
+    ghost use Rattle.std.specs.Prelude.{◌≡◌};
+    ghost use Rattle.link_script.specs.declared.script.ScriptError.TheVariants.{Memory};
+
+    ghost from_gives = { λ _ e. e ≡ Memory };
+
+    fn from(_e: AllocError) -> ScriptError {
+        ScriptError::Memory
+    }
+}
+
+/// The tree and the events of a script: the tree's text, a line `---`, and a line for each event. Empty lines and lines
+/// that begin with `#` are skipped.
+pub fn read(alloc: Global, bytes: &[u8]) -> Result<(Tree, Vec<Event>), ScriptError>
+    ensures ok { IfOk result (λ (tree, events). IsScript bytes.now tree events.items) }
+    ensures err { IfErr result (λ error. IsScriptError bytes.now error) }
+{
+    let Ok(text) = str::from_utf8(bytes) else {
+        return Err(ScriptError::Fault(ScriptFault::Utf8));
+    };
+    let Some((document, before, behind)) = around(text) else {
+        return Err(ScriptError::Fault(ScriptFault::TreeText));
+    };
+    let tree = match read_tree(alloc, document) {
+        Ok(tree) => tree,
+        Err(DocumentError::Memory) => return Err(ScriptError::Memory),
+        Err(DocumentError::TreeText) => return Err(ScriptError::Fault(ScriptFault::TreeText)),
+    };
+    if let Err(cause) = tree.check() {
+        return Err(ScriptError::Fault(ScriptFault::Tree(cause)));
+    }
+    let lines = lines_of(alloc, behind)?;
+    if count_asked(&lines) > MOST_EVENTS {
+        return Err(ScriptError::Fault(ScriptFault::TooLong));
+    }
+    match events_of(alloc, root_of(&tree), before + 1, &lines) {
+        Ok(events) => Ok((tree, events)),
+        Err(LineError::Memory) => Err(ScriptError::Memory),
+        Err(LineError::Line(number)) => Err(ScriptError::Fault(ScriptFault::Line(number))),
+    }
+}
+
+/// The process of a tree that has no parent.
+#[tactic(auto, unfolding(crate::specs::Inputs::root_of))]
+fn root_of(tree: &Tree) -> ProcessId
+    ensures { result ≡ root_id tree.now }
+{
+    match top_of(tree.entries()) {
+        None => ProcessId(0),
+        Some(entry) => entry.id,
+    }
+}
+
+/// The first of these processes that has no parent.
+fn top_of(entries: &[TreeEntry]) -> Option<&TreeEntry>
+    ensures { option_copied result ≡ find is_top entries.now }
+{
+    entries.iter().find(|entry| entry.parent.is_none())
+}

@@ -1,0 +1,136 @@
+use super::*;
+use std::test::Fail;
+use tree_model::{
+    Act, Case, Entry, Envelope, Event, Happening, Kind, Letters, Logged, Message, Op, Outcome,
+    Presumption, ProcessId, Reaction, RecordKind, Sequence, Step, Subject, Ticket, Txn,
+};
+
+const TREE: &str =
+    "[[process]]\nid = 1\nkind = \"coordinator\"\n[[process]]\nid = 2\nkind = \"manager\"\nparent = 1\ninfo = \"nomigrate\"\n";
+
+#[test]
+fn each_form_of_event(rt: HostRuntime) -> Result<(), Fail> {
+    let script = format!(in rt.alloc();
+        "{TREE}---\r\n# remark\n\nbegin pa\njoin a1.1 2\nwork a1.1 2 put x 1\nwork c1.2@2.1.1 3 get x\nwork a1.1 2 del x\ncommit a1.1\nabort c1.1\nask a1.1@2.1.1\ndeliver 7\nsettle\nrestart 2\nrestart 2 9\ntrim 1\nheur a1.1@2.1.1 rollback\nforget a1.1@2.1.1"
+    )?;
+    let (tree, events) = read(rt.alloc(), script.as_bytes()).ok().ok_or("a script")?;
+    assert_eq!(rt; tree.entries().len(), 2);
+    for entry in tree.entries() {
+        assert!(rt; (entry.kind == Kind::Manager) == entry.parent.is_some());
+    }
+    assert_eq!(rt; events.len(), 15);
+    assert!(rt; matches!(events[0], Event::Act(Act::Begin(Presumption::PresumeAbort))));
+    assert!(rt; matches!(events[2], Event::Act(Act::Work(_, _, Op::Put(_, _)))));
+    assert!(rt; matches!(events[3], Event::Act(Act::Work(_, _, Op::Get(_)))));
+    assert!(rt; matches!(events[8], Event::Deliver(7)));
+    assert!(rt; matches!(events[9], Event::Settle));
+    assert!(rt; matches!(events[10], Event::Restart(_, None)));
+    assert!(rt; matches!(events[11], Event::Restart(_, Some(9))));
+    assert!(rt; matches!(events[13], Event::Act(Act::Decide(_, Outcome::Aborted))));
+    Ok(())
+}
+
+#[test]
+fn refused_scripts(rt: HostRuntime) -> Result<(), Fail> {
+    for (front, back, number) in [
+        ("", "", 1),
+        ("---\n", "", 2),
+        ("process = []\n---\n", "", 2),
+        ("x = 1\n---\n", "", 1),
+        ("[[process]]\nid = 0\nkind = \"coordinator\"\n---", "", 1),
+        (
+            "[[process]]\nid = 1\nkind = \"coordinator\"\ninfo = \"\"\n---",
+            "",
+            1,
+        ),
+        ("[[process]]\nid = 1\nkind = \"manager\"\n---", "", 2),
+        (TREE, "---\nbegin", 3),
+        (TREE, "---\nbegin pb", 3),
+        (TREE, "---\nbegin  pa", 3),
+        (TREE, "---\nbegin pa ", 3),
+        (TREE, "---\nBegin pa", 3),
+        (TREE, "---\ncommit a01.1", 3),
+        (TREE, "---\ncommit b1.1", 3),
+        (TREE, "---\njoin a1.1 4294967296", 3),
+        (TREE, "---\ndeliver 18446744073709551616", 3),
+        (TREE, "---\nwork a1.1 2 put x", 3),
+        (TREE, "---\nwork a1.1 2 put  1", 3),
+        (TREE, "---\nsettle\r", 3),
+        (TREE, "---\n #", 3),
+        (TREE, "--- \n", 1),
+    ] {
+        let script = format!(in rt.alloc(); "{front}{back}")?;
+        let refused = match read(rt.alloc(), script.as_bytes()) {
+            Err(ScriptError::Fault(fault)) => fault.number(),
+            _ => 0,
+        };
+        assert_eq!(rt; refused, number, "{script}");
+    }
+    let script = format!(in rt.alloc(); "{TREE}---\n\n#\nsettle\nsettle \nx")?;
+    assert!(rt;
+        matches!(
+            read(rt.alloc(), script.as_bytes()),
+            Err(ScriptError::Fault(ScriptFault::Line(13)))
+        )
+    );
+    assert!(rt;
+        matches!(
+            read(rt.alloc(), b"\xff"),
+            Err(ScriptError::Fault(ScriptFault::Utf8))
+        )
+    );
+    Ok(())
+}
+
+#[test]
+fn lines_of_an_entry(rt: HostRuntime) -> Result<(), Fail> {
+    let txn = Txn {
+        root: ProcessId(1),
+        boot: 1,
+        sequence: 1,
+        presumption: Presumption::PresumeAbort,
+    };
+    let case = Case {
+        txn,
+        ticket: Some(Ticket {
+            child: ProcessId(2),
+            boot: 1,
+            number: 1,
+        }),
+    };
+    let logged = [Logged {
+        kind: RecordKind::Prepared,
+        subject: Subject::Case(case),
+        forced: true,
+    }];
+    let mut letters = Letters::new(rt.alloc());
+    letters.push(Envelope {
+        from: ProcessId(2),
+        to: ProcessId(1),
+        message: Message::Ack(case, Outcome::Committed),
+    })?;
+    let entry = Entry {
+        step: Step {
+            process: ProcessId(2),
+            happening: Happening::Trim,
+            fault: None,
+        },
+        reaction: Reaction {
+            begun: Some(txn),
+            written: Sequence::from_vec(Vec::from_slice(rt.alloc(), &logged)?),
+            told: None,
+            letters,
+            kept: Some(3),
+        },
+    };
+    let mut text = Vec::new(rt.alloc());
+    push_entry(&mut text, 8, &entry)?;
+    let lines =
+        "begin a1.1\nlog 2 Prepared a1.1@2.1.1 forced\n9 2->1 ACK a1.1@2.1.1 commit\ntrim 2 3\n";
+    assert_eq!(rt; text.as_slice(), lines.as_bytes());
+    assert_eq!(rt;
+        case_text(rt.alloc(), &case)?.as_slice(),
+        b"a1.1@2.1.1".as_slice()
+    );
+    Ok(())
+}
