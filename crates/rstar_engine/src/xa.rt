@@ -1,14 +1,17 @@
 //! The engine of XA scripts.
 
-ghost use Rattle.std.specs.Prelude.{◌≡◌, ℕ, List, IfOk, IfErr, IfSome};
+ghost use Rattle.std.specs.Prelude.{◌≡◌, ◌++◌, ℕ, List, Ok, OnOk, IfOk, IfErr, string_bytes};
 ghost use Rattle.std.specs.Io.KnownBytes.{Appends, Keeps};
-ghost use Rattle.rstar_engine.specs.Streams.{WritesFront};
+ghost use Rattle.rstar_engine.specs.Manager.{map_ok};
+ghost use Rattle.rstar_engine.specs.Runs.{Makes, Reports, answer_text};
 
 use crate::manager::Manager;
 use crate::script::{Request, ScriptError, requests_of};
 use crate::streams::{Failure, read_all, write_all};
 use std::alloc::{AllocError, Global};
 use std::io::{Read, Write};
+use xa_codes::Code;
+use xa_xid::Xid;
 
 /// How a run ended.
 #[derive(Clone, Copy, Debug, PartialEq, Eq)]
@@ -66,18 +69,23 @@ fn refusal(alloc: Global, error: ScriptError) -> Result<String, AllocError> {
 }
 
 /// The answers to a script's calls, one a line, and the last line.
-fn answers(alloc: Global, requests: &[Request]) -> Result<String, AllocError> {
+fn answers(alloc: Global, requests: &[Request]) -> Result<String, AllocError>
+    ensures { IfOk result (λ text. Reports requests.now (string_bytes text)) }
+{
     let mut manager = Manager::new(alloc);
     let mut out = String::new(alloc);
     for request in requests {
-        answer(&mut manager, *request, &mut out)?;
+        let answer = make(&mut manager, *request)?;
+        push_answer(&mut out, &answer)?;
     }
     out.push_str("end\n")?;
     Ok(out)
 }
 
-/// Makes a call, and adds the line of its answer.
-fn answer(manager: &mut Manager, request: Request, out: &mut String) -> Result<(), AllocError> {
+/// Makes a call.
+fn make(manager: &mut Manager, request: Request) -> Result<Result<Vec<Xid>, Code>, AllocError>
+    ensures { IfOk result (λ answer. Makes manager.old manager.new request (map_ok answer)) }
+{
     let code = match request {
         Request::Open { flags, migrates } => manager.open(flags, migrates),
         Request::Close { flags } => manager.close(flags),
@@ -91,21 +99,32 @@ fn answer(manager: &mut Manager, request: Request, out: &mut String) -> Result<(
             thread,
             count,
             flags,
-        } => match manager.recover(thread, count, flags)? {
-            Err(code) => code,
-            Ok(xids) => return add_branches(out, &xids),
-        },
+        } => return manager.recover(thread, count, flags),
     };
-    out.push_str(code.name())?;
-    out.push_str("\n")
+    Ok(Err(code))
+}
+
+/// Adds the line of an answer.
+fn push_answer(out: &mut String, answer: &Result<Vec<Xid>, Code>) -> Result<(), AllocError>
+    ensures { OnOk result (string_bytes out.new ≡ string_bytes out.old ++ answer_text (map_ok answer.now)) }
+{
+    match answer {
+        Ok(xids) => push_branches(out, xids.as_slice()),
+        Err(code) => {
+            let name = code.name();
+            writeln!(out, "{name}")
+        }
+    }
 }
 
 /// Adds how many branches these are, and their names.
-fn add_branches(out: &mut String, xids: &[xa_xid::Xid]) -> Result<(), AllocError> {
+fn push_branches(out: &mut String, xids: &[Xid]) -> Result<(), AllocError>
+    ensures { OnOk result (string_bytes out.new ≡ string_bytes out.old ++ answer_text (Ok xids.now)) }
+{
     let count = xids.len();
     write!(out, "{count}")?;
     for xid in xids {
         write!(out, " {xid}")?;
     }
-    out.push_str("\n")
+    writeln!(out)
 }
