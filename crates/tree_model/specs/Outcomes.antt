@@ -168,11 +168,16 @@ pub record StandingMismatches (tree : List TreeEntry) (w : World) : Type 0 where
       → (has (is_decided c o) (w.at (process_of c)).forced ≡ true) ⊎ (has (is_forgot c) (w.at (process_of c)).life ≡ true)
 
 -- a step that makes such a record handles such an act
-pub record ByOperatorAlone (es : List Made) : Type 0 where
-  pub decided : (c : Case) (e : Made) → list_any (λ w. is_heuristic c w.entry) e.effect.written ≡ true
+pub record ByOperator (e : Made) : Type 0 where
+  pub decided : (c : Case) → list_any (λ w. is_heuristic c w.entry) e.effect.written ≡ true
       → (o : Outcome) × (e.move.step.happening ≡ Handles (ActInput (Decide c o)))
-  pub forgot : (c : Case) (e : Made) → list_any (λ w. is_forgot c w.entry) e.effect.written ≡ true
+  pub forgot : (c : Case) → list_any (λ w. is_forgot c w.entry) e.effect.written ≡ true
       → e.move.step.happening ≡ Handles (ActInput (Forget c))
+
+-- so does each step of the run
+abbrev pub ByOperatorAlone : List Made → Type 0
+ByOperatorAlone [] = Unit {0}
+ByOperatorAlone (e ∷ es) = ByOperator e × ByOperatorAlone es
 
 -- Over every list of sends, deliveries, losses, repeats, restarts, trims and inquiries in a tree.
 pub record Headline (tree : List TreeEntry) (es : List Made) (w : World) : Type 0 where

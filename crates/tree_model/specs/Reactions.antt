@@ -75,6 +75,11 @@ acts_begin place n p =
     let c = root_case (next_txn place.me (boot_of (kept n)) (memory_of place n (some_case place)) p) in
     Does (record { begun = Some c.txn; written = []; told = None; letters = []; accepts = []; counts = []; remains = None })
 
+-- transactions are begun at the root alone
+abbrev pub begins_at : Option ProcessId → Place → Node → Presumption → Reacts
+begins_at None place n p = acts_begin place n p
+begins_at (Some q) place n p = Refused NoSuch
+
 abbrev pub join_by : Seat → List TreeEntry → ProcessId → CoordinatorView → Standing → Reacts
 join_by s tree q v Unknown = Refused UnknownTxn
 join_by s tree q v Active = if is_child tree q s.me then Does (row_effect s.own (active_join s q v)) else Refused NotAChild
@@ -113,7 +118,7 @@ live_by e Unknown = Refused UnknownTxn
 live_by e _ = Refused e
 
 abbrev pub coordinator_acts : Place → Option ProcessId → Node → Act → Reacts
-coordinator_acts place parent n (Begin p) = acts_begin place n p
+coordinator_acts place parent n (Begin p) = begins_at parent place n p
 coordinator_acts place parent n (JoinAct c q) =
     let v = coordinator_view place n c in join_by (seat_of place parent c) place.tree q v v.standing
 coordinator_acts place parent n (WorkAct c q op) =
@@ -209,7 +214,7 @@ forget_by l Unknown = Refused UnknownTxn
 forget_by l Heuristic = Does (leaf_effect (heuristic_forget l))
 forget_by l _ = Refused NothingToForget
 
--- transactions are begun, committed and aborted at the root alone: elsewhere none is known
+-- transactions are committed and aborted at the root alone: elsewhere none is known
 abbrev pub manager_acts : Place → ProcessId → Node → Act → Reacts
 manager_acts place p n (Begin q) = Refused NoSuch
 manager_acts place p n (JoinAct c q) = childless_by (manager_view place n c).standing
