@@ -7,6 +7,10 @@ use Rattle.xa_codes.specs.declared.code.Code.{Code}
 use Rattle.xa_xid.specs.declared.xid.Xid.{Xid}
 use Rattle.xa_xid.specs.Text.{xid_text}
 use Rattle.rstar_engine.specs.declared.manager.Manager.{Manager}
+use Rattle.rstar_engine.specs.declared.xa.Status.{Status}
+use Rattle.rstar_engine.specs.declared.xa.Status.TheVariants.{Ended, Refused}
+use Rattle.rstar_engine.specs.declared.script.ScriptError.{ScriptError}
+use Rattle.rstar_engine.specs.declared.script.ScriptError.TheVariants.{Line, Utf8, TooLong}
 use Rattle.rstar_engine.specs.declared.script.Request.{Request}
 use Rattle.rstar_engine.specs.declared.script.Request.TheVariants.{Open, Close, Branch, Recover}
 use Rattle.rstar_engine.specs.Manager.{IsNew, Opens, Closes, Answers, Recovers}
@@ -45,3 +49,14 @@ report_text answers = flat_map answer_text answers ++ codes "end" ++ 10 ∷ []
 -- a text reports a run of these calls from a new manager on
 abbrev pub Reports : List Request → List ℕ → Type 0
 Reports requests text = (m : Manager) × (n : Manager) × (answers : List Answer) × IsNew m × Leads m requests answers n × (text ≡ report_text answers)
+
+-- the line of a refused script
+abbrev pub refusal_text : ScriptError → List ℕ
+refusal_text Utf8 = codes "error 4" ++ 10 ∷ []
+refusal_text TooLong = codes "error 5" ++ 10 ∷ []
+refusal_text (Line n) = codes "error 3 " ++ decimal n ++ 10 ∷ []
+
+-- what a run writes by how it ends: the answers of a run of some calls, or the line of a refusal
+abbrev pub IsReport : Status → List ℕ → Type 0
+IsReport Ended text = (requests : List Request) × Reports requests text
+IsReport Refused text = (fault : ScriptError) × (text ≡ refusal_text fault)

@@ -3,7 +3,7 @@
 ghost use Rattle.std.specs.Prelude.{◌≡◌, ◌++◌, ℕ, List, Ok, OnOk, IfOk, IfErr, string_bytes};
 ghost use Rattle.std.specs.Io.KnownBytes.{Appends, Keeps};
 ghost use Rattle.rstar_engine.specs.Manager.{map_ok};
-ghost use Rattle.rstar_engine.specs.Runs.{Makes, Reports, answer_text};
+ghost use Rattle.rstar_engine.specs.Runs.{Makes, Reports, IsReport, answer_text, refusal_text};
 
 use crate::manager::Manager;
 use crate::script::{Request, ScriptError, requests_of};
@@ -39,7 +39,8 @@ pub fn run_xa<R: Read, W: Write>(
     reader: &mut R,
     writer: &mut W,
 ) -> Result<Status, Failure>
-    ensures written { IfOk result (λ _. (text : List ℕ) × Appends (W.contents writer.old) (W.contents writer.new) text) }
+    ensures written { IfOk result (λ status. (text : List ℕ) × IsReport status text
+        × Appends (W.contents writer.old) (W.contents writer.new) text) }
     ensures unread { IfErr result (λ e. e ≡ Failure.Read → Keeps (W.contents writer.old) (W.contents writer.new)) }
     ensures memory { IfErr result (λ e. e ≡ Failure.Memory → Keeps (W.contents writer.old) (W.contents writer.new)) }
 {
@@ -52,7 +53,9 @@ pub fn run_xa<R: Read, W: Write>(
 }
 
 /// The answer to an input.
-fn report(alloc: Global, input: &[u8]) -> Result<(String, Status), AllocError> {
+fn report(alloc: Global, input: &[u8]) -> Result<(String, Status), AllocError>
+    ensures { IfOk result (λ r. IsReport r.1 (string_bytes r.0)) }
+{
     match requests_of(alloc, input)? {
         Ok(requests) => Ok((answers(alloc, &requests)?, Status::Ended)),
         Err(error) => Ok((refusal(alloc, error)?, Status::Refused)),
@@ -60,7 +63,9 @@ fn report(alloc: Global, input: &[u8]) -> Result<(String, Status), AllocError> {
 }
 
 /// The line of a refusal.
-fn refusal(alloc: Global, error: ScriptError) -> Result<String, AllocError> {
+fn refusal(alloc: Global, error: ScriptError) -> Result<String, AllocError>
+    ensures { IfOk result (λ text. string_bytes text ≡ refusal_text error) }
+{
     match error {
         ScriptError::Utf8 => String::from_str(alloc, "error 4\n"),
         ScriptError::TooLong => String::from_str(alloc, "error 5\n"),
