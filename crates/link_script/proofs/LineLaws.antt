@@ -1,5 +1,5 @@
 -- Lines of events: what is read is spelled so, and what is spelled so is read.
-use Rattle.std.proofs.Common.{◌≡◌, ◌≢◌, ◌^◌, ◌<◌, ◌≤◌, ℕ, Bool, true, false, cond, eqb, Option, Some, None, List, [], ◌∷◌, ◌++◌, refl, ap, sym, subst, ◌∙◌, arith, inl, inr, codes, append_assoc}
+use Rattle.std.proofs.Common.{◌≡◌, ◌^◌, ◌<◌, ℕ, Bool, true, false, cond, Option, Some, None, List, [], ◌∷◌, ◌++◌, refl, ap, sym, subst, ◌∙◌, inl, inr, codes, append_assoc}
 use Rattle.std.specs.Prelude.{◌&&◌}
 use Rattle.std.specs.List.{list_all}
 use Rattle.std.specs.Fmt.{decimal}
@@ -21,9 +21,9 @@ use Rattle.tree_model.specs.declared.events.Act.TheVariants.{Begin, Join, Work, 
 use Rattle.tree_model.specs.declared.events.Event.{Event}
 use Rattle.tree_model.specs.declared.events.Event.TheVariants.{Act as ActOf, Deliver, Settle, Restart, Trim}
 use Rattle.tree_model.specs.Texts.{txn_text, case_text, op_text}
-use Rattle.link_script.specs.Names.{◌>>=◌, process_at, txn_at, case_at}
+use Rattle.link_script.specs.Names.{process_at, txn_at, case_at}
 use Rattle.link_script.specs.Events.{same, is_visible, is_visible_word, key_at, value_at, begin_at, join_at, put_at, get_at, delete_at, verb_at, op_at, work_at, restart_at, restart_parts, decision_at, heur_at, commit_at, abort_at, ask_at, forget_at, deliver_at, trim_at, plain_at, event_parts, event_at}
-use Rattle.link_script.specs.Spellings.{process_text, presumption_word, decision_word, event_text, FitsProcess, FitsTxn, FitsCase, FitsOp, IsWord, FitsEvent, ReadIsSpelled, SpelledIsRead}
+use Rattle.link_script.specs.Spellings.{process_text, presumption_word, decision_word, event_text, FitsProcess, FitsCase, FitsOp, IsWord, FitsEvent, ReadIsSpelled, SpelledIsRead}
 use Rattle.link_script.proofs.Misses.{bind_some, misses, misses_without, not_at, cut_none, same_tells, blank}
 use Rattle.link_script.proofs.NameLaws.{process_takes, process_again, process_misses, txn_takes, txn_again, case_takes, case_again, case_no_blank}
 
@@ -164,9 +164,10 @@ join_takes root rest e h =
     let c = bind_some (process_at a.0.1) _ e b.2 in
     let case = case_takes root a.0.0 b.0 b.1 in
     let child = process_takes a.0.1 c.0 c.1 in
-    subst (λ (x : Event). Line root (codes "join " ++ rest) x) (some_is (ActOf (Join b.0 c.0)) e c.2)
-    (two_words (codes "join ") rest a.0.0 a.0.1 (case_text b.0) (process_text c.0) (cut_takes 32 rest a.0 a.1) case.0 child.0,
-    record { case_fits = case.1; child_fits = child.1 })
+    subst (λ (x : Event). Line root (codes "join " ++ rest) x) (some_is (ActOf (Join b.0 c.0)) e c.2) (
+      two_words (codes "join ") rest a.0.0 a.0.1 (case_text b.0) (process_text c.0) (cut_takes 32 rest a.0 a.1) case.0 child.0,
+      record { case_fits = case.1; child_fits = child.1 },
+    )
 
 work_takes : (root : ProcessId) (rest : List ℕ) (e : Event) → work_at root rest ≡ Some e → Line root (codes "work " ++ rest) e
 unfolding work_at
@@ -179,10 +180,11 @@ work_takes root rest e h =
     let case = case_takes root a.0.0 b.0 b.1 in
     let child = process_takes q.0.0 c.0 c.1 in
     let op = op_takes q.0.1 d.0 d.1 in
-    subst (λ (x : Event). Line root (codes "work " ++ rest) x) (some_is (ActOf (Work b.0 c.0 d.0)) e d.2)
-    (three_words (codes "work ") rest a.0.0 a.0.1 q.0.0 q.0.1 (case_text b.0) (process_text c.0) (op_text d.0)
-    (cut_takes 32 rest a.0 a.1) (cut_takes 32 a.0.1 q.0 q.1) case.0 child.0 op.0,
-    record { case_fits = case.1; child_fits = child.1; op_fits = op.1 })
+    subst (λ (x : Event). Line root (codes "work " ++ rest) x) (some_is (ActOf (Work b.0 c.0 d.0)) e d.2) (
+      three_words (codes "work ") rest a.0.0 a.0.1 q.0.0 q.0.1 (case_text b.0) (process_text c.0) (op_text d.0)
+          (cut_takes 32 rest a.0 a.1) (cut_takes 32 a.0.1 q.0 q.1) case.0 child.0 op.0,
+      record { case_fits = case.1; child_fits = child.1; op_fits = op.1 },
+    )
 
 commit_takes : (root : ProcessId) (rest : List ℕ) (e : Event) → commit_at root rest ≡ Some e → Line root (codes "commit " ++ rest) e
 commit_takes root rest e h =

@@ -1,5 +1,5 @@
 -- Names: what is read is spelled so, and what is spelled so is read.
-use Rattle.std.proofs.Common.{◌≡◌, ◌≢◌, ◌^◌, ◌<◌, ◌≤◌, ℕ, Bool, true, false, cond, eqb, ltb, Option, Some, None, List, [], ◌∷◌, ◌++◌, refl, ap, sym, subst, ◌∙◌, arith, inl, inr, codes, append_assoc}
+use Rattle.std.proofs.Common.{◌≡◌, ◌^◌, ◌<◌, ℕ, true, false, cond, eqb, ltb, Option, Some, None, List, [], ◌∷◌, ◌++◌, refl, ap, sym, subst, ◌∙◌, arith, inl, inr, codes, append_assoc}
 use Rattle.std.specs.Fmt.{decimal}
 use Rattle.std.proofs.lemmas.List.{append-nil}
 use Rattle.std.proofs.lemmas.Bool.{cases_eq, cases_lt, lt-ltb, le-ltb}
@@ -15,7 +15,7 @@ use Rattle.tree_model.specs.declared.names.Txn.{Txn}
 use Rattle.tree_model.specs.declared.names.Ticket.{Ticket}
 use Rattle.tree_model.specs.declared.names.Case.{Case}
 use Rattle.tree_model.specs.Texts.{presumption_letter, txn_text, ticket_text, ticket_part, case_text}
-use Rattle.link_script.specs.Names.{◌>>=◌, process_at, after_at, letter_at, txn_at, ticket_at, case_at, case_parts}
+use Rattle.link_script.specs.Names.{process_at, letter_at, txn_at, ticket_at, case_at, case_parts}
 use Rattle.link_script.specs.Spellings.{process_text, FitsProcess, FitsTxn, FitsTicket, FitsOwner, FitsCase, ReadIsSpelled, SpelledIsRead}
 use Rattle.link_script.proofs.Misses.{bind_some, misses, misses_append, misses_without, cut_none, full_stop, at_sign, blank, IsMark, decimal_misses}
 
@@ -59,7 +59,7 @@ letter_takes (b ∷ bs) l e =
             let no : eqb b 97 ≡ false = grind (arith, nat_tests) in
             let nor : eqb b 99 ≡ false = grind (arith, nat_tests) in
             let none : None ≡ Some l = rw (no, nor) at e in cc)
-        ]
+      ]
     ]
 
 letter_again : (p : Presumption) (rest : List ℕ) → letter_at (presumption_letter p ++ rest) ≡ Some (p, rest)

@@ -5,8 +5,16 @@ ghost use Rattle.tree_model.specs.Texts.{case_text, op_text, ticket_text, txn_te
 ghost use Rattle.link_script.specs.Events.{event_at, op_at};
 ghost use Rattle.link_script.specs.Names.{case_at, process_at, ticket_at, txn_at};
 ghost use Rattle.link_script.specs.Spellings.{
-    FitsCase, FitsEvent, FitsOp, FitsProcess, FitsTicket, FitsTxn, ReadIsSpelled, SpelledIsRead,
-    event_text, process_text,
+  FitsCase,
+  FitsEvent,
+  FitsOp,
+  FitsProcess,
+  FitsTicket,
+  FitsTxn,
+  ReadIsSpelled,
+  SpelledIsRead,
+  event_text,
+  process_text,
 };
 
 /// Each name has one spelling: what is read is spelled so, and what is spelled so is read. Transactions and cases are
