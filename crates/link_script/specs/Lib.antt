@@ -1,5 +1,6 @@
 pub mod Names
 pub mod Events
+pub mod Spellings
 pub mod Documents
 pub mod Trace
 pub mod Rules

@@ -3,6 +3,7 @@
 
 mod document;
 mod event;
+pub mod law;
 mod lines;
 mod names;
 mod script;
