@@ -1,5 +1,11 @@
 //! Processes, transactions, tickets and cases.
 
+ghost use Rattle.std.specs.Prelude.{◌≡◌};
+ghost use Rattle.tree_model.specs.Names.{same_case, same_ticket, same_txn};
+ghost use Rattle.tree_model.specs.declared.names.Case.{Case as AnyCase};
+ghost use Rattle.tree_model.specs.declared.names.Ticket.{Ticket as AnyTicket};
+ghost use Rattle.tree_model.specs.declared.names.Txn.{Txn as AnyTxn};
+
 use crate::lists::Sequence;
 
 /// A process of the tree, by its number.
@@ -55,3 +61,10 @@ pub struct Case {
     pub txn: Txn,
     pub ticket: Option<Ticket>,
 }
+
+/// The equality of names, in code and as the keys of a map, is that of the definitions.
+pub fn equal_by_parts()
+    ensures txn { (a b : AnyTxn) → ⟦<Txn as PartialEq>⟧.eq a b ≡ same_txn a b }
+    ensures ticket { (a b : AnyTicket) → ⟦<Ticket as PartialEq>⟧.eq a b ≡ same_ticket a b }
+    ensures case { (a b : AnyCase) → ⟦<Case as PartialEq>⟧.eq a b ≡ same_case a b }
+{}
