@@ -1,7 +1,10 @@
 //! What a parent and its child say to one another.
 
+ghost use Rattle.std.specs.Prelude.{◌≡◌, IfOk};
+
 use crate::lists::Sequence;
 use crate::names::{Case, Outcome, ProcessId, Ticket};
+use std::alloc::{AllocError, Global};
 
 /// A key (1 to 64 bytes) or a value (0 to 256 bytes).
 pub type Bytes = Sequence<u8>;
@@ -12,6 +15,19 @@ pub enum Op {
     Put(Bytes, Bytes),
     Get(Bytes),
     Delete(Bytes),
+}
+
+impl Op {
+    /// The same operation again.
+    pub fn copied(&self, alloc: Global) -> Result<Op, AllocError>
+        ensures { IfOk result (λ copy. copy ≡ self.now) }
+    {
+        Ok(match self {
+            Op::Put(key, value) => Op::Put(key.copied(alloc)?, value.copied(alloc)?),
+            Op::Get(key) => Op::Get(key.copied(alloc)?),
+            Op::Delete(key) => Op::Delete(key.copied(alloc)?),
+        })
+    }
 }
 
 /// A message between a parent and its child (R*). JOIN and JOINED name the parent's case, the others the child's.
@@ -36,12 +52,46 @@ pub enum Message {
     Inquire(Case),
 }
 
+impl Message {
+    /// The same message again.
+    pub fn copied(&self, alloc: Global) -> Result<Message, AllocError>
+        ensures { IfOk result (λ copy. copy ≡ self.now) }
+    {
+        Ok(match self {
+            Message::Join(case) => Message::Join(*case),
+            Message::Joined(case, ticket) => Message::Joined(*case, *ticket),
+            Message::Work(case, index, op) => Message::Work(*case, *index, op.copied(alloc)?),
+            Message::Prepare(case, count) => Message::Prepare(*case, *count),
+            Message::Yes(case) => Message::Yes(*case),
+            Message::No(case) => Message::No(*case),
+            Message::Read(case) => Message::Read(*case),
+            Message::Commit(case) => Message::Commit(*case),
+            Message::Abort(case) => Message::Abort(*case),
+            Message::Ack(case, outcome) => Message::Ack(*case, *outcome),
+            Message::Inquire(case) => Message::Inquire(*case),
+        })
+    }
+}
+
 /// A message with its sender and its receiver.
 #[derive(Debug, Drop)]
 pub struct Envelope {
     pub from: ProcessId,
     pub to: ProcessId,
     pub message: Message,
+}
+
+impl Envelope {
+    /// The same message again, with its sender and its receiver.
+    pub fn copied(&self, alloc: Global) -> Result<Envelope, AllocError>
+        ensures { IfOk result (λ copy. copy ≡ self.now) }
+    {
+        Ok(Envelope {
+            from: self.from,
+            to: self.to,
+            message: self.message.copied(alloc)?,
+        })
+    }
 }
 
 /// Messages, in the order in which they were sent.

@@ -1,8 +1,12 @@
 //! The records of a log.
 
+ghost use Rattle.std.specs.Prelude.{◌≡◌, IfOk};
+ghost use Rattle.tree_model.specs.Records.{branch_case, case_subject, kind_of, subject_of};
+
 use crate::lists::Sequence;
 use crate::messages::Bytes;
 use crate::names::{Case, Outcome, Tickets};
+use std::alloc::{AllocError, Global};
 use xa_xid::Xid;
 
 /// A branch at a manager: a case of the tree, or a transaction manager's own XID that reads back as no case.
@@ -17,6 +21,32 @@ pub enum Branch {
 pub struct Write {
     pub key: Bytes,
     pub value: Option<Bytes>,
+}
+
+impl Write {
+    /// The same write again.
+    pub fn copied(&self, alloc: Global) -> Result<Write, AllocError>
+        ensures { IfOk result (λ copy. copy ≡ self.now) }
+    {
+        Ok(Write {
+            key: self.key.copied(alloc)?,
+            value: match &self.value {
+                None => None,
+                Some(value) => Some(value.copied(alloc)?),
+            },
+        })
+    }
+}
+
+/// The same writes again.
+fn copied_writes(writes: &[Write], alloc: Global) -> Result<Writes, AllocError>
+    ensures { IfOk result (λ copy. copy ≡ writes.now) }
+{
+    let mut copy = Vec::new(alloc);
+    for write in writes {
+        copy.push(write.copied(alloc)?)?;
+    }
+    Ok(Sequence::from_vec(copy))
 }
 
 /// The writes of a branch in order of each key's first write, each key once.
@@ -55,6 +85,104 @@ pub enum Record {
     Base(u64),
     /// The key has this value.
     Pair(Bytes, Bytes),
+}
+
+impl Branch {
+    /// The case that the branch is, if it is one.
+    pub fn case(&self) -> Option<Case>
+        ensures { result ≡ branch_case self.now }
+    {
+        match self {
+            Branch::Case(case) => Some(*case),
+            Branch::Foreign(_) => None,
+        }
+    }
+
+    fn subject(&self) -> Subject
+        ensures { result ≡ case_subject (branch_case self.now) }
+    {
+        match self {
+            Branch::Case(case) => Subject::Case(*case),
+            Branch::Foreign(_) => Subject::Other,
+        }
+    }
+}
+
+impl Record {
+    /// The same record again.
+    pub fn copied(&self, alloc: Global) -> Result<Record, AllocError>
+        ensures { IfOk result (λ copy. copy ≡ self.now) }
+    {
+        Ok(match self {
+            Record::Opened(boot) => Record::Opened(*boot),
+            Record::Collecting(case, tickets) => Record::Collecting(*case, tickets.copied(alloc)?),
+            Record::Prepare(case, tickets) => Record::Prepare(*case, tickets.copied(alloc)?),
+            Record::Commit(case, tickets) => Record::Commit(*case, tickets.copied(alloc)?),
+            Record::Abort(case, tickets) => Record::Abort(*case, tickets.copied(alloc)?),
+            Record::End(case) => Record::End(*case),
+            Record::Prepared(branch, writes) => {
+                Record::Prepared(*branch, copied_writes(writes.as_slice(), alloc)?)
+            }
+            Record::Committed(branch) => Record::Committed(*branch),
+            Record::RolledBack(branch) => Record::RolledBack(*branch),
+            Record::Direct(branch, writes) => {
+                Record::Direct(*branch, copied_writes(writes.as_slice(), alloc)?)
+            }
+            Record::HeurCommit(branch) => Record::HeurCommit(*branch),
+            Record::HeurRollback(branch) => Record::HeurRollback(*branch),
+            Record::Told(branch, outcome) => Record::Told(*branch, *outcome),
+            Record::Forgot(branch) => Record::Forgot(*branch),
+            Record::Base(count) => Record::Base(*count),
+            Record::Pair(key, value) => Record::Pair(key.copied(alloc)?, value.copied(alloc)?),
+        })
+    }
+
+    /// Its kind.
+    pub fn kind(&self) -> RecordKind
+        ensures { result ≡ kind_of self.now }
+    {
+        match self {
+            Record::Opened(_) => RecordKind::Opened,
+            Record::Collecting(..) => RecordKind::Collecting,
+            Record::Prepare(..) => RecordKind::Prepare,
+            Record::Commit(..) => RecordKind::Commit,
+            Record::Abort(..) => RecordKind::Abort,
+            Record::End(_) => RecordKind::End,
+            Record::Prepared(..) => RecordKind::Prepared,
+            Record::Committed(_) => RecordKind::Committed,
+            Record::RolledBack(_) => RecordKind::RolledBack,
+            Record::Direct(..) => RecordKind::Direct,
+            Record::HeurCommit(_) => RecordKind::HeurCommit,
+            Record::HeurRollback(_) => RecordKind::HeurRollback,
+            Record::Told(..) => RecordKind::Told,
+            Record::Forgot(_) => RecordKind::Forgot,
+            Record::Base(_) => RecordKind::Base,
+            Record::Pair(..) => RecordKind::Pair,
+        }
+    }
+
+    /// What it is of.
+    pub fn subject(&self) -> Subject
+        ensures { result ≡ subject_of self.now }
+    {
+        match self {
+            Record::Opened(boot) => Subject::Boot(*boot),
+            Record::Collecting(case, _)
+            | Record::Prepare(case, _)
+            | Record::Commit(case, _)
+            | Record::Abort(case, _)
+            | Record::End(case) => Subject::Case(*case),
+            Record::Prepared(branch, _)
+            | Record::Committed(branch)
+            | Record::RolledBack(branch)
+            | Record::Direct(branch, _)
+            | Record::HeurCommit(branch)
+            | Record::HeurRollback(branch)
+            | Record::Told(branch, _)
+            | Record::Forgot(branch) => branch.subject(),
+            Record::Base(_) | Record::Pair(..) => Subject::Other,
+        }
+    }
 }
 
 /// The kind of a record, as a trace names it.

@@ -1,0 +1,2 @@
+//! rec_log
+#![tactic(auto)]

@@ -1,0 +1,2 @@
+//! root_core
+#![tactic(auto)]
