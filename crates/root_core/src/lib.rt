@@ -1,2 +1,5 @@
-//! root_core
+//! The root.
 #![tactic(auto)]
+
+pub mod lists;
+pub mod view;
