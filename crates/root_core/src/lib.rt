@@ -2,4 +2,5 @@
 #![tactic(auto)]
 
 pub mod lists;
+pub mod rows;
 pub mod view;
