@@ -1,12 +1,12 @@
 -- How the code's views and deeds stand for those of the reaction table.
-use Rattle.std.specs.Prelude.{◌≡◌, true, false, Option, Some, None, List, [], ◌∷◌, map}
+use Rattle.std.specs.Prelude.{◌≡◌, true, false, Option, Some, None, IsSome, List, [], ◌∷◌, map}
 use Rattle.std.specs.Map.{lookup}
 use Rattle.tree_model.specs.declared.names.ProcessId.{ProcessId}
 use Rattle.tree_model.specs.declared.names.Txn.{Txn}
 use Rattle.tree_model.specs.declared.messages.Envelope.{Envelope}
 use Rattle.tree_model.specs.declared.events.Told.{Told}
 use Rattle.tree_model.specs.declared.events.Reaction.{Reaction}
-use Rattle.tree_model.specs.Names.{root_case}
+use Rattle.tree_model.specs.Names.{root_case, same_txn}
 use Rattle.tree_model.specs.Nodes.{Written as WrittenRecord, logged_of, reaction_of}
 use Rattle.tree_model.specs.Standings.{CoordinatorView, unknown_view}
 use Rattle.tree_model.specs.CoordinatorRows.{Row, Seat as RootSeat}
@@ -48,3 +48,15 @@ pub record Does (x : Txn) (row : Row) (deed : Deed) (view : View) : Type 0 where
   pub written : written_of deed.written ≡ row.written
   pub reaction : deed.reaction ≡ reaction_of (row_effect (root_case x) row)
   pub view_is : meant view ≡ row.view
+
+-- a transaction is live
+abbrev pub IsLive : List (Txn × View) → Txn → Type 0
+IsLive live x = IsSome (lookup (txns.ghosts.eq x) live)
+
+-- a deed does what the row of the transaction says, and among the live ones the transaction stands as the row says; no
+-- other moves
+pub record DoesIn (old new : List (Txn × View)) (x : Txn) (row : Row) (deed : Deed) : Type 0 where
+  pub written : written_of deed.written ≡ row.written
+  pub reaction : deed.reaction ≡ reaction_of (row_effect (root_case x) row)
+  pub own : view_in new x ≡ row.view
+  pub others : (y : Txn) → same_txn x y ≡ false → view_in new y ≡ view_in old y

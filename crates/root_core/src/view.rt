@@ -1,6 +1,6 @@
 //! What the root knows of a live transaction, and what a row of the reaction table makes of it.
 
-ghost use Rattle.std.specs.Prelude.{◌≡◌, [], None, Some, IfOk};
+ghost use Rattle.std.specs.Prelude.{◌≡◌, [], None, Some, IfOk, IsTrue};
 ghost use Rattle.tree_model.specs.Standings.{unknown_view};
 ghost use Rattle.root_core.specs.Rows.{Shows, meant};
 ghost use Rattle.root_core.specs.Roots.{open_view};
@@ -36,6 +36,18 @@ impl View {
             named: Vec::new(alloc),
             owed: Vec::new(alloc),
         }
+    }
+
+    /// Whether nothing is left of the transaction.
+    pub(crate) fn is_forgotten(&self) -> bool
+        ensures { IsTrue result → meant self.now ≡ unknown_view }
+    {
+        self.standing == Standing::Unknown
+            && self.accepted.is_empty()
+            && self.votes.is_empty()
+            && self.works.is_empty()
+            && self.named.is_empty()
+            && self.owed.is_empty()
     }
 
     /// The transaction is forgotten.
