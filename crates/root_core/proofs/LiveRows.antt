@@ -16,9 +16,9 @@ pub does_in : {E : Type 0} (row : CoordinatorView → Row) (old new : List (Txn 
     → IfOk made (λ deed. Does x (row (meant before)) deed behind)
     → IfOk made (λ deed. DoesIn old new x (row (view_in old x)) deed)
 does_in row old new x before behind (Ok deed) stood stands others done = rw stood (record {
-    written = done.written;
-    reaction = done.reaction;
-    own = stands ∙ done.view_is;
-    others = others;
-  })
+  written = done.written;
+  reaction = done.reaction;
+  own = stands ∙ done.view_is;
+  others = others;
+})
 does_in row old new x before behind (Err e) stood stands others done = done

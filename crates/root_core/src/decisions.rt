@@ -157,12 +157,7 @@ fn collecting_read_only(alloc: Global, seat: Seat, view: &mut View) -> Result<De
     match seat.txn.presumption {
         Presumption::PresumeAbort => {
             view.forget();
-            Ok(Deed::tells(
-                alloc,
-                seat.txn,
-                Conclusion::ReadOnly,
-                Sequence::new(alloc),
-            ))
+            Ok(Deed::tells(alloc, seat.txn, Conclusion::ReadOnly, Sequence::new(alloc)))
         }
         Presumption::PresumeCommit => {
             let told = Some(Told {
@@ -182,12 +177,7 @@ fn collecting_read_only(alloc: Global, seat: Seat, view: &mut View) -> Result<De
 
 /// The decision: a forced Commit. Under Presumed Abort it names those that owe an acknowledgement; under Presumed Commit
 /// nobody owes one, and the transaction is forgotten.
-fn commits(
-    alloc: Global,
-    seat: Seat,
-    yes: Vec<Ticket>,
-    view: &mut View,
-) -> Result<Deed, AllocError>
+fn commits(alloc: Global, seat: Seat, yes: Vec<Ticket>, view: &mut View) -> Result<Deed, AllocError>
     ensures ok { IfOk result (λ deed. Does seat.txn (commits_row (seat_meant seat) (meant view.old) yes.items seat.txn.presumption) deed view.new) }
     ensures err { OnErr result (meant view.new ≡ meant view.old) }
 {

@@ -99,22 +99,13 @@ pub(crate) fn active_work(
 }
 
 /// Active, the commit act: with no child the transaction has read only; else each child is asked for its vote.
-pub(crate) fn active_commit(
-    alloc: Global,
-    seat: Seat,
-    view: &mut View,
-) -> Result<Deed, AllocError>
+pub(crate) fn active_commit(alloc: Global, seat: Seat, view: &mut View) -> Result<Deed, AllocError>
     ensures ok { IfOk result (λ deed. Does seat.txn (commit_row (seat_meant seat) (meant view.old)) deed view.new) }
     ensures err { OnErr result (meant view.new ≡ meant view.old) }
 {
     if none_of(&view.accepted) {
         view.forget();
-        return Ok(Deed::tells(
-            alloc,
-            seat.txn,
-            Conclusion::ReadOnly,
-            Sequence::new(alloc),
-        ));
+        return Ok(Deed::tells(alloc, seat.txn, Conclusion::ReadOnly, Sequence::new(alloc)));
     }
     active_commit_with(alloc, seat, view)
 }
@@ -146,11 +137,7 @@ fn active_commit_with(alloc: Global, seat: Seat, view: &mut View) -> Result<Deed
 
 /// Active, the abort act: the children are told, and nothing is written, since none can have promised.
 #[tactic(auto, using(crate::proofs::Letters::nothing_above))]
-pub(crate) fn active_abort(
-    alloc: Global,
-    seat: Seat,
-    view: &mut View,
-) -> Result<Deed, AllocError>
+pub(crate) fn active_abort(alloc: Global, seat: Seat, view: &mut View) -> Result<Deed, AllocError>
     ensures ok { IfOk result (λ deed. Does seat.txn (abort_row (seat_meant seat) (meant view.old)) deed view.new) }
     ensures err { OnErr result (meant view.new ≡ meant view.old) }
 {

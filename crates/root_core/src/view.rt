@@ -121,12 +121,7 @@ impl Deed {
     }
 
     /// The application is told of the transaction's end, and these messages go out.
-    pub(crate) fn tells(
-        alloc: Global,
-        txn: Txn,
-        conclusion: Conclusion,
-        letters: Letters,
-    ) -> Deed
+    pub(crate) fn tells(alloc: Global, txn: Txn, conclusion: Conclusion, letters: Letters) -> Deed
         ensures { Shows result None (Some (record { txn = txn; conclusion = conclusion })) letters }
     {
         Deed {
