@@ -88,6 +88,13 @@ impl Root {
         self.me
     }
 
+    /// How many transactions it began in this boot.
+    pub fn begun(&self) -> u64
+        ensures { result ≡ (state self.now).begun }
+    {
+        self.begun
+    }
+
     /// The records of its log, as a list made anew.
     pub fn records(&self) -> Result<Vec<Record>, AllocError>
         ensures { IfOk result (λ v. v.items ≡ records_of (state self.now).log) }

@@ -6,6 +6,8 @@ use std::alloc::Global;
 /// What a command line asks for.
 #[derive(Clone, Copy, Debug, PartialEq, Eq)]
 pub enum Request {
+    /// The events of a tree script.
+    Tree,
     /// The calls of an XA script.
     Xa,
 }
@@ -21,6 +23,7 @@ pub enum Asked {
 fn grammar<'a>(alloc: Global) -> Result<Command<'a>, Error> {
     let command = Command::new(alloc, "rstar")
         .subcommand_required(true)
+        .subcommand(Command::new(alloc, "tree"))?
         .subcommand(Command::new(alloc, "xa"))?;
     Ok(command)
 }
@@ -29,7 +32,11 @@ fn grammar<'a>(alloc: Global) -> Result<Command<'a>, Error> {
 pub fn read_words<'a>(alloc: Global, words: &'a [String]) -> Result<Asked, Error> {
     let matches = grammar(alloc)?.try_get_matches_from(words)?;
     match matches.subcommand() {
-        Some(_) => Ok(Asked::Request(Request::Xa)),
+        Some((name, _)) => Ok(Asked::Request(if name == "tree" {
+            Request::Tree
+        } else {
+            Request::Xa
+        })),
         None => Ok(Asked::Memory),
     }
 }

@@ -5,7 +5,7 @@ mod command;
 
 use clap::error::ErrorKind;
 use command::{Asked, Request, read_words};
-use rstar_engine::{Failure, run_xa};
+use rstar_engine::{Failure, run_tree, run_xa};
 use std::io;
 use std::process::ExitCode;
 
@@ -14,6 +14,7 @@ fn perform(rt: &HostRuntime, request: Request) -> u8 {
     let mut reader = rt.reader();
     let mut writer = io::writer(rt);
     let ended = match request {
+        Request::Tree => run_tree(rt.alloc(), &mut reader, &mut writer),
         Request::Xa => run_xa(rt.alloc(), &mut reader, &mut writer),
     };
     match ended {

@@ -8,7 +8,7 @@ use Rattle.xa_xid.specs.declared.xid.Xid.{Xid}
 use Rattle.xa_xid.specs.Text.{xid_text}
 use Rattle.rstar_engine.specs.declared.manager.Manager.{Manager}
 use Rattle.rstar_engine.specs.declared.xa.Status.{Status}
-use Rattle.rstar_engine.specs.declared.xa.Status.TheVariants.{Ended, Refused}
+use Rattle.rstar_engine.specs.declared.xa.Status.TheVariants.{Ended, Refused, Stopped}
 use Rattle.rstar_engine.specs.declared.script.ScriptError.{ScriptError}
 use Rattle.rstar_engine.specs.declared.script.ScriptError.TheVariants.{Line, Utf8, TooLong}
 use Rattle.rstar_engine.specs.declared.script.Request.{Request}
@@ -60,3 +60,4 @@ refusal_text (Line n) = codes "error 3 " ++ decimal n ++ 10 ∷ []
 abbrev pub IsReport : Status → List ℕ → Type 0
 IsReport Ended text = (requests : List Request) × Reports requests text
 IsReport Refused text = (fault : ScriptError) × (text ≡ refusal_text fault)
+IsReport Stopped text = ⊥

@@ -20,6 +20,8 @@ pub enum Status {
     Ended,
     /// The script was refused.
     Refused,
+    /// An event was refused.
+    Stopped,
 }
 
 impl Status {
@@ -28,6 +30,7 @@ impl Status {
         match self {
             Status::Ended => 0,
             Status::Refused => 1,
+            Status::Stopped => 2,
         }
     }
 }
