@@ -1,6 +1,6 @@
 //! A flat tree that runs: a root and plain leaves, the messages, and the journal.
 
-ghost use Rattle.std.specs.Prelude.{◌≡◌, ◌+◌, ◌<◌, ◌^◌, IfOk, IfSome};
+ghost use Rattle.std.specs.Prelude.{◌≡◌, ◌+◌, ◌<◌, ◌^◌, IfErr, IfOk, IfSome, length};
 ghost use Rattle.std.specs.Vec.{vec_len};
 
 use crate::leaf::Leaf;
@@ -116,7 +116,9 @@ impl FlatWorld {
     }
 
     /// Makes these events, in order, up to the first that is refused: then how many were made, and why the next was not.
-    pub(crate) fn run(&mut self, events: &[Event]) -> Result<(), (usize, StepError)> {
+    pub(crate) fn run(&mut self, events: &[Event]) -> Result<(), (usize, StepError)>
+        ensures { IfErr result (λ refusal. refusal.0 < length events.now) }
+    {
         for (made, event) in events.iter().enumerate() {
             if let Err(refusal) = self.apply(event) {
                 return Err((made, refusal));
