@@ -1,11 +1,13 @@
 //! The engines of `rstar`: bytes in, report out.
 #![tactic(auto)]
 
+mod law;
 mod manager;
 mod script;
 mod streams;
 mod xa;
 
+pub use law::histories_are_legal;
 pub use streams::Failure;
 pub use xa::{Status, run_xa};
 
