@@ -1,5 +1,5 @@
--- Legal histories of a resource manager: which rows of the tables any list of calls on it walks, and what each call
--- answers first.
+-- Legal histories of a resource manager: which rows of the tables any list of calls on it walks, and what each
+-- call answers.
 use Rattle.std.specs.Prelude.{◌≡◌, ℕ, ◌+◌, ◌-◌, ◌^◌, Bool, true, false, not, ◌||◌, ◌&&◌, ◌==◌, List, [], ◌∷◌, length, Contains, Option, Some, None, is_some, Result, Ok, Err, IsOkAnd, MatchBool, nat_eq, nat_le, nat_lt, if◌then◌else◌}
 use Rattle.xa_codes.specs.declared.code.Code.{Code}
 use Rattle.xa_codes.specs.declared.code.Code.TheVariants as code
@@ -64,19 +64,21 @@ abbrev pub has_rows : {S : Type 0} → List (Code × S) → Bool
 has_rows [] = false
 has_rows (row ∷ rows) = true
 
--- the table of associations has a row for a call, from the thread's own association or from one that is suspended for
--- migration
+-- the table of associations has a row for a call, from the thread's own association or from one that is suspended
+-- for migration
 abbrev pub has_own_row : AssocList → Call → ℕ → Xid → Bool
 has_own_row a c t x =
     has_rows (assoc_rows (own_state a t x) c) || (has_rows (assoc_rows M c) && not (moved_of a x == 0))
 
--- no row applies: of the branch; of the association, or the thread is active in a branch already and starts once more;
--- or a branch is held that is to be prepared or ended
+-- a thread may not work on a branch: the association has no row, or it is active in a branch already and starts
+abbrev pub is_unfit : AssocList → Call → ℕ → Xid → Bool
+is_unfit a c t x = (is_start c && is_some (active_of a t)) || not (has_own_row a c t x)
+
+-- no row applies: the branch has none, the thread may not work on it, or it is held and to be prepared or ended
 abbrev pub is_out_of_state : Manager → Call → ℕ → Xid → Bool
 is_out_of_state m c t x =
     not (has_rows (branch_rows (state_at m x) c))
-    || (if is_work c then (is_start c && is_some (active_of m.associations t)) || not (has_own_row m.associations c t x)
-    else is_held m.associations x)
+    || (if is_work c then is_unfit m.associations c t x else is_held m.associations x)
 
 -- the work of a branch is lost
 abbrev pub is_lost : BranchState → Bool
@@ -90,13 +92,15 @@ is_at_limit m call.StartJoin t x = not (has_room m.associations t)
 is_at_limit m call.StartResume t x =
     not (is_lost (state_at m x)) && not (has_seat m.associations t x) && not (has_room m.associations t)
 is_at_limit m call.EndMigrate t x =
-    not (is_lost (state_at m x)) && m.associations.migrates && not (nat_lt (moved_of m.associations x) (2 ^ 64 - 1))
+    not (is_lost (state_at m x)) && m.associations.migrates
+    && not (nat_lt (moved_of m.associations x) (2 ^ 64 - 1))
 is_at_limit m _ t x = false
 
 -- what is asked of a call on a branch once its flags are legal and its name is one
 abbrev pub state_checks : Manager → Call → ℕ → Xid → List (Bool × Code)
 state_checks m c t x =
-    naming_check c (is_known m.branches.branches x) ∷ (is_out_of_state m c t x, code.Proto) ∷ (is_at_limit m c t x, code.RmErr) ∷ []
+    naming_check c (is_known m.branches.branches x) ∷ (is_out_of_state m c t x, code.Proto)
+    ∷ (is_at_limit m c t x, code.RmErr) ∷ []
 
 -- what is asked of a call on a branch once its flags are legal
 abbrev pub branch_checks : Manager → Call → ℕ → Xid → List (Bool × Code)
@@ -120,7 +124,8 @@ behind_flags checks (Err refusal) = Some refusal
 -- the first check that refuses a call
 abbrev pub first_refusal : Manager → Request → Option Code
 first_refusal m (Open flags migrates) = behind_flags (λ c. []) (legal verb.Open flags.0)
-first_refusal m (Close flags) = behind_flags (λ c. (has_associations m.associations, code.Proto) ∷ []) (legal verb.Close flags.0)
+first_refusal m (Close flags) =
+    behind_flags (λ c. (has_associations m.associations, code.Proto) ∷ []) (legal verb.Close flags.0)
 first_refusal m (Branch v t x flags) = behind_flags (λ c. branch_checks m c t x) (legal v flags.0)
 first_refusal m (Recover t count flags) = behind_flags (λ c. scan_checks m c t) (legal verb.Recover flags.0)
 
@@ -140,7 +145,7 @@ abbrev pub is_refused : Answer → Bool
 is_refused (Ok given) = false
 is_refused (Err c) = is_refusal c
 
--- a call answers by the first check that refuses it, and then changes nothing; and where none does by no refusal
+-- a call answers by the first check that refuses it, and then changes nothing; where none does, by no refusal
 pub record AnswersFirst (old : Manager) (r : Request) (answer : Answer) (new : Manager) : Type 0 where
   pub refused : (c : Code) → first_refusal old r ≡ Some c → (answer ≡ Err c) × Same old new
   pub made : first_refusal old r ≡ None → is_refused answer ≡ false
@@ -149,12 +154,15 @@ pub record AnswersFirst (old : Manager) (r : Request) (answer : Answer) (new : M
 
 -- a row of the table of the initialisation
 abbrev pub HasInitRow : InitState → Verb → ℕ → Answer → InitState → Type 0
-HasInitRow s v flags answer k = IsOkAnd (legal v flags) (λ c. IsCode (λ a. Contains (init_rows s c) (a, k)) answer)
+HasInitRow s v flags answer k =
+    IsOkAnd (legal v flags) (λ c. IsCode (λ a. Contains (init_rows s c) (a, k)) answer)
 
 -- an open or a close that is not refused makes a row, and nothing else moves the manager
 abbrev pub InitStep : InitState → Request → Answer → InitState → Type 0
-InitStep s (Open flags migrates) answer k = MatchBool (is_refused answer) (k ≡ s) (HasInitRow s verb.Open flags.0 answer k)
-InitStep s (Close flags) answer k = MatchBool (is_refused answer) (k ≡ s) (HasInitRow s verb.Close flags.0 answer k)
+InitStep s (Open flags migrates) answer k =
+    MatchBool (is_refused answer) (k ≡ s) (HasInitRow s verb.Open flags.0 answer k)
+InitStep s (Close flags) answer k =
+    MatchBool (is_refused answer) (k ≡ s) (HasInitRow s verb.Close flags.0 answer k)
 InitStep s _ answer k = k ≡ s
 
 -- a call is one on this branch
@@ -164,12 +172,14 @@ is_on x _ = false
 
 -- a row of the table of branches
 abbrev pub HasBranchRow : BranchState → Request → Answer → BranchState → Type 0
-HasBranchRow s (Branch v t y flags) answer k = IsOkAnd (legal v flags.0) (λ c. IsCode (λ a. Contains (branch_rows s c) (a, k)) answer)
+HasBranchRow s (Branch v t y flags) answer k =
+    IsOkAnd (legal v flags.0) (λ c. IsCode (λ a. Contains (branch_rows s c) (a, k)) answer)
 HasBranchRow s _ answer k = ⊥
 
 -- a call on a branch that is not refused makes a row, and nothing else moves the branch
 abbrev pub BranchStep : Xid → BranchState → Request → Answer → BranchState → Type 0
-BranchStep x s r answer k = MatchBool (is_on x r && not (is_refused answer)) (HasBranchRow s r answer k) (k ≡ s)
+BranchStep x s r answer k =
+    MatchBool (is_on x r && not (is_refused answer)) (HasBranchRow s r answer k) (k ≡ s)
 
 abbrev pub is_work_call : Result Call Code → Bool
 is_work_call (Ok c) = is_work c
@@ -194,12 +204,15 @@ pub record OwnRow (s : AssocState) (c : Call) (a : Code) (k : AssocState) : Type
   pub leads : own_part to ≡ k
 
 abbrev pub HasOwnRow : AssocState → Request → Answer → AssocState → Type 0
-HasOwnRow s (Branch v u y flags) answer k = IsOkAnd (legal v flags.0) (λ c. IsCode (λ a. OwnRow s c a k) answer)
+HasOwnRow s (Branch v u y flags) answer k =
+    IsOkAnd (legal v flags.0) (λ c. IsCode (λ a. OwnRow s c a k) answer)
 HasOwnRow s _ answer k = ⊥
 
--- a start or an end by this thread on this branch that is not refused makes a row, and nothing else moves the association
+-- a start or an end by this thread on this branch that is not refused makes a row, and nothing else moves the
+-- association
 abbrev pub OwnStep : ℕ → Xid → AssocState → Request → Answer → AssocState → Type 0
-OwnStep t x s r answer k = MatchBool (is_work_by t x r && not (is_refused answer)) (HasOwnRow s r answer k) (k ≡ s)
+OwnStep t x s r answer k =
+    MatchBool (is_work_by t x r && not (is_refused answer)) (HasOwnRow s r answer k) (k ≡ s)
 
 -- a row of the table of associations, by how many are suspended for migration before and behind it
 pub record MigrationRow (n : ℕ) (c : Call) (a : Code) (k : ℕ) : Type 0 where
@@ -209,28 +222,34 @@ pub record MigrationRow (n : ℕ) (c : Call) (a : Code) (k : ℕ) : Type 0 where
   pub counted : k + counts from ≡ n + counts to
 
 abbrev pub HasMigrationRow : ℕ → Request → Answer → ℕ → Type 0
-HasMigrationRow n (Branch v u y flags) answer k = IsOkAnd (legal v flags.0) (λ c. IsCode (λ a. MigrationRow n c a k) answer)
+HasMigrationRow n (Branch v u y flags) answer k =
+    IsOkAnd (legal v flags.0) (λ c. IsCode (λ a. MigrationRow n c a k) answer)
 HasMigrationRow n _ answer k = ⊥
 
 -- a start or an end on this branch that is not refused makes a row, and nothing else migrates it
 abbrev pub MigrationStep : Xid → ℕ → Request → Answer → ℕ → Type 0
-MigrationStep x n r answer k = MatchBool (is_work_on x r && not (is_refused answer)) (HasMigrationRow n r answer k) (k ≡ n)
+MigrationStep x n r answer k =
+    MatchBool (is_work_on x r && not (is_refused answer)) (HasMigrationRow n r answer k) (k ≡ n)
 
 -- Whole histories.
 
 -- calls with their answers lead from a state to another, each by such a step
-abbrev pub WalksBy : {S : Type 0} → (S → Request → Answer → S → Type 0) → S → List Request → List Answer → S → Type 0
+abbrev pub WalksBy : {S : Type 0} → (S → Request → Answer → S → Type 0) → S → List Request → List Answer → S
+    → Type 0
 WalksBy step s [] [] e = s ≡ e
 WalksBy {S} step s (r ∷ rs) (a ∷ rest) e = (k : S) × step s r a k × WalksBy step k rs rest e
 WalksBy step s _ _ e = ⊥
 
--- a history is legal: its projections on the manager, on each branch, on each thread's association with each branch and
--- on the migrations of each branch walk rows of the tables, a thread is active in one branch at most, and each call
--- answers by the first check that refuses it
-pub record IsLegalHistory (m : Manager) (rs : List Request) (answers : List Answer) (n : Manager) : Type 0 where
-  pub manager : WalksBy InitStep m.init rs answers n.init
-  pub branches : (x : Xid) → WalksBy (BranchStep x) (state_at m x) rs answers (state_at n x)
-  pub associations : (t : ℕ) (x : Xid) → WalksBy (OwnStep t x) (own_state m.associations t x) rs answers (own_state n.associations t x)
-  pub migrations : (x : Xid) → WalksBy (MigrationStep x) (moved_of m.associations x) rs answers (moved_of n.associations x)
-  pub one_active : (t : ℕ) (x y : Xid) → own_state n.associations t x ≡ T1 → own_state n.associations t y ≡ T1 → x ≡ y
-  pub answers_first : WalksBy AnswersFirst m rs answers n
+-- a history is legal: its projections on the manager, on each branch, on each thread's association with each branch
+-- and on the migrations of each branch walk rows of the tables, a thread is active in one branch at most, and each
+-- call answers by the first check that refuses it
+pub record IsLegalHistory (m : Manager) (rs : List Request) (given : List Answer) (n : Manager) : Type 0 where
+  pub manager : WalksBy InitStep m.init rs given n.init
+  pub branches : (x : Xid) → WalksBy (BranchStep x) (state_at m x) rs given (state_at n x)
+  pub associations : (t : ℕ) (x : Xid)
+      → WalksBy (OwnStep t x) (own_state m.associations t x) rs given (own_state n.associations t x)
+  pub migrations : (x : Xid)
+      → WalksBy (MigrationStep x) (moved_of m.associations x) rs given (moved_of n.associations x)
+  pub one_active : (t : ℕ) (x y : Xid)
+      → own_state n.associations t x ≡ T1 → own_state n.associations t y ≡ T1 → x ≡ y
+  pub answers_first : WalksBy AnswersFirst m rs given n

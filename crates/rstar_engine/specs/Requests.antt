@@ -57,7 +57,8 @@ pub record IsInfo (w : List ℕ) : Type 0 where
   pub short : length w ≤ 32
   pub letters : All IsAsciiAlphabetic w
 
--- what stands behind `open`: flags, which migrate; or flags and an information text, which migrate unless it is `nomigrate`
+-- what stands behind `open`: flags, and then the manager migrates; or flags and an information text, and then it
+-- migrates unless the text is `nomigrate`
 abbrev pub IsOpenOf : List ℕ → Option (List ℕ × List ℕ) → ℕ → Bool → Type 0
 IsOpenOf rest None flags migrates = IsFlagText rest flags × (migrates ≡ true)
 IsOpenOf rest (Some p) flags migrates =
@@ -92,8 +93,10 @@ SpellsRecover rest thread count flags =
 abbrev pub SpellsBy : Option Verb → List ℕ → Request → Type 0
 SpellsBy v rest (Open flags migrates) = (v ≡ Some verb.Open) × SpellsOpen rest flags.0 migrates
 SpellsBy v rest (Close flags) = (v ≡ Some verb.Close) × IsFlagText rest flags.0
-SpellsBy v rest (Branch w thread xid flags) = (v ≡ Some w) × IsOnBranch w × SpellsBranch rest thread xid flags.0
-SpellsBy v rest (Recover thread count flags) = (v ≡ Some verb.Recover) × SpellsRecover rest thread count flags.0
+SpellsBy v rest (Branch w thread xid flags) =
+    (v ≡ Some w) × IsOnBranch w × SpellsBranch rest thread xid flags.0
+SpellsBy v rest (Recover thread count flags) =
+    (v ≡ Some verb.Recover) × SpellsRecover rest thread count flags.0
 
 -- a line spells a call: its words, with one space between
 abbrev pub Spells : List ℕ → Request → Type 0
@@ -117,7 +120,7 @@ SpellEach [] [] = Unit {0}
 SpellEach (line ∷ ls) (request ∷ requests) = Spells line request × SpellEach ls requests
 SpellEach _ _ = ⊥
 
--- an input is a script of these calls: text, of which at most 100,000 lines are not skipped, and these spell the calls
+-- an input is a script of these calls: text, of which at most 100,000 lines are not skipped, and these spell them
 pub record IsScript (input : List ℕ) (requests : List Request) : Type 0 where
   pub text : IsUtf8 input
   pub short : call_count (lines input) ≤ 100000

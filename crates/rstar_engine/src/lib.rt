@@ -12,4 +12,6 @@ pub use streams::Failure;
 pub use xa::{Status, run_xa};
 
 #[cfg(test)]
+mod random;
+#[cfg(test)]
 mod tests;

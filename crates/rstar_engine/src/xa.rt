@@ -41,8 +41,9 @@ pub fn run_xa<R: Read, W: Write>(
     reader: &mut R,
     writer: &mut W,
 ) -> Result<Status, Failure>
-    ensures written { IfOk result (λ status. (input : List ℕ) × (text : List ℕ) × IsInput (R.remaining reader.old) input
-        × IsReport status input text × Appends (W.contents writer.old) (W.contents writer.new) text) }
+    ensures written { IfOk result (λ status. (input : List ℕ) × (text : List ℕ)
+        × IsInput (R.remaining reader.old) input × IsReport status input text
+        × Appends (W.contents writer.old) (W.contents writer.new) text) }
     ensures unread { IfErr result (λ e. e ≡ Failure.Read → Keeps (W.contents writer.old) (W.contents writer.new)) }
     ensures memory { IfErr result (λ e. e ≡ Failure.Memory → Keeps (W.contents writer.old) (W.contents writer.new)) }
 {
