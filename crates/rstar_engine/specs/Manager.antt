@@ -112,6 +112,7 @@ pub record IsNew (m : Manager) : Type 0 where
   pub branches : m.branches.branches ≡ []
   pub scans : m.branches.scans ≡ []
   pub associations : IsBare m.associations
+  pub seats : m.associations.seats ≡ []
 
 -- an open that is legal answers XA_OK and leaves the manager open: where it was not, without associations
 pub record Opened (old new : Manager) (migrates : Bool) (answer : Code) : Type 0 where
@@ -119,7 +120,7 @@ pub record Opened (old new : Manager) (migrates : Bool) (answer : Code) : Type 0
   pub init : new.init ≡ R1
   pub branches : new.branches ≡ old.branches
   pub again : old.init ≡ R1 → new ≡ old
-  pub anew : old.init ≡ R0 → IsBare new.associations × (new.associations.migrates ≡ migrates)
+  pub anew : old.init ≡ R0 → IsBare new.associations × (new.associations.seats ≡ []) × (new.associations.migrates ≡ migrates)
 
 abbrev pub Opens : Manager → Manager → ℕ → Bool → Code → Type 0
 Opens old new flags migrates answer = MatchResult (legal verb.Open flags) (λ _. Opened old new migrates answer) (λ refusal. (answer ≡ refusal) × (new ≡ old))

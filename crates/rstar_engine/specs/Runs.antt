@@ -1,5 +1,5 @@
 -- A run of a script's calls on a manager, and the text of its answers.
-use Rattle.std.specs.Prelude.{◌≡◌, ℕ, List, [], ◌∷◌, ◌++◌, Result, Ok, Err, length, codes}
+use Rattle.std.specs.Prelude.{◌≡◌, ℕ, List, [], ◌∷◌, ◌++◌, Option, Result, Ok, Err, IfSome, length, codes}
 use Rattle.std.specs.List.{flat_map}
 use Rattle.std.specs.Fmt.{decimal}
 use Rattle.xa_codes.specs.Codes.{code_name}
@@ -14,6 +14,7 @@ use Rattle.rstar_engine.specs.declared.script.ScriptError.TheVariants.{Line, Utf
 use Rattle.rstar_engine.specs.declared.script.Request.{Request}
 use Rattle.rstar_engine.specs.declared.script.Request.TheVariants.{Open, Close, Branch, Recover}
 use Rattle.rstar_engine.specs.Manager.{IsNew, Opens, Closes, Answers, Recovers}
+use Rattle.rstar_engine.specs.Requests.{IsScript, IsScriptFault}
 
 -- an answer: the branches that a recover gives, or a code
 abbrev pub Answer : Type 0
@@ -56,8 +57,19 @@ refusal_text Utf8 = codes "error 4" ++ 10 ∷ []
 refusal_text TooLong = codes "error 5" ++ 10 ∷ []
 refusal_text (Line n) = codes "error 3 " ++ decimal n ++ 10 ∷ []
 
--- what a run writes by how it ends: the answers of a run of some calls, or the line of a refusal
-abbrev pub IsReport : Status → List ℕ → Type 0
-IsReport Ended text = (requests : List Request) × Reports requests text
-IsReport Refused text = (fault : ScriptError) × (text ≡ refusal_text fault)
-IsReport Stopped text = ⊥
+-- what a run writes of an input, by how it ends: the answers of the calls that the input spells, or the line of
+-- the fault that is there
+abbrev pub IsReport : Status → List ℕ → List ℕ → Type 0
+IsReport Ended input text = (requests : List Request) × IsScript input requests × Reports requests text
+IsReport Refused input text = (error : ScriptError) × IsScriptFault input error × (text ≡ refusal_text error)
+IsReport Stopped input text = ⊥
+
+-- these bytes are what a reader had left, where the reader says what it has
+abbrev pub IsInput : Option (List ℕ) → List ℕ → Type 0
+IsInput remaining input = IfSome remaining (λ all. input ≡ all)
+
+-- the exit status
+abbrev pub status_number : Status → ℕ
+status_number Ended = 0
+status_number Refused = 1
+status_number Stopped = 2

@@ -1,17 +1,19 @@
 //! The engines of `rstar`: bytes in, report out.
 #![tactic(auto)]
 
-mod leaf;
+mod law;
 mod manager;
 mod script;
 mod streams;
 mod tree;
-mod world;
 mod xa;
 
+pub use law::histories_are_legal;
 pub use streams::Failure;
 pub use tree::run_tree;
 pub use xa::{Status, run_xa};
 
+#[cfg(test)]
+mod random;
 #[cfg(test)]
 mod tests;

@@ -3,7 +3,7 @@
 ghost use Rattle.std.specs.Prelude.{◌≡◌, ◌++◌, ℕ, List, Ok, OnOk, IfOk, IfErr, string_bytes};
 ghost use Rattle.std.specs.Io.KnownBytes.{Appends, Keeps};
 ghost use Rattle.rstar_engine.specs.Manager.{map_ok};
-ghost use Rattle.rstar_engine.specs.Runs.{Makes, Reports, IsReport, answer_text, refusal_text};
+ghost use Rattle.rstar_engine.specs.Runs.{Makes, Reports, IsReport, IsInput, answer_text, refusal_text, status_number};
 
 use crate::manager::Manager;
 use crate::script::{Request, ScriptError, requests_of};
@@ -26,7 +26,9 @@ pub enum Status {
 
 impl Status {
     /// The exit status.
-    pub fn number(self) -> u8 {
+    pub fn number(self) -> u8
+        ensures { result ≡ status_number self }
+    {
         match self {
             Status::Ended => 0,
             Status::Refused => 1,
@@ -42,7 +44,8 @@ pub fn run_xa<R: Read, W: Write>(
     reader: &mut R,
     writer: &mut W,
 ) -> Result<Status, Failure>
-    ensures written { IfOk result (λ status. (text : List ℕ) × IsReport status text
+    ensures written { IfOk result (λ status. (input : List ℕ) × (text : List ℕ)
+        × IsInput (R.remaining reader.old) input × IsReport status input text
         × Appends (W.contents writer.old) (W.contents writer.new) text) }
     ensures unread { IfErr result (λ e. e ≡ Failure.Read → Keeps (W.contents writer.old) (W.contents writer.new)) }
     ensures memory { IfErr result (λ e. e ≡ Failure.Memory → Keeps (W.contents writer.old) (W.contents writer.new)) }
@@ -57,7 +60,7 @@ pub fn run_xa<R: Read, W: Write>(
 
 /// The answer to an input.
 fn report(alloc: Global, input: &[u8]) -> Result<(String, Status), AllocError>
-    ensures { IfOk result (λ r. IsReport r.1 (string_bytes r.0)) }
+    ensures { IfOk result (λ r. IsReport r.1 input.now (string_bytes r.0)) }
 {
     match requests_of(alloc, input)? {
         Ok(requests) => Ok((answers(alloc, &requests)?, Status::Ended)),

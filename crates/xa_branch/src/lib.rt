@@ -15,4 +15,6 @@ mod scans;
 pub use branches::Branches;
 
 #[cfg(test)]
+mod random;
+#[cfg(test)]
 mod tests;

@@ -8,9 +8,9 @@ use Rattle.tree_model.specs.Standings.{ManagerView, standing_branch, unknown_bra
 use Rattle.tree_model.specs.contracts.names.CasePartialEq.TheImpl as cases
 use Rattle.flat_law.specs.Leaves.{LeafState}
 use Rattle.flat_law.specs.Leaves as leaf
-use Rattle.rstar_engine.specs.declared.leaf.Live.{Live}
-use Rattle.rstar_engine.specs.declared.leaf.Live.TheVariants.{Active, Promised}
-use Rattle.rstar_engine.specs.declared.leaf.Leaf.{Leaf}
+use Rattle.flat_world.specs.declared.leaf.Live.{Live}
+use Rattle.flat_world.specs.declared.leaf.Live.TheVariants.{Active, Promised}
+use Rattle.flat_world.specs.declared.leaf.Leaf.{Leaf}
 
 -- the view of a live branch
 abbrev pub meant : Live → ManagerView

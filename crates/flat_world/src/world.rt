@@ -20,7 +20,7 @@ const SETTLE_LIMIT: u32 = 10_000;
 
 /// A root with its leaves; every message ever sent, with the mark whether it was delivered; and every step that was made.
 #[derive(Drop)]
-pub(crate) struct FlatWorld {
+pub struct FlatWorld {
     alloc: Global,
     root: Root,
     leaves: IndexMap<ProcessId, Leaf>,
@@ -64,7 +64,7 @@ fn process_of(me: ProcessId, act: &Act) -> ProcessId {
 
 impl FlatWorld {
     /// A tree whose processes have opened empty logs; `me` is its root.
-    pub(crate) fn new(alloc: Global, me: ProcessId, tree: Tree) -> Result<FlatWorld, AllocError> {
+    pub fn new(alloc: Global, me: ProcessId, tree: Tree) -> Result<FlatWorld, AllocError> {
         let leaves = leaves_of(alloc, me, &tree)?;
         Ok(FlatWorld {
             alloc,
@@ -78,22 +78,22 @@ impl FlatWorld {
     }
 
     /// The steps that were made, each with its reaction.
-    pub(crate) fn trace(&self) -> &[Entry] {
+    pub fn trace(&self) -> &[Entry] {
         &self.entries
     }
 
     /// The tree.
-    pub(crate) fn tree(&self) -> &Tree {
+    pub fn tree(&self) -> &Tree {
         self.root.tree()
     }
 
     /// Every message that was ever sent; the first has number 1.
-    pub(crate) fn sent(&self) -> &[Envelope] {
+    pub fn sent(&self) -> &[Envelope] {
         &self.net
     }
 
     /// The records of each process's log, in the order of the tree.
-    pub(crate) fn logs(&self) -> Result<Vec<Vec<Record>>, AllocError> {
+    pub fn logs(&self) -> Result<Vec<Vec<Record>>, AllocError> {
         let mut logs = Vec::new(self.alloc);
         for entry in self.root.tree().entries() {
             match self.leaves.get(&entry.id) {
@@ -106,7 +106,7 @@ impl FlatWorld {
 
     /// Makes an event. Memory: the event may be made in part, and the world is to be let go. Any other error refuses the
     /// event, and nothing has changed, but for what a settle had delivered.
-    pub(crate) fn apply(&mut self, event: &Event) -> Result<(), StepError> {
+    pub fn apply(&mut self, event: &Event) -> Result<(), StepError> {
         match event {
             Event::Act(act) => self.act(act),
             Event::Deliver(number) => self.deliver(*number),
@@ -116,7 +116,7 @@ impl FlatWorld {
     }
 
     /// Makes these events, in order, up to the first that is refused: then how many were made, and why the next was not.
-    pub(crate) fn run(&mut self, events: &[Event]) -> Result<(), (usize, StepError)>
+    pub fn run(&mut self, events: &[Event]) -> Result<(), (usize, StepError)>
         ensures { IfErr result (λ refusal. refusal.0 < length events.now) }
     {
         for (made, event) in events.iter().enumerate() {

@@ -13,7 +13,7 @@ ghost use Rattle.tree_model.specs.Plays.{op_writes, with_write};
 ghost use Rattle.tree_model.specs.Reactions.{sends_only};
 ghost use Rattle.rec_log.specs.Logs.{records_of};
 ghost use Rattle.flat_law.specs.Leaves.{IsOpened, LeafState, Makes, act_refusal, join_turn, work_turn, prepare_turn, commit_turn, abort_turn, message_turn, open_branch, writes_by};
-ghost use Rattle.rstar_engine.specs.Leaving.{meant, state, view_in, writes_in, writes_of, Same};
+ghost use Rattle.flat_world.specs.Leaving.{meant, state, view_in, writes_in, writes_of, Same};
 
 use indexmap::IndexMap;
 use rec_log::RecLog;
