@@ -1,2 +1,4 @@
+pub mod Flat
 pub mod Leaves
 pub mod FlatWorlds
+pub mod Ties

@@ -1,0 +1,4 @@
+pub mod Trees
+pub mod Logs
+pub mod LeafMemory
+pub mod LeafSteps
