@@ -17,7 +17,7 @@ use Rattle.tree_model.specs.Nodes.{AtLeaf, Node, kept, Heard, Effect, entries_wr
 use Rattle.tree_model.specs.Memory.{Memory, Phase, Idle, fresh_memory, memory_of, remembers, manager_remembers, manager_hears, joins, gives, opens_case, next_ticket, active_ticket, works, closes, retires}
 use Rattle.tree_model.specs.Views.{leaf_place, hears_message}
 use Rattle.tree_model.proofs.ListLaws.{memory_of-after}
-use Rattle.tree_model.proofs.ManagerViewLaws.{Givens, givens_of, gives_next, gives_heard, gives_fresh, hears_gives, remembers_gives}
+use Rattle.tree_model.proofs.ManagerViewLaws.{Givens, givens_of, gives_next, gives_heard, gives_fresh, hears_gives, remembers_gives, works_gives, closes_gives}
 
 -- the counters behind a message
 pub givens-after : (me p : ProcessId) (tree : List TreeEntry) (n : Node) (k : ℕ) (message : Message) (a : DataAnswer) (e : Effect) (c : Case)
@@ -62,3 +62,36 @@ waits_closes : (t : Ticket) (m : Memory) (ph : Phase) → m.phase ≡ ph → Wai
 waits_closes t m ph e h g = λ below.
     let idle : m.phase ≡ Idle = h (omega arith) in
     ap (λ q. (closes m q).phase) (sym e ∙ idle) ∙ idle
+
+waits_hears : (me : ProcessId) (boot : ℕ) (x : Txn) (t : Ticket) (m : Memory) (a : DataAnswer) (message : Message) → Waits t m
+    → Waits t (manager_hears me boot (child_case x t) m a message)
+waits_hears me boot x t m a (Join d) h = waits_if a.starts t m _ h (λ s. waits_joins me boot x t d m (active_ticket m.active d) h)
+waits_hears me boot x t m a (Work d i op) h =
+    waits_if (same_case d (child_case x t)) t m _ h (λ s. waits_works t m i a.does m.phase refl h (ap (λ (g : Givens). g.0) (works_gives m i a.does m.phase)))
+waits_hears me boot x t m a (Prepare d n) h =
+    waits_if (same_case d (child_case x t)) t (retires m d) _ h (λ s. waits_closes t (retires m d) m.phase refl h (ap (λ (g : Givens). g.0) (closes_gives (retires m d) m.phase)))
+waits_hears me boot x t m a (Abort d) h =
+    waits_if (same_case d (child_case x t)) t (retires m d) _ h (λ s. waits_closes t (retires m d) m.phase refl h (ap (λ (g : Givens). g.0) (closes_gives (retires m d) m.phase)))
+waits_hears me boot x t m a (Joined d u) h = h
+waits_hears me boot x t m a (Yes d) h = h
+waits_hears me boot x t m a (No d) h = h
+waits_hears me boot x t m a (Read d) h = h
+waits_hears me boot x t m a (Commit d) h = h
+waits_hears me boot x t m a (Ack d o) h = h
+waits_hears me boot x t m a (Inquire d) h = h
+
+waits_step : (me p : ProcessId) (boot : ℕ) (x : Txn) (t : Ticket) (m : Memory) (a : DataAnswer) (i : Input) → Waits t m
+    → Waits t (manager_remembers me boot (child_case x t) m a i)
+waits_step me p boot x t m a (ActInput act) h = h
+waits_step me p boot x t m a (MessageInput k message) h = waits_hears me boot x t m a message h
+
+waits_fold : (me p : ProcessId) (boot : ℕ) (x : Txn) (t : Ticket) (m : Memory) (hs : List Heard) → Waits t m
+    → Waits t (fold (remembers me (AtLeaf p) boot (child_case x t)) m hs)
+waits_fold me p boot x t m [] h = h
+waits_fold me p boot x t m (g ∷ hs) h =
+    waits_fold me p boot x t (remembers me (AtLeaf p) boot (child_case x t) m g) hs (waits_step me p boot x t m g.data_answer g.input h)
+
+pub not_given_is_idle : (me p : ProcessId) (tree : List TreeEntry) (n : Node) (x : Txn) (t : Ticket)
+    → Waits t (memory_of (leaf_place me p tree) n (child_case x t))
+unfolding memory_of
+not_given_is_idle me p tree n x t = waits_fold me p (boot_of (kept n)) x t fresh_memory n.heard (λ below. refl)

@@ -313,14 +313,14 @@ same_gives : (m r : Memory) (b : Bool) → givens_of r ≡ givens_of m → given
 same_gives m r true h = h
 same_gives m r false h = refl
 
-works_gives : (m : Memory) (i : ℕ) (does : Bool) (phase : Phase) → givens_of (works m i does phase) ≡ givens_of m
+pub works_gives : (m : Memory) (i : ℕ) (does : Bool) (phase : Phase) → givens_of (works m i does phase) ≡ givens_of m
 works_gives m i does Idle = refl
 works_gives m i true Open = same_gives m (record m { done = i }) ((i == m.done + 1) && not m.spoiled) refl
 works_gives m i false Open = same_gives m (record m { spoiled = true }) ((i == m.done + 1) && not m.spoiled) refl
 works_gives m i does Asked = refl
 works_gives m i does Over = refl
 
-closes_gives : (m : Memory) (phase : Phase) → givens_of (closes m phase) ≡ givens_of m
+pub closes_gives : (m : Memory) (phase : Phase) → givens_of (closes m phase) ≡ givens_of m
 closes_gives m Idle = refl
 closes_gives m Open = refl
 closes_gives m Asked = refl
