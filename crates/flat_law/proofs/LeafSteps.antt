@@ -111,12 +111,15 @@ row_followed me p tree n l l' k message a d row ws left f own quiet moved made c
     }
 
 -- what is answered where nothing is asked
-abbrev willing : Holding → DataAnswer
+abbrev pub willing : Holding → DataAnswer
 willing holding = record { starts = true; does = true; holding = holding }
 
 -- A message that a leaf does not hear, or that changes nothing.
 
-still_followed : (me p : ProcessId) (tree : List TreeEntry) (n : Node) (l l' : LeafState) (k : ℕ) (message : Message) (a : DataAnswer) (e : Effect)
+pub nothing_written : (l : LeafState) → writes l.log [] ≡ l.log
+nothing_written l = ap (λ rs. record { forced = l.log.forced; loose = rs }) (append-nil l.log.loose)
+
+pub still_followed : (me p : ProcessId) (tree : List TreeEntry) (n : Node) (l l' : LeafState) (k : ℕ) (message : Message) (a : DataAnswer) (e : Effect)
     → LeafFollows me p tree n l → l' ≡ l → e.written ≡ []
     → gives_next me (boot_of (kept n)) (l.given, l.active) a message ≡ (l.given, l.active)
     → ((c : Case) → manager_view (leaf_place me p tree) (after n (hears_message k message a) e) c ≡ manager_view (leaf_place me p tree) n c)
@@ -142,9 +145,6 @@ still_followed me p tree n l l' k message a e f stays quiet counted views =
       sound = record { unmarked = λ x t below.
           ap (λ rs. mark_of (CaseBranch (child_case x t)) rs) (quiet_keeps n h e quiet) ∙ f.sound.unmarked x t below };
     })
-  where
-    nothing_written : (s : LeafState) → writes s.log [] ≡ s.log
-    nothing_written s = ap (λ rs. record { forced = s.log.forced; loose = rs }) (append-nil s.log.loose)
 
 unheard_views : (me p : ProcessId) (tree : List TreeEntry) (n : Node) (k : ℕ) (message : Message) (a : DataAnswer) (e : Effect) → e.written ≡ []
     → ((c : Case) (m : Memory) → manager_hears me (boot_of (kept n)) c m a message ≡ m)
@@ -154,7 +154,7 @@ unheard_views me p tree n k message a e quiet unheard c =
     quiet-after (leaf_place me p tree) n (hears_message k message a) e c quiet
     ∙ ap (λ m. marked_branch m (mark_of (CaseBranch c) (kept n))) (unheard c (memory_of (leaf_place me p tree) n c))
 
-unheard_step : (me p : ProcessId) (tree : List TreeEntry) (n : Node) (l l' : LeafState) (k : ℕ) (message : Message) (reaction : Reaction)
+pub unheard_step : (me p : ProcessId) (tree : List TreeEntry) (n : Node) (l l' : LeafState) (k : ℕ) (message : Message) (reaction : Reaction)
     → LeafFollows me p tree n l → (l' ≡ l) × (reaction ≡ reaction_of no_effect)
     → model.manager_hears (leaf_place me p tree) p n (willing ReadsOnly) message ≡ no_effect
     → ((c : Case) (m : Memory) → manager_hears me (boot_of (kept n)) c m (willing ReadsOnly) message ≡ m)
