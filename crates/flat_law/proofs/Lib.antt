@@ -3,3 +3,7 @@ pub mod Logs
 pub mod LeafMemory
 pub mod LeafSteps
 pub mod LeafJoins
+pub mod RootMemory
+pub mod RootPhases
+pub mod RootRows
+pub mod RootSteps
