@@ -7,3 +7,4 @@ pub mod RootMemory
 pub mod RootPhases
 pub mod RootRows
 pub mod RootSteps
+pub mod RootActs
