@@ -8,3 +8,5 @@ pub mod RootPhases
 pub mod RootRows
 pub mod RootSteps
 pub mod RootActs
+pub mod RootBegins
+pub mod RootVotes

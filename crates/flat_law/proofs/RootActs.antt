@@ -52,7 +52,7 @@ sent_phase m (Some t) Open = refl
 sent_phase m (Some t) Asked = refl
 sent_phase m (Some t) Over = refl
 
-if_phase : (b : Bool) (m w : Memory) → w.phase ≡ m.phase → (if b then w else m).phase ≡ m.phase
+pub if_phase : (b : Bool) (m w : Memory) → w.phase ≡ m.phase → (if b then w else m).phase ≡ m.phase
 if_phase true m w h = h
 if_phase false m w h = refl
 
@@ -89,7 +89,7 @@ module _ (r r' : RootState) (n : Node) (reaction : Reaction) (f : RootFollows r.
 
   -- the commit act
 
-  commit_case : (x : Txn) (s : Standing) → (r.view_of x).standing ≡ s → names_listed r.tree (CommitAct x) ≡ true
+  pub commit_case : (x : Txn) (s : Standing) → (r.view_of x).standing ≡ s → names_listed r.tree (CommitAct x) ≡ true
       → Makes r r' (commit_turn r x (r.view_of x) s) reaction → RootStep r.me r.tree n (ActInput (CommitAct x)) r' reaction
   commit_case x Active e listed made =
       let place = root_place r.me r.tree in
@@ -119,7 +119,7 @@ module _ (r r' : RootState) (n : Node) (reaction : Reaction) (f : RootFollows r.
 
   -- the abort act
 
-  abort_case : (x : Txn) (s : Standing) → (r.view_of x).standing ≡ s → names_listed r.tree (AbortAct x) ≡ true
+  pub abort_case : (x : Txn) (s : Standing) → (r.view_of x).standing ≡ s → names_listed r.tree (AbortAct x) ≡ true
       → Makes r r' (abort_turn r x (r.view_of x) s) reaction → RootStep r.me r.tree n (ActInput (AbortAct x)) r' reaction
   abort_case x Active e listed made =
       let place = root_place r.me r.tree in
@@ -191,7 +191,7 @@ module _ (r r' : RootState) (n : Node) (reaction : Reaction) (f : RootFollows r.
       (λ k. refl)
   join_child x q false child e listed made = absurd made
 
-  join_case : (x : Txn) (q : ProcessId) (s : Standing) → (r.view_of x).standing ≡ s → names_listed r.tree (JoinAct (root_case x) q) ≡ true
+  pub join_case : (x : Txn) (q : ProcessId) (s : Standing) → (r.view_of x).standing ≡ s → names_listed r.tree (JoinAct (root_case x) q) ≡ true
       → Makes r r' (join_turn r x q (r.view_of x) s) reaction → RootStep r.me r.tree n (ActInput (JoinAct (root_case x) q)) r' reaction
   join_case x q Active e listed made = join_child x q (is_child r.tree q r.me) refl e listed made
   join_case x q Unknown e listed made = absurd made
@@ -235,7 +235,7 @@ module _ (r r' : RootState) (n : Node) (reaction : Reaction) (f : RootFollows r.
   work_ticket x q op (Some t) e found listed made = work_child x q op t (is_leaf (role_of r.tree t.child)) refl e found listed made
   work_ticket x q op None e found listed made = absurd made
 
-  work_case : (x : Txn) (q : ProcessId) (op : Op) (s : Standing) → (r.view_of x).standing ≡ s → names_listed r.tree (WorkAct (root_case x) q op) ≡ true
+  pub work_case : (x : Txn) (q : ProcessId) (op : Op) (s : Standing) → (r.view_of x).standing ≡ s → names_listed r.tree (WorkAct (root_case x) q op) ≡ true
       → Makes r r' (work_turn r x q op (r.view_of x) s) reaction → RootStep r.me r.tree n (ActInput (WorkAct (root_case x) q op)) r' reaction
   work_case x q op Active e listed made = work_ticket x q op (ticket_of_child (r.view_of x).accepted q) e refl listed made
   work_case x q op Unknown e listed made = absurd made
