@@ -10,3 +10,4 @@ pub mod RootSteps
 pub mod RootActs
 pub mod RootBegins
 pub mod RootVotes
+pub mod RootReplies
