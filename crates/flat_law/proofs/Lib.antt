@@ -11,3 +11,4 @@ pub mod RootActs
 pub mod RootBegins
 pub mod RootVotes
 pub mod RootReplies
+pub mod WorldSteps
