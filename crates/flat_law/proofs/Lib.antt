@@ -12,3 +12,5 @@ pub mod RootBegins
 pub mod RootVotes
 pub mod RootReplies
 pub mod WorldSteps
+pub mod Runs
+pub mod Openings
