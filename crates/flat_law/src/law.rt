@@ -1,0 +1,40 @@
+//! The laws that tie a flat tree that runs to the model.
+
+ghost use Rattle.std.specs.Prelude.{ℕ, List, []};
+ghost use Rattle.std.specs.List.{list_all};
+ghost use Rattle.tree_model.specs.declared.names.ProcessId.{ProcessId};
+ghost use Rattle.tree_model.specs.declared.events.Event.{Event};
+ghost use Rattle.tree_model.specs.declared.events.StepError.{StepError};
+ghost use Rattle.tree_model.specs.declared.trees.TreeEntry.{TreeEntry};
+ghost use Rattle.tree_model.specs.World.{Made, World, opened_world};
+ghost use Rattle.flat_law.specs.FlatWorlds.{Applies, FlatState, IsOpened, Leads, LeadsUntil, Stops};
+ghost use Rattle.flat_law.specs.Ties.{Follows, GoesOn, IsFlatTree, IsModelled, is_flat_event};
+
+/// A flat tree whose processes have opened empty logs stands for the run with no moves.
+pub fn opened()
+    ensures opened { (me : ProcessId) (tree : List TreeEntry) (s : FlatState) → IsFlatTree me tree → IsOpened s me tree
+        → Follows me tree [] opened_world s }
+{}
+
+/// Where a flat state stands for a run, what an event makes of it, or a refused event leaves, stands for a longer run.
+pub fn steps()
+    ensures applies { (me : ProcessId) (tree : List TreeEntry) (es : List Made) (w : World) (s s' : FlatState) (event : Event)
+        → Follows me tree es w s → Applies s event s' → GoesOn me tree es w s' (is_flat_event event) }
+    ensures stops { (me : ProcessId) (tree : List TreeEntry) (es : List Made) (w : World) (s s' : FlatState) (event : Event)
+        (e : StepError) → Follows me tree es w s → Stops s event e s' → GoesOn me tree es w s' (is_flat_event event) }
+    ensures leads { (me : ProcessId) (tree : List TreeEntry) (es : List Made) (w : World) (s s' : FlatState) (events : List Event)
+        → Follows me tree es w s → Leads s events s' → GoesOn me tree es w s' (list_all is_flat_event events) }
+    ensures leads_until { (me : ProcessId) (tree : List TreeEntry) (es : List Made) (w : World) (s s' : FlatState)
+        (events : List Event) (n : ℕ) (e : StepError) → Follows me tree es w s → LeadsUntil s events n e s'
+        → GoesOn me tree es w s' (list_all is_flat_event events) }
+{}
+
+/// Every run of a flat tree from its opening on, also one that ends in a refusal, is a run of the model; where its events
+/// are flat, so are the moves.
+pub fn every_run_is_a_run_of_the_model()
+    ensures leads { (me : ProcessId) (tree : List TreeEntry) (s s' : FlatState) (events : List Event) → IsFlatTree me tree
+        → IsOpened s me tree → Leads s events s' → IsModelled me tree s' (list_all is_flat_event events) }
+    ensures leads_until { (me : ProcessId) (tree : List TreeEntry) (s s' : FlatState) (events : List Event) (n : ℕ)
+        (e : StepError) → IsFlatTree me tree → IsOpened s me tree → LeadsUntil s events n e s'
+        → IsModelled me tree s' (list_all is_flat_event events) }
+{}
