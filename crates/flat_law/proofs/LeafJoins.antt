@@ -1,10 +1,8 @@
 -- A leaf's tickets are those of the model, and so is each of its steps.
-use Rattle.std.proofs.Common.{◌≡◌, ◌≢◌, ◌∙◌, ap, sym, subst, ◌+◌, ◌<◌, ℕ, Bool, true, false, inl, inr, Option, Some, None, List, [], ◌∷◌, ◌++◌, refl, arith, if◌then◌else◌}
-use Rattle.std.proofs.lemmas.List.{append-nil}
+use Rattle.std.proofs.Common.{◌≡◌, ◌∙◌, ap, sym, subst, ◌+◌, ℕ, true, false, inl, inr, Option, Some, None, List, [], ◌∷◌, ◌++◌, refl, arith}
 use Rattle.tree_model.specs.declared.names.Case.{Case}
 use Rattle.tree_model.specs.declared.names.ProcessId.{ProcessId}
 use Rattle.tree_model.specs.declared.names.Ticket.{Ticket}
-use Rattle.tree_model.specs.declared.names.Txn.{Txn}
 use Rattle.tree_model.specs.declared.messages.Message.{Message}
 use Rattle.tree_model.specs.declared.messages.Message.TheVariants.{Join, Joined, Work, Prepare, Yes, No, Read, Commit, Abort, Ack, Inquire}
 use Rattle.tree_model.specs.declared.records.Branch.TheVariants.{Case as CaseBranch}
@@ -13,7 +11,7 @@ use Rattle.tree_model.specs.declared.trees.TreeEntry.{TreeEntry}
 use Rattle.tree_model.specs.Names.{same_case, child_case}
 use Rattle.tree_model.specs.NameLaws.{same_case_tells}
 use Rattle.tree_model.specs.Records.{boot_of}
-use Rattle.tree_model.specs.Nodes.{Place, Node, kept, Effect, no_effect, reaction_of, after, DataAnswer, ReadsOnly}
+use Rattle.tree_model.specs.Nodes.{Place, Node, kept, Effect, reaction_of, after, DataAnswer, ReadsOnly}
 use Rattle.tree_model.specs.Memory.{Memory, memory_of, next_ticket, active_ticket}
 use Rattle.tree_model.specs.Standings.{manager_view, mark_of, Unmarked}
 use Rattle.tree_model.specs.CoordinatorRows.{post}
@@ -21,9 +19,9 @@ use Rattle.tree_model.specs.Reactions.{Does, leaf_joins, sends_only}
 use Rattle.tree_model.specs.Views.{leaf_place, hears_message, fresh_case, JoinsBranch}
 use Rattle.tree_model.proofs.ManagerViewLaws.{Givens, givens_of, gives_next, manager_views}
 use Rattle.rec_log.specs.Logs.{writes}
-use Rattle.flat_law.specs.Leaves.{LeafState, LeafTurn, join_turn, message_turn, Makes, Opens}
-use Rattle.flat_law.specs.Ties.{LeafFollows, IsFreshAhead}
-use Rattle.flat_law.proofs.Logs.{Keeps, after_keeps, after_runs, after_boots, same_boot, quiet_keeps, quiet_boots}
+use Rattle.flat_law.specs.Leaves.{LeafState, join_turn, message_turn, Makes, Opens}
+use Rattle.flat_law.specs.Ties.{LeafFollows}
+use Rattle.flat_law.proofs.Logs.{Keeps, after_keeps, after_runs, after_boots, same_boot, quiet_keeps}
 use Rattle.flat_law.proofs.LeafMemory.{givens-after}
 use Rattle.flat_law.proofs.LeafSteps.{LeafStep, willing, hears_as, nothing_written, still_followed, unheard_step, work_step, prepare_step, commit_step, abort_step}
 
@@ -93,9 +91,11 @@ module _ (me p : ProcessId) (tree : List TreeEntry) (n : Node) (l l' : LeafState
           | inl s ↦ subst (λ q. manager_view place (after n h told) q ≡ l'.view_of q) (sym s.1) (joins.fresh none refl unmarked ∙ sym made.own)
           | inr o ↦ joins.others none refl c o.0 ∙ (f.views c ∙ sym (made.others c (flipped c (fresh_case place n d) o.0)))
         ];
-        sound = record { unmarked = λ x t below.
-            ap (λ rs. mark_of (CaseBranch (child_case x t)) rs) (quiet_keeps n h told refl)
-            ∙ f.sound.unmarked x t (let one : l'.given ≡ l.given + 1 = made.given in omega arith) };
+        sound = record {
+          unmarked = λ x t below.
+              ap (λ rs. mark_of (CaseBranch (child_case x t)) rs) (quiet_keeps n h told refl)
+              ∙ f.sound.unmarked x t (let one : l'.given ≡ l.given + 1 = made.given in omega arith);
+        };
       }
 
   given_fresh : active_ticket l.active d ≡ None → Makes l l' (join_turn l d None) reaction → LeafStep me p tree n k message l' reaction

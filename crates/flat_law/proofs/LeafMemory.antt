@@ -1,5 +1,5 @@
 -- What a leaf remembers of its tickets.
-use Rattle.std.proofs.Common.{◌≡◌, ◌≢◌, ◌∙◌, ap, sym, subst, ◌+◌, ◌<◌, ◌==◌, ◌&&◌, not, ℕ, Bool, true, false, inl, inr, Option, Some, None, List, [], ◌∷◌, ◌++◌, refl, arith, if◌then◌else◌}
+use Rattle.std.proofs.Common.{◌≡◌, ◌∙◌, ap, sym, ◌+◌, ◌<◌, ℕ, Bool, true, false, Option, Some, None, List, [], ◌∷◌, ◌++◌, refl, arith, if◌then◌else◌}
 use Rattle.std.specs.Prelude.{fold}
 use Rattle.tree_model.specs.declared.names.Case.{Case}
 use Rattle.tree_model.specs.declared.names.ProcessId.{ProcessId}
@@ -12,12 +12,12 @@ use Rattle.tree_model.specs.declared.events.Input.TheVariants.{Act as ActInput, 
 use Rattle.tree_model.specs.declared.trees.TreeEntry.{TreeEntry}
 use Rattle.tree_model.specs.Names.{same_case, child_case}
 use Rattle.tree_model.specs.NameLaws.{same_case_tells}
-use Rattle.tree_model.specs.Records.{boot_of, boot_after}
+use Rattle.tree_model.specs.Records.{boot_of}
 use Rattle.tree_model.specs.Nodes.{AtLeaf, Node, kept, Heard, Effect, entries_written, after, DataAnswer}
 use Rattle.tree_model.specs.Memory.{Memory, Phase, Idle, fresh_memory, memory_of, remembers, manager_remembers, manager_hears, joins, gives, opens_case, next_ticket, active_ticket, works, closes, retires}
 use Rattle.tree_model.specs.Views.{leaf_place, hears_message}
 use Rattle.tree_model.proofs.ListLaws.{memory_of-after}
-use Rattle.tree_model.proofs.ManagerViewLaws.{Givens, givens_of, gives_next, gives_heard, gives_fresh, hears_gives, remembers_gives, works_gives, closes_gives}
+use Rattle.tree_model.proofs.ManagerViewLaws.{Givens, givens_of, gives_next, hears_gives, works_gives, closes_gives}
 
 -- the counters behind a message
 pub givens-after : (me p : ProcessId) (tree : List TreeEntry) (n : Node) (k : ℕ) (message : Message) (a : DataAnswer) (e : Effect) (c : Case)

@@ -1,37 +1,33 @@
 -- A leaf's steps are those of the model.
-use Rattle.std.proofs.Common.{◌≡◌, ◌≢◌, ◌∙◌, ap, sym, subst, ◌+◌, ◌<◌, ◌==◌, ◌&&◌, not, ℕ, Bool, true, false, inl, inr, Option, Some, None, List, [], ◌∷◌, ◌++◌, refl, arith, if◌then◌else◌}
-use Rattle.std.specs.Prelude.{fold}
+use Rattle.std.proofs.Common.{◌≡◌, ◌∙◌, ap, sym, subst, ◌<◌, ℕ, true, false, inl, inr, List, [], refl}
 use Rattle.tree_model.specs.declared.names.Case.{Case}
 use Rattle.tree_model.specs.declared.names.ProcessId.{ProcessId}
 use Rattle.tree_model.specs.declared.names.Ticket.{Ticket}
 use Rattle.tree_model.specs.declared.names.Txn.{Txn}
 use Rattle.tree_model.specs.declared.messages.Op.{Op}
 use Rattle.tree_model.specs.declared.messages.Message.{Message}
-use Rattle.tree_model.specs.declared.messages.Message.TheVariants.{Join, Joined, Work, Prepare, Yes, No, Read, Commit, Abort, Ack, Inquire}
+use Rattle.tree_model.specs.declared.messages.Message.TheVariants.{Work, Prepare, Commit, Abort}
 use Rattle.tree_model.specs.declared.records.Branch.TheVariants.{Case as CaseBranch}
 use Rattle.tree_model.specs.declared.records.Write.{Write}
-use Rattle.tree_model.specs.declared.standings.Standing.{Standing}
-use Rattle.tree_model.specs.declared.standings.Standing.TheVariants.{Unknown, Active}
 use Rattle.tree_model.specs.declared.events.Reaction.{Reaction}
 use Rattle.tree_model.specs.declared.trees.TreeEntry.{TreeEntry}
-use Rattle.tree_model.specs.Names.{same_case, child_case}
+use Rattle.tree_model.specs.Names.{child_case}
 use Rattle.tree_model.specs.NameLaws.{same_case_tells}
-use Rattle.tree_model.specs.Records.{boot_of, boot_after}
+use Rattle.tree_model.specs.Records.{boot_of}
 use Rattle.std.proofs.lemmas.List.{append-nil}
-use Rattle.tree_model.specs.Nodes.{Place, AtLeaf, Node, kept, Heard, Effect, no_effect, reaction_of, entries_written, after, DataAnswer, Holding, ReadsOnly}
-use Rattle.tree_model.specs.Memory.{Memory, Idle, memory_of, remembers, manager_hears, next_ticket, active_ticket, without_ticket}
+use Rattle.tree_model.specs.Nodes.{Place, Node, kept, Effect, no_effect, reaction_of, entries_written, after, DataAnswer, Holding, ReadsOnly}
+use Rattle.tree_model.specs.Memory.{Memory, Idle, memory_of, manager_hears, without_ticket}
 use Rattle.tree_model.specs.Standings.{ManagerView, unknown_branch, manager_view, heard_branch, marked_branch, mark_of, Unmarked}
 use Rattle.tree_model.specs.ManagerRows.{Leaf, LeafRow, on_work, on_prepare, on_commit, on_abort}
-use Rattle.tree_model.specs.CoordinatorRows.{post}
 use Rattle.tree_model.specs.Reactions.{Reacts, Does, reacts, leaf_effect, leaf_of, leaf_joins, sends_only}
 use Rattle.tree_model.specs.Reactions as model
 use Rattle.tree_model.specs.Plays.{held_writes}
-use Rattle.tree_model.specs.Views.{leaf_place, hears_message, MovesBranch, ManagerViews, fresh_case}
-use Rattle.tree_model.proofs.ListLaws.{memory_of-after, kept-after}
+use Rattle.tree_model.specs.Views.{leaf_place, hears_message, MovesBranch}
+use Rattle.tree_model.proofs.ListLaws.{kept-after}
 use Rattle.tree_model.proofs.ManagerViewLaws.{Givens, givens_of, gives_next, marks, IsOwn, mark_of-append, quiet-after, work_writes, prepare_own, commit_own, abort_own, manager_views}
 use Rattle.rec_log.specs.Logs.{writes}
-use Rattle.flat_law.specs.Leaves.{LeafState, LeafTurn, Says, Issues, Takes, Ignores, message_turn, Makes, Moves, Opens}
-use Rattle.flat_law.specs.Ties.{LeafFollows, IsFreshAhead}
+use Rattle.flat_law.specs.Leaves.{LeafState, message_turn, Makes, Moves}
+use Rattle.flat_law.specs.Ties.{LeafFollows}
 use Rattle.flat_law.proofs.Logs.{Keeps, after_keeps, after_runs, after_boots, same_boot, quiet_keeps, quiet_boots}
 use Rattle.flat_law.proofs.LeafMemory.{givens-after, not_given_is_idle}
 
@@ -104,10 +100,12 @@ row_followed me p tree n l l' k message a d row ws left f own quiet moved made c
         | inl s ↦ subst (λ q. manager_view place (after n h (leaf_effect row)) q ≡ l'.view_of q) s.1 (moved.moved ∙ sym made.own)
         | inr o ↦ moved.others c o.0 ∙ (f.views c ∙ sym (made.others c o.0))
       ];
-      sound = record { unmarked = λ x t below.
-          ap (λ rs. mark_of (CaseBranch (child_case x t)) rs) (kept-after n h (leaf_effect row))
-          ∙ (mark_of-append (CaseBranch (child_case x t)) (kept n) (entries_written row.written)
-          ∙ fresh_after me p tree n l (leaf_of place p d) row x t f own quiet (rw (← made.given) below)) };
+      sound = record {
+        unmarked = λ x t below.
+            ap (λ rs. mark_of (CaseBranch (child_case x t)) rs) (kept-after n h (leaf_effect row))
+            ∙ (mark_of-append (CaseBranch (child_case x t)) (kept n) (entries_written row.written)
+            ∙ fresh_after me p tree n l (leaf_of place p d) row x t f own quiet (rw (← made.given) below));
+      };
     }
 
 -- what is answered where nothing is asked
@@ -142,8 +140,10 @@ still_followed me p tree n l l' k message a e f stays quiet counted views =
       given = λ c. ap (λ (g : Givens). g.0) (givens c);
       active = λ c. ap (λ (g : Givens). g.1) (givens c);
       views = λ c. views c ∙ f.views c;
-      sound = record { unmarked = λ x t below.
-          ap (λ rs. mark_of (CaseBranch (child_case x t)) rs) (quiet_keeps n h e quiet) ∙ f.sound.unmarked x t below };
+      sound = record {
+        unmarked = λ x t below.
+            ap (λ rs. mark_of (CaseBranch (child_case x t)) rs) (quiet_keeps n h e quiet) ∙ f.sound.unmarked x t below;
+      };
     })
 
 unheard_views : (me p : ProcessId) (tree : List TreeEntry) (n : Node) (k : ℕ) (message : Message) (a : DataAnswer) (e : Effect) → e.written ≡ []

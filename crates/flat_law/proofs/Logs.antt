@@ -1,8 +1,7 @@
 -- What an effect appends, beside a log that is kept.
-use Rattle.std.proofs.Common.{◌≡◌, ◌∙◌, ap, sym, ℕ, Bool, true, false, List, [], ◌∷◌, ◌++◌, refl, if◌then◌else◌}
+use Rattle.std.proofs.Common.{◌≡◌, ◌∙◌, ap, ℕ, Bool, true, false, List, [], ◌++◌, refl, if◌then◌else◌}
 use Rattle.std.specs.Prelude.{fold}
 use Rattle.std.proofs.lemmas.List.{append-nil}
-use Rattle.tree_model.specs.declared.records.Record.{Record}
 use Rattle.tree_model.specs.Records.{boot_of, boot_after}
 use Rattle.tree_model.specs.Nodes.{Node, kept, Heard, Effect, Written, entries_written, is_any_forced, appends, after}
 use Rattle.tree_model.proofs.ListLaws.{kept-after}

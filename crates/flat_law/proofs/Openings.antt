@@ -1,14 +1,12 @@
 -- A flat tree that opens stands for the model's opened world.
-use Rattle.std.proofs.Common.{◌≡◌, ◌≢◌, ◌∙◌, ap, sym, subst, ◌<◌, ℕ, Bool, true, false, Option, Some, None, is_some, List, [], ◌∷◌, ◌++◌, refl}
+use Rattle.std.proofs.Common.{◌≡◌, ◌∙◌, ap, sym, is_some, List, [], refl}
 use Rattle.tree_model.specs.declared.names.Case.{Case}
 use Rattle.tree_model.specs.declared.names.ProcessId.{ProcessId}
-use Rattle.tree_model.specs.declared.names.Ticket.{Ticket}
 use Rattle.tree_model.specs.declared.names.Txn.{Txn}
 use Rattle.tree_model.specs.declared.records.Branch.TheVariants.{Case as CaseBranch}
-use Rattle.tree_model.specs.declared.records.Record.TheVariants.{Opened}
 use Rattle.tree_model.specs.declared.trees.TreeEntry.{TreeEntry}
-use Rattle.tree_model.specs.Names.{same_process, root_case, child_case}
-use Rattle.tree_model.specs.Records.{has, boot_of, named_by, promised_by, owing_by, none_of}
+use Rattle.tree_model.specs.Names.{root_case, child_case}
+use Rattle.tree_model.specs.Records.{has, boot_of}
 use Rattle.tree_model.specs.Nodes.{opened_node, kept}
 use Rattle.tree_model.specs.Memory.{fresh_memory, memory_of}
 use Rattle.tree_model.specs.Standings.{coordinator_view, unknown_view, view_at, manager_view, unknown_branch, mark_of, Unmarked}
@@ -19,7 +17,7 @@ use Rattle.root_core.specs.Roots as root
 use Rattle.flat_law.specs.Leaves.{LeafState}
 use Rattle.flat_law.specs.Leaves as leaf
 use Rattle.flat_law.specs.FlatWorlds.{FlatState, IsOpened}
-use Rattle.flat_law.specs.Ties.{IsFlatTree, StandsIn, recorded_of, RootFollows, LeafFollows, IsLeafOf, Follows}
+use Rattle.flat_law.specs.Ties.{IsFlatTree, StandsIn, recorded_of, RootFollows, LeafFollows, Follows}
 use Rattle.flat_law.proofs.Trees.{root_is_listed, place_of_root, place_of_leaf}
 use Rattle.flat_law.proofs.RootPhases.{idle_heard}
 

@@ -1,6 +1,5 @@
 -- The root's acts are the model's.
-use Rattle.std.proofs.Common.{◌≡◌, ◌≢◌, ◌∙◌, ap, sym, subst, ◌+◌, ◌<◌, ℕ, Bool, true, false, inl, inr, Option, Some, None, List, [], ◌∷◌, ◌++◌, refl, arith, if◌then◌else◌}
-use Rattle.tree_model.specs.declared.names.Case.{Case}
+use Rattle.std.proofs.Common.{◌≡◌, ◌∙◌, ap, sym, subst, ℕ, Bool, true, false, Option, Some, None, [], ◌∷◌, refl, if◌then◌else◌}
 use Rattle.tree_model.specs.declared.names.ProcessId.{ProcessId}
 use Rattle.tree_model.specs.declared.names.Ticket.{Ticket}
 use Rattle.tree_model.specs.declared.names.Txn.{Txn}
@@ -8,31 +7,29 @@ use Rattle.tree_model.specs.declared.messages.Op.{Op}
 use Rattle.tree_model.specs.declared.messages.Message.TheVariants.{Join}
 use Rattle.tree_model.specs.declared.standings.Standing.{Standing}
 use Rattle.tree_model.specs.declared.standings.Standing.TheVariants.{Unknown, Active, Collecting, Prepared, Committing, Aborting, Heuristic}
-use Rattle.tree_model.specs.declared.events.Act.{Act}
-use Rattle.tree_model.specs.declared.events.Act.TheVariants.{Begin, Join as JoinAct, Work as WorkAct, Commit as CommitAct, Abort as AbortAct, Ask, Decide, Forget}
+use Rattle.tree_model.specs.declared.events.Act.TheVariants.{Join as JoinAct, Work as WorkAct, Commit as CommitAct, Abort as AbortAct}
 use Rattle.tree_model.specs.declared.events.Input.{Input}
 use Rattle.tree_model.specs.declared.events.Input.TheVariants.{Act as ActInput}
 use Rattle.tree_model.specs.declared.events.Reaction.{Reaction}
 use Rattle.tree_model.specs.declared.events.StepError.TheVariants.{NotAChild}
-use Rattle.tree_model.specs.declared.trees.TreeEntry.{TreeEntry}
 use Rattle.tree_model.specs.Names.{same_txn, same_case, root_case}
 use Rattle.tree_model.specs.NameLaws.{same_case-refl}
 use Rattle.tree_model.specs.Records.{none_of}
 use Rattle.tree_model.specs.Nodes.{Node, kept, reaction_of, is_child, is_leaf, role_of}
 use Rattle.tree_model.specs.Memory.{Memory, Phase, Idle, Open, Asked, Over, asks_votes, closes, sends_work, has_child, ticket_of_child, undecided_of}
-use Rattle.tree_model.specs.Standings.{CoordinatorView, coordinator_view, view_at}
-use Rattle.tree_model.specs.CoordinatorRows.{Seat, Row, ByAct, quiet, sends, post, active_join, active_work, active_commit, active_abort, collecting_abort}
-use Rattle.tree_model.specs.Reactions.{Reacts, Refused, Does, reacts, row_effect, names_listed, coordinator_acts, join_by, work_by, work_for, commit_by, abort_by}
-use Rattle.tree_model.specs.Views.{root_place, hears_act, MovesTxn, RootViews}
-use Rattle.tree_model.proofs.StandingLaws.{standing_with, active_facts, phase_active}
+use Rattle.tree_model.specs.Standings.{CoordinatorView, view_at}
+use Rattle.tree_model.specs.CoordinatorRows.{Row, ByAct, quiet, sends, post, active_join, active_work, active_commit, active_abort, collecting_abort}
+use Rattle.tree_model.specs.Reactions.{Reacts, Refused, Does, reacts, row_effect, names_listed, join_by, work_by, work_for, commit_by, abort_by}
+use Rattle.tree_model.specs.Views.{root_place, hears_act, MovesTxn}
+use Rattle.tree_model.proofs.StandingLaws.{active_facts, phase_active}
 use Rattle.tree_model.proofs.BeginLaws.{begun_next}
 use Rattle.tree_model.proofs.RootViewLaws.{apart_case, stands_as, seen_as, root_views}
 use Rattle.root_core.specs.Roots.{RootState, Makes, Moves, act_turn, acts, seat_of, join_turn, work_turn, commit_turn, abort_turn, live_turn, of_root}
 use Rattle.root_core.specs.Roots as root
-use Rattle.flat_law.specs.Ties.{Recorded, recorded_of, none_recorded, StandsIn, RootFollows}
+use Rattle.flat_law.specs.Ties.{recorded_of, StandsIn, RootFollows}
 use Rattle.flat_law.proofs.RootPhases.{open_alike}
 use Rattle.flat_law.proofs.RootRows.{RowStands, quiet_row, commit_stands, abort_stands, collecting_abort_stands, collected_is}
-use Rattle.flat_law.proofs.RootSteps.{no_data, heard, RootStep, acts_as, made_listed, memory, boot, remembered, row_followed}
+use Rattle.flat_law.proofs.RootSteps.{no_data, heard, RootStep, acts_as, memory, remembered, row_followed}
 
 pub if_other : (b : Bool) (m w : Memory) → b ≡ false → (if b then w else m).phase ≡ m.phase
 if_other true m w e = absurd (cc)

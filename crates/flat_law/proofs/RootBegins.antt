@@ -1,5 +1,5 @@
 -- A transaction that the root begins is the model's, and so is each of its acts.
-use Rattle.std.proofs.Common.{◌≡◌, ◌≢◌, ◌∙◌, ap, sym, subst, ◌+◌, ◌<◌, ℕ, Bool, true, false, inl, inr, Option, Some, None, List, [], ◌∷◌, ◌++◌, refl, arith, if◌then◌else◌}
+use Rattle.std.proofs.Common.{◌≡◌, ◌∙◌, ap, sym, subst, ◌+◌, ℕ, false, inl, inr, Option, Some, None, [], refl, arith}
 use Rattle.std.proofs.lemmas.List.{append-nil}
 use Rattle.tree_model.specs.declared.names.Case.{Case}
 use Rattle.tree_model.specs.declared.names.ProcessId.{ProcessId}
@@ -18,12 +18,11 @@ use Rattle.tree_model.specs.declared.events.StepError.TheVariants.{NotInDoubt, N
 use Rattle.tree_model.specs.Names.{same_txn, same_case, root_case}
 use Rattle.tree_model.specs.NameLaws.{same_txn_tells, same_case-refl}
 use Rattle.tree_model.specs.Records.{boot_of}
-use Rattle.tree_model.specs.Nodes.{Node, kept, Effect, after, reaction_of}
-use Rattle.tree_model.specs.Memory.{Memory, Idle, Open, memory_of, next_txn, begins, opens_case}
+use Rattle.tree_model.specs.Nodes.{Node, kept, after, reaction_of}
+use Rattle.tree_model.specs.Memory.{Memory, Idle, Open, memory_of, next_txn, begins}
 use Rattle.tree_model.specs.Standings.{some_case, coordinator_view}
-use Rattle.tree_model.specs.Reactions.{names_listed}
-use Rattle.tree_model.specs.Views.{root_place, hears_act, begin_effect, next_begun, RootBegins}
-use Rattle.tree_model.proofs.ListLaws.{memory_of-after, kept-after}
+use Rattle.tree_model.specs.Views.{root_place, begin_effect, next_begun, RootBegins}
+use Rattle.tree_model.proofs.ListLaws.{memory_of-after}
 use Rattle.tree_model.proofs.BeginLaws.{root_begins}
 use Rattle.tree_model.proofs.RootViewLaws.{apart_case}
 use Rattle.rec_log.specs.Logs.{writes}
@@ -33,7 +32,7 @@ use Rattle.flat_law.specs.Ties.{recorded_of, none_recorded, StandsIn, RootFollow
 use Rattle.flat_law.proofs.Logs.{Keeps, after_keeps, after_runs, after_boots, same_boot, quiet_keeps}
 use Rattle.flat_law.proofs.RootMemory.{begun-after, not_begun_is_idle}
 use Rattle.flat_law.proofs.RootPhases.{unrecorded}
-use Rattle.flat_law.proofs.RootSteps.{no_data, heard, RootStep, acts_as, made_listed, memory, boot}
+use Rattle.flat_law.proofs.RootSteps.{no_data, heard, RootStep, acts_as, made_listed, memory}
 use Rattle.flat_law.proofs.RootActs.{if_here, if_other, commit_case, abort_case, join_case, work_case}
 
 module _ (r r' : RootState) (n : Node) (reaction : Reaction) (f : RootFollows r.me r.tree n r) where
@@ -93,13 +92,15 @@ module _ (r r' : RootState) (n : Node) (reaction : Reaction) (f : RootFollows r.
         begun = λ c. begun-after r.me r.tree n h e c (same_boot n e (λ b. refl)) ∙ (ap (λ k. k + 1) (f.begun c) ∙ sym made.begun);
         views = λ y. elim (same_txn_tells x y) [
           | inl s ↦ subst (λ z. coordinator_view place (after n h e) (root_case z) ≡ r'.view_of z) s.1
-            (views.begun (unrecorded (root_case x) (kept n) (next_is_clean p)) ∙ sym made.own)
+              (views.begun (unrecorded (root_case x) (kept n) (next_is_clean p)) ∙ sym made.own)
           | inr o ↦ views.others y o.0 ∙ (f.views y ∙ sym (made.others y o.0))
         ];
-        sound = record { stands = λ y. elim (same_txn_tells x y) [
-          | inl s ↦ subst P s.1 here
-          | inr o ↦ there y o.0
-        ] };
+        sound = record {
+          stands = λ y. elim (same_txn_tells x y) [
+            | inl s ↦ subst P s.1 here
+            | inr o ↦ there y o.0
+          ];
+        };
       }
 
   begin_step : (p : Presumption) → Makes r r' (act_turn r (Begin p)) reaction → RootStep r.me r.tree n (ActInput (Begin p)) r' reaction

@@ -1,14 +1,12 @@
 -- What the root remembers of a transaction that was not begun, and of a case with a ticket.
-use Rattle.std.proofs.Common.{◌≡◌, ◌≢◌, ◌∙◌, ap, sym, subst, ◌+◌, ◌<◌, ◌&&◌, ℕ, Bool, true, false, inl, inr, Option, Some, None, List, [], ◌∷◌, ◌++◌, refl, arith, if◌then◌else◌}
+use Rattle.std.proofs.Common.{◌≡◌, ◌∙◌, ap, ◌+◌, ◌<◌, ◌&&◌, ℕ, Bool, true, false, Option, Some, None, List, [], ◌∷◌, ◌++◌, refl, arith, if◌then◌else◌}
 use Rattle.std.specs.Prelude.{fold}
 use Rattle.tree_model.specs.declared.names.Case.{Case}
 use Rattle.tree_model.specs.declared.names.ProcessId.{ProcessId}
 use Rattle.tree_model.specs.declared.names.Ticket.{Ticket}
 use Rattle.tree_model.specs.declared.names.Txn.{Txn}
-use Rattle.tree_model.specs.declared.names.Outcome.{Outcome}
 use Rattle.tree_model.specs.declared.messages.Message.{Message}
 use Rattle.tree_model.specs.declared.messages.Message.TheVariants.{Joined, Yes, No, Read, Ack}
-use Rattle.tree_model.specs.declared.standings.Vote.{Vote}
 use Rattle.tree_model.specs.declared.standings.Vote.TheVariants.{Yes as VoteYes, No as VoteNo, Read as VoteRead}
 use Rattle.tree_model.specs.declared.events.Act.TheVariants.{Begin, Work as WorkAct, Commit as CommitAct, Abort as AbortAct}
 use Rattle.tree_model.specs.declared.events.Input.{Input}
@@ -18,7 +16,7 @@ use Rattle.tree_model.specs.Names.{same_txn, same_owner, same_case, root_case, c
 use Rattle.tree_model.specs.NameLaws.{same_case_tells}
 use Rattle.tree_model.specs.Records.{boot_of}
 use Rattle.tree_model.specs.Nodes.{AtRoot, Node, kept, Heard, Effect, entries_written, after}
-use Rattle.tree_model.specs.Memory.{Memory, Phase, Idle, memory_of, remembers, root_remembers, asks_votes, closes, takes_vote, takes_ack, opens_case, next_txn, sends_work, accepts_ticket, hears_child, of_ticket, of_child, fresh_memory, ticket_of_child}
+use Rattle.tree_model.specs.Memory.{Memory, Phase, Idle, memory_of, remembers, root_remembers, asks_votes, closes, takes_vote, takes_ack, next_txn, sends_work, accepts_ticket, hears_child, of_ticket, of_child, fresh_memory, ticket_of_child}
 use Rattle.tree_model.specs.Views.{root_place}
 use Rattle.tree_model.proofs.ListLaws.{memory_of-after}
 use Rattle.tree_model.proofs.BeginLaws.{begun_next, begun_step}

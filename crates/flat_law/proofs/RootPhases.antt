@@ -1,7 +1,6 @@
 -- The records of a transaction in each of its phases.
-use Rattle.std.proofs.Common.{◌≡◌, ◌≢◌, ◌∙◌, ap, sym, subst, ◌||◌, ℕ, Bool, true, false, List, [], ◌∷◌, ◌++◌, refl, arith, if◌then◌else◌}
+use Rattle.std.proofs.Common.{◌≡◌, ◌∙◌, ap, sym, subst, ◌||◌, ℕ, Bool, true, false, List, [], ◌∷◌, ◌++◌, refl}
 use Rattle.std.specs.Prelude.{fold}
-use Rattle.std.specs.List.{flat_map}
 use Rattle.std.proofs.lemmas.List.{append-nil}
 use Rattle.tree_model.specs.declared.names.Case.{Case}
 use Rattle.tree_model.specs.declared.names.ProcessId.{ProcessId}
@@ -12,17 +11,17 @@ use Rattle.tree_model.specs.declared.names.Presumption.TheVariants.{PresumeAbort
 use Rattle.tree_model.specs.declared.records.Record.{Record}
 use Rattle.tree_model.specs.declared.records.Record.TheVariants.{Collecting as CollectingRecord, Prepare as PrepareRecord, Commit as CommitRecord, Abort as AbortRecord, End as EndRecord}
 use Rattle.tree_model.specs.declared.standings.Standing.{Standing}
-use Rattle.tree_model.specs.declared.standings.Standing.TheVariants.{Unknown, Active, Collecting, Committing, Aborting}
+use Rattle.tree_model.specs.declared.standings.Standing.TheVariants.{Unknown, Active, Collecting}
 use Rattle.tree_model.specs.declared.trees.TreeEntry.{TreeEntry}
 use Rattle.tree_model.specs.Names.{same_case, root_case}
-use Rattle.tree_model.specs.Records.{has, none_of, boot_after, is_end, is_commit, is_abort, is_prepare, is_collecting, named_by, promised_by, owing_by}
+use Rattle.tree_model.specs.Records.{has, none_of, boot_after, is_commit, is_abort, is_prepare, is_collecting, named_by, promised_by, owing_by}
 use Rattle.tree_model.specs.Nodes.{Node, kept, Written, entries_written}
 use Rattle.tree_model.specs.Memory.{Phase, Idle, Open, Asked, Over, memory_of}
 use Rattle.tree_model.specs.Standings.{coordinator_view, coordinator_standing, standing_by, phase_standing}
 use Rattle.tree_model.specs.Views.{root_place, IsOpenAlike, IsUnrecorded}
-use Rattle.tree_model.proofs.StandingLaws.{view_standing, active_facts, phase_active}
+use Rattle.tree_model.proofs.StandingLaws.{view_standing}
 use Rattle.tree_model.proofs.TicketLaws.{pushed, either_false, other_false, undecided_owes}
-use Rattle.flat_law.specs.Ties.{Recorded, recorded_of, none_recorded, only_collecting, IsPast, StandsIn, IsInPhase}
+use Rattle.flat_law.specs.Ties.{Recorded, recorded_of, none_recorded, StandsIn, IsInPhase}
 
 -- What a row writes of its case.
 

@@ -1,10 +1,9 @@
 -- Acknowledgements and inquiries at the root are the model's, and so is each of its messages.
-use Rattle.std.proofs.Common.{◌≡◌, ◌≢◌, ◌∙◌, ap, sym, subst, ◌||◌, ◌&&◌, not, ℕ, Bool, true, false, Option, Some, None, List, [], ◌∷◌, ◌++◌, refl, arith, if◌then◌else◌}
+use Rattle.std.proofs.Common.{◌≡◌, ◌∙◌, ap, sym, subst, ◌||◌, not, ℕ, Bool, true, false, Option, Some, None, List, [], ◌∷◌, ◌++◌, refl, arith, if◌then◌else◌}
 use Rattle.std.specs.Prelude.{filter}
-use Rattle.std.specs.List.{list_any, flat_map}
+use Rattle.std.specs.List.{flat_map}
 use Rattle.std.proofs.lemmas.List.Folds.{list_any-append}
 use Rattle.tree_model.specs.declared.names.Case.{Case}
-use Rattle.tree_model.specs.declared.names.ProcessId.{ProcessId}
 use Rattle.tree_model.specs.declared.names.Ticket.{Ticket}
 use Rattle.tree_model.specs.declared.names.Txn.{Txn}
 use Rattle.tree_model.specs.declared.names.Outcome.{Outcome}
@@ -13,27 +12,26 @@ use Rattle.tree_model.specs.declared.messages.Message.{Message}
 use Rattle.tree_model.specs.declared.messages.Message.TheVariants.{Join, Joined, Work, Prepare, Yes, No, Read, Commit, Abort, Ack, Inquire}
 use Rattle.tree_model.specs.declared.messages.Envelope.{Envelope}
 use Rattle.tree_model.specs.declared.records.Record.{Record}
-use Rattle.tree_model.specs.declared.records.Record.TheVariants.{Collecting as CollectingRecord, Prepare as PrepareRecord, Commit as CommitRecord, Abort as AbortRecord}
+use Rattle.tree_model.specs.declared.records.Record.TheVariants.{Commit as CommitRecord, Abort as AbortRecord}
 use Rattle.tree_model.specs.declared.standings.Standing.{Standing}
 use Rattle.tree_model.specs.declared.standings.Standing.TheVariants.{Unknown, Active, Collecting, Prepared, Committing, Aborting, Heuristic}
 use Rattle.tree_model.specs.declared.standings.Vote.TheVariants.{Yes as VoteYes, No as VoteNo, Read as VoteRead}
 use Rattle.tree_model.specs.declared.events.Input.TheVariants.{Message as MessageInput}
 use Rattle.tree_model.specs.declared.events.Reaction.{Reaction}
-use Rattle.tree_model.specs.declared.trees.TreeEntry.{TreeEntry}
-use Rattle.tree_model.specs.Names.{same_txn, same_case, same_ticket, root_case, child_case, presumed}
+use Rattle.tree_model.specs.Names.{same_txn, same_ticket, root_case, child_case, presumed}
 use Rattle.tree_model.specs.Records.{in_list, none_of, named_by, named_in, owing_by, owing_in}
-use Rattle.tree_model.specs.Nodes.{Place, Node, kept, Effect, no_effect, reaction_of}
-use Rattle.tree_model.specs.Memory.{Memory, Phase, Idle, Open, Asked, Over, memory_of, takes_ack, has_acked}
-use Rattle.tree_model.specs.Standings.{CoordinatorView, coordinator_view, view_at, unknown_view, decided_outcome, still_owed, belongs, case_of_child}
-use Rattle.tree_model.specs.CoordinatorRows.{Seat, Row, quiet, on_ack, on_inquiry, decided_ack, other_tickets, post, tells_outcome}
-use Rattle.tree_model.specs.Reactions.{Reacts, Does, reacts, row_effect, sends_only, hears_from_child, ack_for, inquiry_for}
-use Rattle.tree_model.specs.Views.{root_place, hears_message, MovesTxn, RootViews}
-use Rattle.tree_model.proofs.RootViewLaws.{apart_case, root_views, stands_as, ack_memory, ack_elsewhere}
-use Rattle.root_core.specs.Roots.{RootState, Makes, Moves, Takes, Answers, Turn, seat_of, ack_turn, inquiry_turn, message_turn, of_child}
-use Rattle.flat_law.specs.Ties.{Recorded, recorded_of, StandsIn, RootFollows}
+use Rattle.tree_model.specs.Nodes.{Place, Node, kept, no_effect}
+use Rattle.tree_model.specs.Memory.{Memory, Phase, Idle, Open, Asked, Over, takes_ack, has_acked}
+use Rattle.tree_model.specs.Standings.{CoordinatorView, still_owed, belongs}
+use Rattle.tree_model.specs.CoordinatorRows.{Seat, Row, quiet, on_ack, on_inquiry, other_tickets, post, tells_outcome}
+use Rattle.tree_model.specs.Reactions.{Does, row_effect, sends_only, hears_from_child, ack_for, inquiry_for}
+use Rattle.tree_model.specs.Views.{root_place, hears_message, MovesTxn}
+use Rattle.tree_model.proofs.RootViewLaws.{root_views, stands_as, ack_memory, ack_elsewhere}
+use Rattle.root_core.specs.Roots.{RootState, Makes, Takes, Answers, seat_of, ack_turn, inquiry_turn, message_turn, of_child}
+use Rattle.flat_law.specs.Ties.{recorded_of, StandsIn, RootFollows}
 use Rattle.flat_law.proofs.RootPhases.{open_alike}
 use Rattle.flat_law.proofs.RootRows.{RowStands, quiet_row, ends_stands, ack_stands}
-use Rattle.flat_law.proofs.RootSteps.{no_data, heard, RootStep, hears_as, memory, boot, remembered}
+use Rattle.flat_law.proofs.RootSteps.{no_data, RootStep, hears_as, memory, remembered}
 use Rattle.flat_law.proofs.RootActs.{seen, by_row}
 use Rattle.flat_law.proofs.RootVotes.{unheard_step, joined_step, vote_step}
 

@@ -1,26 +1,24 @@
 -- The phase of a transaction behind each row, and its records.
-use Rattle.std.proofs.Common.{◌≡◌, ◌≢◌, ◌∙◌, ap, sym, subst, ◌||◌, ℕ, Bool, true, false, Option, Some, None, List, [], ◌∷◌, ◌++◌, refl, arith, if◌then◌else◌}
+use Rattle.std.proofs.Common.{◌≡◌, ◌∙◌, ap, sym, subst, Bool, true, false, None, List, [], ◌∷◌, ◌++◌, refl, if◌then◌else◌}
 use Rattle.tree_model.specs.declared.names.Case.{Case}
 use Rattle.tree_model.specs.declared.names.ProcessId.{ProcessId}
 use Rattle.tree_model.specs.declared.names.Ticket.{Ticket}
 use Rattle.tree_model.specs.declared.names.Txn.{Txn}
-use Rattle.tree_model.specs.declared.names.Outcome.{Outcome}
-use Rattle.tree_model.specs.declared.names.Outcome.TheVariants.{Committed as CommittedOutcome, Aborted as AbortedOutcome}
 use Rattle.tree_model.specs.declared.names.Presumption.{Presumption}
 use Rattle.tree_model.specs.declared.names.Presumption.TheVariants.{PresumeAbort, PresumeCommit}
 use Rattle.tree_model.specs.declared.standings.Standing.{Standing}
-use Rattle.tree_model.specs.declared.standings.Standing.TheVariants.{Unknown, Active, Collecting, Prepared, Committing, Aborting, Heuristic}
+use Rattle.tree_model.specs.declared.standings.Standing.TheVariants.{Unknown, Active, Collecting}
 use Rattle.tree_model.specs.declared.standings.Vote.{Vote}
 use Rattle.tree_model.specs.declared.standings.Vote.TheVariants.{Yes as VoteYes, No as VoteNo, Read as VoteRead}
 use Rattle.tree_model.specs.declared.records.Record.TheVariants.{End as EndRecord}
 use Rattle.tree_model.specs.Records.{none_of}
 use Rattle.tree_model.specs.Nodes.{Written}
-use Rattle.tree_model.specs.Memory.{Memory, Phase, Idle, Open, Asked, Over, phase_after, all_voted, yes_of, undecided_of, is_counted, with_vote}
+use Rattle.tree_model.specs.Memory.{Memory, Phase, Idle, Open, Asked, Over, phase_after, all_voted, yes_of, undecided_of, with_vote}
 use Rattle.tree_model.specs.Standings.{CoordinatorView, unknown_view, phase_standing}
-use Rattle.tree_model.specs.CoordinatorRows.{Seat, Row, active_commit_alone, active_commit_with, Reason, ByVote, collecting_abort_by, read_only_end, root_commits, decides, collecting_read_only, collecting_full, collecting_after, quiet, on_vote, on_ack, on_joined, on_inquiry, other_tickets, decided_ack, decided_ack_by}
+use Rattle.tree_model.specs.CoordinatorRows.{Seat, Reason, ByVote, collecting_abort_by, read_only_end, root_commits, decides, collecting_read_only, collecting_full, collecting_after, quiet, other_tickets}
 use Rattle.tree_model.proofs.RootRowLaws.{commit_row}
 use Rattle.flat_law.specs.Ties.{Recorded, none_recorded, only_collecting, IsPast, StandsIn}
-use Rattle.flat_law.proofs.RootPhases.{Wrote, wrote_nothing, wrote_collecting, wrote_commit, wrote_abort, wrote_end, noted, standing_from, past_heard, idle_heard, open_heard}
+use Rattle.flat_law.proofs.RootPhases.{Wrote, wrote_nothing, wrote_collecting, wrote_commit, wrote_abort, wrote_end, noted, standing_from, idle_heard, open_heard}
 
 -- what a row wrote of its case is right for the phase behind it
 pub record RowStands (c : Case) (p : Presumption) (ph : Phase) (f : Recorded) (ws : List Written) : Type 0 where

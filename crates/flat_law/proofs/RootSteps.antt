@@ -1,39 +1,34 @@
 -- A row that the root takes is the model's.
-use Rattle.std.proofs.Common.{◌≡◌, ◌≢◌, ◌∙◌, ap, sym, subst, ◌+◌, ◌<◌, ℕ, Bool, true, false, inl, inr, Option, Some, None, List, [], ◌∷◌, ◌++◌, refl, arith, if◌then◌else◌}
+use Rattle.std.proofs.Common.{◌≡◌, ◌∙◌, ap, sym, subst, ℕ, Bool, true, false, inl, inr, None, List, [], refl, if◌then◌else◌}
 use Rattle.std.proofs.lemmas.List.{append-nil}
-use Rattle.tree_model.specs.declared.names.Case.{Case}
 use Rattle.tree_model.specs.declared.names.ProcessId.{ProcessId}
-use Rattle.tree_model.specs.declared.names.Ticket.{Ticket}
 use Rattle.tree_model.specs.declared.names.Txn.{Txn}
 use Rattle.tree_model.specs.declared.messages.Message.{Message}
-use Rattle.tree_model.specs.declared.standings.Standing.{Standing}
-use Rattle.tree_model.specs.declared.standings.Standing.TheVariants.{Active, Collecting}
 use Rattle.tree_model.specs.declared.events.Act.{Act}
 use Rattle.tree_model.specs.declared.events.Input.{Input}
 use Rattle.tree_model.specs.declared.events.Input.TheVariants.{Act as ActInput, Message as MessageInput}
 use Rattle.tree_model.specs.declared.events.Reaction.{Reaction}
 use Rattle.tree_model.specs.declared.events.StepError.TheVariants.{NoSuch}
 use Rattle.tree_model.specs.declared.trees.TreeEntry.{TreeEntry}
-use Rattle.tree_model.specs.Names.{same_txn, same_case, root_case, child_case}
+use Rattle.tree_model.specs.Names.{same_txn, root_case}
 use Rattle.tree_model.specs.NameLaws.{same_txn_tells}
-use Rattle.tree_model.specs.Records.{boot_of, none_of, owing_by}
-use Rattle.tree_model.specs.Nodes.{Place, Node, kept, Heard, Effect, no_effect, reaction_of, entries_written, after, DataAnswer, ReadsOnly}
-use Rattle.tree_model.specs.Memory.{Memory, Phase, Open, Asked, memory_of, root_remembers}
-use Rattle.tree_model.specs.Standings.{CoordinatorView, coordinator_view, coordinator_standing, view_at}
-use Rattle.tree_model.specs.CoordinatorRows.{Seat, Row}
-use Rattle.tree_model.specs.Reactions.{Reacts, Does, reacts, row_effect, names_listed, coordinator_acts, hears_from_child}
-use Rattle.tree_model.specs.Views.{root_place, hears_act, hears_message, MovesTxn, RootViews}
+use Rattle.tree_model.specs.Records.{boot_of}
+use Rattle.tree_model.specs.Nodes.{Place, Node, kept, Heard, Effect, reaction_of, after, DataAnswer, ReadsOnly}
+use Rattle.tree_model.specs.Memory.{Memory, memory_of, root_remembers}
+use Rattle.tree_model.specs.Standings.{coordinator_view}
+use Rattle.tree_model.specs.CoordinatorRows.{Row}
+use Rattle.tree_model.specs.Reactions.{Does, reacts, row_effect, names_listed, coordinator_acts, hears_from_child}
+use Rattle.tree_model.specs.Views.{root_place, MovesTxn}
 use Rattle.tree_model.proofs.ListLaws.{memory_of-after, kept-after}
-use Rattle.tree_model.proofs.StandingLaws.{view-after, standing_with, view_standing, active_facts, phase_active}
 use Rattle.tree_model.proofs.BeginLaws.{begun_next}
 use Rattle.tree_model.proofs.RootViewLaws.{apart_case}
-use Rattle.rec_log.specs.Logs.{Kept, writes}
+use Rattle.rec_log.specs.Logs.{writes}
 use Rattle.root_core.specs.Roots.{RootState, Turn, Makes, Moves, Refuses, act_turn, acts}
-use Rattle.flat_law.specs.Ties.{Recorded, recorded_of, StandsIn, IsInPhase, RootFollows}
+use Rattle.flat_law.specs.Ties.{recorded_of, StandsIn, RootFollows}
 use Rattle.flat_law.proofs.Logs.{Keeps, after_keeps, after_runs, after_boots, same_boot, quiet_keeps, quiet_boots}
 use Rattle.flat_law.proofs.RootMemory.{begun-after}
-use Rattle.flat_law.proofs.RootPhases.{Wrote, noted, wrote_no_boot, recorded-own, recorded-other, open_alike}
-use Rattle.flat_law.proofs.RootRows.{RowStands, collected, collected_is}
+use Rattle.flat_law.proofs.RootPhases.{noted, wrote_no_boot, recorded-own, recorded-other}
+use Rattle.flat_law.proofs.RootRows.{RowStands}
 
 -- a coordinator's data answer nothing
 abbrev pub no_data : DataAnswer
@@ -120,10 +115,12 @@ module _ (r r' : RootState) (n : Node) (f : RootFollows r.me r.tree n r) where
           | inl s ↦ subst (λ z. coordinator_view place (after n h e) (root_case z) ≡ r'.view_of z) s.1 (moved.moved ∙ sym made.own)
           | inr o ↦ moved.others y o.0 ∙ (f.views y ∙ sym (made.others y o.0))
         ];
-        sound = record { stands = λ y. elim (same_txn_tells x y) [
-          | inl s ↦ subst P s.1 stands_here
-          | inr o ↦ stands_there y o.0
-        ] };
+        sound = record {
+          stands = λ y. elim (same_txn_tells x y) [
+            | inl s ↦ subst P s.1 stands_here
+            | inr o ↦ stands_there y o.0
+          ];
+        };
       }
 
   -- an input that changes nothing

@@ -1,7 +1,6 @@
 -- Tickets and votes at the root are the model's.
-use Rattle.std.proofs.Common.{◌≡◌, ◌≢◌, ◌∙◌, ap, sym, subst, ◌||◌, ◌&&◌, not, ℕ, Bool, true, false, Option, Some, None, List, [], ◌∷◌, ◌++◌, refl, arith, if◌then◌else◌}
+use Rattle.std.proofs.Common.{◌≡◌, ◌∙◌, ap, sym, subst, ◌||◌, ◌&&◌, ℕ, Bool, true, false, Option, Some, None, [], ◌∷◌, ◌++◌, refl, if◌then◌else◌}
 use Rattle.tree_model.specs.declared.names.Case.{Case}
-use Rattle.tree_model.specs.declared.names.ProcessId.{ProcessId}
 use Rattle.tree_model.specs.declared.names.Ticket.{Ticket}
 use Rattle.tree_model.specs.declared.names.Txn.{Txn}
 use Rattle.tree_model.specs.declared.messages.Message.{Message}
@@ -10,27 +9,24 @@ use Rattle.tree_model.specs.declared.standings.Standing.{Standing}
 use Rattle.tree_model.specs.declared.standings.Standing.TheVariants.{Unknown, Active, Collecting, Prepared, Committing, Aborting, Heuristic}
 use Rattle.tree_model.specs.declared.standings.Vote.{Vote}
 use Rattle.tree_model.specs.declared.standings.Vote.TheVariants.{Yes as VoteYes, No as VoteNo, Read as VoteRead}
-use Rattle.tree_model.specs.declared.events.Input.{Input}
 use Rattle.tree_model.specs.declared.events.Input.TheVariants.{Message as MessageInput}
 use Rattle.tree_model.specs.declared.events.Reaction.{Reaction}
-use Rattle.tree_model.specs.declared.trees.TreeEntry.{TreeEntry}
 use Rattle.tree_model.specs.Names.{same_txn, same_owner, same_case, root_case, child_case}
 use Rattle.tree_model.specs.Records.{in_list, named_by}
 use Rattle.tree_model.specs.Nodes.{Place, Node, kept, Effect, no_effect, reaction_of}
-use Rattle.tree_model.specs.Memory.{Memory, Phase, Idle, Open, Asked, Over, memory_of, root_remembers, hears_child, accepts_ticket, takes_vote, with_vote, is_counted, has_child}
-use Rattle.tree_model.specs.Standings.{CoordinatorView, coordinator_view, coordinator_standing, view_at, belongs, case_of_child}
-use Rattle.tree_model.specs.CoordinatorRows.{Seat, Row, quiet, on_joined, on_vote, active_joined}
-use Rattle.tree_model.specs.Reactions.{Reacts, Does, reacts, row_effect, hears_from_child, vote_for, child_says}
-use Rattle.tree_model.specs.Views.{root_place, hears_message, vote_message, MovesTxn, RootViews}
+use Rattle.tree_model.specs.Memory.{Memory, Phase, Idle, Open, Asked, Over, memory_of, accepts_ticket, takes_vote, with_vote, is_counted, has_child}
+use Rattle.tree_model.specs.Standings.{CoordinatorView, coordinator_view, coordinator_standing, belongs, case_of_child}
+use Rattle.tree_model.specs.CoordinatorRows.{Seat, Row, quiet, on_joined, on_vote}
+use Rattle.tree_model.specs.Reactions.{Does, row_effect, hears_from_child, vote_for, child_says}
+use Rattle.tree_model.specs.Views.{root_place, hears_message, vote_message, MovesTxn}
 use Rattle.tree_model.proofs.StandingLaws.{view_standing, active_facts, phase_active, not_taken}
-use Rattle.tree_model.proofs.BeginLaws.{begun_next}
 use Rattle.tree_model.proofs.RootViewLaws.{root_views, vote_memory, vote_elsewhere}
-use Rattle.root_core.specs.Roots.{RootState, Makes, Moves, seat_of, joined_turn, vote_turn, of_child}
-use Rattle.flat_law.specs.Ties.{recorded_of, StandsIn, RootFollows}
+use Rattle.root_core.specs.Roots.{RootState, Makes, seat_of, joined_turn, vote_turn, of_child}
+use Rattle.flat_law.specs.Ties.{recorded_of, RootFollows}
 use Rattle.flat_law.proofs.RootMemory.{ticketed_is_idle}
 use Rattle.flat_law.proofs.RootPhases.{open_alike}
 use Rattle.flat_law.proofs.RootRows.{RowStands, quiet_row, vote_stands, collected_is}
-use Rattle.flat_law.proofs.RootSteps.{no_data, heard, RootStep, hears_as, memory, boot, remembered, still_followed}
+use Rattle.flat_law.proofs.RootSteps.{no_data, RootStep, hears_as, memory, remembered, still_followed}
 use Rattle.flat_law.proofs.RootActs.{if_other, if_phase, seen, is_asked, stands_at, by_row}
 use Rattle.tree_model.proofs.RootViewLaws.{apart_case}
 

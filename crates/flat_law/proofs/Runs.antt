@@ -1,17 +1,16 @@
 -- A run of a flat tree is a run of the model.
-use Rattle.std.proofs.Common.{◌≡◌, ◌≢◌, ◌∙◌, ap, sym, subst, ◌⊎◌, ◌&&◌, ℕ, zero, suc, Bool, true, false, inl, inr, Option, Some, None, List, [], ◌∷◌, ◌++◌, append_assoc, take, refl, arith, if◌then◌else◌}
+use Rattle.std.proofs.Common.{◌≡◌, sym, subst, ◌&&◌, ℕ, zero, suc, Bool, true, inl, inr, Option, Some, None, List, [], ◌∷◌, ◌++◌, append_assoc, take, refl}
 use Rattle.std.specs.List.{list_all}
 use Rattle.std.proofs.lemmas.List.{append-nil}
 use Rattle.tree_model.specs.declared.names.ProcessId.{ProcessId}
-use Rattle.tree_model.specs.declared.messages.Envelope.{Envelope}
 use Rattle.tree_model.specs.declared.events.Event.{Event}
 use Rattle.tree_model.specs.declared.events.Event.TheVariants.{Act as ActOf, Deliver, Settle, Restart, Trim}
 use Rattle.tree_model.specs.declared.events.StepError.{StepError}
 use Rattle.tree_model.specs.declared.trees.TreeEntry.{TreeEntry}
-use Rattle.tree_model.specs.Plays.{process_of_act, sent_as}
+use Rattle.tree_model.specs.Plays.{process_of_act}
 use Rattle.tree_model.specs.World.{World, Made, Continues, stays, goes_on}
 use Rattle.flat_law.specs.Flat.{is_flat_move, AreFlatMoves}
-use Rattle.flat_law.specs.FlatWorlds.{FlatState, Delivers, least_open, settles_by, Settles, Applies, IsLost, stops_by, SettleStops, Stops, Leads, LeadsUntil}
+use Rattle.flat_law.specs.FlatWorlds.{FlatState, least_open, settles_by, Settles, Applies, stops_by, SettleStops, Stops, Leads, LeadsUntil}
 use Rattle.flat_law.specs.Ties.{Follows, GoesOn, IsModelled, is_flat_event}
 use Rattle.flat_law.proofs.Trees.{both}
 use Rattle.flat_law.proofs.WorldSteps.{delivery_goes_on, act_goes_on}

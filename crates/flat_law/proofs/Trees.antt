@@ -1,5 +1,5 @@
 -- The places of a flat tree.
-use Rattle.std.proofs.Common.{◌≡◌, ◌≢◌, ◌∙◌, ap, sym, subst, ◌&&◌, ◌||◌, not, Bool, true, false, inl, inr, Option, Some, None, List, [], ◌∷◌, refl, arith, if◌then◌else◌}
+use Rattle.std.proofs.Common.{◌≡◌, ◌∙◌, ap, sym, ◌&&◌, ◌||◌, not, Bool, true, false, Option, Some, None, List, [], ◌∷◌, refl, arith, if◌then◌else◌}
 use Rattle.std.specs.List.{list_all, list_any}
 use Rattle.tree_model.specs.declared.names.ProcessId.{ProcessId}
 use Rattle.tree_model.specs.declared.names.Kind.{Kind}
@@ -7,8 +7,8 @@ use Rattle.tree_model.specs.declared.names.Kind.TheVariants.{Coordinator, Manage
 use Rattle.tree_model.specs.declared.trees.TreeEntry.{TreeEntry}
 use Rattle.tree_model.specs.Names.{same_process}
 use Rattle.tree_model.specs.NameLaws.{same_process_tells}
-use Rattle.tree_model.specs.Nodes.{Role, AtRoot, AtLeaf, role_by, role_of, place_of, is_listed}
-use Rattle.tree_model.specs.Trees.{IsTree, has_unknown_parent, is_unlisted}
+use Rattle.tree_model.specs.Nodes.{AtRoot, AtLeaf, role_by, role_of, place_of, is_listed}
+use Rattle.tree_model.specs.Trees.{has_unknown_parent, is_unlisted}
 use Rattle.tree_model.specs.Views.{root_place, leaf_place}
 use Rattle.flat_law.specs.Flat.{is_flat_by, is_flat_entry}
 use Rattle.flat_law.specs.Ties.{IsFlatTree}

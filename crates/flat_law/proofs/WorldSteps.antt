@@ -1,7 +1,6 @@
 -- A step of a flat tree is a step of the model's world.
-use Rattle.std.proofs.Common.{◌≡◌, ◌≢◌, ◌∙◌, ap, sym, subst, ◌+◌, ◌-◌, ◌≤◌, ◌&&◌, ℕ, zero, suc, Bool, true, false, inl, inr, Option, Some, None, List, [], ◌∷◌, ◌++◌, refl, arith, if◌then◌else◌}
+use Rattle.std.proofs.Common.{◌≡◌, ◌∙◌, ap, sym, subst, ◌-◌, ◌&&◌, ℕ, zero, suc, Bool, true, false, inl, inr, Some, None, List, [], ◌∷◌, ◌++◌, refl, arith}
 use Rattle.std.specs.Prelude.{slice_get}
-use Rattle.std.specs.List.{list_all}
 use Rattle.tree_model.specs.declared.names.ProcessId.{ProcessId}
 use Rattle.tree_model.specs.declared.messages.Message.{Message}
 use Rattle.tree_model.specs.declared.messages.Envelope.{Envelope}
@@ -14,16 +13,14 @@ use Rattle.tree_model.specs.declared.trees.TreeEntry.{TreeEntry}
 use Rattle.tree_model.specs.Names.{same_process}
 use Rattle.tree_model.specs.NameLaws.{same_process_tells}
 use Rattle.tree_model.specs.Nodes.{Place, place_of, is_listed, Node, Heard, DataAnswer, Effect, reaction_of, after}
-use Rattle.tree_model.specs.Reactions.{Reacts, Does, reacts}
+use Rattle.tree_model.specs.Reactions.{Does, reacts}
 use Rattle.tree_model.specs.Plays.{sent_as}
-use Rattle.tree_model.specs.Views.{root_place, leaf_place, hears_message}
-use Rattle.tree_model.specs.World.{World, Move, Made, put_at, world_makes, node_makes, world_stepped, input_makes, InputStands, IsSent, IsRun, makes, Continues, stays, goes_on, journal_of, entry_of}
-use Rattle.root_core.specs.Roots.{RootState, Makes, act_turn}
-use Rattle.root_core.specs.Roots as root
-use Rattle.flat_law.specs.Flat.{is_flat_input, is_flat_move, AreFlatMoves}
+use Rattle.tree_model.specs.Views.{root_place, leaf_place}
+use Rattle.tree_model.specs.World.{World, Move, Made, put_at, world_makes, node_makes, world_stepped, input_makes, InputStands, IsSent, makes, stays, goes_on, journal_of}
+use Rattle.root_core.specs.Roots.{RootState}
+use Rattle.flat_law.specs.Flat.{is_flat_input}
 use Rattle.flat_law.specs.Leaves.{LeafState}
-use Rattle.flat_law.specs.Leaves as leaf
-use Rattle.flat_law.specs.FlatWorlds.{FlatState, RootTakes, LeafTakes, Hears, Handled, Steps, Delivers, marks, entry_at}
+use Rattle.flat_law.specs.FlatWorlds.{FlatState, LeafTakes, Steps, Delivers, marks, entry_at}
 use Rattle.flat_law.specs.Ties.{RootFollows, LeafFollows, IsLeafOf, Follows, GoesOn}
 use Rattle.flat_law.proofs.Trees.{is_one, same_process-refl}
 use Rattle.flat_law.proofs.LeafSteps.{LeafStep}
