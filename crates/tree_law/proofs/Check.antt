@@ -1,0 +1,17 @@
+-- scratch
+use Rattle.std.proofs.Common.{◌≡◌, List}
+use Rattle.tree_model.specs.declared.trees.TreeEntry.{TreeEntry}
+use Rattle.tree_model.specs.Trees.{IsTree}
+use Rattle.tree_model.specs.World.{IsRun, Made, World}
+use Rattle.tree_model.specs.Outcomes.{Agreement, CommitRule}
+use Rattle.tree_law.specs.Flat.{IsFlat, AreFlatMoves}
+use Rattle.tree_law.proofs.Lists.{has-append}
+use Rattle.tree_law.proofs.CaseMoves.{leads_forgets}
+use Rattle.tree_law.proofs.RootEnds.{effect_same}
+use Rattle.tree_law.proofs.RootSteps.{each_sound}
+
+pub agreement : (tree : List TreeEntry) → (es : List Made) → (w : World) → IsTree tree → IsFlat tree → IsRun tree es w → AreFlatMoves es → Agreement tree w
+agreement = ?
+
+pub commit_rule : (tree : List TreeEntry) → (es : List Made) → (w : World) → IsTree tree → IsFlat tree → IsRun tree es w → AreFlatMoves es → CommitRule tree w
+commit_rule = ?
