@@ -1,5 +1,5 @@
 -- The commit act and the abort act of the root keep what holds of its cases.
-use Rattle.std.proofs.Common.{◌≡◌, ◌∙◌, map, ap, sym, subst, ℕ, Bool, true, false, ◌||◌, Option, Some, None, List, [], ◌∷◌, ◌++◌, refl, if◌then◌else◌, arith}
+use Rattle.std.proofs.Common.{◌≡◌, ◌∙◌, map, ap, sym, subst, ℕ, Bool, true, false, ◌||◌, ◌⊎◌, inl, inr, Option, Some, None, List, [], ◌∷◌, ◌++◌, refl, if◌then◌else◌, arith}
 use Rattle.tree_model.specs.declared.names.Case.{Case}
 use Rattle.tree_model.specs.declared.names.ProcessId.{ProcessId}
 use Rattle.tree_model.specs.declared.names.Ticket.{Ticket}
@@ -55,7 +55,29 @@ commit_active s Committing rs m e h = absurd (cc)
 commit_active s Aborting rs m e h = absurd (cc)
 commit_active s Heuristic rs m e h = absurd (cc)
 
-presumption_abort : (p : Presumption) → same_presumption p PresumeAbort ≡ true → p ≡ PresumeAbort
+abort_cases : (s : Seat) (st : Standing) (rs : List Record) (m : Memory) (e : Effect)
+    → abort_by s (view_at st rs s.own m) (view_at st rs s.own m).standing ≡ Does e
+    → ((st ≡ Active) × (row_effect s.own (active_abort s (view_at Active rs s.own m)) ≡ e))
+    ⊎ ((st ≡ Collecting) × (row_effect s.own (collecting_abort s ByAct (view_at Collecting rs s.own m)) ≡ e))
+abort_cases s Active rs m e h = inl (refl, effect_same _ e h)
+abort_cases s Collecting rs m e h = inr (refl, effect_same _ e h)
+abort_cases s Unknown rs m e h = absurd (cc)
+abort_cases s Prepared rs m e h = absurd (cc)
+abort_cases s Committing rs m e h = absurd (cc)
+abort_cases s Aborting rs m e h = absurd (cc)
+abort_cases s Heuristic rs m e h = absurd (cc)
+
+closes_over : (m : Memory) (ph : Phase) → is_undecided ph ≡ true → closes m ph ≡ record m { phase = Over }
+closes_over m Open u = refl
+closes_over m Asked u = refl
+closes_over m Idle u = absurd (cc)
+closes_over m Over u = absurd (cc)
+
+unacknowledged : (s : Seat) (p : Presumption) → p ≡ PresumeAbort → acknowledges_abort s p ≡ []
+unacknowledged s PresumeAbort e = refl
+unacknowledged s PresumeCommit e = absurd (cc)
+
+pub presumption_abort : (p : Presumption) → same_presumption p PresumeAbort ≡ true → p ≡ PresumeAbort
 presumption_abort p e = grind (arith, same_presumption_tells)
 
 module _ (me : ProcessId) (tree : List TreeEntry) (n : Node) (holds : AllHold (root_place me tree) n) where
@@ -117,3 +139,65 @@ module _ (me : ProcessId) (tree : List TreeEntry) (n : Node) (holds : AllHold (r
       let o = open_when_active y both.0 in
       subst (λ (f : Effect). RootStep here n (hears_act (CommitAct y) a) f) both.1
       (commit_with y a v (none_of v.accepted) y.presumption (presumption_abort y.presumption ((holds y any).undecided_presumes_abort (ap is_undecided o))) o)
+
+  -- The abort act.
+
+  abort_then : (y : Txn) (a : DataAnswer) → is_undecided (remembered y).phase ≡ true
+      → memory_then me tree n (hears_act (AbortAct y) a) y ≡ record (remembered y) { phase = Over }
+  abort_then y a u = rw (same_case-refl (root_case y)) (closes_over (remembered y) (remembered y).phase u)
+
+  abort_elsewhere : (y x : Txn) (a : DataAnswer) → same_txn y x ≡ false
+      → memory_then me tree n (hears_act (AbortAct y) a) x ≡ remembered x
+  abort_elsewhere y x a o = rw (apart y x o) refl
+
+  aborts_active : (y : Txn) (a : DataAnswer) (v : CoordinatorView) → is_undecided (remembered y).phase ≡ true
+      → let s = root_seat me (root_case y) in
+      RootStep here n (hears_act (AbortAct y) a) (row_effect (root_case y) (active_abort s v))
+  aborts_active y a v u =
+      let s = root_seat me (root_case y) in
+      let h = hears_act (AbortAct y) a in
+      let ls = acknowledges_abort s y.presumption ++ each s Abort v.accepted in
+      ended_step me tree n h (tells y ConcludedAborted ls) y v.accepted (boot_of-nil (kept n)) holds
+      (λ x t o. rw (abort_elsewhere y x a o) (same_tells (remembered x) n h me x t y ConcludedAborted ls o))
+      (λ t. true) (λ t. (read y t).recorded) (λ t. false) (λ t. (read y t).refused) (λ t. (read y t).voted)
+      (λ t. rw (abort_then y a u) (own_tells_aborted (record (remembered y) { phase = Over }) n h me y t ls))
+      u (ap (λ l. l ++ each s Abort v.accepted) (unacknowledged s y.presumption (presumption_abort y.presumption ((holds y any).undecided_presumes_abort u))))
+
+  aborts_collecting : (y : Txn) (a : DataAnswer) (v : CoordinatorView) (us : List Ticket) (p : Presumption) → p ≡ PresumeAbort
+      → is_undecided (remembered y).phase ≡ true
+      → let s = root_seat me (root_case y) in
+      RootStep here n (hears_act (AbortAct y) a) (row_effect (root_case y) (collecting_abort_by s ByAct v us p))
+  aborts_collecting y a v us PresumeAbort e u =
+      let s = root_seat me (root_case y) in
+      let h = hears_act (AbortAct y) a in
+      let ls = each s Abort us in
+      ended_step me tree n h (aborting y ls) y us (boot_of-push (kept n) (AbortRecord (root_case y) [])) holds
+      (λ x t o. rw (abort_elsewhere y x a o) (same_aborting (remembered x) n h me x t y ls o))
+      (λ t. true) (λ t. true) (λ t. false) (λ t. (read y t).refused) (λ t. (read y t).voted)
+      (λ t. rw (abort_then y a u) (own_aborting (record (remembered y) { phase = Over }) n h me y t ls))
+      u refl
+  aborts_collecting y a v us PresumeCommit e u = absurd (cc)
+
+  asked_when_collecting : (y : Txn) → coordinator_standing (kept n) (root_case y) (remembered y) ≡ Collecting → (remembered y).phase ≡ Asked
+  asked_when_collecting y e = collecting_asked _ _ _ _ _ _ _ _ (holds y any).never_collects e
+
+  pub aborts : (y : Txn) (a : DataAnswer) (e : Effect)
+      → abort_by (root_seat me (root_case y)) (coordinator_view here n (root_case y)) (coordinator_view here n (root_case y)).standing ≡ Does e
+      → RootStep here n (hears_act (AbortAct y) a) e
+  aborts y a e made =
+      let c = root_case y in
+      let m = remembered y in
+      let s = root_seat me c in
+      let seen : abort_by s (view_at (coordinator_standing (kept n) c m) (kept n) c m) (view_at (coordinator_standing (kept n) c m) (kept n) c m).standing ≡ Does e =
+      subst (λ (u : CoordinatorView). abort_by s u u.standing ≡ Does e) (viewed here n c) made in
+      elim (abort_cases s (coordinator_standing (kept n) c m) (kept n) m e seen) [
+        | inl both ↦
+            subst (λ (f : Effect). RootStep here n (hears_act (AbortAct y) a) f) both.1
+            (aborts_active y a (view_at Active (kept n) c m) (ap is_undecided (open_when_active y both.0)))
+        | inr both ↦
+            let u : is_undecided (remembered y).phase ≡ true = ap is_undecided (asked_when_collecting y both.0) in
+            let v = view_at Collecting (kept n) c m in
+            subst (λ (f : Effect). RootStep here n (hears_act (AbortAct y) a) f) both.1
+            (aborts_collecting y a v (undecided_of v.accepted v.votes) y.presumption
+            (presumption_abort y.presumption ((holds y any).undecided_presumes_abort u)) u)
+      ]
