@@ -5,4 +5,5 @@ pub mod Standings
 pub mod RootSteps
 pub mod RootActs
 pub mod RootEnds
+pub mod RootJoined
 pub mod Check

@@ -55,8 +55,8 @@ sends ls = record { begun = None; written = []; told = None; letters = ls; accep
 abbrev pub tells : Txn → Conclusion → List Envelope → Effect
 tells y a ls = record (sends ls) { told = Some (record { txn = y; conclusion = a }) }
 
-abbrev pub accepting : Txn → Ticket → Effect
-accepting y u = record (sends []) { accepts = (root_case y, u) ∷ [] }
+abbrev pub accepting : Case → Ticket → Effect
+accepting c u = record (sends []) { accepts = (c, u) ∷ [] }
 
 abbrev pub counting : Txn → Ticket → Vote → Effect → Effect
 counting y u w e = record e { counts = (root_case y, (u, w)) ∷ [] }
@@ -89,8 +89,8 @@ module _ (m : Memory) (n : Node) (h : Heard) (me : ProcessId) (x : Txn) (t : Tic
   pub same_tells : (y : Txn) (a : Conclusion) (ls : List Envelope) → same_txn y x ≡ false → Same (tells y a ls)
   same_tells y a ls o = simp (lists, o)
 
-  pub same_accepting : (y : Txn) (u : Ticket) → same_txn y x ≡ false → Same (accepting y u)
-  same_accepting y u o = simp (lists, apart y x o)
+  pub same_accepting : (c : Case) (u : Ticket) → same_case c (root_case x) ≡ false → Same (accepting c u)
+  same_accepting c u o = simp (lists, o)
 
   pub same_counting : (y : Txn) (u : Ticket) (w : Vote) → same_txn y x ≡ false → Same (counting y u w (sends []))
   same_counting y u w o = simp (lists, apart y x o)
@@ -143,7 +143,7 @@ module _ (m : Memory) (n : Node) (h : Heard) (me : ProcessId) (x : Txn) (t : Tic
   pub own_tells_aborted : (ls : List Envelope) → Becomes (tells x ConcludedAborted ls) (record before { aborted = true })
   own_tells_aborted ls = simp (own)
 
-  pub own_accepting : (u : Ticket) → Becomes (accepting x u) (record before { took_part = same_ticket u t || before.took_part })
+  pub own_accepting : (u : Ticket) → Becomes (accepting (root_case x) u) (record before { took_part = same_ticket u t || before.took_part })
   own_accepting u = simp (own)
 
   pub own_counting : (u : Ticket) (w : Vote) → Becomes (counting x u w (sends [])) (record before { consented = (same_ticket u t && is_consent w) || before.consented })
