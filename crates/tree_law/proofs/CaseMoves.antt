@@ -115,7 +115,7 @@ leads_accepts r b h u = grind arith
 
 -- a vote is counted, the ticket's or another one's, and others are awaited
 abbrev pub counts : Bool → CaseReading → CaseReading
-counts b r = record r { consented = b || r.consented; voted = b || r.voted }
+counts b r = record r { phase = Asked; consented = b || r.consented; voted = b || r.voted }
 
 pub leads_counts : (r : CaseReading) (b : Bool) → CaseHolds r → r.phase ≡ Asked → Leads r (counts b r)
 leads_counts r b h u = grind arith

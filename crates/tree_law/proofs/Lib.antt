@@ -6,4 +6,5 @@ pub mod RootSteps
 pub mod RootActs
 pub mod RootEnds
 pub mod RootJoined
+pub mod RootVotes
 pub mod Check

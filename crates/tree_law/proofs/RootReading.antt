@@ -112,16 +112,16 @@ module _ (m : Memory) (n : Node) (h : Heard) (me : ProcessId) (x : Txn) (t : Tic
   pub same_ending : (y : Txn) → same_txn y x ≡ false → Same (ending y)
   same_ending y o = simp (lists, apart y x o)
 
-or-true : (a : Bool) → (a || true) ≡ true
+pub or-true : (a : Bool) → (a || true) ≡ true
 or-true a = grind arith
 
-or-false : (a : Bool) → (a || false) ≡ a
+pub or-false : (a : Bool) → (a || false) ≡ a
 or-false a = grind arith
 
-and-false : (a : Bool) → (a && false) ≡ false
+pub and-false : (a : Bool) → (a && false) ≡ false
 and-false a = grind arith
 
-and-true : (a : Bool) → (a && true) ≡ a
+pub and-true : (a : Bool) → (a && true) ≡ a
 and-true a = grind arith
 
 -- `readonly` is no abort: it is told of any case
@@ -161,6 +161,10 @@ module _ (m : Memory) (n : Node) (h : Heard) (me : ProcessId) (x : Txn) (t : Tic
   pub own_counting_committing : (u : Ticket) (w : Vote) (us : List Ticket) (ls : List Envelope)
       → Becomes (counting x u w (committing x us ls)) (record before { recorded = true; commit_kept = true; committed = true; consented = (same_ticket u t && is_consent w) || before.consented })
   own_counting_committing u w us ls = simp (own)
+
+  pub own_committed : (u : Ticket) (w : Vote) (us : List Ticket) (ls : List Envelope)
+      → has (is_commit (root_case x)) (after n h (counting x u w (committing x us ls))).durable ≡ true
+  own_committed u w us ls = simp (own)
 
   pub own_ending : Becomes (ending x) (record before { recorded = true })
   own_ending = simp (own)
