@@ -7,4 +7,5 @@ pub mod RootActs
 pub mod RootEnds
 pub mod RootJoined
 pub mod RootVotes
+pub mod RootMessages
 pub mod Check
