@@ -8,4 +8,6 @@ pub mod RootEnds
 pub mod RootJoined
 pub mod RootVotes
 pub mod RootMessages
+pub mod RootAcks
+pub mod RootCounts
 pub mod Check
