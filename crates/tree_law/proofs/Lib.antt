@@ -10,4 +10,5 @@ pub mod RootVotes
 pub mod RootMessages
 pub mod RootAcks
 pub mod RootCounts
+pub mod RootReacts
 pub mod Check
