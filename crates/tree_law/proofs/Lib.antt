@@ -11,4 +11,5 @@ pub mod RootMessages
 pub mod RootAcks
 pub mod RootCounts
 pub mod RootReacts
+pub mod LeafSteps
 pub mod Check
