@@ -12,4 +12,5 @@ pub mod RootAcks
 pub mod RootCounts
 pub mod RootReacts
 pub mod LeafSteps
+pub mod LeafRows
 pub mod Check
