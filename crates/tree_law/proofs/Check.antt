@@ -13,8 +13,7 @@ use Rattle.tree_law.proofs.RootVotes.{IsFor}
 use Rattle.tree_law.proofs.RootMessages.{voted}
 use Rattle.tree_law.proofs.RootAcks.{acknowledged}
 use Rattle.tree_law.proofs.RootReacts.{root_reacts}
-use Rattle.tree_law.proofs.LeafSteps.{leaf_writes}
-use Rattle.tree_law.proofs.LeafRows.{worked}
+use Rattle.tree_law.proofs.LeafReacts.{leaf_reacts}
 use Rattle.tree_law.proofs.RootSteps.{each_sound}
 
 pub agreement : (tree : List TreeEntry) → (es : List Made) → (w : World) → IsTree tree → IsFlat tree → IsRun tree es w → AreFlatMoves es → Agreement tree w

@@ -9,6 +9,7 @@ use Rattle.tree_model.specs.declared.messages.Message.{Message}
 use Rattle.tree_model.specs.declared.messages.Message.TheVariants.{Join, Joined, Work, Prepare, Yes, No, Read, Commit, Abort, Ack, Inquire}
 use Rattle.tree_model.specs.declared.messages.Envelope.{Envelope}
 use Rattle.tree_model.specs.declared.records.Branch.TheVariants.{Case as CaseBranch}
+use Rattle.tree_model.specs.declared.records.Record.{Record}
 use Rattle.tree_model.specs.declared.records.Record.TheVariants.{Prepared as PreparedRecord, Committed as CommittedRecord, RolledBack as RolledBackRecord, Told as ToldRecord}
 use Rattle.tree_model.specs.declared.records.Write.{Write}
 use Rattle.tree_model.specs.declared.standings.Standing.{Standing}
@@ -90,8 +91,8 @@ module _ (q p : ProcessId) (n : Node) (opens : OpenHavePromised n) (h : Heard) (
   promise : (i : ℕ) (ws : List Write) → process_of d ≡ q
       → LeafStep q n h (Prepare d i) (writes (PreparedRecord (CaseBranch d) ws) true (record { from = q; to = p; message = Yes d } ∷ []))
   promise i ws here =
-      let ls = record { from = q; to = p; message = Yes d } ∷ [] in
-      let r = PreparedRecord (CaseBranch d) ws in
+      let ls : List Envelope = record { from = q; to = p; message = Yes d } ∷ [] in
+      let r : Record = PreparedRecord (CaseBranch d) ws in
       let promised : (c : Case) → same_case d c ≡ true → HasPromised c (after n h (writes r true ls)) =
       λ c e. record {
         was_forced = has-cons (is_prepared c) r (kept n ++ n.durable) ∙ ap (λ b. b || has (is_prepared c) (kept n ++ n.durable)) e;

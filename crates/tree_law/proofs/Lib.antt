@@ -13,4 +13,5 @@ pub mod RootCounts
 pub mod RootReacts
 pub mod LeafSteps
 pub mod LeafRows
+pub mod LeafReacts
 pub mod Check
