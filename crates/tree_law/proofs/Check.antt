@@ -14,6 +14,8 @@ use Rattle.tree_law.proofs.RootMessages.{voted}
 use Rattle.tree_law.proofs.RootAcks.{acknowledged}
 use Rattle.tree_law.proofs.RootReacts.{root_reacts}
 use Rattle.tree_law.proofs.LeafReacts.{leaf_reacts}
+use Rattle.tree_law.proofs.FlatTrees.{role_in}
+use Rattle.tree_law.proofs.Moves.{sent_at}
 use Rattle.tree_law.proofs.RootSteps.{each_sound}
 
 pub agreement : (tree : List TreeEntry) → (es : List Made) → (w : World) → IsTree tree → IsFlat tree → IsRun tree es w → AreFlatMoves es → Agreement tree w

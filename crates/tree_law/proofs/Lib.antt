@@ -14,4 +14,6 @@ pub mod RootReacts
 pub mod LeafSteps
 pub mod LeafRows
 pub mod LeafReacts
+pub mod FlatTrees
+pub mod Moves
 pub mod Check
