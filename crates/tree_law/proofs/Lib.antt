@@ -16,4 +16,6 @@ pub mod LeafRows
 pub mod LeafReacts
 pub mod FlatTrees
 pub mod Moves
+pub mod Worlds
+pub mod RootWorld
 pub mod Check
