@@ -18,4 +18,5 @@ pub mod FlatTrees
 pub mod Moves
 pub mod Worlds
 pub mod RootWorld
+pub mod LeafWorld
 pub mod Check

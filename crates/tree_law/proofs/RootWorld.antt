@@ -11,7 +11,7 @@ use Rattle.tree_model.specs.declared.records.Record.{Record}
 use Rattle.tree_model.specs.declared.events.Input.{Input}
 use Rattle.tree_model.specs.declared.events.Input.TheVariants.{Act as ActInput, Message as MessageInput}
 use Rattle.tree_model.specs.declared.trees.TreeEntry.{TreeEntry}
-use Rattle.tree_model.specs.Names.{same_process, root_case, child_case, process_of}
+use Rattle.tree_model.specs.Names.{same_process, same_case, root_case, child_case, process_of}
 use Rattle.tree_model.specs.NameLaws.{same_process_tells, same_case-refl}
 use Rattle.tree_model.specs.Records.{has, is_commit, is_prepared, is_committed, is_rolled_back}
 use Rattle.tree_model.specs.Nodes.{Node, Heard, DataAnswer, Effect, after, is_listed, opened_node}
@@ -23,7 +23,7 @@ use Rattle.tree_law.proofs.Lists.{sent-append}
 use Rattle.tree_law.proofs.CaseMoves.{IsAbortedCase}
 use Rattle.tree_law.proofs.RootReading.{reading}
 use Rattle.tree_law.proofs.RootSteps.{AllHold, IsAborted, IsSound, AllSound, RootStep}
-use Rattle.tree_law.proofs.RootReacts.{RootReacts, Consents, SaysConsent}
+use Rattle.tree_law.proofs.RootReacts.{RootReacts, Consents, SaysConsent, AsksNothing}
 use Rattle.tree_law.proofs.LeafSteps.{HasPromised, OpenHavePromised}
 use Rattle.tree_law.proofs.FlatTrees.{IsManager}
 use Rattle.tree_law.proofs.Moves.{sent_at}
@@ -42,16 +42,56 @@ node_is P q r n w own other = elim (same_process_tells q r) [
   | inr o ↦ rw o.0 (other o.0)
 ]
 
+-- a process that is listed and one that is not are two
+pub apart_if : (q r : ProcessId) (tree : List TreeEntry) → is_listed tree q ≡ true → is_listed tree r ≡ false → same_process q r ≡ false
+apart_if q r tree e f = elim (same_process_tells q r) [
+  | inl s ↦ absurd (let g : is_listed tree q ≡ is_listed tree r = ap (is_listed tree) s.1 in let g' : true ≡ false = sym e ∙ (g ∙ f) in cc)
+  | inr o ↦ o.0
+]
+
 -- a message that is delivered is true
-pub IsHeard : List TreeEntry → ProcessId → World → ProcessId → Input → Type 0
+abbrev pub IsHeard : List TreeEntry → ProcessId → World → ProcessId → Input → Type 0
 IsHeard tree root w q (ActInput a) = Unit {0}
 IsHeard tree root w q (MessageInput k m) = IsTrue tree root w q m
 
 pub heard_true : (tree : List TreeEntry) (root : ProcessId) (w : World) (q : ProcessId) (i : Input) → WorldHolds tree root w
     → InputStands w.net q i → IsHeard tree root w q i
-unfolding IsHeard
 heard_true tree root w q (ActInput a) h s = tt
 heard_true tree root w q (MessageInput k m) h s = true_at tree root w w.net _ _ h.net s.stands
+
+-- a consent that is heard was given
+consent_said : (tree : List TreeEntry) (root : ProcessId) (w : World) (q : ProcessId) (x : Txn) (t : Ticket) (i : Input)
+    → IsHeard tree root w q i → InputStands w.net q i → Consents (child_case x t) i → HasConsented w x t
+consent_said tree root w q x t (ActInput a) h s c = absurd c
+consent_said tree root w q x t (MessageInput k (Yes d)) h s c =
+    let p = subst (λ (z : Case). HasPromised z (w.at (process_of z))) c h in inl p.was_written
+consent_said tree root w q x t (MessageInput k (Read d)) h s c =
+    inr (sent_at (is_read_message (child_case x t)) w.net _ _ s.stands
+    (subst (λ (z : Case). same_case d z ≡ true) c (same_case-refl d)))
+consent_said tree root w q x t (MessageInput k (Join d)) h s c = absurd c
+consent_said tree root w q x t (MessageInput k (Joined d u)) h s c = absurd c
+consent_said tree root w q x t (MessageInput k (Work d j op)) h s c = absurd c
+consent_said tree root w q x t (MessageInput k (Prepare d j)) h s c = absurd c
+consent_said tree root w q x t (MessageInput k (No d)) h s c = absurd c
+consent_said tree root w q x t (MessageInput k (Commit d)) h s c = absurd c
+consent_said tree root w q x t (MessageInput k (Abort d)) h s c = absurd c
+consent_said tree root w q x t (MessageInput k (Ack d o)) h s c = absurd c
+consent_said tree root w q x t (MessageInput k (Inquire d)) h s c = absurd c
+
+-- no question comes
+pub asks_nothing : (tree : List TreeEntry) (root : ProcessId) (w : World) (q : ProcessId) (i : Input) → IsHeard tree root w q i → AsksNothing i
+asks_nothing tree root w q (ActInput a) h = tt
+asks_nothing tree root w q (MessageInput k (Inquire d)) h = h
+asks_nothing tree root w q (MessageInput k (Yes d)) h = tt
+asks_nothing tree root w q (MessageInput k (Read d)) h = tt
+asks_nothing tree root w q (MessageInput k (Join d)) h = tt
+asks_nothing tree root w q (MessageInput k (Joined d u)) h = tt
+asks_nothing tree root w q (MessageInput k (Work d j op)) h = tt
+asks_nothing tree root w q (MessageInput k (Prepare d j)) h = tt
+asks_nothing tree root w q (MessageInput k (No d)) h = tt
+asks_nothing tree root w q (MessageInput k (Commit d)) h = tt
+asks_nothing tree root w q (MessageInput k (Abort d)) h = tt
+asks_nothing tree root w q (MessageInput k (Ack d o)) h = tt
 
 module _ (tree : List TreeEntry) (root : ProcessId) (w : World) (holds : WorldHolds tree root w)
     (i : Input) (a : DataAnswer) (e : Effect) where
@@ -103,3 +143,27 @@ module _ (tree : List TreeEntry) (root : ProcessId) (w : World) (holds : WorldHo
     all_sound_true : (ls : List Envelope) → AllSound (root_place root tree) node ls → AllTrue tree root then ls
     all_sound_true [] s = tt
     all_sound_true (l ∷ ls) s = (sound_true l.to l.message s.0, all_sound_true ls s.1)
+
+    still : (q : ProcessId) → same_process root q ≡ false → then.at q ≡ w.at q
+    still q o = at_other root q node w.at o
+
+    -- the root's own step
+    pub root_keeps : is_listed tree root ≡ true → IsHeard tree root w root i → InputStands w.net root i → WorldHolds tree root then
+    root_keeps listed true' stands = record {
+      cases = λ x t. rw (at_own root node w.at) (r.step.cases x t).holds;
+      consents = λ x t f.
+          let g : has_heard_vote node (root_case x) t is_consent ≡ true = ap (λ (n : Node). has_heard_vote n (root_case x) t is_consent) (sym (at_own root node w.at)) ∙ f in
+          consent_stays tree root w then root_grows x t (elim (r.consents x t g) [
+            | inl old ↦ holds.consents x t old
+            | inr said ↦ consent_said tree root w root x t i true' stands said
+          ]);
+      promises = λ q m. rw (still q (other_way q root m.elsewhere)) (holds.promises q m);
+      commits = λ q c m f.
+          root_grows.commits c.txn (holds.commits q c m (ap (λ (n : Node). has (is_committed c) n.life) (sym (still q (other_way q root m.elsewhere))) ∙ f));
+      aborts = λ q c m f.
+          root_grows.aborts c.txn (holds.aborts q c m (ap (λ (n : Node). has (is_rolled_back c) n.life) (sym (still q (other_way q root m.elsewhere))) ∙ f));
+      net = all_append tree root then w.net e.letters (all_stay tree root w then root_grows w.net holds.net) (all_sound_true e.letters r.step.letters);
+      root_accepts = λ q o. rw (still q (other_way q root o)) (holds.root_accepts q o);
+      none_dropped = rw (at_own root node w.at) (dropped_after (w.at root) heard e ∙ holds.none_dropped);
+      unlisted = λ q l. rw (still q (apart_if root q tree listed l)) (holds.unlisted q l);
+    }
