@@ -19,4 +19,5 @@ pub mod Moves
 pub mod Worlds
 pub mod RootWorld
 pub mod LeafWorld
+pub mod ChildCases
 pub mod Check
