@@ -20,4 +20,5 @@ pub mod Worlds
 pub mod RootWorld
 pub mod LeafWorld
 pub mod ChildCases
+pub mod RootAccepts
 pub mod Check
