@@ -101,6 +101,7 @@ module _ (tree : List TreeEntry) (root : ProcessId) (w : World) (holds : WorldHo
         (λ s g. elim (step.rolled_back c g) [ | inl old ↦ holds.aborts q c manager old | inr now ↦ abort_heard c true' now ])
         (λ o g. holds.aborts r c k g) f);
     net = all_append tree root then w.net e.letters (all_stay tree root w then leaf_grows w.net holds.net) (all_fair_true e.letters step.letters);
+    own_children = λ x u t. rw root_stays (holds.own_children x u t);
     root_accepts = λ r o. node_is (λ n. n.accepted ≡ []) q r node w
         (λ s. rw step.accepts_none (subst (λ (z : ProcessId). (w.at z).accepted ≡ []) (sym s) (holds.root_accepts r o)))
         (λ d. holds.root_accepts r o);

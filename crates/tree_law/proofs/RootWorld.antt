@@ -16,7 +16,7 @@ use Rattle.tree_model.specs.NameLaws.{same_process_tells, same_case-refl}
 use Rattle.tree_model.specs.Records.{has, is_commit, is_prepared, is_committed, is_rolled_back}
 use Rattle.tree_model.specs.Nodes.{Node, Heard, DataAnswer, Effect, after, is_listed, opened_node}
 use Rattle.tree_model.specs.Memory.{memory_of}
-use Rattle.tree_model.specs.Outcomes.{sent, has_heard_vote, is_consent, is_read_message}
+use Rattle.tree_model.specs.Outcomes.{sent, has_accepted, has_heard_vote, is_consent, is_read_message}
 use Rattle.tree_model.specs.Views.{root_place}
 use Rattle.tree_model.specs.World.{World, put_at, InputStands}
 use Rattle.tree_law.proofs.Lists.{sent-append}
@@ -31,6 +31,9 @@ use Rattle.tree_law.proofs.Worlds.{WorldHolds, Grows, IsTrue, AllTrue, IsCommitt
 
 other_way : (q r : ProcessId) → same_process q r ≡ false → same_process r q ≡ false
 other_way q r e = grind (arith, same_process_tells)
+
+not_now : (a b : Bool) → (a ≡ true → b ≡ true) → b ≡ false → a ≡ false
+not_now a b f e = grind arith
 
 pub sent_more : (t : Message → Bool) (ls ms : List Envelope) → sent t ls ≡ true → sent t (ls ++ ms) ≡ true
 sent_more t ls ms e = let f = sent-append t ls ms in grind (arith, f)
@@ -163,6 +166,8 @@ module _ (tree : List TreeEntry) (root : ProcessId) (w : World) (holds : WorldHo
       aborts = λ q c m f.
           root_grows.aborts c.txn (holds.aborts q c m (ap (λ (n : Node). has (is_rolled_back c) n.life) (sym (still q (other_way q root m.elsewhere))) ∙ f));
       net = all_append tree root then w.net e.letters (all_stay tree root w then root_grows w.net holds.net) (all_sound_true e.letters r.step.letters);
+      own_children = λ x u t. rw (at_own root node w.at)
+          (not_now (has_accepted node (child_case x u) t) (has_accepted (w.at root) (child_case x u) t) (r.accepts x u t) (holds.own_children x u t));
       root_accepts = λ q o. rw (still q (other_way q root o)) (holds.root_accepts q o);
       none_dropped = rw (at_own root node w.at) (dropped_after (w.at root) heard e ∙ holds.none_dropped);
       unlisted = λ q l. rw (still q (apart_if root q tree listed l)) (holds.unlisted q l);

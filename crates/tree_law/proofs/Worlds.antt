@@ -14,7 +14,7 @@ use Rattle.tree_model.specs.Names.{same_process, root_case, child_case, process_
 use Rattle.tree_model.specs.NameLaws.{same_process_tells}
 use Rattle.tree_model.specs.Records.{has, is_commit, is_prepared, is_committed, is_rolled_back}
 use Rattle.tree_model.specs.Nodes.{Node, Heard, Effect, after, appends, is_any_forced, entries_written, kept, is_listed, opened_node}
-use Rattle.tree_model.specs.Outcomes.{sent, has_heard_vote, is_consent, is_read_message}
+use Rattle.tree_model.specs.Outcomes.{sent, has_accepted, has_heard_vote, is_consent, is_read_message}
 use Rattle.tree_model.specs.Views.{root_place}
 use Rattle.tree_model.specs.World.{World, put_at}
 use Rattle.tree_law.proofs.Lists.{has-append}
@@ -65,6 +65,7 @@ pub record WorldHolds (tree : List TreeEntry) (root : ProcessId) (w : World) : T
   pub commits : (q : ProcessId) (c : Case) → IsManager root tree q → has (is_committed c) (w.at q).life ≡ true → IsCommitted root w c.txn
   pub aborts : (q : ProcessId) (c : Case) → IsManager root tree q → has (is_rolled_back c) (w.at q).life ≡ true → HasAborted tree root w c.txn
   pub net : AllTrue tree root w w.net
+  pub own_children : (x : Txn) (u t : Ticket) → has_accepted (w.at root) (child_case x u) t ≡ false
   pub root_accepts : (q : ProcessId) → same_process q root ≡ false → (w.at q).accepted ≡ []
   pub none_dropped : (w.at root).dropped ≡ []
   pub unlisted : (q : ProcessId) → is_listed tree q ≡ false → w.at q ≡ opened_node
