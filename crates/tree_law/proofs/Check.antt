@@ -16,6 +16,7 @@ use Rattle.tree_law.proofs.RootReacts.{root_reacts}
 use Rattle.tree_law.proofs.LeafReacts.{leaf_reacts}
 use Rattle.tree_law.proofs.FlatTrees.{role_in}
 use Rattle.tree_law.proofs.LeafWorld.{leaf_keeps}
+use Rattle.tree_law.proofs.Runs.{run_holds}
 use Rattle.tree_law.proofs.RootAccepts.{joined_accepts}
 use Rattle.tree_law.proofs.ChildCases.{never_active}
 use Rattle.tree_law.proofs.Moves.{sent_at}

@@ -21,4 +21,5 @@ pub mod RootWorld
 pub mod LeafWorld
 pub mod ChildCases
 pub mod RootAccepts
+pub mod Runs
 pub mod Check
