@@ -22,4 +22,5 @@ pub mod LeafWorld
 pub mod ChildCases
 pub mod RootAccepts
 pub mod Runs
-pub mod Check
+pub mod Agreements
+pub mod Law
