@@ -1,5 +1,5 @@
 -- The clauses of the headline, read off what holds of the world.
-use Rattle.std.proofs.Common.{◌≡◌, ◌∙◌, ap, sym, subst, Bool, true, false, ◌||◌, ◌⊎◌, inl, inr, Option, Some, None, List, [], ◌∷◌, refl, if◌then◌else◌, arith}
+use Rattle.std.proofs.Common.{◌≡◌, ◌∙◌, ap, sym, subst, Bool, true, false, ◌||◌, ◌⊎◌, inl, inr, List, [], ◌∷◌, refl, if◌then◌else◌, arith}
 use Rattle.std.specs.List.{list_any, list_all}
 use Rattle.tree_model.specs.declared.names.Case.{Case}
 use Rattle.tree_model.specs.declared.names.ProcessId.{ProcessId}
@@ -12,19 +12,18 @@ use Rattle.tree_model.specs.declared.messages.Message.TheVariants.{Join, Joined,
 use Rattle.tree_model.specs.declared.messages.Envelope.{Envelope}
 use Rattle.tree_model.specs.declared.records.Record.{Record}
 use Rattle.tree_model.specs.declared.trees.TreeEntry.{TreeEntry}
-use Rattle.tree_model.specs.Names.{same_process, same_txn, same_case, root_case, child_case, process_of}
+use Rattle.tree_model.specs.Names.{same_process, same_txn, root_case, child_case, process_of}
 use Rattle.tree_model.specs.NameLaws.{same_process_tells}
 use Rattle.tree_model.specs.Records.{has, is_commit, is_abort, is_prepared, is_committed, is_rolled_back}
-use Rattle.tree_model.specs.Nodes.{Role, AtRoot, Below, AtLeaf, role_of, Node, is_listed, opened_node}
-use Rattle.tree_model.specs.Memory.{Over}
-use Rattle.tree_model.specs.Outcomes.{Agreement, CommitRule, TakesPart, at_root, below, IsAcceptor, by_root, by_ticket, Ends, EndsIn, DiesUnprepared, root_ends, manager_ends, follows, outcome_of, is_commit_outcome, has_accepted, has_heard_vote, is_consent, sent, is_yes_message, is_read_message, is_told_aborted}
+use Rattle.tree_model.specs.Nodes.{Role, AtRoot, AtLeaf, role_of, Node, is_listed, opened_node}
+use Rattle.tree_model.specs.Outcomes.{Agreement, CommitRule, TakesPart, at_root, below, IsAcceptor, by_root, by_ticket, Ends, EndsIn, DiesUnprepared, root_ends, manager_ends, follows, outcome_of, is_commit_outcome, has_accepted, has_heard_vote, is_consent, sent, is_yes_message, is_told_aborted}
 use Rattle.tree_model.specs.World.{World}
 use Rattle.tree_law.specs.Flat.{is_flat_entry}
-use Rattle.tree_law.proofs.CaseMoves.{CaseHolds, is_begun}
+use Rattle.tree_law.proofs.CaseMoves.{is_begun}
 use Rattle.tree_law.proofs.RootActs.{told_same}
 use Rattle.tree_law.proofs.LeafSteps.{HasPromised}
-use Rattle.tree_law.proofs.FlatTrees.{IsManager, IsTop, role_in}
-use Rattle.tree_law.proofs.Worlds.{WorldHolds, IsTrue, AllTrue, IsCommitted, HasAborted, HasConsented}
+use Rattle.tree_law.proofs.FlatTrees.{IsManager, role_in}
+use Rattle.tree_law.proofs.Worlds.{WorldHolds, IsTrue, AllTrue, IsCommitted, HasAborted}
 
 outcome_is : (b : Bool) (w : World) (x : Txn) → is_commit_outcome w x ≡ b → outcome_of w x ≡ (if b then CommittedOutcome else AbortedOutcome)
 outcome_is b w x e = rw e refl

@@ -1,5 +1,5 @@
 -- What the root's case of a transaction and one ticket come to, and how a step of the root changes it.
-use Rattle.std.proofs.Common.{◌≡◌, ◌≢◌, Bool, true, false, ◌||◌, refl, arith}
+use Rattle.std.proofs.Common.{◌≡◌, Bool, true, false, ◌||◌, refl, arith}
 use Rattle.tree_model.specs.Memory.{Phase, Idle, Open, Asked, Over}
 
 -- The case was not begun yet; its phase; what its transaction's name says; records of it that are kept; a Commit ever

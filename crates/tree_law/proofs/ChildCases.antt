@@ -1,5 +1,5 @@
 -- The root never takes a child into a case that has a ticket.
-use Rattle.std.proofs.Common.{◌≡◌, ◌∙◌, ap, sym, subst, ℕ, ◌+◌, Bool, true, false, Option, Some, None, List, [], ◌∷◌, ◌++◌, refl, if◌then◌else◌, arith}
+use Rattle.std.proofs.Common.{◌≡◌, ◌∙◌, sym, ℕ, ◌+◌, Bool, true, false, Option, Some, None, List, [], ◌∷◌, refl, if◌then◌else◌, arith}
 use Rattle.std.specs.Prelude.{fold}
 use Rattle.tree_model.specs.declared.names.Case.{Case}
 use Rattle.tree_model.specs.declared.names.ProcessId.{ProcessId}

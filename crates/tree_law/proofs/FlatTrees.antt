@@ -1,13 +1,13 @@
 -- The roles of a flat tree.
-use Rattle.std.proofs.Common.{◌≡◌, ◌∙◌, ap, sym, subst, Bool, true, false, not, ◌&&◌, ◌⊎◌, inl, inr, Option, Some, None, List, [], ◌∷◌, refl, if◌then◌else◌, arith}
-use Rattle.std.specs.List.{list_any, list_all}
+use Rattle.std.proofs.Common.{◌≡◌, ◌∙◌, ap, sym, Bool, true, false, not, ◌&&◌, ◌⊎◌, inl, inr, Option, Some, None, List, [], ◌∷◌, refl, arith}
+use Rattle.std.specs.List.{list_all}
 use Rattle.tree_model.specs.declared.names.ProcessId.{ProcessId}
 use Rattle.tree_model.specs.declared.names.Kind.{Kind}
 use Rattle.tree_model.specs.declared.names.Kind.TheVariants.{Coordinator, Manager}
 use Rattle.tree_model.specs.declared.trees.TreeEntry.{TreeEntry}
 use Rattle.tree_model.specs.Names.{same_process}
 use Rattle.tree_model.specs.NameLaws.{same_process_tells}
-use Rattle.tree_model.specs.Nodes.{Role, AtRoot, Below, AtLeaf, role_of, role_by, is_listed}
+use Rattle.tree_model.specs.Nodes.{AtRoot, AtLeaf, role_of, role_by, is_listed}
 use Rattle.tree_law.specs.Flat.{is_flat_by, is_flat_entry}
 
 -- the root; or a manager below it, that is listed

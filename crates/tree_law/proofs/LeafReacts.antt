@@ -1,5 +1,5 @@
 -- Every input of a manager: acts are refused, and what a message leads to.
-use Rattle.std.proofs.Common.{◌≡◌, ◌∙◌, ap, sym, subst, ℕ, Bool, true, false, Option, Some, None, List, [], ◌∷◌, refl, if◌then◌else◌}
+use Rattle.std.proofs.Common.{◌≡◌, sym, subst, ℕ, Bool, true, false, Option, Some, None, List, refl, if◌then◌else◌}
 use Rattle.tree_model.specs.declared.names.Case.{Case}
 use Rattle.tree_model.specs.declared.names.ProcessId.{ProcessId}
 use Rattle.tree_model.specs.declared.names.Ticket.{Ticket}
@@ -18,7 +18,7 @@ use Rattle.tree_model.specs.Names.{process_of}
 use Rattle.tree_model.specs.Nodes.{Place, Node, kept, Heard, DataAnswer, Effect}
 use Rattle.tree_model.specs.Memory.{Memory, memory_of, active_ticket}
 use Rattle.tree_model.specs.Standings.{ManagerView, manager_view, marked_branch, mark_of}
-use Rattle.tree_model.specs.ManagerRows.{on_work, on_prepare, on_commit, on_abort}
+use Rattle.tree_model.specs.ManagerRows.{on_prepare, on_commit, on_abort}
 use Rattle.tree_model.specs.Reactions.{Reacts, Does, Refused, reacts, act_is_listed, leaf_effect, leaf_of, manager_acts, manager_hears, childless_by, leaf_joins}
 use Rattle.tree_model.specs.Views.{leaf_place, hears_message}
 use Rattle.tree_law.specs.Flat.{is_flat_act, is_flat_input}

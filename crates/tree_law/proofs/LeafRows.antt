@@ -1,12 +1,11 @@
 -- The rows of a manager: what each writes and sends.
-use Rattle.std.proofs.Common.{◌≡◌, ◌∙◌, ap, sym, subst, ℕ, ◌+◌, ◌==◌, Bool, true, false, not, ◌||◌, ◌&&◌, ◌⊎◌, inl, inr, Option, Some, None, List, [], ◌∷◌, ◌++◌, refl, if◌then◌else◌, arith}
+use Rattle.std.proofs.Common.{◌≡◌, ◌∙◌, ap, sym, ℕ, ◌+◌, ◌==◌, Bool, true, false, not, ◌||◌, ◌&&◌, Option, Some, None, List, [], ◌∷◌, ◌++◌, refl, if◌then◌else◌}
 use Rattle.tree_model.specs.declared.names.Case.{Case}
 use Rattle.tree_model.specs.declared.names.ProcessId.{ProcessId}
-use Rattle.tree_model.specs.declared.names.Ticket.{Ticket}
 use Rattle.tree_model.specs.declared.names.Outcome.{Outcome}
 use Rattle.tree_model.specs.declared.names.Outcome.TheVariants.{Committed as CommittedOutcome, Aborted as AbortedOutcome}
 use Rattle.tree_model.specs.declared.messages.Message.{Message}
-use Rattle.tree_model.specs.declared.messages.Message.TheVariants.{Join, Joined, Work, Prepare, Yes, No, Read, Commit, Abort, Ack, Inquire}
+use Rattle.tree_model.specs.declared.messages.Message.TheVariants.{Prepare, Yes, No, Read, Commit, Abort, Ack}
 use Rattle.tree_model.specs.declared.messages.Envelope.{Envelope}
 use Rattle.tree_model.specs.declared.records.Branch.TheVariants.{Case as CaseBranch}
 use Rattle.tree_model.specs.declared.records.Record.{Record}
@@ -16,12 +15,12 @@ use Rattle.tree_model.specs.declared.standings.Standing.{Standing}
 use Rattle.tree_model.specs.declared.standings.Standing.TheVariants.{Unknown, Active, Collecting, Prepared, Committing, Aborting, Heuristic}
 use Rattle.tree_model.specs.Names.{process_of, same_case, same_outcome}
 use Rattle.tree_model.specs.NameLaws.{same_case-refl}
-use Rattle.tree_model.specs.Records.{has, same_branch, is_prepared, is_branch}
-use Rattle.tree_model.specs.Nodes.{Place, Node, kept, Heard, Effect, Holding, ReadsOnly, Holds, after, no_effect}
+use Rattle.tree_model.specs.Records.{has, same_branch, is_prepared}
+use Rattle.tree_model.specs.Nodes.{Node, kept, Heard, Holding, ReadsOnly, Holds, after}
 use Rattle.tree_model.specs.Memory.{Memory, Phase, Idle, Open, Asked, Over}
-use Rattle.tree_model.specs.Standings.{ManagerView, unknown_branch, standing_branch, Mark, Unmarked, Promised, Decided, ToldOf, Finished, mark_of, marked_branch, heard_branch, active_branch}
+use Rattle.tree_model.specs.Standings.{ManagerView, unknown_branch, standing_branch, Mark, Unmarked, Promised, Decided, ToldOf, Finished, mark_of, marked_branch, heard_branch}
 use Rattle.tree_model.specs.Restarts.{is_open}
-use Rattle.tree_model.specs.ManagerRows.{Leaf, LeafRow, on_work, on_prepare, on_commit, on_abort, active_prepare_holding, replies, unmoved, is_acknowledged, acknowledgement, heuristic_outcome}
+use Rattle.tree_model.specs.ManagerRows.{Leaf, on_work, on_prepare, on_commit, on_abort, active_prepare_holding, replies, unmoved, is_acknowledged, acknowledgement, heuristic_outcome}
 use Rattle.tree_model.specs.Reactions.{leaf_effect}
 use Rattle.tree_law.proofs.Lists.{has-cons}
 use Rattle.tree_law.proofs.RootReading.{sends}
@@ -73,8 +72,8 @@ module _ (q p : ProcessId) (n : Node) (opens : OpenHavePromised n) (h : Heard) (
         → LeafStep q n h m (writes (ToldRecord (CaseBranch d) o) (is_acknowledged d.txn.presumption o) (acknowledgement leaf o))
     noted o was = leaf_writes q n opens h m (ToldRecord (CaseBranch d) o) (is_acknowledged d.txn.presumption o) (acknowledgement leaf o)
         (λ c now old.
-            let same : d ≡ c = told_same d c (sym (branch_case d c) ∙ opened_by (same_branch (CaseBranch d) (CaseBranch c)) _ (ToldOf o) now old) in
-            absurd (let f : true ≡ false = sym was ∙ (ap (λ (z : Case). is_open (mark_of (CaseBranch z) (kept n))) same ∙ old) in cc))
+        let same : d ≡ c = told_same d c (sym (branch_case d c) ∙ opened_by (same_branch (CaseBranch d) (CaseBranch c)) _ (ToldOf o) now old) in
+        absurd (let f : true ≡ false = sym was ∙ (ap (λ (z : Case). is_open (mark_of (CaseBranch z) (kept n))) same ∙ old) in cc))
         (λ c e. absurd (cc)) (λ c e. absurd (cc)) (fair_acknowledgement o _)
 
     decided : (o : Outcome) (v : ManagerView) (t : Option Outcome) → is_open (mark_of (CaseBranch d) (kept n)) ≡ true

@@ -1,16 +1,16 @@
 -- What a step of a manager has to keep, and how it is put together.
-use Rattle.std.proofs.Common.{◌≡◌, ◌∙◌, ap, sym, subst, ℕ, Bool, true, false, ◌||◌, ◌⊎◌, inl, inr, Some, None, List, [], ◌∷◌, ◌++◌, refl, if◌then◌else◌, arith}
+use Rattle.std.proofs.Common.{◌≡◌, ◌∙◌, ap, sym, Bool, true, false, ◌||◌, ◌⊎◌, inl, inr, List, [], ◌∷◌, ◌++◌, refl, arith}
 use Rattle.std.proofs.lemmas.List.{append-nil}
 use Rattle.tree_model.specs.declared.names.Case.{Case}
 use Rattle.tree_model.specs.declared.names.ProcessId.{ProcessId}
 use Rattle.tree_model.specs.declared.messages.Message.{Message}
-use Rattle.tree_model.specs.declared.messages.Message.TheVariants.{Join, Joined, Work, Prepare, Yes, No, Read, Commit, Abort, Ack, Inquire}
+use Rattle.tree_model.specs.declared.messages.Message.TheVariants.{Joined, Yes, No, Read, Commit, Abort, Ack}
 use Rattle.tree_model.specs.declared.messages.Envelope.{Envelope}
 use Rattle.tree_model.specs.declared.records.Record.{Record}
 use Rattle.tree_model.specs.declared.records.Branch.TheVariants.{Case as CaseBranch}
 use Rattle.tree_model.specs.Names.{process_of}
 use Rattle.tree_model.specs.Records.{has, is_prepared, is_committed, is_rolled_back}
-use Rattle.tree_model.specs.Nodes.{Node, kept, Heard, Effect, Written, entries_written, after}
+use Rattle.tree_model.specs.Nodes.{Node, kept, Heard, Effect, after}
 use Rattle.tree_model.specs.Restarts.{is_open}
 use Rattle.tree_model.specs.Standings.{mark_of, mark_after}
 use Rattle.tree_law.proofs.Lists.{has-cons, has-append, kept-after, mark_of-push}
@@ -95,7 +95,7 @@ module _ (q : ProcessId) (n : Node) (opens : OpenHavePromised n) (h : Heard) (m 
 
   pub leaf_writes : (r : Record) (b : Bool) (ls : List Envelope)
       → ((c : Case) → is_open (mark_after (CaseBranch c) (mark_of (CaseBranch c) (kept n)) r) ≡ true
-          → is_open (mark_of (CaseBranch c) (kept n)) ≡ false → HasPromised c (after n h (writes r b ls)))
+      → is_open (mark_of (CaseBranch c) (kept n)) ≡ false → HasPromised c (after n h (writes r b ls)))
       → ((c : Case) → is_committed c r ≡ true → m ≡ Commit c)
       → ((c : Case) → is_rolled_back c r ≡ true → m ≡ Abort c)
       → AllFair q (after n h (writes r b ls)) ls → LeafStep q n h m (writes r b ls)
@@ -105,8 +105,8 @@ module _ (q : ProcessId) (n : Node) (opens : OpenHavePromised n) (h : Heard) (m 
         ap is_open (sym (mark_of-push (CaseBranch c) (kept n) r)) ∙ (ap (λ rs. is_open (mark_of (CaseBranch c) rs)) (sym (kept-after n h (writes r b ls))) ∙ o) in
         by_old c (is_open (mark_of (CaseBranch c) (kept n))) refl now;
     promises = λ c p. promise_stays r b ls c p;
-    committed = λ c e. elim (new_or_old r b ls (is_committed c) e) [ | inl f ↦ inr (commit c f) | inr f ↦ inl f ];
-    rolled_back = λ c e. elim (new_or_old r b ls (is_rolled_back c) e) [ | inl f ↦ inr (abort c f) | inr f ↦ inl f ];
+    committed = λ c e. elim (new_or_old r b ls (is_committed c) e) [ inl f ↦ inr (commit c f) | inr f ↦ inl f ];
+    rolled_back = λ c e. elim (new_or_old r b ls (is_rolled_back c) e) [ inl f ↦ inr (abort c f) | inr f ↦ inl f ];
     letters = fair;
     accepts_none = refl;
   }

@@ -1,25 +1,20 @@
 -- A step of a manager keeps what holds of the world.
-use Rattle.std.proofs.Common.{◌≡◌, ◌∙◌, ap, sym, subst, ℕ, Bool, true, false, ◌||◌, ◌⊎◌, inl, inr, Option, Some, None, List, [], ◌∷◌, ◌++◌, refl, arith}
+use Rattle.std.proofs.Common.{◌≡◌, ◌∙◌, ap, sym, subst, true, inl, inr, List, [], ◌∷◌, ◌++◌}
 use Rattle.tree_model.specs.declared.names.Case.{Case}
 use Rattle.tree_model.specs.declared.names.ProcessId.{ProcessId}
-use Rattle.tree_model.specs.declared.names.Ticket.{Ticket}
-use Rattle.tree_model.specs.declared.names.Txn.{Txn}
 use Rattle.tree_model.specs.declared.messages.Message.{Message}
 use Rattle.tree_model.specs.declared.messages.Message.TheVariants.{Join, Joined, Work, Prepare, Yes, No, Read, Commit, Abort, Ack, Inquire}
 use Rattle.tree_model.specs.declared.messages.Envelope.{Envelope}
-use Rattle.tree_model.specs.declared.records.Record.{Record}
 use Rattle.tree_model.specs.declared.events.Input.{Input}
 use Rattle.tree_model.specs.declared.events.Input.TheVariants.{Act as ActInput, Message as MessageInput}
 use Rattle.tree_model.specs.declared.trees.TreeEntry.{TreeEntry}
-use Rattle.tree_model.specs.Names.{same_process, root_case, child_case, process_of}
-use Rattle.tree_model.specs.NameLaws.{same_process_tells}
+use Rattle.tree_model.specs.Names.{root_case}
 use Rattle.tree_model.specs.Records.{has, is_committed, is_rolled_back}
-use Rattle.tree_model.specs.Nodes.{Node, Heard, DataAnswer, Effect, after, is_listed, opened_node}
-use Rattle.tree_model.specs.Outcomes.{sent, has_heard_vote, is_consent}
-use Rattle.tree_model.specs.Views.{root_place}
+use Rattle.tree_model.specs.Nodes.{Node, Heard, Effect, after, is_listed}
+use Rattle.tree_model.specs.Outcomes.{has_heard_vote, is_consent}
 use Rattle.tree_model.specs.World.{World, put_at}
 use Rattle.tree_law.proofs.LeafSteps.{HasPromised, OpenHavePromised, IsFair, AllFair, LeafStep}
-use Rattle.tree_law.proofs.LeafReacts.{IsFor, IsForMessage, LeafDoes}
+use Rattle.tree_law.proofs.LeafReacts.{IsFor}
 use Rattle.tree_law.proofs.FlatTrees.{IsManager}
 use Rattle.tree_law.proofs.RootWorld.{IsHeard, node_is, sent_more, apart_if}
 use Rattle.tree_law.proofs.Worlds.{WorldHolds, Grows, IsTrue, AllTrue, IsCommitted, HasAborted, all_append, all_stay, consent_stays, life_after, promise_after, at_own, at_other}
@@ -94,11 +89,11 @@ module _ (tree : List TreeEntry) (root : ProcessId) (w : World) (holds : WorldHo
     promises = λ r k. node_is OpenHavePromised q r node w (λ s. step.left_open) (λ o. holds.promises r k);
     commits = λ r c k f.
         leaf_grows.commits c.txn (node_is (λ n. has (is_committed c) n.life ≡ true → IsCommitted root w c.txn) q r node w
-        (λ s g. elim (step.committed c g) [ | inl old ↦ holds.commits q c manager old | inr now ↦ commit_heard c true' now ])
+        (λ s g. elim (step.committed c g) [ inl old ↦ holds.commits q c manager old | inr now ↦ commit_heard c true' now ])
         (λ o g. holds.commits r c k g) f);
     aborts = λ r c k f.
         leaf_grows.aborts c.txn (node_is (λ n. has (is_rolled_back c) n.life ≡ true → HasAborted tree root w c.txn) q r node w
-        (λ s g. elim (step.rolled_back c g) [ | inl old ↦ holds.aborts q c manager old | inr now ↦ abort_heard c true' now ])
+        (λ s g. elim (step.rolled_back c g) [ inl old ↦ holds.aborts q c manager old | inr now ↦ abort_heard c true' now ])
         (λ o g. holds.aborts r c k g) f);
     net = all_append tree root then w.net e.letters (all_stay tree root w then leaf_grows w.net holds.net) (all_fair_true e.letters step.letters);
     own_children = λ x u t. rw root_stays (holds.own_children x u t);

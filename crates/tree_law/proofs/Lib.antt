@@ -23,4 +23,4 @@ pub mod ChildCases
 pub mod RootAccepts
 pub mod Runs
 pub mod Agreements
-pub mod Law
+pub mod FlatRuns

@@ -1,5 +1,5 @@
 -- What a flat move makes of the world, and what stands in the net.
-use Rattle.std.proofs.Common.{◌≡◌, ◌∙◌, ap, sym, subst, ℕ, zero, suc, ◌-◌, Bool, true, false, ◌||◌, ◌&&◌, Option, Some, None, List, [], ◌∷◌, ◌++◌, refl, if◌then◌else◌, arith}
+use Rattle.std.proofs.Common.{◌≡◌, ◌∙◌, ap, sym, ℕ, zero, suc, Bool, true, false, ◌||◌, ◌&&◌, Option, Some, None, List, [], ◌∷◌, ◌++◌, refl, if◌then◌else◌, arith}
 use Rattle.std.specs.Prelude.{slice_get, is_none}
 use Rattle.tree_model.specs.declared.names.ProcessId.{ProcessId}
 use Rattle.tree_model.specs.declared.messages.Message.{Message}
@@ -12,7 +12,7 @@ use Rattle.tree_model.specs.declared.trees.TreeEntry.{TreeEntry}
 use Rattle.tree_model.specs.Nodes.{Place, place_of, is_listed, Node, Heard, Effect, after}
 use Rattle.tree_model.specs.Reactions.{Reacts, Does, Refused, reacts}
 use Rattle.tree_model.specs.Outcomes.{sent}
-use Rattle.tree_model.specs.World.{World, Move, Stepped, Refuses, Makes, Made, node_makes, world_makes, world_stepped, put_at, input_makes, happening_makes}
+use Rattle.tree_model.specs.World.{World, Move, Stepped, Refuses, Makes, node_makes, world_makes, world_stepped, put_at, input_makes, happening_makes}
 use Rattle.tree_law.specs.Flat.{is_flat_happening, is_flat_input, is_flat_move}
 
 -- the process handled an input, and the world is as it leaves it

@@ -1,9 +1,8 @@
 -- Which tickets the root accepts: those of JOINED at an Active case.
-use Rattle.std.proofs.Common.{◌≡◌, ◌∙◌, ap, sym, subst, ℕ, Bool, true, false, ◌⊎◌, inl, inr, Option, Some, None, List, [], ◌∷◌, ◌++◌, refl, if◌then◌else◌}
+use Rattle.std.proofs.Common.{◌≡◌, sym, subst, Bool, true, false, ◌⊎◌, inl, inr, Option, Some, None, List, [], ◌∷◌, ◌++◌, refl, if◌then◌else◌}
 use Rattle.tree_model.specs.declared.names.Case.{Case}
 use Rattle.tree_model.specs.declared.names.ProcessId.{ProcessId}
 use Rattle.tree_model.specs.declared.names.Ticket.{Ticket}
-use Rattle.tree_model.specs.declared.names.Txn.{Txn}
 use Rattle.tree_model.specs.declared.names.Outcome.{Outcome}
 use Rattle.tree_model.specs.declared.names.Outcome.TheVariants.{Committed as CommittedOutcome, Aborted as AbortedOutcome}
 use Rattle.tree_model.specs.declared.names.Presumption.{Presumption}
@@ -18,8 +17,8 @@ use Rattle.tree_model.specs.Records.{in_list, none_of}
 use Rattle.tree_model.specs.Nodes.{Place, Node, kept, Effect}
 use Rattle.tree_model.specs.Memory.{memory_of, is_counted, all_voted, has_child, undecided_of, yes_of}
 use Rattle.tree_model.specs.Standings.{CoordinatorView, unknown_view, coordinator_view, coordinator_standing, view_at}
-use Rattle.tree_model.specs.CoordinatorRows.{Seat, Row, active_commit_alone, active_commit_with, active_abort, collecting_abort_by, Reason, ByAct, ByVote, collecting_read_only, root_commits, on_joined, on_vote, on_ack, collecting_after, decided_ack_by, other_tickets, quiet}
-use Rattle.tree_model.specs.Reactions.{Reacts, Does, Refused, row_effect, vote_for, ack_for, commit_by, abort_by, seat_of}
+use Rattle.tree_model.specs.CoordinatorRows.{Seat, Row, active_commit_alone, active_commit_with, active_abort, collecting_abort_by, Reason, ByAct, ByVote, collecting_read_only, root_commits, on_joined, on_vote, on_ack, collecting_after, other_tickets, quiet}
+use Rattle.tree_model.specs.Reactions.{Does, row_effect, vote_for, ack_for, commit_by, abort_by, seat_of}
 use Rattle.tree_model.specs.Views.{root_place}
 use Rattle.tree_law.proofs.RootEnds.{effect_same}
 use Rattle.tree_law.proofs.Standings.{viewed}
@@ -151,7 +150,7 @@ joined_by : (me : ProcessId) (tree : List TreeEntry) (n : Node) (d : Case) (u : 
     (e.accepts ≡ []) ⊎ ((e.accepts ≡ (d, u) ∷ []) × (coordinator_standing (kept n) d (memory_of (root_place me tree) n d) ≡ Active))
 joined_by me tree n d u Active s =
     let v = view_at Active (kept n) d (memory_of (root_place me tree) n d) in
-    elim (joined_at_most d u v (has_child v.accepted u.child)) [ | inl none ↦ inl none | inr one ↦ inr (one, s) ]
+    elim (joined_at_most d u v (has_child v.accepted u.child)) [ inl none ↦ inl none | inr one ↦ inr (one, s) ]
 joined_by me tree n d u Unknown s = inl refl
 joined_by me tree n d u Collecting s = inl refl
 joined_by me tree n d u Prepared s = inl refl

@@ -1,5 +1,5 @@
 -- An acknowledgement keeps what holds of the root's cases.
-use Rattle.std.proofs.Common.{◌≡◌, ◌∙◌, ap, sym, subst, ℕ, Bool, true, false, ◌||◌, Option, Some, None, List, [], ◌∷◌, ◌++◌, refl, if◌then◌else◌}
+use Rattle.std.proofs.Common.{◌≡◌, ◌∙◌, ap, sym, subst, Bool, true, false, Some, None, List, [], ◌∷◌, refl, if◌then◌else◌}
 use Rattle.tree_model.specs.declared.names.Case.{Case}
 use Rattle.tree_model.specs.declared.names.ProcessId.{ProcessId}
 use Rattle.tree_model.specs.declared.names.Ticket.{Ticket}
@@ -12,15 +12,15 @@ use Rattle.tree_model.specs.declared.standings.Standing.TheVariants.{Unknown, Ac
 use Rattle.tree_model.specs.declared.trees.TreeEntry.{TreeEntry}
 use Rattle.tree_model.specs.Names.{same_txn, root_case}
 use Rattle.tree_model.specs.NameLaws.{same_txn-refl}
-use Rattle.tree_model.specs.Records.{has, in_list, none_of, is_end, is_commit, is_abort, is_prepare, is_collecting, owing_by}
-use Rattle.tree_model.specs.Nodes.{Place, Node, kept, Heard, Effect, after, no_effect}
+use Rattle.tree_model.specs.Records.{in_list, none_of}
+use Rattle.tree_model.specs.Nodes.{Place, Node, kept, Heard}
 use Rattle.tree_model.specs.Memory.{Memory, Phase, Idle, Open, Asked, Over, takes_ack}
 use Rattle.tree_model.specs.Standings.{CoordinatorView, unknown_view, coordinator_view, coordinator_standing, view_at, belongs, case_of_child}
-use Rattle.tree_model.specs.CoordinatorRows.{Seat, on_ack, decided_ack_by, other_tickets, quiet}
+use Rattle.tree_model.specs.CoordinatorRows.{on_ack, other_tickets, quiet}
 use Rattle.tree_model.specs.Reactions.{row_effect, ack_for}
 use Rattle.tree_model.specs.Views.{root_place, root_seat}
 use Rattle.tree_law.proofs.Lists.{boot_of-push}
-use Rattle.tree_law.proofs.CaseMoves.{CaseReading, CaseHolds, Leads, stays, leads_forgets, forgets}
+use Rattle.tree_law.proofs.CaseMoves.{CaseReading, stays, leads_forgets, forgets}
 use Rattle.tree_law.proofs.RootReading.{reading_at, reading, sends, ending, same_ending, own_ending}
 use Rattle.tree_law.proofs.RootSteps.{AllHold, RootStep, memory, memory_then, own_and_others}
 use Rattle.tree_law.proofs.RootActs.{sends_step}
@@ -60,15 +60,19 @@ module _ (me : ProcessId) (tree : List TreeEntry) (n : Node) (holds : AllHold (r
   end_ack e = record {
     cases = own_and_others me tree n h (ending y) y (boot_of-push (kept n) (EndRecord (root_case y))) holds
         (λ x t d. rw (takes x, d) (same_ending (memory me tree n x) n h me x t y d))
-        (λ t. rw (takes y, same_txn-refl y, own_ending (takes_ack m u o m.phase) n h me y t
-            ∙ ap forgets (acked_same m n me y t u o m.phase))
-            (leads_forgets (read y t) (holds y t) e));
+        (λ t. rw (
+          takes y,
+          same_txn-refl y,
+          own_ending (takes_ack m u o m.phase) n h me y t
+              ∙ ap forgets (acked_same m n me y t u o m.phase),
+        )
+        (leads_forgets (read y t) (holds y t) e));
     letters = tt;
   }
 
   decided_by : (b1 b2 : Bool) (left : List Ticket) (v : CoordinatorView) → (read y (record { child = me; boot = 0; number = 0 })).recorded ≡ true
       → RootStep here n h (row_effect c (if b1 then (if b2 then record { written = record { entry = EndRecord c; is_forced = false } ∷ []; told = None; letters = []; accepts = []; counts = []; view = unknown_view }
-          else quiet (record v { owed = left })) else quiet v))
+      else quiet (record v { owed = left })) else quiet v))
   decided_by true true left v e = end_ack e
   decided_by true false left v e = quiet_ack
   decided_by false b2 left v e = quiet_ack

@@ -1,36 +1,27 @@
 -- The acts of the root keep what holds of its cases.
-use Rattle.std.proofs.Common.{◌≡◌, ◌∙◌, ap, sym, subst, ℕ, ◌+◌, Bool, true, false, ◌||◌, inl, inr, Option, Some, None, List, [], ◌∷◌, ◌++◌, refl, if◌then◌else◌, arith}
+use Rattle.std.proofs.Common.{◌≡◌, ap, subst, ℕ, ◌+◌, Bool, true, false, Option, Some, None, List, [], refl, if◌then◌else◌, arith}
 use Rattle.std.specs.Prelude.{nat_lt}
 use Rattle.std.proofs.lemmas.Bool.Decides.{nat_tests}
 use Rattle.tree_model.specs.declared.names.Case.{Case}
 use Rattle.tree_model.specs.declared.names.ProcessId.{ProcessId}
 use Rattle.tree_model.specs.declared.names.Ticket.{Ticket}
 use Rattle.tree_model.specs.declared.names.Txn.{Txn}
-use Rattle.tree_model.specs.declared.names.Presumption.{Presumption}
-use Rattle.tree_model.specs.declared.names.Presumption.TheVariants.{PresumeAbort, PresumeCommit}
-use Rattle.tree_model.specs.declared.messages.Message.TheVariants.{Abort, Prepare}
+use Rattle.tree_model.specs.declared.names.Presumption.TheVariants.{PresumeAbort}
 use Rattle.tree_model.specs.declared.messages.Envelope.{Envelope}
 use Rattle.tree_model.specs.declared.messages.Op.{Op}
-use Rattle.tree_model.specs.declared.records.Record.{Record}
 use Rattle.tree_model.specs.declared.standings.Vote.TheVariants.{No as VoteNo}
-use Rattle.tree_model.specs.declared.standings.Standing.{Standing}
-use Rattle.tree_model.specs.declared.standings.Standing.TheVariants.{Unknown, Active, Collecting, Prepared, Committing, Aborting, Heuristic}
-use Rattle.tree_model.specs.declared.events.Act.TheVariants.{Begin, Join as JoinAct, Work as WorkAct, Commit as CommitAct, Abort as AbortAct}
+use Rattle.tree_model.specs.declared.events.Act.TheVariants.{Begin, Join as JoinAct, Work as WorkAct}
 use Rattle.tree_model.specs.declared.trees.TreeEntry.{TreeEntry}
-use Rattle.tree_model.specs.Names.{same_txn, same_case, root_case, child_case, process_of, same_process, same_presumption}
-use Rattle.tree_model.specs.NameLaws.{same_case-refl, same_case_tells, names, same_process_tells, same_presumption_tells}
-use Rattle.tree_model.specs.Records.{has, in_list, none_of, boot_of, is_end, is_commit, is_abort, is_prepare, is_collecting, owing_by}
+use Rattle.tree_model.specs.Names.{same_case, root_case, same_process, same_presumption}
+use Rattle.tree_model.specs.NameLaws.{same_case_tells, same_process_tells}
+use Rattle.tree_model.specs.Records.{in_list, boot_of}
 use Rattle.tree_model.specs.Nodes.{Place, Node, kept, Heard, DataAnswer, Effect, after}
-use Rattle.tree_model.specs.Memory.{Memory, Phase, Idle, Open, Asked, Over, memory_of, next_txn, opens_case, sends_work, asks_votes, closes, ticket_of_child, has_voted, voted_so}
-use Rattle.tree_model.specs.Standings.{CoordinatorView, coordinator_view, coordinator_standing, view_at}
-use Rattle.tree_model.specs.CoordinatorRows.{Seat, active_commit, active_commit_alone, active_commit_with, active_abort, collecting_abort, ByAct, prepares, each, post}
-use Rattle.tree_model.specs.Reactions.{Reacts, Does, Refused, row_effect, join_by, work_by, commit_by, abort_by, seat_of}
-use Rattle.tree_model.specs.Views.{root_place, root_seat, hears_act}
-use Rattle.tree_law.proofs.Lists.{boot_of-nil, boot_of-push}
-use Rattle.tree_law.proofs.CaseMoves.{CaseReading, CaseHolds, Leads, IsAbortedCase, is_undecided, is_begun, stays, begun, leads_begun, numbered, leads_numbered, asked, leads_asked, ended, leads_ended, ended_aborted}
-use Rattle.tree_law.proofs.RootReading.{reading_at, reading, sends, tells, same_sends, same_tells, same_aborting, apart}
-use Rattle.tree_law.proofs.RootSteps.{AllHold, AllSound, IsSound, IsAborted, RootStep, memory, memory_then, then_reads, own_and_others, aborted_by, each_sound, LeavesBoot, still_step}
-use Rattle.tree_law.proofs.Standings.{active_open, collecting_asked, viewed}
+use Rattle.tree_model.specs.Memory.{Memory, Phase, Idle, Open, Asked, Over, next_txn, opens_case, sends_work, ticket_of_child, has_voted, voted_so}
+use Rattle.tree_model.specs.Views.{root_place, hears_act}
+use Rattle.tree_law.proofs.Lists.{boot_of-nil}
+use Rattle.tree_law.proofs.CaseMoves.{CaseReading, CaseHolds, Leads, stays, begun, leads_begun, leads_numbered}
+use Rattle.tree_law.proofs.RootReading.{reading_at, reading, sends, same_sends}
+use Rattle.tree_law.proofs.RootSteps.{AllHold, AllSound, RootStep, memory, memory_then, still_step}
 
 counted_less : (b s : ℕ) → nat_lt (b + 1) s ≡ true → nat_lt b s ≡ true
 counted_less b s e = grind (arith, nat_tests)
@@ -98,7 +89,7 @@ module _ (me : ProcessId) (tree : List TreeEntry) (n : Node) (holds : AllHold (r
   begun_case x t m false h e = leads_numbered (reading_at m n me x t) (nat_lt (m.begun + 1) x.sequence) h (counted_less m.begun x.sequence)
   begun_case x t m true h e =
       let P : Txn → Type 0 = λ z. CaseHolds (reading_at m n me z t)
-          → Leads (reading_at m n me z t) (reading_at (opens_case (record m { begun = m.begun + 1 })) n me z t) in
+      → Leads (reading_at m n me z t) (reading_at (opens_case (record m { begun = m.begun + 1 })) n me z t) in
       subst P (named_next x m e) (begun_next t m) h
 
   pub begins : (a : DataAnswer) (e : Effect) → e ≡ sends [] → RootStep here n (hears_act (Begin PresumeAbort) a) e

@@ -1,6 +1,5 @@
 -- Which votes the root counts.
-use Rattle.std.proofs.Common.{◌≡◌, ◌∙◌, ap, sym, subst, ℕ, Bool, true, false, ◌⊎◌, inl, inr, Option, Some, None, List, [], ◌∷◌, ◌++◌, refl, if◌then◌else◌}
-use Rattle.std.specs.Prelude.{map}
+use Rattle.std.proofs.Common.{◌≡◌, subst, Bool, true, false, ◌⊎◌, inl, inr, Option, Some, None, List, [], ◌∷◌, ◌++◌, refl, if◌then◌else◌}
 use Rattle.tree_model.specs.declared.names.Case.{Case}
 use Rattle.tree_model.specs.declared.names.ProcessId.{ProcessId}
 use Rattle.tree_model.specs.declared.names.Ticket.{Ticket}
@@ -21,12 +20,12 @@ use Rattle.tree_model.specs.declared.trees.TreeEntry.{TreeEntry}
 use Rattle.tree_model.specs.Names.{root_case}
 use Rattle.tree_model.specs.Records.{in_list, none_of}
 use Rattle.tree_model.specs.Nodes.{Place, Node, kept, Effect, is_child, is_leaf, role_of}
-use Rattle.tree_model.specs.Memory.{Memory, memory_of, is_counted, has_child, ticket_of_child, undecided_of}
+use Rattle.tree_model.specs.Memory.{memory_of, is_counted, has_child, ticket_of_child, undecided_of}
 use Rattle.tree_model.specs.Standings.{CoordinatorView, unknown_view, coordinator_view, belongs, case_of_child}
 use Rattle.tree_model.specs.CoordinatorRows.{Seat, Row, active_join, active_commit, active_commit_alone, active_commit_with, active_abort, collecting_abort, collecting_abort_by, ByAct, on_joined, on_vote, on_ack, collecting_after, decided_ack_by, other_tickets, quiet, post, active_work}
 use Rattle.tree_model.specs.CoordinatorRows as row
-use Rattle.tree_model.specs.Reactions.{Reacts, Does, Refused, row_effect, vote_for, ack_for, join_by, work_by, work_for, commit_by, abort_by, seat_of}
-use Rattle.tree_model.specs.Views.{root_place, root_seat}
+use Rattle.tree_model.specs.Reactions.{Does, Refused, row_effect, vote_for, ack_for, join_by, work_by, work_for, commit_by, abort_by, seat_of}
+use Rattle.tree_model.specs.Views.{root_place}
 use Rattle.tree_law.proofs.RootReading.{sends}
 use Rattle.tree_law.proofs.RootSteps.{AllSound}
 use Rattle.tree_law.proofs.RootEnds.{effect_same}

@@ -1,5 +1,5 @@
 -- The commit act and the abort act of the root keep what holds of its cases.
-use Rattle.std.proofs.Common.{◌≡◌, ◌∙◌, map, ap, sym, subst, ℕ, Bool, true, false, ◌||◌, ◌⊎◌, inl, inr, Option, Some, None, List, [], ◌∷◌, ◌++◌, refl, if◌then◌else◌, arith}
+use Rattle.std.proofs.Common.{◌≡◌, map, ap, subst, Bool, true, false, ◌⊎◌, inl, inr, List, [], ◌∷◌, ◌++◌, refl, if◌then◌else◌, arith}
 use Rattle.tree_model.specs.declared.names.Case.{Case}
 use Rattle.tree_model.specs.declared.names.ProcessId.{ProcessId}
 use Rattle.tree_model.specs.declared.names.Ticket.{Ticket}
@@ -7,7 +7,6 @@ use Rattle.tree_model.specs.declared.names.Txn.{Txn}
 use Rattle.tree_model.specs.declared.names.Presumption.{Presumption}
 use Rattle.tree_model.specs.declared.names.Presumption.TheVariants.{PresumeAbort, PresumeCommit}
 use Rattle.tree_model.specs.declared.messages.Message.TheVariants.{Abort, Prepare}
-use Rattle.tree_model.specs.declared.messages.Envelope.{Envelope}
 use Rattle.tree_model.specs.declared.records.Record.{Record}
 use Rattle.tree_model.specs.declared.records.Record.TheVariants.{Abort as AbortRecord}
 use Rattle.tree_model.specs.declared.standings.Standing.{Standing}
@@ -17,17 +16,17 @@ use Rattle.tree_model.specs.declared.events.Conclusion.TheVariants.{Aborted as C
 use Rattle.tree_model.specs.declared.trees.TreeEntry.{TreeEntry}
 use Rattle.tree_model.specs.Names.{same_txn, same_case, root_case, child_case, same_presumption}
 use Rattle.tree_model.specs.NameLaws.{same_case-refl, same_presumption_tells}
-use Rattle.tree_model.specs.Records.{none_of, boot_of}
-use Rattle.tree_model.specs.Nodes.{Place, Node, kept, Heard, DataAnswer, Effect, after}
+use Rattle.tree_model.specs.Records.{none_of}
+use Rattle.tree_model.specs.Nodes.{Place, Node, kept, DataAnswer, Effect}
 use Rattle.tree_model.specs.Memory.{Memory, Phase, Idle, Open, Asked, Over, asks_votes, closes, works_of, undecided_of}
 use Rattle.tree_model.specs.Standings.{CoordinatorView, coordinator_view, coordinator_standing, view_at}
-use Rattle.tree_model.specs.CoordinatorRows.{Seat, Row, active_commit, active_commit_alone, active_commit_with, active_abort, collecting_abort, collecting_abort_by, ByAct, prepares, each, post, acknowledges_abort}
-use Rattle.tree_model.specs.Reactions.{Reacts, Does, Refused, row_effect, commit_by, abort_by, seat_of}
+use Rattle.tree_model.specs.CoordinatorRows.{Seat, active_commit, active_commit_alone, active_commit_with, active_abort, collecting_abort, collecting_abort_by, ByAct, prepares, each, post, acknowledges_abort}
+use Rattle.tree_model.specs.Reactions.{Does, row_effect, commit_by, abort_by}
 use Rattle.tree_model.specs.Views.{root_place, root_seat, hears_act}
 use Rattle.tree_law.proofs.Lists.{boot_of-nil, boot_of-push}
-use Rattle.tree_law.proofs.CaseMoves.{CaseReading, CaseHolds, Leads, IsAbortedCase, is_undecided, is_begun, stays, asked, leads_asked, ended, leads_ended, ended_aborted}
-use Rattle.tree_law.proofs.RootReading.{reading_at, reading, sends, tells, aborting, same_sends, same_tells, same_aborting, same_reads_only, own_tells_aborted, own_aborting, apart}
-use Rattle.tree_law.proofs.RootSteps.{AllHold, AllSound, IsSound, IsAborted, RootStep, memory, memory_then, then_reads, own_and_others, aborted_by, each_sound, LeavesBoot, still_step, ended_step}
+use Rattle.tree_law.proofs.CaseMoves.{CaseReading, CaseHolds, Leads, is_undecided, is_begun, stays, leads_asked}
+use Rattle.tree_law.proofs.RootReading.{reading_at, reading, tells, aborting, same_tells, same_aborting, same_reads_only, own_tells_aborted, own_aborting, apart}
+use Rattle.tree_law.proofs.RootSteps.{AllHold, AllSound, RootStep, memory, memory_then, still_step, ended_step}
 use Rattle.tree_law.proofs.RootActs.{sends_step, told_same}
 use Rattle.tree_law.proofs.Standings.{active_open, collecting_asked, viewed}
 

@@ -1,5 +1,5 @@
 -- JOINED, and the messages that the root does not react to, keep what holds of its cases.
-use Rattle.std.proofs.Common.{◌≡◌, ℕ, ◌∙◌, ap, sym, subst, Bool, true, false, ◌||◌, Some, None, List, [], ◌∷◌, ◌++◌, refl, if◌then◌else◌, arith}
+use Rattle.std.proofs.Common.{◌≡◌, ℕ, ◌∙◌, ap, sym, subst, Bool, true, false, ◌||◌, None, List, [], ◌∷◌, ◌++◌, refl, if◌then◌else◌, arith}
 use Rattle.std.proofs.lemmas.List.Folds.{list_any-append}
 use Rattle.tree_model.specs.declared.names.Case.{Case}
 use Rattle.tree_model.specs.declared.names.ProcessId.{ProcessId}
@@ -11,19 +11,18 @@ use Rattle.tree_model.specs.declared.messages.Message.TheVariants.{Joined}
 use Rattle.tree_model.specs.declared.standings.Standing.{Standing}
 use Rattle.tree_model.specs.declared.standings.Standing.TheVariants.{Unknown, Active, Collecting, Prepared, Committing, Aborting, Heuristic}
 use Rattle.tree_model.specs.declared.trees.TreeEntry.{TreeEntry}
-use Rattle.tree_model.specs.Names.{same_txn, same_ticket, same_case, root_case}
-use Rattle.tree_model.specs.NameLaws.{same_case-refl}
+use Rattle.tree_model.specs.Names.{same_ticket, same_case, root_case}
 use Rattle.tree_model.specs.Records.{in_list, has, is_end, is_commit, is_abort, is_prepare, is_collecting, none_of, owing_by}
-use Rattle.tree_model.specs.Nodes.{Place, Node, kept, Heard, DataAnswer, Effect, after}
+use Rattle.tree_model.specs.Nodes.{Place, Node, kept, Heard, DataAnswer, after}
 use Rattle.tree_model.specs.Memory.{Memory, Phase, Idle, Open, Asked, Over, memory_of, has_child, accepts_ticket}
 use Rattle.tree_model.specs.Standings.{CoordinatorView, coordinator_view, coordinator_standing, view_at, phase_standing}
-use Rattle.tree_model.specs.CoordinatorRows.{on_joined, active_joined, quiet}
+use Rattle.tree_model.specs.CoordinatorRows.{on_joined, quiet}
 use Rattle.tree_model.specs.Reactions.{row_effect}
 use Rattle.tree_model.specs.Views.{root_place, hears_message}
 use Rattle.tree_law.proofs.Lists.{boot_of-nil}
 use Rattle.tree_law.proofs.CaseMoves.{CaseReading, CaseHolds, Leads, is_undecided, stays, accepts, leads_accepts}
 use Rattle.tree_law.proofs.RootReading.{reading_at, reading, sends, accepting, same_accepting, own_accepting}
-use Rattle.tree_law.proofs.RootSteps.{AllHold, RootStep, memory, memory_then, then_reads}
+use Rattle.tree_law.proofs.RootSteps.{AllHold, RootStep, memory, then_reads}
 use Rattle.tree_law.proofs.RootActs.{sends_step, told_same}
 use Rattle.tree_law.proofs.Standings.{active_open, unrecorded, viewed}
 

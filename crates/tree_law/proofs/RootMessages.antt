@@ -1,36 +1,32 @@
 -- The messages of children keep what holds of the root's cases.
-use Rattle.std.proofs.Common.{◌≡◌, ◌∙◌, ap, sym, subst, ℕ, Bool, true, false, ◌||◌, ◌&&◌, not, ◌⊎◌, inl, inr, Option, Some, None, List, [], ◌∷◌, ◌++◌, refl, if◌then◌else◌, arith}
+use Rattle.std.proofs.Common.{◌≡◌, ◌∙◌, ap, sym, subst, Bool, true, false, inl, inr, Some, None, List, [], ◌∷◌, ◌++◌, refl, if◌then◌else◌, arith}
 use Rattle.tree_model.specs.declared.names.Case.{Case}
 use Rattle.tree_model.specs.declared.names.ProcessId.{ProcessId}
 use Rattle.tree_model.specs.declared.names.Ticket.{Ticket}
 use Rattle.tree_model.specs.declared.names.Txn.{Txn}
-use Rattle.tree_model.specs.declared.names.Outcome.{Outcome}
 use Rattle.tree_model.specs.declared.names.Presumption.{Presumption}
 use Rattle.tree_model.specs.declared.names.Presumption.TheVariants.{PresumeAbort, PresumeCommit}
-use Rattle.tree_model.specs.declared.messages.Message.{Message}
-use Rattle.tree_model.specs.declared.messages.Message.TheVariants.{Join, Joined, Work, Prepare, Yes, No, Read, Commit, Abort, Ack, Inquire}
 use Rattle.tree_model.specs.declared.records.Record.{Record}
 use Rattle.tree_model.specs.declared.standings.Standing.{Standing}
 use Rattle.tree_model.specs.declared.standings.Standing.TheVariants.{Unknown, Active, Collecting, Prepared, Committing, Aborting, Heuristic}
 use Rattle.tree_model.specs.declared.standings.Vote.{Vote}
 use Rattle.tree_model.specs.declared.standings.Vote.TheVariants.{Yes as VoteYes, No as VoteNo, Read as VoteRead}
 use Rattle.tree_model.specs.declared.trees.TreeEntry.{TreeEntry}
-use Rattle.tree_model.specs.Names.{same_txn, same_case, root_case, same_presumption}
+use Rattle.tree_model.specs.Names.{same_txn, root_case}
 use Rattle.tree_model.specs.NameLaws.{same_txn-refl, same_txn_tells}
-use Rattle.tree_model.specs.Records.{in_list, named_by}
-use Rattle.tree_model.specs.Nodes.{Place, Node, kept, Heard, DataAnswer, Effect, after, no_effect}
-use Rattle.tree_model.specs.Memory.{Memory, Phase, Idle, Open, Asked, Over, memory_of, all_voted, has_voted, is_counted, takes_vote, with_vote, undecided_of, yes_of}
+use Rattle.tree_model.specs.Nodes.{Place, Node, kept, Heard}
+use Rattle.tree_model.specs.Memory.{Memory, Phase, Idle, Open, Asked, Over, all_voted, is_counted, takes_vote, with_vote, undecided_of, yes_of}
 use Rattle.tree_model.specs.Standings.{CoordinatorView, coordinator_view, coordinator_standing, view_at, phase_standing, belongs, case_of_child}
-use Rattle.tree_model.specs.CoordinatorRows.{Seat, Row, on_vote, collecting_vote, collecting_after, quiet}
-use Rattle.tree_model.specs.Reactions.{row_effect, vote_for, hears_from_child}
-use Rattle.tree_model.specs.Views.{root_place, root_seat, hears_message}
-use Rattle.tree_law.proofs.CaseMoves.{CaseReading, CaseHolds, Leads, is_undecided, stays}
+use Rattle.tree_model.specs.CoordinatorRows.{on_vote, collecting_after, quiet}
+use Rattle.tree_model.specs.Reactions.{row_effect, vote_for}
+use Rattle.tree_model.specs.Views.{root_place, root_seat}
+use Rattle.tree_law.proofs.CaseMoves.{CaseReading, Leads, is_undecided, stays}
 use Rattle.tree_law.proofs.RootReading.{reading_at, reading, sends}
 use Rattle.tree_law.proofs.RootSteps.{AllHold, RootStep, memory, memory_then}
 use Rattle.tree_law.proofs.RootActs.{sends_step}
 use Rattle.tree_law.proofs.RootEnds.{presumption_abort}
-use Rattle.tree_law.proofs.RootJoined.{joined, undecided_stands}
-use Rattle.tree_law.proofs.RootVotes.{IsFor, Takes, refused_step, for_step}
+use Rattle.tree_law.proofs.RootJoined.{undecided_stands}
+use Rattle.tree_law.proofs.RootVotes.{Takes, refused_step, for_step}
 use Rattle.tree_law.proofs.Standings.{collecting_asked, viewed}
 
 taken_if : (b : Bool) (m r : Memory) → (b ≡ true → ⊥) → (if b then r else m) ≡ m

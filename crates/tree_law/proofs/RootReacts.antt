@@ -1,6 +1,5 @@
 -- Every input of the root keeps what holds of its cases, and a consent that is counted was said.
-use Rattle.std.proofs.Common.{◌≡◌, ◌∙◌, ap, sym, subst, ℕ, Bool, true, false, ◌||◌, ◌&&◌, ◌⊎◌, inl, inr, Option, Some, None, List, [], ◌∷◌, ◌++◌, refl, if◌then◌else◌, arith}
-use Rattle.std.specs.List.{list_any}
+use Rattle.std.proofs.Common.{◌≡◌, subst, ℕ, Bool, true, false, ◌||◌, ◌&&◌, ◌⊎◌, inl, inr, Option, Some, None, List, [], ◌∷◌, refl, if◌then◌else◌, arith}
 use Rattle.tree_model.specs.declared.names.Case.{Case}
 use Rattle.tree_model.specs.declared.names.ProcessId.{ProcessId}
 use Rattle.tree_model.specs.declared.names.Ticket.{Ticket}
@@ -24,13 +23,13 @@ use Rattle.tree_model.specs.Nodes.{Place, Node, kept, Heard, DataAnswer, Effect,
 use Rattle.tree_model.specs.Memory.{Memory, memory_of, of_ticket}
 use Rattle.tree_model.specs.Standings.{coordinator_view, coordinator_standing, case_of_child}
 use Rattle.tree_model.specs.CoordinatorRows.{on_joined}
-use Rattle.tree_model.specs.Reactions.{Reacts, Does, Refused, reacts, act_is_listed, row_effect, vote_for, ack_for, hears_from_child, coordinator_acts, acts_begin}
+use Rattle.tree_model.specs.Reactions.{Reacts, Does, Refused, reacts, act_is_listed, row_effect, vote_for, ack_for, hears_from_child, coordinator_acts}
 use Rattle.tree_model.specs.Outcomes.{has_accepted, has_heard_vote, is_consent}
 use Rattle.tree_model.specs.Views.{root_place, root_seat, hears_act, hears_message, next_begun, begin_effect}
 use Rattle.tree_law.specs.Flat.{is_flat_act, is_flat_input}
-use Rattle.tree_law.proofs.CaseMoves.{Leads, stays}
-use Rattle.tree_law.proofs.RootReading.{reading_at, reading, sends}
-use Rattle.tree_law.proofs.RootSteps.{AllHold, AllSound, RootStep, memory, memory_then}
+use Rattle.tree_law.proofs.CaseMoves.{stays}
+use Rattle.tree_law.proofs.RootReading.{reading, sends}
+use Rattle.tree_law.proofs.RootSteps.{AllHold, RootStep, memory, memory_then}
 use Rattle.tree_law.proofs.RootActs.{told_same, sends_step, begins, sends_joins, sends_works}
 use Rattle.tree_law.proofs.RootEnds.{commits, aborts, effect_same}
 use Rattle.tree_law.proofs.RootJoined.{joined}
@@ -38,7 +37,7 @@ use Rattle.tree_law.proofs.RootMessages.{voted}
 use Rattle.tree_law.proofs.RootAcks.{acknowledged}
 use Rattle.tree_law.proofs.ChildCases.{never_active}
 use Rattle.tree_law.proofs.RootAccepts.{AcceptsNone, commit_takes_none, abort_takes_none, ack_for_takes_none, vote_for_takes_none, joined_accepts}
-use Rattle.tree_law.proofs.RootCounts.{CountsNone, CountsAtMost, SendsOnly, join_sends, work_sends, commit_none, abort_none, joined_none, ack_for_none, vote_for_counts}
+use Rattle.tree_law.proofs.RootCounts.{CountsNone, CountsAtMost, join_sends, work_sends, commit_none, abort_none, joined_none, ack_for_none, vote_for_counts}
 
 -- The message is a consent of the case.
 abbrev pub SaysConsent : Case → Message → Type 0

@@ -10,13 +10,13 @@ use Rattle.tree_model.specs.declared.names.Presumption.TheVariants.{PresumeAbort
 use Rattle.tree_model.specs.declared.messages.Envelope.{Envelope}
 use Rattle.tree_model.specs.declared.records.Record.TheVariants.{Commit as CommitRecord, Abort as AbortRecord, End as EndRecord}
 use Rattle.tree_model.specs.declared.standings.Vote.{Vote}
-use Rattle.tree_model.specs.declared.standings.Vote.TheVariants.{Yes as VoteYes, No as VoteNo, Read as VoteRead}
+use Rattle.tree_model.specs.declared.standings.Vote.TheVariants.{No as VoteNo}
 use Rattle.tree_model.specs.declared.events.Conclusion.{Conclusion}
 use Rattle.tree_model.specs.declared.events.Conclusion.TheVariants.{Committed as ConcludedCommitted, Aborted as ConcludedAborted, ReadOnly}
 use Rattle.tree_model.specs.Names.{same_process, same_presumption, same_txn, same_ticket, same_case, root_case}
 use Rattle.tree_model.specs.NameLaws.{same_case-refl, same_txn-refl}
 use Rattle.tree_model.specs.Records.{has, in_list, is_end, is_commit, is_abort, is_prepare, is_collecting}
-use Rattle.tree_model.specs.Nodes.{Place, Node, kept, Heard, Effect, after, Written}
+use Rattle.tree_model.specs.Nodes.{Place, Node, kept, Heard, Effect, after}
 use Rattle.tree_model.specs.Memory.{Memory, memory_of, has_voted, voted_so}
 use Rattle.tree_model.specs.CoordinatorRows.{forced, plain}
 use Rattle.tree_model.specs.Outcomes.{has_accepted, has_heard_vote, is_consent, is_told_aborted}

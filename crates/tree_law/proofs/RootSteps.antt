@@ -1,13 +1,12 @@
 -- What a step of the root has to keep, and how it is put together.
-use Rattle.std.proofs.Common.{◌≡◌, ◌∙◌, ap, sym, subst, ℕ, Bool, true, false, inl, inr, Some, None, List, [], ◌∷◌, ◌++◌, refl}
+use Rattle.std.proofs.Common.{◌≡◌, ◌∙◌, ap, subst, Bool, true, false, inl, inr, List, [], ◌∷◌, ◌++◌}
 use Rattle.tree_model.specs.declared.names.Case.{Case}
 use Rattle.tree_model.specs.declared.names.ProcessId.{ProcessId}
 use Rattle.tree_model.specs.declared.names.Ticket.{Ticket}
 use Rattle.tree_model.specs.declared.names.Txn.{Txn}
 use Rattle.tree_model.specs.declared.messages.Message.{Message}
-use Rattle.tree_model.specs.declared.messages.Message.TheVariants.{Join, Joined, Work, Prepare, Yes, No, Read, Commit, Abort, Ack, Inquire}
+use Rattle.tree_model.specs.declared.messages.Message.TheVariants.{Join, Work, Prepare, Commit, Abort}
 use Rattle.tree_model.specs.declared.messages.Envelope.{Envelope}
-use Rattle.tree_model.specs.declared.standings.Vote.{Vote}
 use Rattle.tree_model.specs.declared.trees.TreeEntry.{TreeEntry}
 use Rattle.tree_model.specs.Names.{same_txn, root_case, child_case, process_of}
 use Rattle.tree_model.specs.NameLaws.{same_txn_tells}
@@ -15,9 +14,9 @@ use Rattle.tree_model.specs.Records.{has, boot_of, is_commit}
 use Rattle.tree_model.specs.Nodes.{Place, Node, kept, Heard, Effect, after, entries_written}
 use Rattle.tree_model.specs.Memory.{Memory, Over, memory_of, root_remembers}
 use Rattle.tree_model.specs.Views.{root_place, root_seat}
-use Rattle.tree_model.specs.CoordinatorRows.{Seat, each, to_child}
+use Rattle.tree_model.specs.CoordinatorRows.{Seat, each}
 use Rattle.tree_law.proofs.Lists.{memory_of-after}
-use Rattle.tree_law.proofs.CaseMoves.{CaseReading, CaseHolds, Leads, IsAbortedCase, stays, is_undecided, ended, leads_ended, ended_aborted}
+use Rattle.tree_law.proofs.CaseMoves.{CaseHolds, Leads, IsAbortedCase, stays, is_undecided, ended, leads_ended, ended_aborted}
 use Rattle.tree_law.proofs.RootReading.{reading_at, reading}
 
 -- The root's case is over without a commit.

@@ -1,8 +1,6 @@
 -- A vote that the root hears keeps what holds of its cases.
-use Rattle.std.proofs.Common.{◌≡◌, ◌∙◌, ap, sym, subst, ℕ, Bool, true, false, ◌||◌, ◌&&◌, not, ◌⊎◌, inl, inr, Option, Some, None, List, [], ◌∷◌, ◌++◌, refl, if◌then◌else◌, arith}
-use Rattle.std.specs.List.{list_any, list_all}
+use Rattle.std.proofs.Common.{◌≡◌, ◌∙◌, ap, sym, Bool, true, false, ◌||◌, ◌&&◌, Some, List, [], ◌∷◌, ◌++◌, refl, if◌then◌else◌, arith}
 use Rattle.std.proofs.lemmas.List.Folds.{list_any-append}
-use Rattle.tree_model.specs.declared.names.Case.{Case}
 use Rattle.tree_model.specs.declared.names.ProcessId.{ProcessId}
 use Rattle.tree_model.specs.declared.names.Ticket.{Ticket}
 use Rattle.tree_model.specs.declared.names.Txn.{Txn}
@@ -10,28 +8,25 @@ use Rattle.tree_model.specs.declared.names.Presumption.{Presumption}
 use Rattle.tree_model.specs.declared.names.Presumption.TheVariants.{PresumeAbort, PresumeCommit}
 use Rattle.tree_model.specs.declared.messages.Message.TheVariants.{Abort, Commit}
 use Rattle.tree_model.specs.declared.messages.Envelope.{Envelope}
-use Rattle.tree_model.specs.declared.records.Record.{Record}
 use Rattle.tree_model.specs.declared.records.Record.TheVariants.{Commit as CommitRecord, Abort as AbortRecord}
-use Rattle.tree_model.specs.declared.standings.Standing.{Standing}
-use Rattle.tree_model.specs.declared.standings.Standing.TheVariants.{Unknown, Active, Collecting, Prepared, Committing, Aborting, Heuristic}
 use Rattle.tree_model.specs.declared.standings.Vote.{Vote}
-use Rattle.tree_model.specs.declared.standings.Vote.TheVariants.{Yes as VoteYes, No as VoteNo, Read as VoteRead}
+use Rattle.tree_model.specs.declared.standings.Vote.TheVariants.{No as VoteNo}
 use Rattle.tree_model.specs.declared.events.Conclusion.TheVariants.{ReadOnly}
 use Rattle.tree_model.specs.declared.trees.TreeEntry.{TreeEntry}
-use Rattle.tree_model.specs.Names.{same_txn, same_ticket, same_case, root_case, child_case, same_presumption}
-use Rattle.tree_model.specs.NameLaws.{same_txn-refl, names}
-use Rattle.tree_model.specs.Records.{has, in_list, none_of, boot_of, is_commit}
-use Rattle.tree_model.specs.Nodes.{Place, Node, kept, Heard, Effect, after}
-use Rattle.tree_model.specs.Memory.{Memory, Phase, Idle, Open, Asked, Over, memory_of, same_vote, has_voted, voted_so, all_voted, is_counted, takes_vote, with_vote, undecided_of, yes_of, phase_after}
-use Rattle.tree_model.specs.Standings.{CoordinatorView, coordinator_view, coordinator_standing, view_at}
-use Rattle.tree_model.specs.CoordinatorRows.{Seat, Row, quiet, collecting_abort_by, ByVote, collecting_read_only, read_only_end, root_commits, each}
+use Rattle.tree_model.specs.Names.{same_txn, same_ticket, root_case}
+use Rattle.tree_model.specs.NameLaws.{names}
+use Rattle.tree_model.specs.Records.{in_list, none_of}
+use Rattle.tree_model.specs.Nodes.{Place, Node, kept, Heard, after}
+use Rattle.tree_model.specs.Memory.{Memory, Phase, Asked, Over, same_vote, has_voted, voted_so, all_voted}
+use Rattle.tree_model.specs.Standings.{CoordinatorView}
+use Rattle.tree_model.specs.CoordinatorRows.{quiet, collecting_abort_by, ByVote, collecting_read_only, read_only_end, root_commits, each}
 use Rattle.tree_model.specs.Reactions.{row_effect}
 use Rattle.tree_model.specs.Outcomes.{is_consent}
 use Rattle.tree_model.specs.Views.{root_place, root_seat}
 use Rattle.tree_law.proofs.Lists.{boot_of-nil, boot_of-push}
-use Rattle.tree_law.proofs.CaseMoves.{CaseReading, CaseHolds, Leads, is_undecided, stays, ended, leads_ended, counts, leads_counts, commits, leads_commits}
+use Rattle.tree_law.proofs.CaseMoves.{CaseReading, is_undecided, counts, leads_counts, commits, leads_commits}
 use Rattle.tree_law.proofs.RootReading.{reading_at, reading, sends, tells, counting, aborting, committing, same_counting, same_counting_tells, same_counting_aborting, same_counting_committing, own_counting, own_counting_reads_only, own_counting_aborting, own_counting_committing, own_committed, and-true}
-use Rattle.tree_law.proofs.RootSteps.{AllHold, AllSound, IsSound, RootStep, memory, memory_then, then_reads, own_and_others, each_sound, ended_step}
+use Rattle.tree_law.proofs.RootSteps.{AllHold, RootStep, memory, memory_then, own_and_others, each_sound, ended_step}
 use Rattle.tree_law.proofs.RootEnds.{presumption_abort}
 
 has_voted-push : (vs : List (Ticket × Vote)) (u t : Ticket) (w : Vote) → has_voted (vs ++ (u, w) ∷ []) t ≡ (same_ticket u t || has_voted vs t)

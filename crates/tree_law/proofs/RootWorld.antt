@@ -1,5 +1,5 @@
 -- A step of the root keeps what holds of the world.
-use Rattle.std.proofs.Common.{◌≡◌, ◌∙◌, ap, sym, subst, ℕ, Bool, true, false, ◌||◌, ◌⊎◌, inl, inr, Option, Some, None, List, [], ◌∷◌, ◌++◌, refl, arith}
+use Rattle.std.proofs.Common.{◌≡◌, ◌∙◌, ap, sym, subst, Bool, true, false, inl, inr, List, [], ◌∷◌, ◌++◌, arith}
 use Rattle.tree_model.specs.declared.names.Case.{Case}
 use Rattle.tree_model.specs.declared.names.ProcessId.{ProcessId}
 use Rattle.tree_model.specs.declared.names.Ticket.{Ticket}
@@ -7,25 +7,20 @@ use Rattle.tree_model.specs.declared.names.Txn.{Txn}
 use Rattle.tree_model.specs.declared.messages.Message.{Message}
 use Rattle.tree_model.specs.declared.messages.Message.TheVariants.{Join, Joined, Work, Prepare, Yes, No, Read, Commit, Abort, Ack, Inquire}
 use Rattle.tree_model.specs.declared.messages.Envelope.{Envelope}
-use Rattle.tree_model.specs.declared.records.Record.{Record}
 use Rattle.tree_model.specs.declared.events.Input.{Input}
 use Rattle.tree_model.specs.declared.events.Input.TheVariants.{Act as ActInput, Message as MessageInput}
 use Rattle.tree_model.specs.declared.trees.TreeEntry.{TreeEntry}
 use Rattle.tree_model.specs.Names.{same_process, same_case, root_case, child_case, process_of}
 use Rattle.tree_model.specs.NameLaws.{same_process_tells, same_case-refl}
-use Rattle.tree_model.specs.Records.{has, is_commit, is_prepared, is_committed, is_rolled_back}
-use Rattle.tree_model.specs.Nodes.{Node, Heard, DataAnswer, Effect, after, is_listed, opened_node}
-use Rattle.tree_model.specs.Memory.{memory_of}
+use Rattle.tree_model.specs.Records.{has, is_commit, is_committed, is_rolled_back}
+use Rattle.tree_model.specs.Nodes.{Node, Heard, DataAnswer, Effect, after, is_listed}
 use Rattle.tree_model.specs.Outcomes.{sent, has_accepted, has_heard_vote, is_consent, is_read_message}
 use Rattle.tree_model.specs.Views.{root_place}
 use Rattle.tree_model.specs.World.{World, put_at, InputStands}
 use Rattle.tree_law.proofs.Lists.{sent-append}
-use Rattle.tree_law.proofs.CaseMoves.{IsAbortedCase}
-use Rattle.tree_law.proofs.RootReading.{reading}
-use Rattle.tree_law.proofs.RootSteps.{AllHold, IsAborted, IsSound, AllSound, RootStep}
-use Rattle.tree_law.proofs.RootReacts.{RootReacts, Consents, SaysConsent, AsksNothing}
-use Rattle.tree_law.proofs.LeafSteps.{HasPromised, OpenHavePromised}
-use Rattle.tree_law.proofs.FlatTrees.{IsManager}
+use Rattle.tree_law.proofs.RootSteps.{IsAborted, IsSound, AllSound}
+use Rattle.tree_law.proofs.RootReacts.{RootReacts, Consents, AsksNothing}
+use Rattle.tree_law.proofs.LeafSteps.{HasPromised}
 use Rattle.tree_law.proofs.Moves.{sent_at}
 use Rattle.tree_law.proofs.Worlds.{WorldHolds, Grows, IsTrue, AllTrue, IsCommitted, HasAborted, HasConsented, all_append, all_stay, consent_stays, true_at, life_after, promise_after, dropped_after, at_own, at_other}
 

@@ -1,5 +1,5 @@
 -- What holds of the world after every flat run.
-use Rattle.std.proofs.Common.{◌≡◌, ◌∙◌, ap, sym, subst, ℕ, Bool, true, false, ◌&&◌, ◌⊎◌, inl, inr, Option, Some, None, List, [], ◌∷◌, ◌++◌, refl, arith}
+use Rattle.std.proofs.Common.{◌≡◌, ◌∙◌, sym, subst, Bool, true, false, ◌&&◌, inl, inr, List, ◌++◌, refl, arith}
 use Rattle.std.specs.List.{list_all}
 use Rattle.tree_model.specs.declared.names.Case.{Case}
 use Rattle.tree_model.specs.declared.names.ProcessId.{ProcessId}
@@ -11,19 +11,19 @@ use Rattle.tree_model.specs.declared.events.Input.TheVariants.{Act as ActInput, 
 use Rattle.tree_model.specs.declared.events.Happening.{Happening}
 use Rattle.tree_model.specs.declared.trees.TreeEntry.{TreeEntry}
 use Rattle.tree_model.specs.Records.{has}
-use Rattle.tree_model.specs.Nodes.{Place, Role, AtRoot, AtLeaf, place_of, role_of, Node, Heard, Effect, after, is_listed, opened_node}
+use Rattle.tree_model.specs.Nodes.{Role, place_of, Heard, Effect, after, is_listed, opened_node}
 use Rattle.tree_model.specs.Memory.{memory_of}
 use Rattle.tree_model.specs.Standings.{mark_of}
 use Rattle.tree_model.specs.Reactions.{Does, reacts}
 use Rattle.tree_model.specs.Restarts.{is_open}
 use Rattle.tree_model.specs.Views.{root_place, leaf_place}
 use Rattle.tree_model.specs.World.{World, Move, Made, IsRun, opens, makes, Stands, InputStands, opened_world, put_at}
-use Rattle.tree_law.specs.Flat.{is_flat_entry, is_flat_move, is_flat_input, AreFlatMoves}
+use Rattle.tree_law.specs.Flat.{is_flat_entry, is_flat_move, AreFlatMoves}
 use Rattle.tree_law.proofs.CaseMoves.{CaseHolds}
 use Rattle.tree_law.proofs.RootReading.{reading}
 use Rattle.tree_law.proofs.RootReacts.{root_reacts}
 use Rattle.tree_law.proofs.LeafReacts.{LeafDoes, leaf_reacts}
-use Rattle.tree_law.proofs.FlatTrees.{IsManager, IsTop, role_in, root_is_top}
+use Rattle.tree_law.proofs.FlatTrees.{IsManager, role_in, root_is_top}
 use Rattle.tree_law.proofs.Moves.{Handled, handled}
 use Rattle.tree_law.proofs.Worlds.{WorldHolds}
 use Rattle.tree_law.proofs.RootWorld.{IsHeard, heard_true, asks_nothing, root_keeps}

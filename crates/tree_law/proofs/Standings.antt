@@ -1,5 +1,5 @@
 -- What a standing says of the phase and the records of a case, and what these say of the standing.
-use Rattle.std.proofs.Common.{◌≡◌, Bool, true, false, ◌||◌, List, refl, arith}
+use Rattle.std.proofs.Common.{◌≡◌, Bool, true, false, ◌||◌, List, refl}
 use Rattle.tree_model.specs.declared.names.Case.{Case}
 use Rattle.tree_model.specs.declared.names.Presumption.{Presumption}
 use Rattle.tree_model.specs.declared.names.Presumption.TheVariants.{PresumeAbort, PresumeCommit}
@@ -8,7 +8,7 @@ use Rattle.tree_model.specs.declared.standings.Standing.{Standing}
 use Rattle.tree_model.specs.declared.standings.Standing.TheVariants.{Unknown, Active, Collecting, Prepared, Committing, Aborting, Heuristic}
 use Rattle.tree_model.specs.Nodes.{Place, Node, kept}
 use Rattle.tree_model.specs.Memory.{Memory, Phase, Idle, Open, Asked, Over, memory_of}
-use Rattle.tree_model.specs.Standings.{CoordinatorView, coordinator_view, coordinator_standing, standing_by, phase_standing, view_at}
+use Rattle.tree_model.specs.Standings.{coordinator_view, coordinator_standing, standing_by, phase_standing, view_at}
 
 phase_open : (p : Presumption) (ph : Phase) → phase_standing p ph ≡ Active → ph ≡ Open
 phase_open PresumeAbort Open e = refl

@@ -1,5 +1,5 @@
 -- What holds of the world of a flat run after each step.
-use Rattle.std.proofs.Common.{◌≡◌, ◌∙◌, ap, sym, subst, ℕ, zero, suc, Bool, true, false, ◌||◌, ◌⊎◌, inl, inr, Option, Some, None, List, [], ◌∷◌, ◌++◌, refl, if◌then◌else◌, arith}
+use Rattle.std.proofs.Common.{◌≡◌, ◌∙◌, ap, subst, ℕ, zero, suc, Bool, true, false, ◌||◌, ◌⊎◌, inl, inr, Some, List, [], ◌∷◌, ◌++◌, refl, if◌then◌else◌, arith}
 use Rattle.std.specs.Prelude.{slice_get}
 use Rattle.tree_model.specs.declared.names.Case.{Case}
 use Rattle.tree_model.specs.declared.names.ProcessId.{ProcessId}
@@ -13,7 +13,7 @@ use Rattle.tree_model.specs.declared.trees.TreeEntry.{TreeEntry}
 use Rattle.tree_model.specs.Names.{same_process, root_case, child_case, process_of}
 use Rattle.tree_model.specs.NameLaws.{same_process_tells}
 use Rattle.tree_model.specs.Records.{has, is_commit, is_prepared, is_committed, is_rolled_back}
-use Rattle.tree_model.specs.Nodes.{Node, Heard, Effect, after, appends, is_any_forced, entries_written, kept, is_listed, opened_node}
+use Rattle.tree_model.specs.Nodes.{Node, Heard, Effect, after, is_any_forced, entries_written, kept, is_listed, opened_node}
 use Rattle.tree_model.specs.Outcomes.{sent, has_accepted, has_heard_vote, is_consent, is_read_message}
 use Rattle.tree_model.specs.Views.{root_place}
 use Rattle.tree_model.specs.World.{World, put_at}

@@ -1,4 +1,4 @@
-use Rattle.tree_law.proofs.Law as law
+use Rattle.tree_law.proofs.FlatRuns as law
 use Rattle.tree_law.proofs.law.flat_runs_agree.Goals as goal
 
 pub returns-clause-agreement : goal.returns-clause-agreement
