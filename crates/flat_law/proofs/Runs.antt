@@ -9,9 +9,10 @@ use Rattle.tree_model.specs.declared.events.StepError.{StepError}
 use Rattle.tree_model.specs.declared.trees.TreeEntry.{TreeEntry}
 use Rattle.tree_model.specs.Plays.{process_of_act}
 use Rattle.tree_model.specs.World.{World, Made, Continues, stays, goes_on}
-use Rattle.flat_law.specs.Flat.{is_flat_move, AreFlatMoves}
+use Rattle.tree_law.proofs.FlatRuns.{agreement, commit_rule}
+use Rattle.tree_law.specs.Flat.{IsFlat, is_flat_move, AreFlatMoves}
 use Rattle.flat_law.specs.FlatWorlds.{FlatState, least_open, settles_by, Settles, Applies, stops_by, SettleStops, Stops, Leads, LeadsUntil}
-use Rattle.flat_law.specs.Ties.{Follows, GoesOn, IsModelled, is_flat_event}
+use Rattle.flat_law.specs.Ties.{IsFlatTree, Follows, GoesOn, IsModelled, is_flat_event}
 use Rattle.flat_law.proofs.Trees.{both}
 use Rattle.flat_law.proofs.WorldSteps.{delivery_goes_on, act_goes_on}
 
@@ -131,6 +132,16 @@ leads_until_on me tree es w s s' events n e f made =
     (λ es' w' g. stopped_on me tree es' w' made.before s' made.event e g made.refused))
 
 -- from the opened tree on
-pub modelled : (me : ProcessId) (tree : List TreeEntry) (w : World) (s : FlatState) (flat : Bool) → GoesOn me tree [] w s flat → IsModelled me tree s flat
-modelled me tree w s flat g =
-    record { moves = g.later; world = g.world; follows = subst (λ es. Follows me tree es g.world s) (append-nil g.later) g.follows; are_flat = g.are_flat }
+pub modelled : (me : ProcessId) (tree : List TreeEntry) (w : World) (s : FlatState) (flat : Bool) → IsFlatTree me tree → GoesOn me tree [] w s flat
+    → IsModelled me tree s flat
+modelled me tree w s flat t g =
+    let f : Follows me tree g.later g.world s = subst (λ es. Follows me tree es g.world s) (append-nil g.later) g.follows in
+    let is_flat : IsFlat tree = record { root = me; entries = t.entries } in
+    record {
+      moves = g.later;
+      world = g.world;
+      follows = f;
+      are_flat = g.are_flat;
+      agreement = λ h. agreement tree g.later g.world is_flat f.is_run (g.are_flat h);
+      commit_rule = λ h. commit_rule tree g.later g.world is_flat f.is_run (g.are_flat h);
+    }

@@ -10,7 +10,7 @@ use Rattle.tree_model.specs.NameLaws.{same_process_tells}
 use Rattle.tree_model.specs.Nodes.{AtRoot, AtLeaf, role_by, role_of, place_of, is_listed}
 use Rattle.tree_model.specs.Trees.{has_unknown_parent, is_unlisted}
 use Rattle.tree_model.specs.Views.{root_place, leaf_place}
-use Rattle.flat_law.specs.Flat.{is_flat_by, is_flat_entry}
+use Rattle.tree_law.specs.Flat.{is_flat_by, is_flat_entry}
 use Rattle.flat_law.specs.Ties.{IsFlatTree}
 
 pub both : (a b : Bool) → (a && b) ≡ true → (a ≡ true) × (b ≡ true)

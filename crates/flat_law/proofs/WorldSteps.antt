@@ -18,7 +18,7 @@ use Rattle.tree_model.specs.Plays.{sent_as}
 use Rattle.tree_model.specs.Views.{root_place, leaf_place}
 use Rattle.tree_model.specs.World.{World, Move, Made, put_at, world_makes, node_makes, world_stepped, input_makes, InputStands, IsSent, makes, stays, goes_on, journal_of}
 use Rattle.root_core.specs.Roots.{RootState}
-use Rattle.flat_law.specs.Flat.{is_flat_input}
+use Rattle.tree_law.specs.Flat.{is_flat_input}
 use Rattle.flat_law.specs.Leaves.{LeafState}
 use Rattle.flat_law.specs.FlatWorlds.{FlatState, LeafTakes, Steps, Delivers, marks, entry_at}
 use Rattle.flat_law.specs.Ties.{RootFollows, LeafFollows, IsLeafOf, Follows, GoesOn}

@@ -1,4 +1,3 @@
-pub mod Flat
 pub mod Leaves
 pub mod FlatWorlds
 pub mod Ties

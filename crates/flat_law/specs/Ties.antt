@@ -17,11 +17,12 @@ use Rattle.tree_model.specs.Records.{has, boot_of, is_end, is_commit, is_abort, 
 use Rattle.tree_model.specs.Nodes.{place_of, is_listed, Node, kept}
 use Rattle.tree_model.specs.Memory.{Phase, Idle, Open, Asked, Over, memory_of}
 use Rattle.tree_model.specs.Standings.{coordinator_view, manager_view, mark_of, Unmarked}
+use Rattle.tree_model.specs.Outcomes.{Agreement, CommitRule}
 use Rattle.tree_model.specs.Trees.{IsTree}
 use Rattle.tree_model.specs.Views.{root_place, leaf_place}
 use Rattle.tree_model.specs.World.{World, Made, IsRun, Continues, journal_of}
 use Rattle.root_core.specs.Roots.{RootState}
-use Rattle.flat_law.specs.Flat.{is_flat_entry, is_flat_act, AreFlatMoves}
+use Rattle.tree_law.specs.Flat.{is_flat_entry, is_flat_act, AreFlatMoves}
 use Rattle.flat_law.specs.Leaves.{LeafState}
 use Rattle.flat_law.specs.FlatWorlds.{FlatState}
 
@@ -127,12 +128,15 @@ pub record GoesOn (me : ProcessId) (tree : List TreeEntry) (es : List Made) (w :
   pub follows : Follows me tree (later ++ es) world s
   pub are_flat : flat ≡ true → AreFlatMoves later
 
--- a flat state stands for a run of the model; where the test holds, each of its moves is flat
+-- A flat state stands for a run of the model. Where the test holds, each of its moves is flat; and then no two processes
+-- have ended one transaction differently, and commit was decided only where every participant consented.
 pub record IsModelled (me : ProcessId) (tree : List TreeEntry) (s : FlatState) (flat : Bool) : Type 0 where
   pub moves : List Made
   pub world : World
   pub follows : Follows me tree moves world s
   pub are_flat : flat ≡ true → AreFlatMoves moves
+  pub agreement : flat ≡ true → Agreement tree world
+  pub commit_rule : flat ≡ true → CommitRule tree world
 
 -- an event that makes flat moves alone
 abbrev pub is_flat_event : Event → Bool
