@@ -34,13 +34,16 @@ same_process-refl a = grind (arith, same_process_tells)
 
 -- The roles.
 
-flat_leaf : (me id : ProcessId) (k : Kind) (p : Option ProcessId) → is_flat_by me id k p ≡ true → same_process id me ≡ false → role_by k p ≡ AtLeaf me
+flat_leaf : (me id : ProcessId) (k : Kind) (p : Option ProcessId) → is_flat_by me id k p ≡ true
+    → same_process id me ≡ false → role_by k p ≡ AtLeaf me
 flat_leaf me id Coordinator None h o = absurd (cc)
 flat_leaf me id Coordinator (Some p) h o = absurd (cc)
 flat_leaf me id Manager None h o = absurd (cc)
-flat_leaf me id Manager (Some p) h o = ap AtLeaf (is_one p me (both (same_process p me) (not (same_process id me)) h).0)
+flat_leaf me id Manager (Some p) h o =
+    ap AtLeaf (is_one p me (both (same_process p me) (not (same_process id me)) h).0)
 
-flat_root : (me id : ProcessId) (k : Kind) (p : Option ProcessId) → is_flat_by me id k p ≡ true → same_process id me ≡ true → role_by k p ≡ AtRoot
+flat_root : (me id : ProcessId) (k : Kind) (p : Option ProcessId) → is_flat_by me id k p ≡ true
+    → same_process id me ≡ true → role_by k p ≡ AtRoot
 flat_root me id Coordinator None h o = refl
 flat_root me id Coordinator (Some p) h o = absurd (cc)
 flat_root me id Manager None h o = absurd (cc)
@@ -49,27 +52,31 @@ flat_root me id Manager (Some p) h o =
     let none : not true ≡ true = ap not (sym o) ∙ apart in
     absurd (cc)
 
-leaf_step : (me q : ProcessId) (e : TreeEntry) (es : List TreeEntry) (b : Bool) → same_process e.id q ≡ b → is_flat_entry me e ≡ true → same_process q me ≡ false
+leaf_step : (me q : ProcessId) (e : TreeEntry) (es : List TreeEntry) (b : Bool) → same_process e.id q ≡ b
+    → is_flat_entry me e ≡ true → same_process q me ≡ false
     → (is_listed es q ≡ true → role_of es q ≡ AtLeaf me) → (b || is_listed es q) ≡ true
     → (if b then role_by e.kind e.parent else role_of es q) ≡ AtLeaf me
 leaf_step me q e es true s flat o rest h =
     flat_leaf me e.id e.kind e.parent flat (ap (λ p. same_process p me) (is_one e.id q s) ∙ o)
 leaf_step me q e es false s flat o rest h = rest h
 
-leaf_role : (me q : ProcessId) (tree : List TreeEntry) → list_all (is_flat_entry me) tree ≡ true → same_process q me ≡ false → is_listed tree q ≡ true → role_of tree q ≡ AtLeaf me
+leaf_role : (me q : ProcessId) (tree : List TreeEntry) → list_all (is_flat_entry me) tree ≡ true
+    → same_process q me ≡ false → is_listed tree q ≡ true → role_of tree q ≡ AtLeaf me
 unfolding is_listed role_of
 leaf_role me q [] flat o h = absurd (cc)
 leaf_role me q (e ∷ es) flat o h =
     let f = both (is_flat_entry me e) (list_all (is_flat_entry me) es) flat in
     leaf_step me q e es (same_process e.id q) refl f.0 o (leaf_role me q es f.1 o) h
 
-root_step : (me : ProcessId) (e : TreeEntry) (es : List TreeEntry) (b : Bool) → same_process e.id me ≡ b → is_flat_entry me e ≡ true
+root_step : (me : ProcessId) (e : TreeEntry) (es : List TreeEntry) (b : Bool) → same_process e.id me ≡ b
+    → is_flat_entry me e ≡ true
     → (is_listed es me ≡ true → role_of es me ≡ AtRoot) → (b || is_listed es me) ≡ true
     → (if b then role_by e.kind e.parent else role_of es me) ≡ AtRoot
 root_step me e es true s flat rest h = flat_root me e.id e.kind e.parent flat s
 root_step me e es false s flat rest h = rest h
 
-root_role : (me : ProcessId) (tree : List TreeEntry) → list_all (is_flat_entry me) tree ≡ true → is_listed tree me ≡ true → role_of tree me ≡ AtRoot
+root_role : (me : ProcessId) (tree : List TreeEntry) → list_all (is_flat_entry me) tree ≡ true
+    → is_listed tree me ≡ true → role_of tree me ≡ AtRoot
 unfolding is_listed role_of
 root_role me [] flat h = absurd (cc)
 root_role me (e ∷ es) flat h =
@@ -78,8 +85,10 @@ root_role me (e ∷ es) flat h =
 
 -- The root is listed.
 
-head_lists : (me id : ProcessId) (k : Kind) (p : Option ProcessId) (tree : List TreeEntry) → is_flat_by me id k p ≡ true
-    → is_unlisted tree p ≡ false → (same_process id me ≡ true → is_listed tree me ≡ true) → is_listed tree me ≡ true
+head_lists : (me id : ProcessId) (k : Kind) (p : Option ProcessId) (tree : List TreeEntry)
+    → is_flat_by me id k p ≡ true
+    → is_unlisted tree p ≡ false → (same_process id me ≡ true → is_listed tree me ≡ true)
+    → is_listed tree me ≡ true
 head_lists me id Coordinator None tree h u first = first h
 head_lists me id Coordinator (Some p) tree h u first = absurd (cc)
 head_lists me id Manager None tree h u first = absurd (cc)
@@ -90,11 +99,13 @@ head_lists me id Manager (Some p) tree h u first =
 first_is : (a b : Bool) → a ≡ true → (a || b) ≡ true
 first_is a b h = rw h refl
 
-listed_first : (me : ProcessId) (e : TreeEntry) (es : List TreeEntry) → same_process e.id me ≡ true → is_listed (e ∷ es) me ≡ true
+listed_first : (me : ProcessId) (e : TreeEntry) (es : List TreeEntry) → same_process e.id me ≡ true
+    → is_listed (e ∷ es) me ≡ true
 unfolding is_listed
 listed_first me e es h = first_is (same_process e.id me) (list_any (λ d. same_process d.id me) es) h
 
-known_first : (e : TreeEntry) (es : List TreeEntry) → has_unknown_parent (e ∷ es) ≡ false → is_unlisted (e ∷ es) e.parent ≡ false
+known_first : (e : TreeEntry) (es : List TreeEntry) → has_unknown_parent (e ∷ es) ≡ false
+    → is_unlisted (e ∷ es) e.parent ≡ false
 unfolding has_unknown_parent
 known_first e es h = either_left (is_unlisted (e ∷ es) e.parent) _ h
 
@@ -102,12 +113,17 @@ pub root_is_listed : (me : ProcessId) (tree : List TreeEntry) → IsFlatTree me 
 root_is_listed me [] flat = let no : true ≡ false = flat.is_tree.not_empty in absurd (cc)
 root_is_listed me (e ∷ es) flat =
     let f = both (is_flat_entry me e) (list_all (is_flat_entry me) es) flat.entries in
-    head_lists me e.id e.kind e.parent (e ∷ es) f.0 (known_first e es flat.is_tree.parents_listed) (listed_first me e es)
+    head_lists me e.id e.kind e.parent (e ∷ es) f.0 (known_first e es flat.is_tree.parents_listed)
+    (listed_first me e es)
 
-pub place_of_root : (me : ProcessId) (tree : List TreeEntry) → IsFlatTree me tree → place_of tree me ≡ root_place me tree
+pub place_of_root : (me : ProcessId) (tree : List TreeEntry) → IsFlatTree me tree
+    → place_of tree me ≡ root_place me tree
 place_of_root me tree flat =
-    ap (λ r. record { me = me; role = r; tree = tree }) (root_role me tree flat.entries (root_is_listed me tree flat))
+    ap (λ r. record { me = me; role = r; tree = tree })
+    (root_role me tree flat.entries (root_is_listed me tree flat))
 
-pub place_of_leaf : (me q : ProcessId) (tree : List TreeEntry) → IsFlatTree me tree → same_process q me ≡ false → is_listed tree q ≡ true
+pub place_of_leaf : (me q : ProcessId) (tree : List TreeEntry) → IsFlatTree me tree
+    → same_process q me ≡ false → is_listed tree q ≡ true
     → place_of tree q ≡ leaf_place q me tree
-place_of_leaf me q tree flat o h = ap (λ r. record { me = q; role = r; tree = tree }) (leaf_role me q tree flat.entries o h)
+place_of_leaf me q tree flat o h =
+    ap (λ r. record { me = q; role = r; tree = tree }) (leaf_role me q tree flat.entries o h)
