@@ -17,7 +17,7 @@ use Rattle.root_core.specs.Roots as root
 use Rattle.flat_law.specs.Leaves.{LeafState}
 use Rattle.flat_law.specs.Leaves as leaf
 use Rattle.flat_law.specs.FlatWorlds.{FlatState, IsOpened}
-use Rattle.flat_law.specs.Ties.{IsFlatTree, StandsIn, recorded_of, RootFollows, LeafFollows, Follows}
+use Rattle.flat_law.specs.Ties.{IsFlatTree, StandsIn, recorded_of, none_recorded, RootFollows, LeafFollows, Follows}
 use Rattle.flat_law.proofs.Trees.{root_is_listed, place_of_root, place_of_leaf}
 use Rattle.flat_law.proofs.RootPhases.{idle_heard}
 
@@ -33,6 +33,10 @@ opened_stands : (me : ProcessId) (tree : List TreeEntry) (x : Txn)
     → StandsIn x.presumption (memory_of (root_place me tree) opened_node (root_case x)).phase (recorded_of (root_case x) (kept opened_node))
 unfolding memory_of has
 opened_stands me tree x = refl
+
+opened_records : (c : Case) → recorded_of c (kept opened_node) ≡ none_recorded
+unfolding has
+opened_records c = refl
 
 opened_begun : (me : ProcessId) (tree : List TreeEntry) (c : Case) → (memory_of (root_place me tree) opened_node c).begun ≡ 0
 unfolding memory_of
@@ -65,7 +69,7 @@ root_opened me tree r h =
       runs = refl;
       begun = λ c. opened_begun me tree c ∙ sym h.begun;
       views = λ x. opened_view me tree x ∙ sym (h.views x);
-      sound = record { stands = opened_stands me tree };
+      sound = record { stands = opened_stands me tree; unticketed = λ x t. opened_records (child_case x t) };
     }
 
 leaf_opened : (me p : ProcessId) (tree : List TreeEntry) (l : LeafState) → leaf.IsOpened l me p → LeafFollows me p tree opened_node l
@@ -96,10 +100,10 @@ opened_follows me tree s flat h =
       root_is_listed = root_is_listed me tree flat;
       place = place_of_root me tree flat;
       root = root_opened me tree s.root h.root;
+      listed = h.listed;
       leaves = λ q l o stands.
           let listed = sym (h.listed q o) ∙ ap is_some stands in
           record {
-            is_listed = listed;
             place = place_of_leaf me q tree flat o listed;
             follows = leaf_opened q me tree l (h.leaves q l stands);
           };

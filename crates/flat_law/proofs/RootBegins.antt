@@ -15,7 +15,7 @@ use Rattle.tree_model.specs.declared.events.Input.TheVariants.{Act as ActInput}
 use Rattle.tree_model.specs.declared.events.Reaction.{Reaction}
 use Rattle.tree_model.specs.declared.events.StepError.{StepError}
 use Rattle.tree_model.specs.declared.events.StepError.TheVariants.{NotInDoubt, NothingToForget}
-use Rattle.tree_model.specs.Names.{same_txn, same_case, root_case}
+use Rattle.tree_model.specs.Names.{same_txn, same_case, root_case, child_case}
 use Rattle.tree_model.specs.NameLaws.{same_txn_tells, same_case-refl}
 use Rattle.tree_model.specs.Records.{boot_of}
 use Rattle.tree_model.specs.Nodes.{Node, kept, after, reaction_of}
@@ -100,6 +100,7 @@ module _ (r r' : RootState) (n : Node) (reaction : Reaction) (f : RootFollows r.
             | inl s ↦ subst P s.1 here
             | inr o ↦ there y o.0
           ];
+          unticketed = λ y t. ap (λ rs. recorded_of (child_case y t) rs) (quiet_keeps n h e refl) ∙ f.sound.unticketed y t;
         };
       }
 

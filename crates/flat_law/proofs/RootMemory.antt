@@ -120,7 +120,7 @@ and_no : (b : Bool) → (b && false) ≡ false
 and_no true = refl
 and_no false = refl
 
-ticketed : (x y : Txn) (t : Ticket) → same_case (root_case x) (child_case y t) ≡ false
+pub ticketed : (x y : Txn) (t : Ticket) → same_case (root_case x) (child_case y t) ≡ false
 unfolding same_case same_owner
 ticketed x y t = and_no (same_txn x y)
 

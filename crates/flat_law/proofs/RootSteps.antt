@@ -10,7 +10,7 @@ use Rattle.tree_model.specs.declared.events.Input.TheVariants.{Act as ActInput, 
 use Rattle.tree_model.specs.declared.events.Reaction.{Reaction}
 use Rattle.tree_model.specs.declared.events.StepError.TheVariants.{NoSuch}
 use Rattle.tree_model.specs.declared.trees.TreeEntry.{TreeEntry}
-use Rattle.tree_model.specs.Names.{same_txn, root_case}
+use Rattle.tree_model.specs.Names.{same_txn, root_case, child_case}
 use Rattle.tree_model.specs.NameLaws.{same_txn_tells}
 use Rattle.tree_model.specs.Records.{boot_of}
 use Rattle.tree_model.specs.Nodes.{Place, Node, kept, Heard, Effect, reaction_of, after, DataAnswer, ReadsOnly}
@@ -26,7 +26,7 @@ use Rattle.rec_log.specs.Logs.{writes}
 use Rattle.root_core.specs.Roots.{RootState, Turn, Makes, Moves, Refuses, act_turn, acts}
 use Rattle.flat_law.specs.Ties.{recorded_of, StandsIn, RootFollows}
 use Rattle.flat_law.proofs.Logs.{Keeps, after_keeps, after_runs, after_boots, same_boot, quiet_keeps, quiet_boots}
-use Rattle.flat_law.proofs.RootMemory.{begun-after}
+use Rattle.flat_law.proofs.RootMemory.{ticketed, begun-after}
 use Rattle.flat_law.proofs.RootPhases.{noted, wrote_no_boot, recorded-own, recorded-other}
 use Rattle.flat_law.proofs.RootRows.{RowStands}
 
@@ -120,6 +120,9 @@ module _ (r r' : RootState) (n : Node) (f : RootFollows r.me r.tree n r) where
             | inl s ↦ subst P s.1 stands_here
             | inr o ↦ stands_there y o.0
           ];
+          unticketed = λ y t.
+              ap (λ rs. recorded_of (child_case y t) rs) (kept-after n h e)
+              ∙ (recorded-other (root_case x) (child_case y t) row.written own.wrote (kept n) (ticketed x y t) ∙ f.sound.unticketed y t);
         };
       }
 
@@ -145,5 +148,8 @@ module _ (r r' : RootState) (n : Node) (f : RootFollows r.me r.tree n r) where
         begun = λ c. begun-after r.me r.tree n h e c (same_boot n e no_boot) ∙ (counted _ ∙ f.begun c);
         views = λ y.
             rw (memory-after y, quiet_keeps n h e quiet) (f.views y);
-        sound = record { stands = λ y. rw (memory-after y, quiet_keeps n h e quiet) (f.sound.stands y) };
+        sound = record {
+          stands = λ y. rw (memory-after y, quiet_keeps n h e quiet) (f.sound.stands y);
+          unticketed = λ y t. ap (λ rs. recorded_of (child_case y t) rs) (quiet_keeps n h e quiet) ∙ f.sound.unticketed y t;
+        };
       })

@@ -1,5 +1,5 @@
 -- A step of a flat tree is a step of the model's world.
-use Rattle.std.proofs.Common.{◌≡◌, ◌∙◌, ap, sym, subst, ◌-◌, ◌&&◌, ℕ, zero, suc, Bool, true, false, inl, inr, Some, None, List, [], ◌∷◌, ◌++◌, refl, arith}
+use Rattle.std.proofs.Common.{◌≡◌, ◌∙◌, ap, sym, subst, ◌-◌, ◌&&◌, ℕ, zero, suc, Bool, true, false, inl, inr, Some, None, is_some, List, [], ◌∷◌, ◌++◌, refl, arith}
 use Rattle.std.specs.Prelude.{slice_get}
 use Rattle.tree_model.specs.declared.names.ProcessId.{ProcessId}
 use Rattle.tree_model.specs.declared.messages.Message.{Message}
@@ -124,7 +124,6 @@ same_leaf : (me : ProcessId) (tree : List TreeEntry) (w w' : World) (q : Process
     → w'.at q ≡ w.at q → IsLeafOf me tree w q l → IsLeafOf me tree w' q l
 same_leaf me tree w w' q l same h =
     record {
-      is_listed = h.is_listed;
       place = h.place;
       follows =
           subst (λ n. LeafFollows q me tree n l) (sym same) h.follows;
@@ -149,6 +148,7 @@ root_goes_on me tree es w s s' i marked reaction f stands leaves net entries ste
       root_is_listed = f.root_is_listed;
       place = f.place;
       root = subst (λ m. RootFollows me tree m s'.root) (sym (put_here me n w.at)) step.follows;
+      listed = λ q o. ap is_some (leaves q) ∙ f.listed q o;
       leaves = λ q l o h. same_leaf me tree w (world_after w me n e) q l
           (put_there me q n w.at (apart q me o)) (f.leaves q l o (sym (leaves q) ∙ h));
     })
@@ -167,6 +167,7 @@ leaf_goes_on : (me : ProcessId) (tree : List TreeEntry) (es : List Made) (w : Wo
     → GoesOn me tree es w s' true
 leaf_goes_on me tree es w s s' q k message reaction l f stands o takes net entries =
     let here = f.leaves q l o takes.stood in
+    let listed : is_listed tree q ≡ true = sym (f.listed q o) ∙ ap is_some takes.stood in
     let step : LeafStep q me tree (w.at q) k message takes.behind reaction =
     leaf_step q me tree (w.at q) l takes.behind k message reaction here.follows takes.made in
     let e = step.effect in
@@ -174,22 +175,25 @@ leaf_goes_on me tree es w s s' q k message reaction l f stands o takes net entri
     let a = step.answer in
     let n = after (w.at q) (heard_by i a) e in
     let w' = world_after w q n e in
-    gone_on me tree es w s' q i a e (leaf_place q me tree) here.is_listed here.place step.does stands
+    gone_on me tree es w s' q i a e (leaf_place q me tree) listed here.place step.does stands
     (record {
       is_run = makes es w (move_for q i a) e w' f.is_run stands
-          (made_at tree w q i a (leaf_place q me tree) e here.is_listed here.place step.does);
+          (made_at tree w q i a (leaf_place q me tree) e listed here.place step.does);
       shown = shown_by es s s' q i a e reaction f.shown step.shown entries;
       net = sent_by w s s' e reaction f.net step.shown net;
       root_is_listed = f.root_is_listed;
       place = f.place;
       root = subst (λ m. RootFollows me tree m s'.root) (sym (put_there q me n w.at o))
           (subst (λ r. RootFollows me tree (w.at me) r) (sym takes.root) f.root);
+      listed = λ p away. elim (same_process_tells q p) [
+        | inl t ↦ ap (λ r. is_some (s'.leaf_at r)) (sym t.1) ∙ (ap is_some takes.stands ∙ (sym listed ∙ ap (λ r. is_listed tree r) t.1))
+        | inr z ↦ ap is_some (takes.others p z.0) ∙ f.listed p away
+      ];
       leaves = λ p u away h. elim (same_process_tells q p) [
         | inl t ↦
             let is : takes.behind ≡ u =
             some_one takes.behind u (sym takes.stands ∙ (ap s'.leaf_at t.1 ∙ h)) in
             let there : IsLeafOf me tree w' q takes.behind = record {
-              is_listed = here.is_listed;
               place = here.place;
               follows = subst (λ m. LeafFollows q me tree m takes.behind) (sym (put_here q n w.at))
                   step.follows;

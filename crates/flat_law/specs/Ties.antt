@@ -1,5 +1,5 @@
 -- When a flat tree that runs stands for a run of the model.
-use Rattle.std.specs.Prelude.{◌≡◌, ◌<◌, ◌||◌, ℕ, Bool, true, false, Some, List, ◌++◌}
+use Rattle.std.specs.Prelude.{◌≡◌, ◌<◌, ◌||◌, ℕ, Bool, true, false, if◌then◌else◌, Option, Some, None, is_some, List, ◌++◌}
 use Rattle.std.specs.List.{list_all}
 use Rattle.tree_model.specs.declared.names.Case.{Case}
 use Rattle.tree_model.specs.declared.names.ProcessId.{ProcessId}
@@ -9,18 +9,26 @@ use Rattle.tree_model.specs.declared.names.Presumption.{Presumption}
 use Rattle.tree_model.specs.declared.names.Presumption.TheVariants.{PresumeAbort, PresumeCommit}
 use Rattle.tree_model.specs.declared.records.Branch.TheVariants.{Case as CaseBranch}
 use Rattle.tree_model.specs.declared.records.Record.{Record}
+use Rattle.tree_model.specs.declared.messages.Envelope.{Envelope}
+use Rattle.tree_model.specs.declared.events.Act.{Act}
+use Rattle.tree_model.specs.declared.events.Act.TheVariants.{Begin, Join, Work, Commit, Abort}
+use Rattle.tree_model.specs.declared.events.Input.TheVariants.{Act as ActInput}
+use Rattle.tree_model.specs.declared.events.Happening.TheVariants.{Input as Handles}
+use Rattle.tree_model.specs.declared.events.StepError.{StepError}
+use Rattle.tree_model.specs.declared.events.StepError.TheVariants.{NoSuch}
 use Rattle.tree_model.specs.declared.events.Event.{Event}
+use Rattle.tree_model.specs.Plays.{process_of_act, move_of}
 use Rattle.tree_model.specs.declared.events.Event.TheVariants.{Act as ActOf, Deliver, Settle, Restart, Trim}
 use Rattle.tree_model.specs.declared.trees.TreeEntry.{TreeEntry}
 use Rattle.tree_model.specs.Names.{same_process, root_case, child_case}
 use Rattle.tree_model.specs.Records.{has, boot_of, is_end, is_commit, is_abort, is_prepare, is_collecting}
-use Rattle.tree_model.specs.Nodes.{place_of, is_listed, Node, kept}
+use Rattle.tree_model.specs.Nodes.{DataAnswer, place_of, is_listed, Node, kept}
 use Rattle.tree_model.specs.Memory.{Phase, Idle, Open, Asked, Over, memory_of}
 use Rattle.tree_model.specs.Standings.{coordinator_view, manager_view, mark_of, Unmarked}
 use Rattle.tree_model.specs.Outcomes.{Agreement, CommitRule}
 use Rattle.tree_model.specs.Trees.{IsTree}
 use Rattle.tree_model.specs.Views.{root_place, leaf_place}
-use Rattle.tree_model.specs.World.{World, Made, IsRun, Continues, journal_of}
+use Rattle.tree_model.specs.World.{Move, Stepped, Refuses, Makes, node_makes, World, Made, IsRun, Continues, journal_of}
 use Rattle.root_core.specs.Roots.{RootState}
 use Rattle.tree_law.specs.Flat.{is_flat_entry, is_flat_act, AreFlatMoves}
 use Rattle.flat_law.specs.Leaves.{LeafState}
@@ -66,9 +74,10 @@ StandsIn PresumeAbort Asked f = f ≡ none_recorded
 StandsIn PresumeCommit Asked f = f ≡ only_collecting
 StandsIn p Over f = IsPast p f
 
--- the records of each transaction are those of its phase
+-- the records of each transaction are those of its phase, and there is none of a case with a ticket
 pub record IsInPhase (me : ProcessId) (tree : List TreeEntry) (n : Node) : Type 0 where
   pub stands : (x : Txn) → StandsIn x.presumption (memory_of (root_place me tree) n (root_case x)).phase (recorded_of (root_case x) (kept n))
+  pub unticketed : (x : Txn) (t : Ticket) → recorded_of (child_case x t) (kept n) ≡ none_recorded
 
 -- what a root keeps is what its lists read as
 pub record RootFollows (me : ProcessId) (tree : List TreeEntry) (n : Node) (r : RootState) : Type 0 where
@@ -105,7 +114,6 @@ pub record LeafFollows (me parent : ProcessId) (tree : List TreeEntry) (n : Node
 
 -- a leaf in its tree
 pub record IsLeafOf (me : ProcessId) (tree : List TreeEntry) (w : World) (q : ProcessId) (l : LeafState) : Type 0 where
-  pub is_listed : is_listed tree q ≡ true
   pub place : place_of tree q ≡ leaf_place q me tree
   pub follows : LeafFollows q me tree (w.at q) l
 
@@ -117,6 +125,7 @@ pub record Follows (me : ProcessId) (tree : List TreeEntry) (es : List Made) (w 
   pub root_is_listed : is_listed tree me ≡ true
   pub place : place_of tree me ≡ root_place me tree
   pub root : RootFollows me tree (w.at me) s.root
+  pub listed : (q : ProcessId) → same_process q me ≡ false → is_some (s.leaf_at q) ≡ is_listed tree q
   pub leaves : (q : ProcessId) (l : LeafState) → same_process q me ≡ false → s.leaf_at q ≡ Some l → IsLeafOf me tree w q l
 
 -- the run goes on by later moves, the newest first, to a world that a flat state stands for; where the test holds, each
@@ -145,3 +154,34 @@ is_flat_event (Deliver k) = true
 is_flat_event Settle = true
 is_flat_event (Restart q k) = false
 is_flat_event (Trim q) = false
+
+-- Refusals.
+
+-- an act of the application
+abbrev pub is_application_act : Act → Bool
+is_application_act (Begin p) = true
+is_application_act (Join c q) = true
+is_application_act (Work c q op) = true
+is_application_act (Commit x) = true
+is_application_act (Abort x) = true
+is_application_act _ = false
+
+abbrev pub refusal_in : Stepped → Option StepError
+refusal_in (Refuses e) = Some e
+refusal_in (Makes e n) = None
+
+-- why the model refuses a move: its process is not listed, or refuses it
+abbrev pub model_refusal : List TreeEntry → World → Move → Option StepError
+model_refusal tree w m =
+    let q = m.step.process in
+    if is_listed tree q then refusal_in (node_makes (place_of tree q) (w.at q) m) else Some NoSuch
+
+-- the model refuses the act so, whatever the data of its process answer
+abbrev pub RefusesSo : ProcessId → List TreeEntry → World → Act → StepError → Type 0
+RefusesSo root tree w a e =
+    (d : DataAnswer) → model_refusal tree w (move_of (process_of_act root a) (Handles (ActInput a)) d) ≡ Some e
+
+-- no process that is listed is to have a message with this number
+abbrev pub IsForNobody : List TreeEntry → Option Envelope → Type 0
+IsForNobody tree None = Unit {0}
+IsForNobody tree (Some letter) = is_listed tree letter.to ≡ false
