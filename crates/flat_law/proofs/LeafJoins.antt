@@ -23,7 +23,8 @@ use Rattle.flat_law.specs.Leaves.{LeafState, join_turn, message_turn, Makes, Ope
 use Rattle.flat_law.specs.Ties.{LeafFollows}
 use Rattle.flat_law.proofs.Logs.{Keeps, after_keeps, after_runs, after_boots, same_boot, quiet_keeps}
 use Rattle.flat_law.proofs.LeafMemory.{givens-after}
-use Rattle.flat_law.proofs.LeafSteps.{LeafStep, willing, hears_as, nothing_written, still_followed, unheard_step, work_step, prepare_step, commit_step, abort_step}
+use Rattle.flat_law.proofs.LeafRows.{LeafStep, hears_as}
+use Rattle.flat_law.proofs.LeafSteps.{willing, nothing_written, still_followed, unheard_step, work_step, prepare_step, commit_step, abort_step}
 
 flipped : (c d : Case) → same_case c d ≡ false → same_case d c ≡ false
 flipped c d h = grind (arith, same_case_tells)

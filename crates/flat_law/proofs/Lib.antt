@@ -1,6 +1,7 @@
 pub mod Trees
 pub mod Logs
 pub mod LeafMemory
+pub mod LeafRows
 pub mod LeafSteps
 pub mod LeafJoins
 pub mod RootMemory
@@ -8,9 +9,15 @@ pub mod RootPhases
 pub mod RootRows
 pub mod RootSteps
 pub mod RootActs
+pub mod RootWorks
 pub mod RootBegins
+pub mod RootTickets
 pub mod RootVotes
+pub mod RootAcks
 pub mod RootReplies
+pub mod WorldMoves
 pub mod WorldSteps
 pub mod Runs
 pub mod Openings
+pub mod RootRefusals
+pub mod Refusals

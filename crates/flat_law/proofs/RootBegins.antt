@@ -33,7 +33,8 @@ use Rattle.flat_law.proofs.Logs.{Keeps, after_keeps, after_runs, after_boots, sa
 use Rattle.flat_law.proofs.RootMemory.{begun-after, not_begun_is_idle}
 use Rattle.flat_law.proofs.RootPhases.{unrecorded}
 use Rattle.flat_law.proofs.RootSteps.{no_data, heard, RootStep, acts_as, made_listed, memory}
-use Rattle.flat_law.proofs.RootActs.{if_here, if_other, commit_case, abort_case, join_case, work_case}
+use Rattle.flat_law.proofs.RootWorks.{join_case, work_case}
+use Rattle.flat_law.proofs.RootActs.{if_here, if_other, commit_case, abort_case}
 
 module _ (r r' : RootState) (n : Node) (reaction : Reaction) (f : RootFollows r.me r.tree n r) where
   -- the transaction that the model begins next

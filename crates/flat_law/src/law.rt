@@ -1,14 +1,16 @@
 //! The laws that tie a flat tree that runs to the model.
 
-ghost use Rattle.std.specs.Prelude.{ℕ, List, []};
+ghost use Rattle.std.specs.Prelude.{◌≡◌, ℕ, true, List, []};
 ghost use Rattle.std.specs.List.{list_all};
 ghost use Rattle.tree_model.specs.declared.names.ProcessId.{ProcessId};
+ghost use Rattle.tree_model.specs.Plays.{sent_as};
+ghost use Rattle.tree_model.specs.declared.events.Act.{Act};
 ghost use Rattle.tree_model.specs.declared.events.Event.{Event};
 ghost use Rattle.tree_model.specs.declared.events.StepError.{StepError};
 ghost use Rattle.tree_model.specs.declared.trees.TreeEntry.{TreeEntry};
 ghost use Rattle.tree_model.specs.World.{Made, World, opened_world};
-ghost use Rattle.flat_law.specs.FlatWorlds.{Applies, FlatState, IsOpened, Leads, LeadsUntil, Stops};
-ghost use Rattle.flat_law.specs.Ties.{Follows, GoesOn, IsFlatTree, IsModelled, is_flat_event};
+ghost use Rattle.flat_law.specs.FlatWorlds.{Applies, FlatState, IsLost, IsOpened, Leads, LeadsUntil, RefusesAct, Stops};
+ghost use Rattle.flat_law.specs.Ties.{Follows, GoesOn, IsFlatTree, IsForNobody, IsModelled, RefusesSo, is_application_act, is_flat_event};
 
 /// A flat tree whose processes have opened empty logs stands for the run with no moves.
 pub fn opened()
@@ -37,4 +39,13 @@ pub fn every_run_is_a_run_of_the_model()
     ensures leads_until { (me : ProcessId) (tree : List TreeEntry) (s s' : FlatState) (events : List Event) (n : ℕ)
         (e : StepError) → IsFlatTree me tree → IsOpened s me tree → LeadsUntil s events n e s'
         → IsModelled me tree s' (list_all is_flat_event events) }
+{}
+
+/// Where a flat state stands for a run: an act of the application that it refuses the model refuses by the same error,
+/// whatever the data answer; and a message that it cannot deliver was not sent, or is for no process of the tree.
+pub fn refusals()
+    ensures acts { (me : ProcessId) (tree : List TreeEntry) (es : List Made) (w : World) (s : FlatState) (a : Act) (e : StepError)
+        → Follows me tree es w s → is_application_act a ≡ true → RefusesAct s a e → RefusesSo me tree w a e }
+    ensures deliveries { (me : ProcessId) (tree : List TreeEntry) (es : List Made) (w : World) (s : FlatState) (k : ℕ)
+        → Follows me tree es w s → IsLost s (sent_as s.net k) → IsForNobody tree (sent_as w.net k) }
 {}
