@@ -38,18 +38,22 @@ willing holding = record { starts = true; does = true; holding = holding }
 pub nothing_written : (l : LeafState) → writes l.log [] ≡ l.log
 nothing_written l = ap (λ rs. record { forced = l.log.forced; loose = rs }) (append-nil l.log.loose)
 
-pub still_followed : (me p : ProcessId) (tree : List TreeEntry) (n : Node) (l l' : LeafState) (k : ℕ) (message : Message) (a : DataAnswer) (e : Effect)
+pub still_followed : (me p : ProcessId) (tree : List TreeEntry) (n : Node) (l l' : LeafState) (k : ℕ)
+    (message : Message) (a : DataAnswer) (e : Effect)
     → LeafFollows me p tree n l → l' ≡ l → e.written ≡ []
     → gives_next me (boot_of (kept n)) (l.given, l.active) a message ≡ (l.given, l.active)
-    → ((c : Case) → manager_view (leaf_place me p tree) (after n (hears_message k message a) e) c ≡ manager_view (leaf_place me p tree) n c)
+    → ((c : Case) → manager_view (leaf_place me p tree) (after n (hears_message k message a) e)
+    c ≡ manager_view (leaf_place me p tree) n c)
     → LeafFollows me p tree (after n (hears_message k message a) e) l'
 still_followed me p tree n l l' k message a e f stays quiet counted views =
     let place = leaf_place me p tree in
     let h = hears_message k message a in
-    let keeps : Keeps (after n h e) (writes l.log e.written) = after_keeps n h e l.log (record { forced = f.forced; loose = f.loose }) in
+    let keeps : Keeps (after n h e) (writes l.log e.written) =
+    after_keeps n h e l.log (record { forced = f.forced; loose = f.loose }) in
     let same : writes l.log e.written ≡ l.log = rw quiet (nothing_written l) in
     let givens : (c : Case) → givens_of (memory_of place (after n h e) c) ≡ (l.given, l.active) =
-    λ c. givens-after me p tree n k message a e c (same_boot n e (quiet_boots e quiet)) ∙ (rw (f.given c, f.active c) counted) in
+    λ c. givens-after me p tree n k message a e c (same_boot n e (quiet_boots e quiet))
+    ∙ (rw (f.given c, f.active c) counted) in
     let P : LeafState → Type 0 = λ s. LeafFollows me p tree (after n h e) s in
     subst P (sym stays) (record {
       is_named = f.is_named;
@@ -63,19 +67,24 @@ still_followed me p tree n l l' k message a e f stays quiet counted views =
       views = λ c. views c ∙ f.views c;
       sound = record {
         unmarked = λ x t below.
-            ap (λ rs. mark_of (CaseBranch (child_case x t)) rs) (quiet_keeps n h e quiet) ∙ f.sound.unmarked x t below;
+            ap (λ rs. mark_of (CaseBranch (child_case x t)) rs) (quiet_keeps n h e quiet)
+            ∙ f.sound.unmarked x t below;
       };
     })
 
-unheard_views : (me p : ProcessId) (tree : List TreeEntry) (n : Node) (k : ℕ) (message : Message) (a : DataAnswer) (e : Effect) → e.written ≡ []
+unheard_views : (me p : ProcessId) (tree : List TreeEntry) (n : Node) (k : ℕ) (message : Message)
+    (a : DataAnswer) (e : Effect) → e.written ≡ []
     → ((c : Case) (m : Memory) → manager_hears me (boot_of (kept n)) c m a message ≡ m)
-    → (c : Case) → manager_view (leaf_place me p tree) (after n (hears_message k message a) e) c ≡ manager_view (leaf_place me p tree) n c
+    → (c : Case) → manager_view (leaf_place me p tree) (after n (hears_message k message a) e)
+    c ≡ manager_view (leaf_place me p tree) n c
 unfolding manager_view
 unheard_views me p tree n k message a e quiet unheard c =
     quiet-after (leaf_place me p tree) n (hears_message k message a) e c quiet
-    ∙ ap (λ m. marked_branch m (mark_of (CaseBranch c) (kept n))) (unheard c (memory_of (leaf_place me p tree) n c))
+    ∙ ap (λ m. marked_branch m (mark_of (CaseBranch c) (kept n)))
+    (unheard c (memory_of (leaf_place me p tree) n c))
 
-pub unheard_step : (me p : ProcessId) (tree : List TreeEntry) (n : Node) (l l' : LeafState) (k : ℕ) (message : Message) (reaction : Reaction)
+pub unheard_step : (me p : ProcessId) (tree : List TreeEntry) (n : Node) (l l' : LeafState) (k : ℕ)
+    (message : Message) (reaction : Reaction)
     → LeafFollows me p tree n l → (l' ≡ l) × (reaction ≡ reaction_of no_effect)
     → model.manager_hears (leaf_place me p tree) p n (willing ReadsOnly) message ≡ no_effect
     → ((c : Case) (m : Memory) → manager_hears me (boot_of (kept n)) c m (willing ReadsOnly) message ≡ m)
@@ -87,13 +96,15 @@ unheard_step me p tree n l l' k message reaction f made nothing unheard counted 
       effect = no_effect;
       does = hears_as me p tree n k message (willing ReadsOnly) f.runs ∙ ap Does nothing;
       shown = made.1;
-      follows = still_followed me p tree n l l' k message (willing ReadsOnly) no_effect f made.0 refl (counted (l.given, l.active))
+      follows = still_followed me p tree n l l' k message (willing ReadsOnly) no_effect f made.0 refl
+          (counted (l.given, l.active))
           (unheard_views me p tree n k message (willing ReadsOnly) no_effect refl unheard);
     }
 
 -- The messages of a parent.
 
-module _ (me p : ProcessId) (tree : List TreeEntry) (n : Node) (l l' : LeafState) (k : ℕ) (d : Case) (reaction : Reaction) (f : LeafFollows me p tree n l) where
+module _ (me p : ProcessId) (tree : List TreeEntry) (n : Node) (l l' : LeafState) (k : ℕ) (d : Case)
+    (reaction : Reaction) (f : LeafFollows me p tree n l) where
   abbrev place : Place
   place = leaf_place me p tree
 
@@ -105,7 +116,8 @@ module _ (me p : ProcessId) (tree : List TreeEntry) (n : Node) (l l' : LeafState
   own_is = rw (f.is_named, f.is_below) refl
 
   -- a step by a row
-  by_row : (message : Message) (a : DataAnswer) (row : LeafRow) (ws : List Write) (left : List (Case × Ticket))
+  by_row : (message : Message) (a : DataAnswer) (row : LeafRow) (ws : List Write)
+      (left : List (Case × Ticket))
       → model.manager_hears place p n a message ≡ leaf_effect row
       → IsOwn own row → (l.view_of d ≡ unknown_branch → row.written ≡ [])
       → MovesBranch place n (hears_message k message a) d row → Moves l l' d row ws left
@@ -121,41 +133,51 @@ module _ (me p : ProcessId) (tree : List TreeEntry) (n : Node) (l l' : LeafState
         follows = row_followed me p tree n l l' k message a d row ws left f is_own quiet moved made counted;
       }
 
-  pub work_step : (i : ℕ) (op : Op) → Makes l l' (message_turn l (Work d i op)) reaction → LeafStep me p tree n k (Work d i op) l' reaction
+  pub work_step : (i : ℕ) (op : Op) → Makes l l' (message_turn l (Work d i op)) reaction
+      → LeafStep me p tree n k (Work d i op) l' reaction
   work_step i op made =
       let a = willing ReadsOnly in
       let v = l.view_of d in
       let row = on_work i true v v.standing in
       let nothing : entries_written row.written ≡ [] = work_writes i true v v.standing in
-      let is_own : IsOwn own row = record { boot = λ b. rw nothing refl; others = λ c w o. rw nothing refl } in
-      let P : ManagerView → Type 0 = λ u. MovesBranch place n (hears_message k (Work d i op) a) d (on_work i true u u.standing) in
+      let is_own : IsOwn own row =
+      record { boot = λ b. rw nothing refl; others = λ c w o. rw nothing refl } in
+      let P : ManagerView → Type 0 = λ u. MovesBranch place n (hears_message k (Work d i op) a) d
+      (on_work i true u u.standing) in
       by_row (Work d i op) a row _ l.active
       (ap (λ (u : ManagerView). leaf_effect (on_work i true u u.standing)) (f.views d))
       is_own (λ e. ap (λ (u : ManagerView). (on_work i true u u.standing).written) e)
       (subst P (f.views d) ((manager_views me p tree n d).work k i op a))
       made.0 refl made.1
 
-  pub prepare_step : (i : ℕ) → Makes l l' (message_turn l (Prepare d i)) reaction → LeafStep me p tree n k (Prepare d i) l' reaction
+  pub prepare_step : (i : ℕ) → Makes l l' (message_turn l (Prepare d i)) reaction
+      → LeafStep me p tree n k (Prepare d i) l' reaction
   prepare_step i made =
       let a = willing (held_writes (l.writes_of d)) in
       let v = l.view_of d in
       let row = on_prepare own i a.holding v v.standing in
-      let P : ManagerView → Type 0 = λ u. MovesBranch place n (hears_message k (Prepare d i) a) d (on_prepare own i a.holding u u.standing) in
-      let Q : Leaf → Type 0 = λ o. let r = on_prepare o i a.holding v v.standing in Moves l l' d r [] (without_ticket l.active d) × (reaction ≡ reaction_of (leaf_effect r)) in
+      let P : ManagerView → Type 0 = λ u. MovesBranch place n (hears_message k (Prepare d i) a) d
+      (on_prepare own i a.holding u u.standing) in
+      let Q : Leaf → Type 0 = λ o. let r = on_prepare o i a.holding v v.standing in
+      Moves l l' d r [] (without_ticket l.active d) × (reaction ≡ reaction_of (leaf_effect r)) in
       let here : Q own = subst Q own_is made in
       by_row (Prepare d i) a row [] (without_ticket l.active d)
       (ap (λ (u : ManagerView). leaf_effect (on_prepare own i a.holding u u.standing)) (f.views d))
-      (prepare_own own i a.holding v v.standing) (λ e. ap (λ (u : ManagerView). (on_prepare own i a.holding u u.standing).written) e)
+      (prepare_own own i a.holding v v.standing)
+      (λ e. ap (λ (u : ManagerView). (on_prepare own i a.holding u u.standing).written) e)
       (subst P (f.views d) ((manager_views me p tree n d).prepare k i a))
       here.0 refl here.1
 
-  pub commit_step : Makes l l' (message_turn l (Commit d)) reaction → LeafStep me p tree n k (Commit d) l' reaction
+  pub commit_step : Makes l l' (message_turn l (Commit d)) reaction
+      → LeafStep me p tree n k (Commit d) l' reaction
   commit_step made =
       let a = willing ReadsOnly in
       let v = l.view_of d in
       let row = on_commit own v v.standing in
-      let P : ManagerView → Type 0 = λ u. MovesBranch place n (hears_message k (Commit d) a) d (on_commit own u u.standing) in
-      let Q : Leaf → Type 0 = λ o. let r = on_commit o v v.standing in Moves l l' d r (l.writes_of d) l.active × (reaction ≡ reaction_of (leaf_effect r)) in
+      let P : ManagerView → Type 0 =
+      λ u. MovesBranch place n (hears_message k (Commit d) a) d (on_commit own u u.standing) in
+      let Q : Leaf → Type 0 = λ o. let r = on_commit o v v.standing in
+      Moves l l' d r (l.writes_of d) l.active × (reaction ≡ reaction_of (leaf_effect r)) in
       let here : Q own = subst Q own_is made in
       by_row (Commit d) a row (l.writes_of d) l.active
       (ap (λ (u : ManagerView). leaf_effect (on_commit own u u.standing)) (f.views d))
@@ -163,13 +185,16 @@ module _ (me p : ProcessId) (tree : List TreeEntry) (n : Node) (l l' : LeafState
       (subst P (f.views d) ((manager_views me p tree n d).commit k a))
       here.0 refl here.1
 
-  pub abort_step : Makes l l' (message_turn l (Abort d)) reaction → LeafStep me p tree n k (Abort d) l' reaction
+  pub abort_step : Makes l l' (message_turn l (Abort d)) reaction
+      → LeafStep me p tree n k (Abort d) l' reaction
   abort_step made =
       let a = willing ReadsOnly in
       let v = l.view_of d in
       let row = on_abort own v v.standing in
-      let P : ManagerView → Type 0 = λ u. MovesBranch place n (hears_message k (Abort d) a) d (on_abort own u u.standing) in
-      let Q : Leaf → Type 0 = λ o. let r = on_abort o v v.standing in Moves l l' d r [] (without_ticket l.active d) × (reaction ≡ reaction_of (leaf_effect r)) in
+      let P : ManagerView → Type 0 =
+      λ u. MovesBranch place n (hears_message k (Abort d) a) d (on_abort own u u.standing) in
+      let Q : Leaf → Type 0 = λ o. let r = on_abort o v v.standing in
+      Moves l l' d r [] (without_ticket l.active d) × (reaction ≡ reaction_of (leaf_effect r)) in
       let here : Q own = subst Q own_is made in
       by_row (Abort d) a row [] (without_ticket l.active d)
       (ap (λ (u : ManagerView). leaf_effect (on_abort own u u.standing)) (f.views d))

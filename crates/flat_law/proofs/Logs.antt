@@ -13,20 +13,28 @@ pub record Keeps (n : Node) (k : Kept) : Type 0 where
   pub forced : n.forced ≡ k.forced
   pub loose : n.loose ≡ k.loose
 
-kept_by : (b : Bool) (whole part : Node) (log rest : Kept) → Keeps whole log → Keeps part rest → Keeps (if b then whole else part) (if b then log else rest)
+kept_by : (b : Bool) (whole part : Node) (log rest : Kept) → Keeps whole log → Keeps part rest
+    → Keeps (if b then whole else part) (if b then log else rest)
 kept_by true whole part log rest h k = h
 kept_by false whole part log rest h k = k
 
 appends_keep : (n : Node) (k : Kept) (ws : List Written) → Keeps n k → Keeps (appends n ws) (writes k ws)
 appends_keep n k ws h =
     kept_by (is_any_forced ws) _ _ _ _
-    (record { forced = ap (λ xs. (xs ++ n.loose) ++ entries_written ws) h.forced ∙ ap (λ xs. (k.forced ++ xs) ++ entries_written ws) h.loose; loose = refl })
+    (record {
+      forced = ap (λ xs. (xs ++ n.loose) ++ entries_written ws) h.forced
+          ∙ ap (λ xs. (k.forced ++ xs) ++ entries_written ws) h.loose;
+      loose = refl;
+    })
     (record { forced = h.forced; loose = ap (λ xs. xs ++ entries_written ws) h.loose })
 
-pub after_keeps : (n : Node) (h : Heard) (e : Effect) (k : Kept) → Keeps n k → Keeps (after n h e) (writes k e.written)
-after_keeps n h e k same = let a = appends_keep n k e.written same in record { forced = a.forced; loose = a.loose }
+pub after_keeps : (n : Node) (h : Heard) (e : Effect) (k : Kept) → Keeps n k
+    → Keeps (after n h e) (writes k e.written)
+after_keeps n h e k same = let a = appends_keep n k e.written same in
+    record { forced = a.forced; loose = a.loose }
 
-failed_by : (b : Bool) (whole part n : Node) → whole.failed ≡ n.failed → part.failed ≡ n.failed → (if b then whole else part).failed ≡ n.failed
+failed_by : (b : Bool) (whole part n : Node) → whole.failed ≡ n.failed → part.failed ≡ n.failed
+    → (if b then whole else part).failed ≡ n.failed
 failed_by true whole part n h k = h
 failed_by false whole part n h k = k
 
@@ -38,7 +46,8 @@ pub same_boot : (n : Node) (e : Effect) → ((b : ℕ) → fold boot_after b (en
     → boot_of (kept n ++ entries_written e.written) ≡ boot_of (kept n)
 same_boot n e boot = boot_of-append (kept n) (entries_written e.written) ∙ boot (boot_of (kept n))
 
-pub after_boots : (n : Node) (h : Heard) (e : Effect) → ((b : ℕ) → fold boot_after b (entries_written e.written) ≡ b)
+pub after_boots : (n : Node) (h : Heard) (e : Effect)
+    → ((b : ℕ) → fold boot_after b (entries_written e.written) ≡ b)
     → boot_of (kept (after n h e)) ≡ boot_of (kept n)
 after_boots n h e boot = ap boot_of (kept-after n h e) ∙ same_boot n e boot
 

@@ -25,12 +25,15 @@ opened_boot : boot_of (kept opened_node) ≡ 1
 unfolding boot_of
 opened_boot = refl
 
-opened_view : (me : ProcessId) (tree : List TreeEntry) (x : Txn) → coordinator_view (root_place me tree) opened_node (root_case x) ≡ unknown_view
+opened_view : (me : ProcessId) (tree : List TreeEntry) (x : Txn)
+    → coordinator_view (root_place me tree) opened_node (root_case x) ≡ unknown_view
 unfolding coordinator_view memory_of has
-opened_view me tree x = ap (λ s. view_at s (kept opened_node) (root_case x) fresh_memory) (idle_heard x.presumption)
+opened_view me tree x = ap (λ s. view_at s (kept opened_node) (root_case x) fresh_memory)
+    (idle_heard x.presumption)
 
 opened_stands : (me : ProcessId) (tree : List TreeEntry) (x : Txn)
-    → StandsIn x.presumption (memory_of (root_place me tree) opened_node (root_case x)).phase (recorded_of (root_case x) (kept opened_node))
+    → StandsIn x.presumption (memory_of (root_place me tree) opened_node (root_case x)).phase
+    (recorded_of (root_case x) (kept opened_node))
 unfolding memory_of has
 opened_stands me tree x = refl
 
@@ -38,19 +41,23 @@ opened_records : (c : Case) → recorded_of c (kept opened_node) ≡ none_record
 unfolding has
 opened_records c = refl
 
-opened_begun : (me : ProcessId) (tree : List TreeEntry) (c : Case) → (memory_of (root_place me tree) opened_node c).begun ≡ 0
+opened_begun : (me : ProcessId) (tree : List TreeEntry) (c : Case)
+    → (memory_of (root_place me tree) opened_node c).begun ≡ 0
 unfolding memory_of
 opened_begun me tree c = refl
 
-opened_given : (me p : ProcessId) (tree : List TreeEntry) (c : Case) → (memory_of (leaf_place me p tree) opened_node c).given ≡ 0
+opened_given : (me p : ProcessId) (tree : List TreeEntry) (c : Case)
+    → (memory_of (leaf_place me p tree) opened_node c).given ≡ 0
 unfolding memory_of
 opened_given me p tree c = refl
 
-opened_active : (me p : ProcessId) (tree : List TreeEntry) (c : Case) → (memory_of (leaf_place me p tree) opened_node c).active ≡ []
+opened_active : (me p : ProcessId) (tree : List TreeEntry) (c : Case)
+    → (memory_of (leaf_place me p tree) opened_node c).active ≡ []
 unfolding memory_of
 opened_active me p tree c = refl
 
-opened_branch : (me p : ProcessId) (tree : List TreeEntry) (c : Case) → manager_view (leaf_place me p tree) opened_node c ≡ unknown_branch
+opened_branch : (me p : ProcessId) (tree : List TreeEntry) (c : Case)
+    → manager_view (leaf_place me p tree) opened_node c ≡ unknown_branch
 unfolding manager_view memory_of mark_of
 opened_branch me p tree c = refl
 
@@ -58,7 +65,8 @@ opened_mark : (c : Case) → mark_of (CaseBranch c) (kept opened_node) ≡ Unmar
 unfolding mark_of
 opened_mark c = refl
 
-root_opened : (me : ProcessId) (tree : List TreeEntry) (r : RootState) → root.IsOpened r me tree → RootFollows me tree opened_node r
+root_opened : (me : ProcessId) (tree : List TreeEntry) (r : RootState) → root.IsOpened r me tree
+    → RootFollows me tree opened_node r
 root_opened me tree r h =
     record {
       is_named = h.is_named;
@@ -72,7 +80,8 @@ root_opened me tree r h =
       sound = record { stands = opened_stands me tree; unticketed = λ x t. opened_records (child_case x t) };
     }
 
-leaf_opened : (me p : ProcessId) (tree : List TreeEntry) (l : LeafState) → leaf.IsOpened l me p → LeafFollows me p tree opened_node l
+leaf_opened : (me p : ProcessId) (tree : List TreeEntry) (l : LeafState) → leaf.IsOpened l me p
+    → LeafFollows me p tree opened_node l
 leaf_opened me p tree l h =
     record {
       is_named = h.is_named;
@@ -91,7 +100,8 @@ no_entries : journal_of [] ≡ []
 unfolding journal_of
 no_entries = refl
 
-pub opened_follows : (me : ProcessId) (tree : List TreeEntry) (s : FlatState) → IsFlatTree me tree → IsOpened s me tree → Follows me tree [] opened_world s
+pub opened_follows : (me : ProcessId) (tree : List TreeEntry) (s : FlatState) → IsFlatTree me tree
+    → IsOpened s me tree → Follows me tree [] opened_world s
 opened_follows me tree s flat h =
     record {
       is_run = opens;

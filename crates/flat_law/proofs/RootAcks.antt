@@ -42,35 +42,43 @@ in_list-append : (ts us : List Ticket) (t : Ticket) → in_list (ts ++ us) t ≡
 unfolding in_list
 in_list-append ts us t = grind (arith, list_any-append)
 
-owing_one : (c : Case) (r : Record) (t : Ticket) → in_list (named_in c r) t ≡ false → in_list (owing_in c r) t ≡ false
+owing_one : (c : Case) (r : Record) (t : Ticket) → in_list (named_in c r) t ≡ false
+    → in_list (owing_in c r) t ≡ false
 unfolding in_list
 owing_one c (CommitRecord d ts) t h = h
 owing_one c (AbortRecord d ts) t h = h
 owing_one c r t h = refl
 
-owing_named : (c : Case) (rs : List Record) (t : Ticket) → in_list (named_by c rs) t ≡ false → in_list (owing_by c rs) t ≡ false
+owing_named : (c : Case) (rs : List Record) (t : Ticket) → in_list (named_by c rs) t ≡ false
+    → in_list (owing_by c rs) t ≡ false
 unfolding named_by owing_by
 owing_named c [] t h = h
 owing_named c (r ∷ rs) t h =
-    let o = out_of (in_list (named_in c r) t) (in_list (flat_map (named_in c) rs) t) (sym (in_list-append (named_in c r) (flat_map (named_in c) rs) t) ∙ h) in
+    let o = out_of (in_list (named_in c r) t) (in_list (flat_map (named_in c) rs) t)
+    (sym (in_list-append (named_in c r) (flat_map (named_in c) rs) t) ∙ h) in
     in_list-append (owing_in c r) (flat_map (owing_in c) rs) t
     ∙ rw (owing_one c r t o.0, owing_named c rs t o.1) refl
 
-kept_out : (g : Ticket → Bool) (u t : Ticket) (ts : List Ticket) (b : Bool) → g u ≡ b → in_list (u ∷ ts) t ≡ false → in_list (filter g ts) t ≡ false
+kept_out : (g : Ticket → Bool) (u t : Ticket) (ts : List Ticket) (b : Bool) → g u ≡ b
+    → in_list (u ∷ ts) t ≡ false → in_list (filter g ts) t ≡ false
     → in_list (filter g (u ∷ ts)) t ≡ false
 unfolding in_list
 kept_out g u t ts true e h rest = rw e (rw ((out_of (same_ticket u t) (in_list ts t) h).0, rest) refl)
 kept_out g u t ts false e h rest = rw e rest
 
-filtered_out : (g : Ticket → Bool) (t : Ticket) (ts : List Ticket) → in_list ts t ≡ false → in_list (filter g ts) t ≡ false
+filtered_out : (g : Ticket → Bool) (t : Ticket) (ts : List Ticket) → in_list ts t ≡ false
+    → in_list (filter g ts) t ≡ false
 unfolding in_list
 filtered_out g t [] h = h
-filtered_out g t (u ∷ ts) h = kept_out g u t ts (g u) refl h (filtered_out g t ts (out_of (same_ticket u t) (in_list ts t) h).1)
+filtered_out g t (u ∷ ts) h =
+    kept_out g u t ts (g u) refl h (filtered_out g t ts (out_of (same_ticket u t) (in_list ts t) h).1)
 
-owed_out : (acks : List (Ticket × Outcome)) (o : Outcome) (c : Case) (rs : List Record) (t : Ticket) → in_list (named_by c rs) t ≡ false
+owed_out : (acks : List (Ticket × Outcome)) (o : Outcome) (c : Case) (rs : List Record) (t : Ticket)
+    → in_list (named_by c rs) t ≡ false
     → in_list (still_owed acks o (owing_by c rs)) t ≡ false
 unfolding still_owed
-owed_out acks o c rs t h = filtered_out (λ u. not (has_acked acks o u)) t (owing_by c rs) (owing_named c rs t h)
+owed_out acks o c rs t h = filtered_out (λ u. not (has_acked acks o u)) t (owing_by c rs)
+    (owing_named c rs t h)
 
 acked_phase : (m : Memory) (t : Ticket) (o : Outcome) (ph : Phase) → (takes_ack m t o ph).phase ≡ m.phase
 acked_phase m t o Idle = refl
@@ -78,7 +86,8 @@ acked_phase m t o Open = refl
 acked_phase m t o Asked = refl
 acked_phase m t o Over = refl
 
-module _ (r r' : RootState) (n : Node) (reaction : Reaction) (f : RootFollows r.me r.tree n r) (k : ℕ) (x : Txn) where
+module _ (r r' : RootState) (n : Node) (reaction : Reaction) (f : RootFollows r.me r.tree n r) (k : ℕ)
+    (x : Txn) where
   abbrev place : Place
   place = root_place r.me r.tree
 
@@ -100,17 +109,23 @@ module _ (r r' : RootState) (n : Node) (reaction : Reaction) (f : RootFollows r.
 
   -- acknowledgements
 
-  not_owed : (t : Ticket) (b : Bool) → b ≡ false → (u : Row) → no_effect ≡ row_effect c (if b then u else quiet v)
+  not_owed : (t : Ticket) (b : Bool) → b ≡ false → (u : Row)
+      → no_effect ≡ row_effect c (if b then u else quiet v)
   not_owed t true e u = absurd (cc)
   not_owed t false e u = refl
 
-  stranger_acks : (t : Ticket) (o : Outcome) (s : Standing) → v.standing ≡ s → in_list (named_by c (kept n)) t ≡ false → no_effect ≡ row_effect c (on_ack seat t o v s)
+  stranger_acks : (t : Ticket) (o : Outcome) (s : Standing) → v.standing ≡ s
+      → in_list (named_by c (kept n)) t ≡ false → no_effect ≡ row_effect c (on_ack seat t o v s)
   stranger_acks t CommittedOutcome Committing e out =
-      let owed : v.owed ≡ still_owed m.acks CommittedOutcome (owing_by c (kept n)) = ap (λ (u : CoordinatorView). u.owed) (seen r r' n reaction f x Committing e) in
-      not_owed t (in_list v.owed t) (ap (λ ts. in_list ts t) owed ∙ owed_out m.acks CommittedOutcome c (kept n) t out) _
+      let owed : v.owed ≡ still_owed m.acks CommittedOutcome (owing_by c (kept n)) =
+      ap (λ (u : CoordinatorView). u.owed) (seen r r' n reaction f x Committing e) in
+      not_owed t (in_list v.owed t)
+      (ap (λ ts. in_list ts t) owed ∙ owed_out m.acks CommittedOutcome c (kept n) t out) _
   stranger_acks t AbortedOutcome Aborting e out =
-      let owed : v.owed ≡ still_owed m.acks AbortedOutcome (owing_by c (kept n)) = ap (λ (u : CoordinatorView). u.owed) (seen r r' n reaction f x Aborting e) in
-      not_owed t (in_list v.owed t) (ap (λ ts. in_list ts t) owed ∙ owed_out m.acks AbortedOutcome c (kept n) t out) _
+      let owed : v.owed ≡ still_owed m.acks AbortedOutcome (owing_by c (kept n)) =
+      ap (λ (u : CoordinatorView). u.owed) (seen r r' n reaction f x Aborting e) in
+      not_owed t (in_list v.owed t)
+      (ap (λ ts. in_list ts t) owed ∙ owed_out m.acks AbortedOutcome c (kept n) t out) _
   stranger_acks t CommittedOutcome Unknown e out = refl
   stranger_acks t CommittedOutcome Active e out = refl
   stranger_acks t CommittedOutcome Collecting e out = refl
@@ -126,26 +141,32 @@ module _ (r r' : RootState) (n : Node) (reaction : Reaction) (f : RootFollows r.
 
   ack_found : (t : Ticket) (o : Outcome) (b : Bool) → belongs m (kept n) c t ≡ b
       → ack_for place None n t o (if b then Some c else None) ≡ row_effect c (on_ack seat t o v v.standing)
-  ack_found t o true found = ap (λ (u : CoordinatorView). row_effect c (on_ack seat t o u u.standing)) (f.views x)
+  ack_found t o true found = ap (λ (u : CoordinatorView). row_effect c (on_ack seat t o u u.standing))
+      (f.views x)
   ack_found t o false found =
-      stranger_acks t o v.standing refl (out_of (in_list m.accepted t) (in_list (named_by c (kept n)) t) found).1
+      stranger_acks t o v.standing refl
+      (out_of (in_list m.accepted t) (in_list (named_by c (kept n)) t) found).1
 
   ended : (s : Standing) → v.standing ≡ s → (s ≡ Unknown → ⊥) → (s ≡ Active → ⊥) → (s ≡ Collecting → ⊥)
       → StandsIn x.presumption m.phase (record (recorded_of c (kept n)) { ended = true })
   ended s e u a q =
-      ends_stands x.presumption m.phase (recorded_of c (kept n)) (none_of (owing_by c (kept n))) s (f.sound.stands x)
+      ends_stands x.presumption m.phase (recorded_of c (kept n)) (none_of (owing_by c (kept n))) s
+      (f.sound.stands x)
       (stands_as r.me r.tree n x s (ap (λ (w : CoordinatorView). w.standing) (f.views x) ∙ e)) u a q
 
   still_stands : RowStands c x.presumption m.phase (recorded_of c (kept n)) []
-  still_stands = quiet_row c x.presumption m.phase m.phase (recorded_of c (kept n)) [] (f.sound.stands x) refl refl
+  still_stands = quiet_row c x.presumption m.phase m.phase (recorded_of c (kept n)) []
+      (f.sound.stands x) refl refl
 
   acked_stands : (t : Ticket) (o : Outcome) (s : Standing) → v.standing ≡ s
       → RowStands c x.presumption m.phase (recorded_of c (kept n)) (on_ack seat t o v s).written
   acked_stands t CommittedOutcome Committing e =
-      ack_stands r.me c v t x.presumption m.phase (recorded_of c (kept n)) (in_list v.owed t) (none_of (other_tickets t v.owed)) (f.sound.stands x)
+      ack_stands r.me c v t x.presumption m.phase (recorded_of c (kept n)) (in_list v.owed t)
+      (none_of (other_tickets t v.owed)) (f.sound.stands x)
       (ended Committing e (λ q. cc) (λ q. cc) (λ q. cc))
   acked_stands t AbortedOutcome Aborting e =
-      ack_stands r.me c v t x.presumption m.phase (recorded_of c (kept n)) (in_list v.owed t) (none_of (other_tickets t v.owed)) (f.sound.stands x)
+      ack_stands r.me c v t x.presumption m.phase (recorded_of c (kept n)) (in_list v.owed t)
+      (none_of (other_tickets t v.owed)) (f.sound.stands x)
       (ended Aborting e (λ q. cc) (λ q. cc) (λ q. cc))
   acked_stands t CommittedOutcome Unknown e = still_stands
   acked_stands t CommittedOutcome Active e = still_stands
@@ -161,17 +182,23 @@ module _ (r r' : RootState) (n : Node) (reaction : Reaction) (f : RootFollows r.
   acked_stands t AbortedOutcome Heuristic e = still_stands
 
   pub ack_step : (a : Outcome) (o : Option Ticket) → let d : Case = record { txn = x; ticket = o } in
-      Makes r r' (of_child o (ack_turn r x a)) reaction → RootStep r.me r.tree n (MessageInput k (Ack d a)) r' reaction
-  ack_step a None made = unheard_step r r' n reaction f k (Ack c a) no_effect made refl refl (λ y. neither (same_txn x y) (memory r r' n f y))
+      Makes r r' (of_child o (ack_turn r x a)) reaction
+      → RootStep r.me r.tree n (MessageInput k (Ack d a)) r' reaction
+  ack_step a None made = unheard_step r r' n reaction f k (Ack c a) no_effect made refl refl
+      (λ y. neither (same_txn x y) (memory r r' n f y))
   ack_step a (Some t) made =
       let d = child_case x t in
       let i = MessageInput k (Ack d a) in
-      let P : CoordinatorView → Type 0 = λ u. MovesTxn place n (hears_message k (Ack d a) no_data) x (on_ack seat t a u u.standing) in
-      let phase : (remembered r r' n f x i).phase ≡ m.phase = ap (λ (q : Memory). q.phase) (ack_memory r.me r.tree n x k t a) ∙ acked_phase m t a m.phase in
+      let P : CoordinatorView → Type 0 =
+      λ u. MovesTxn place n (hears_message k (Ack d a) no_data) x (on_ack seat t a u u.standing) in
+      let phase : (remembered r r' n f x i).phase ≡ m.phase =
+      ap (λ (q : Memory). q.phase) (ack_memory r.me r.tree n x k t a) ∙ acked_phase m t a m.phase in
       by_row r r' n reaction f x i (on_ack seat t a v v.standing)
       (hears_as r.me r.tree n k (Ack d a) f.runs ∙ ap Does (ack_found t a (belongs m (kept n) c t) refl))
-      (subst P (f.views x) ((root_views r.me r.tree n x).acknowledgement k no_data t a (open_alike r.me r.tree n x f.sound)))
+      (subst P (f.views x)
+      ((root_views r.me r.tree n x).acknowledgement k no_data t a (open_alike r.me r.tree n x f.sound)))
       made
-      (subst (λ q. RowStands c x.presumption q (recorded_of c (kept n)) (on_ack seat t a v v.standing).written) (sym phase) (acked_stands t a v.standing refl))
+      (subst (λ q. RowStands c x.presumption q (recorded_of c (kept n))
+      (on_ack seat t a v v.standing).written) (sym phase) (acked_stands t a v.standing refl))
       (λ y o. ap (λ (q : Memory). q.phase) (ack_elsewhere r.me r.tree n x k t a y o))
       (λ j. refl)

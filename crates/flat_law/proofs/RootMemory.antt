@@ -24,7 +24,8 @@ use Rattle.tree_model.proofs.BeginLaws.{begun_next, begun_step}
 -- how many were begun, behind an input
 pub begun-after : (me : ProcessId) (tree : List TreeEntry) (n : Node) (h : Heard) (e : Effect) (c : Case)
     → boot_of (kept n ++ entries_written e.written) ≡ boot_of (kept n)
-    → (memory_of (root_place me tree) (after n h e) c).begun ≡ begun_next (memory_of (root_place me tree) n c).begun h.input
+    → (memory_of (root_place me tree) (after n h e) c).begun ≡ begun_next
+    (memory_of (root_place me tree) n c).begun h.input
 begun-after me tree n h e c boot =
     ap (λ (m : Memory). m.begun) (memory_of-after (root_place me tree) n h e c boot)
     ∙ begun_step me (boot_of (kept n)) c (memory_of (root_place me tree) n c) h.input
@@ -35,21 +36,26 @@ idle_if : (b : Bool) (m r : Memory) → m.phase ≡ Idle → r.phase ≡ Idle �
 idle_if true m r h k = k
 idle_if false m r h k = h
 
-idle_at : (m : Memory) (f : Phase → Memory) → m.phase ≡ Idle → (f Idle).phase ≡ m.phase → (f m.phase).phase ≡ Idle
+idle_at : (m : Memory) (f : Phase → Memory) → m.phase ≡ Idle → (f Idle).phase ≡ m.phase
+    → (f m.phase).phase ≡ Idle
 idle_at m f h same = ap (λ ph. (f ph).phase) h ∙ (same ∙ h)
 
 idle_work : (m : Memory) (o : Option Ticket) → (sends_work m o Idle).phase ≡ m.phase
 idle_work m None = refl
 idle_work m (Some t) = refl
 
-idle_ticket : (o : Option Ticket) (m : Memory) (f : Ticket → Memory) → m.phase ≡ Idle → ((t : Ticket) → (f t).phase ≡ Idle) → (of_ticket o m f).phase ≡ Idle
+idle_ticket : (o : Option Ticket) (m : Memory) (f : Ticket → Memory) → m.phase ≡ Idle
+    → ((t : Ticket) → (f t).phase ≡ Idle) → (of_ticket o m f).phase ≡ Idle
 idle_ticket None m f h k = h
 idle_ticket (Some t) m f h k = k t
 
-idle_child : (c d : Case) (m : Memory) (f : Ticket → Memory) → m.phase ≡ Idle → ((t : Ticket) → (f t).phase ≡ Idle) → (of_child c d m f).phase ≡ Idle
-idle_child c d m f h k = idle_if (same_txn d.txn c.txn) m (of_ticket d.ticket m f) h (idle_ticket d.ticket m f h k)
+idle_child : (c d : Case) (m : Memory) (f : Ticket → Memory) → m.phase ≡ Idle
+    → ((t : Ticket) → (f t).phase ≡ Idle) → (of_child c d m f).phase ≡ Idle
+idle_child c d m f h k =
+    idle_if (same_txn d.txn c.txn) m (of_ticket d.ticket m f) h (idle_ticket d.ticket m f h k)
 
-idle_hears : (c : Case) (m : Memory) (message : Message) → m.phase ≡ Idle → (hears_child c m message).phase ≡ Idle
+idle_hears : (c : Case) (m : Memory) (message : Message) → m.phase ≡ Idle
+    → (hears_child c m message).phase ≡ Idle
 idle_hears c m (Joined d t) h = idle_if (same_case d c) m _ h (idle_at m (λ ph. accepts_ticket m t ph) h refl)
 idle_hears c m (Yes d) h = idle_child c d m _ h (λ t. idle_at m (λ ph. takes_vote m t VoteYes ph) h refl)
 idle_hears c m (No d) h = idle_child c d m _ h (λ t. idle_at m (λ ph. takes_vote m t VoteNo ph) h refl)
@@ -67,12 +73,18 @@ idle_begun : (b : Bool) (m r : Memory) → b ≡ false → m.phase ≡ Idle → 
 idle_begun true m r e h = absurd (cc)
 idle_begun false m r e h = h
 
-idle_stays : (me : ProcessId) (boot : ℕ) (c : Case) (m : Memory) (i : Input) → BeginsOther me boot c m i → m.phase ≡ Idle → (root_remembers me boot c m i).phase ≡ Idle
-idle_stays me boot c m (ActInput (Begin p)) o h = idle_begun (same_case (root_case (next_txn me boot m p)) c) (record m { begun = m.begun + 1 }) _ o h
+idle_stays : (me : ProcessId) (boot : ℕ) (c : Case) (m : Memory) (i : Input) → BeginsOther me boot c m i
+    → m.phase ≡ Idle → (root_remembers me boot c m i).phase ≡ Idle
+idle_stays me boot c m (ActInput (Begin p)) o h =
+    idle_begun (same_case (root_case (next_txn me boot m p)) c) (record m { begun = m.begun + 1 }) _ o h
 idle_stays me boot c m (ActInput (WorkAct d q op)) o h =
-    idle_if (same_case d c) m _ h (idle_at m (λ ph. sends_work m (ticket_of_child m.accepted q) ph) h (idle_work m (ticket_of_child m.accepted q)))
-idle_stays me boot c m (ActInput (CommitAct x)) o h = idle_if (same_case (root_case x) c) m _ h (idle_at m (λ ph. asks_votes m ph) h refl)
-idle_stays me boot c m (ActInput (AbortAct x)) o h = idle_if (same_case (root_case x) c) m _ h (idle_at m (λ ph. closes m ph) h refl)
+    idle_if (same_case d c) m _ h
+    (idle_at m (λ ph. sends_work m (ticket_of_child m.accepted q) ph) h
+    (idle_work m (ticket_of_child m.accepted q)))
+idle_stays me boot c m (ActInput (CommitAct x)) o h =
+    idle_if (same_case (root_case x) c) m _ h (idle_at m (λ ph. asks_votes m ph) h refl)
+idle_stays me boot c m (ActInput (AbortAct x)) o h =
+    idle_if (same_case (root_case x) c) m _ h (idle_at m (λ ph. closes m ph) h refl)
 idle_stays me boot c m (ActInput a) o h = h
 idle_stays me boot c m (MessageInput k message) o h = idle_hears c m message h
 
@@ -81,18 +93,22 @@ idle_stays me boot c m (MessageInput k message) o h = idle_hears c m message h
 abbrev pub Awaits : Txn → Memory → Type 0
 Awaits x m = m.begun < x.sequence → m.phase ≡ Idle
 
-other_number : (me : ProcessId) (boot : ℕ) (x y : Txn) (b : Bool) → same_case (root_case y) (root_case x) ≡ b → y.sequence < x.sequence → b ≡ false
+other_number : (me : ProcessId) (boot : ℕ) (x y : Txn) (b : Bool)
+    → same_case (root_case y) (root_case x) ≡ b → y.sequence < x.sequence → b ≡ false
 other_number me boot x y true s below =
-    let same : y.sequence ≡ x.sequence = ap (λ (c : Case). c.txn.sequence) (one_case (root_case y) (root_case x) s) in
+    let same : y.sequence ≡ x.sequence =
+    ap (λ (c : Case). c.txn.sequence) (one_case (root_case y) (root_case x) s) in
     absurd (omega arith)
   where
     one_case : (c d : Case) → same_case c d ≡ true → c ≡ d
     one_case c d h = grind (arith, same_case_tells)
 other_number me boot x y false s below = refl
 
-begins_other : (me : ProcessId) (boot : ℕ) (x : Txn) (m : Memory) (i : Input) → begun_next m.begun i < x.sequence → BeginsOther me boot (root_case x) m i
+begins_other : (me : ProcessId) (boot : ℕ) (x : Txn) (m : Memory) (i : Input)
+    → begun_next m.begun i < x.sequence → BeginsOther me boot (root_case x) m i
 begins_other me boot x m (ActInput (Begin p)) below =
-    other_number me boot x (next_txn me boot m p) (same_case (root_case (next_txn me boot m p)) (root_case x)) refl below
+    other_number me boot x (next_txn me boot m p)
+    (same_case (root_case (next_txn me boot m p)) (root_case x)) refl below
 begins_other me boot x m (ActInput a) below = tt
 begins_other me boot x m (MessageInput k message) below = tt
 
@@ -101,16 +117,22 @@ grows k (ActInput (Begin p)) s h = omega arith
 grows k (ActInput a) s h = h
 grows k (MessageInput j message) s h = h
 
-awaits_step : (me : ProcessId) (boot : ℕ) (x : Txn) (m : Memory) (i : Input) → Awaits x m → Awaits x (root_remembers me boot (root_case x) m i)
+awaits_step : (me : ProcessId) (boot : ℕ) (x : Txn) (m : Memory) (i : Input) → Awaits x m
+    → Awaits x (root_remembers me boot (root_case x) m i)
 awaits_step me boot x m i h = λ below.
     let later : begun_next m.begun i < x.sequence = rw (← begun_step me boot (root_case x) m i) below in
-    idle_stays me boot (root_case x) m i (begins_other me boot x m i later) (h (grows m.begun i x.sequence later))
+    idle_stays me boot (root_case x) m i (begins_other me boot x m i later)
+    (h (grows m.begun i x.sequence later))
 
-awaits_fold : (me : ProcessId) (boot : ℕ) (x : Txn) (m : Memory) (hs : List Heard) → Awaits x m → Awaits x (fold (remembers me AtRoot boot (root_case x)) m hs)
+awaits_fold : (me : ProcessId) (boot : ℕ) (x : Txn) (m : Memory) (hs : List Heard) → Awaits x m
+    → Awaits x (fold (remembers me AtRoot boot (root_case x)) m hs)
 awaits_fold me boot x m [] h = h
-awaits_fold me boot x m (g ∷ hs) h = awaits_fold me boot x (root_remembers me boot (root_case x) m g.input) hs (awaits_step me boot x m g.input h)
+awaits_fold me boot x m (g ∷ hs) h =
+    awaits_fold me boot x (root_remembers me boot (root_case x) m g.input) hs
+    (awaits_step me boot x m g.input h)
 
-pub not_begun_is_idle : (me : ProcessId) (tree : List TreeEntry) (n : Node) (x : Txn) → Awaits x (memory_of (root_place me tree) n (root_case x))
+pub not_begun_is_idle : (me : ProcessId) (tree : List TreeEntry) (n : Node) (x : Txn)
+    → Awaits x (memory_of (root_place me tree) n (root_case x))
 unfolding memory_of
 not_begun_is_idle me tree n x = awaits_fold me (boot_of (kept n)) x fresh_memory n.heard (λ below. refl)
 
@@ -124,18 +146,21 @@ pub ticketed : (x y : Txn) (t : Ticket) → same_case (root_case x) (child_case 
 unfolding same_case same_owner
 ticketed x y t = and_no (same_txn x y)
 
-none_begins : (me : ProcessId) (boot : ℕ) (x : Txn) (t : Ticket) (m : Memory) (i : Input) → BeginsOther me boot (child_case x t) m i
+none_begins : (me : ProcessId) (boot : ℕ) (x : Txn) (t : Ticket) (m : Memory) (i : Input)
+    → BeginsOther me boot (child_case x t) m i
 none_begins me boot x t m (ActInput (Begin p)) = ticketed (next_txn me boot m p) x t
 none_begins me boot x t m (ActInput a) = tt
 none_begins me boot x t m (MessageInput k message) = tt
 
-ticketed_fold : (me : ProcessId) (boot : ℕ) (x : Txn) (t : Ticket) (m : Memory) (hs : List Heard) → m.phase ≡ Idle
+ticketed_fold : (me : ProcessId) (boot : ℕ) (x : Txn) (t : Ticket) (m : Memory) (hs : List Heard)
+    → m.phase ≡ Idle
     → (fold (remembers me AtRoot boot (child_case x t)) m hs).phase ≡ Idle
 ticketed_fold me boot x t m [] h = h
 ticketed_fold me boot x t m (g ∷ hs) h =
     ticketed_fold me boot x t (root_remembers me boot (child_case x t) m g.input) hs
     (idle_stays me boot (child_case x t) m g.input (none_begins me boot x t m g.input) h)
 
-pub ticketed_is_idle : (me : ProcessId) (tree : List TreeEntry) (n : Node) (x : Txn) (t : Ticket) → (memory_of (root_place me tree) n (child_case x t)).phase ≡ Idle
+pub ticketed_is_idle : (me : ProcessId) (tree : List TreeEntry) (n : Node) (x : Txn) (t : Ticket)
+    → (memory_of (root_place me tree) n (child_case x t)).phase ≡ Idle
 unfolding memory_of
 ticketed_is_idle me tree n x t = ticketed_fold me (boot_of (kept n)) x t fresh_memory n.heard refl

@@ -27,9 +27,12 @@ use Rattle.flat_law.specs.Ties.{Recorded, recorded_of, none_recorded, StandsIn, 
 
 pub data Wrote (c : Case) (ws : List Written) : Type 0 where
   wrote_nothing : ws ≡ [] → Wrote c ws
-  wrote_collecting : (ts : List Ticket) (b : Bool) → ws ≡ record { entry = CollectingRecord c ts; is_forced = b } ∷ [] → Wrote c ws
-  wrote_commit : (ts : List Ticket) (b : Bool) → ws ≡ record { entry = CommitRecord c ts; is_forced = b } ∷ [] → Wrote c ws
-  wrote_abort : (ts : List Ticket) (b : Bool) → ws ≡ record { entry = AbortRecord c ts; is_forced = b } ∷ [] → Wrote c ws
+  wrote_collecting : (ts : List Ticket) (b : Bool)
+      → ws ≡ record { entry = CollectingRecord c ts; is_forced = b } ∷ [] → Wrote c ws
+  wrote_commit : (ts : List Ticket) (b : Bool)
+      → ws ≡ record { entry = CommitRecord c ts; is_forced = b } ∷ [] → Wrote c ws
+  wrote_abort : (ts : List Ticket) (b : Bool)
+      → ws ≡ record { entry = AbortRecord c ts; is_forced = b } ∷ [] → Wrote c ws
   wrote_end : (b : Bool) → ws ≡ record { entry = EndRecord c; is_forced = b } ∷ [] → Wrote c ws
 
 -- what stands behind it
@@ -40,21 +43,24 @@ noted (wrote_commit ts b h) f = record f { committed = true }
 noted (wrote_abort ts b h) f = record f { aborted = true }
 noted (wrote_end b h) f = record f { ended = true }
 
-pub wrote_no_boot : (c : Case) (ws : List Written) → Wrote c ws → (b : ℕ) → fold boot_after b (entries_written ws) ≡ b
+pub wrote_no_boot : (c : Case) (ws : List Written) → Wrote c ws → (b : ℕ)
+    → fold boot_after b (entries_written ws) ≡ b
 wrote_no_boot c ws (wrote_nothing h) b = rw h refl
 wrote_no_boot c ws (wrote_collecting ts q h) b = rw h refl
 wrote_no_boot c ws (wrote_commit ts q h) b = rw h refl
 wrote_no_boot c ws (wrote_abort ts q h) b = rw h refl
 wrote_no_boot c ws (wrote_end q h) b = rw h refl
 
-pub recorded-own : (c : Case) (ws : List Written) (w : Wrote c ws) (rs : List Record) → recorded_of c (rs ++ entries_written ws) ≡ noted w (recorded_of c rs)
+pub recorded-own : (c : Case) (ws : List Written) (w : Wrote c ws) (rs : List Record)
+    → recorded_of c (rs ++ entries_written ws) ≡ noted w (recorded_of c rs)
 recorded-own c ws (wrote_nothing h) rs = rw h (simp append-nil refl)
 recorded-own c ws (wrote_collecting ts q h) rs = rw h (simp pushed refl)
 recorded-own c ws (wrote_commit ts q h) rs = rw h (simp pushed refl)
 recorded-own c ws (wrote_abort ts q h) rs = rw h (simp pushed refl)
 recorded-own c ws (wrote_end q h) rs = rw h (simp pushed refl)
 
-pub recorded-other : (c d : Case) (ws : List Written) (w : Wrote c ws) (rs : List Record) → same_case c d ≡ false → recorded_of d (rs ++ entries_written ws) ≡ recorded_of d rs
+pub recorded-other : (c d : Case) (ws : List Written) (w : Wrote c ws) (rs : List Record)
+    → same_case c d ≡ false → recorded_of d (rs ++ entries_written ws) ≡ recorded_of d rs
 recorded-other c d ws (wrote_nothing h) rs o = rw h (simp append-nil refl)
 recorded-other c d ws (wrote_collecting ts q h) rs o = rw h (simp (pushed, o) refl)
 recorded-other c d ws (wrote_commit ts q h) rs o = rw h (simp (pushed, o) refl)
@@ -66,7 +72,8 @@ recorded-other c d ws (wrote_end q h) rs o = rw h (simp (pushed, o) refl)
 abbrev pub standing_from : Recorded → Bool → Standing → Standing
 standing_from f none heard = standing_by f.ended f.committed f.aborted f.prepared f.collecting none heard
 
-past_not_collecting : (E C A K N : Bool) → (K ≡ true → (E || (C || A)) ≡ true) → standing_by E C A false K N Unknown ≡ Collecting → ⊥
+past_not_collecting : (E C A K N : Bool) → (K ≡ true → (E || (C || A)) ≡ true)
+    → standing_by E C A false K N Unknown ≡ Collecting → ⊥
 past_not_collecting true C A K N h e = cc
 past_not_collecting false true A K true h e = cc
 past_not_collecting false true A K false h e = cc
@@ -94,10 +101,12 @@ pub record GoTogether (p : Presumption) (ph : Phase) (f : Recorded) (none : Bool
   pub collecting_is_asked : standing_from f none (phase_standing p ph) ≡ Collecting → ph ≡ Asked
   pub no_record_collects : p ≡ PresumeAbort → f.collecting ≡ false
 
-clean : (p : Presumption) (ph : Phase) (none : Bool) (f : Recorded) → f ≡ none_recorded → GoTogether p ph none_recorded none → GoTogether p ph f none
+clean : (p : Presumption) (ph : Phase) (none : Bool) (f : Recorded) → f ≡ none_recorded
+    → GoTogether p ph none_recorded none → GoTogether p ph f none
 clean p ph none f e h = subst (λ g. GoTogether p ph g none) (sym e) h
 
-pub together : (p : Presumption) (ph : Phase) (f : Recorded) (none : Bool) → StandsIn p ph f → GoTogether p ph f none
+pub together : (p : Presumption) (ph : Phase) (f : Recorded) (none : Bool) → StandsIn p ph f
+    → GoTogether p ph f none
 together p Idle f none h =
     clean p Idle none f h (record {
       open_is_active = λ e. absurd (cc);
@@ -130,12 +139,15 @@ together p Over f none h =
     record {
       open_is_active = λ e. absurd (cc);
       asked_is_collecting = λ e. absurd (cc);
-      collecting_is_asked = λ e. absurd (past_not_collecting f.ended f.committed f.aborted f.collecting none h.closed
-          (ap (λ q. standing_by f.ended f.committed f.aborted q f.collecting none Unknown) (sym h.unpromised) ∙ (ap (λ s. standing_from f none s) (sym (past_heard p)) ∙ e)));
+      collecting_is_asked =
+          λ e. absurd (past_not_collecting f.ended f.committed f.aborted f.collecting none h.closed
+          (ap (λ q. standing_by f.ended f.committed f.aborted q f.collecting none Unknown)
+          (sym h.unpromised) ∙ (ap (λ s. standing_from f none s) (sym (past_heard p)) ∙ e)));
       no_record_collects = h.uncollected;
     }
 
-pub open_alike : (me : ProcessId) (tree : List TreeEntry) (n : Node) (x : Txn) → IsInPhase me tree n → IsOpenAlike (root_place me tree) n (root_case x)
+pub open_alike : (me : ProcessId) (tree : List TreeEntry) (n : Node) (x : Txn) → IsInPhase me tree n
+    → IsOpenAlike (root_place me tree) n (root_case x)
 unfolding coordinator_view
 open_alike me tree n x sound =
     let c = root_case x in
@@ -160,7 +172,8 @@ promised_none c (PrepareRecord d ts ∷ rs) h =
     rw no (promised_none c rs (other_false (same_case d c) (has (is_prepare c) rs) h))
 promised_none c (r ∷ rs) h = promised_none c rs h
 
-named_none : (c : Case) (rs : List Record) → has (is_collecting c) rs ≡ false → has (is_prepare c) rs ≡ false → has (is_commit c) rs ≡ false → has (is_abort c) rs ≡ false
+named_none : (c : Case) (rs : List Record) → has (is_collecting c) rs ≡ false
+    → has (is_prepare c) rs ≡ false → has (is_commit c) rs ≡ false → has (is_abort c) rs ≡ false
     → named_by c rs ≡ []
 unfolding has named_by
 named_none c [] k p m a = refl

@@ -56,7 +56,8 @@ work_for_same : (r : RootState) (x : Txn) (op : Op) (v : CoordinatorView) (o : O
     → work_for (root.seat_of r x) r.tree op v o ≡ reacts_of (root.work_for r x op v o)
 work_for_same r x op v None = refl
 work_for_same r x op v (Some t) =
-    sym (turn_if (is_leaf (role_of r.tree t.child)) (Takes x (active_work (root.seat_of r x) t op v)) (Refuses NotAChild))
+    sym (turn_if (is_leaf (role_of r.tree t.child)) (Takes x (active_work (root.seat_of r x) t op v))
+    (Refuses NotAChild))
 
 work_same : (r : RootState) (x : Txn) (q : ProcessId) (op : Op) (v : CoordinatorView) (s : Standing)
     → work_by (root.seat_of r x) r.tree q op v s ≡ reacts_of (root.work_turn r x q op v s)
@@ -93,15 +94,18 @@ module _ (r : RootState) (n : Node) (f : RootFollows r.me r.tree n r) where
   place = root_place r.me r.tree
 
   -- a case with a ticket is Unknown at the root
-  ticketed_is_unknown : (x : Txn) (t : Ticket) → (coordinator_view place n (child_case x t)).standing ≡ Unknown
+  ticketed_is_unknown : (x : Txn) (t : Ticket)
+      → (coordinator_view place n (child_case x t)).standing ≡ Unknown
   unfolding coordinator_view
   ticketed_is_unknown x t =
       let c = child_case x t in
       let rs = kept n in
       let m = memory_of place n c in
       view_standing (coordinator_standing rs c m) rs c m
-      ∙ (ap (λ g. standing_from g (none_of (owing_by c rs)) (phase_standing x.presumption m.phase)) (f.sound.unticketed x t)
-      ∙ (ap (λ ph. phase_standing x.presumption ph) (ticketed_is_idle r.me r.tree n x t) ∙ idle_heard x.presumption))
+      ∙ (ap (λ g. standing_from g (none_of (owing_by c rs)) (phase_standing x.presumption m.phase))
+      (f.sound.unticketed x t)
+      ∙ (ap (λ ph. phase_standing x.presumption ph) (ticketed_is_idle r.me r.tree n x t)
+      ∙ idle_heard x.presumption))
 
   join_acts : (x : Txn) (o : Option Ticket) (q : ProcessId) → let c : Case = record { txn = x; ticket = o } in
       coordinator_acts place None n (JoinAct c q) ≡ reacts_of (acts r (JoinAct c q))
@@ -109,20 +113,24 @@ module _ (r : RootState) (n : Node) (f : RootFollows r.me r.tree n r) where
       ap (λ (v : CoordinatorView). join_by (root.seat_of r x) r.tree q v v.standing) (f.views x)
       ∙ join_same r x q (r.view_of x) (r.view_of x).standing
   join_acts x (Some t) q =
-      ap (λ s. join_by (seat_of place None (child_case x t)) r.tree q (coordinator_view place n (child_case x t)) s)
+      ap (λ s. join_by (seat_of place None (child_case x t)) r.tree q
+      (coordinator_view place n (child_case x t)) s)
       (ticketed_is_unknown x t)
 
-  work_acts : (x : Txn) (o : Option Ticket) (q : ProcessId) (op : Op) → let c : Case = record { txn = x; ticket = o } in
+  work_acts : (x : Txn) (o : Option Ticket) (q : ProcessId) (op : Op) → let c : Case =
+      record { txn = x; ticket = o } in
       coordinator_acts place None n (WorkAct c q op) ≡ reacts_of (acts r (WorkAct c q op))
   work_acts x None q op =
       ap (λ (v : CoordinatorView). work_by (root.seat_of r x) r.tree q op v v.standing) (f.views x)
       ∙ work_same r x q op (r.view_of x) (r.view_of x).standing
   work_acts x (Some t) q op =
-      ap (λ s. work_by (seat_of place None (child_case x t)) r.tree q op (coordinator_view place n (child_case x t)) s)
+      ap (λ s. work_by (seat_of place None (child_case x t)) r.tree q op
+      (coordinator_view place n (child_case x t)) s)
       (ticketed_is_unknown x t)
 
   -- what the root refuses, the model does
-  refused_as : (a : Act) (e : StepError) → is_application_act a ≡ true → acts r a ≡ Refuses e → coordinator_acts place None n a ≡ Refused e
+  refused_as : (a : Act) (e : StepError) → is_application_act a ≡ true → acts r a ≡ Refuses e
+      → coordinator_acts place None n a ≡ Refused e
   refused_as (Begin p) e h refused = absurd (cc)
   refused_as (JoinAct c q) e h refused = join_acts c.txn c.ticket q ∙ ap reacts_of refused
   refused_as (WorkAct c q op) e h refused = work_acts c.txn c.ticket q op ∙ ap reacts_of refused
@@ -136,21 +144,30 @@ module _ (r : RootState) (n : Node) (f : RootFollows r.me r.tree n r) where
   refused_as (Decide c o) e h refused = absurd (cc)
   refused_as (Forget c) e h refused = absurd (cc)
 
-  refused_if : (b : Bool) (p : Turn) (q : Reacts) (e : StepError) → (p ≡ Refuses e → q ≡ Refused e) → (if b then p else Refuses NoSuch) ≡ Refuses e
+  refused_if : (b : Bool) (p : Turn) (q : Reacts) (e : StepError) → (p ≡ Refuses e → q ≡ Refused e)
+      → (if b then p else Refuses NoSuch) ≡ Refuses e
       → (if b then q else Refused NoSuch) ≡ Refused e
   refused_if true p q e h k = h k
   refused_if false p q e h k = ap reacts_of k
 
-  root_refuses : (a : Act) (d : DataAnswer) (e : StepError) → is_application_act a ≡ true → act_turn r a ≡ Refuses e
+  root_refuses : (a : Act) (d : DataAnswer) (e : StepError) → is_application_act a ≡ true
+      → act_turn r a ≡ Refuses e
       → reacts place n (hears_act a d) ≡ Refused e
   unfolding reacts
   root_refuses a d e h refused =
-      ap (λ b. if names_listed r.tree a then (if b then Refused Failed else coordinator_acts place None n a) else Refused NoSuch) f.runs
-      ∙ refused_if (names_listed r.tree a) (acts r a) (coordinator_acts place None n a) e (refused_as a e h) refused
+      ap (λ b. if names_listed r.tree a then
+      (if b then Refused Failed else coordinator_acts place None n a) else Refused NoSuch) f.runs
+      ∙ refused_if (names_listed r.tree a) (acts r a) (coordinator_acts place None n a) e
+      (refused_as a e h) refused
 
-pub refuses_at_root : (me : ProcessId) (tree : List TreeEntry) (n : Node) (r : RootState) (a : Act) (d : DataAnswer) (e : StepError) → RootFollows me tree n r
-    → is_application_act a ≡ true → act_turn r a ≡ Refuses e → reacts (root_place me tree) n (hears_act a d) ≡ Refused e
+pub refuses_at_root : (me : ProcessId) (tree : List TreeEntry) (n : Node) (r : RootState) (a : Act)
+    (d : DataAnswer) (e : StepError) → RootFollows me tree n r
+    → is_application_act a ≡ true → act_turn r a ≡ Refuses e
+    → reacts (root_place me tree) n (hears_act a d) ≡ Refused e
 refuses_at_root me tree n r a d e f h refused =
-    let own : RootFollows r.me r.tree n r = subst (λ t. RootFollows r.me t n r) (sym f.has_tree) (subst (λ p. RootFollows p tree n r) (sym f.is_named) f) in
+    let own : RootFollows r.me r.tree n r =
+    subst (λ t. RootFollows r.me t n r) (sym f.has_tree)
+    (subst (λ p. RootFollows p tree n r) (sym f.is_named) f) in
     subst (λ p. reacts (root_place p tree) n (hears_act a d) ≡ Refused e) f.is_named
-    (subst (λ t. reacts (root_place r.me t) n (hears_act a d) ≡ Refused e) f.has_tree (root_refuses r n own a d e h refused))
+    (subst (λ t. reacts (root_place r.me t) n (hears_act a d) ≡ Refused e) f.has_tree
+    (root_refuses r n own a d e h refused))

@@ -29,7 +29,8 @@ use Rattle.flat_law.proofs.RootVotes.{vote_step}
 use Rattle.flat_law.proofs.RootAcks.{ack_step}
 use Rattle.flat_law.proofs.RootTickets.{unheard_step, joined_step}
 
-module _ (r r' : RootState) (n : Node) (reaction : Reaction) (f : RootFollows r.me r.tree n r) (k : ℕ) (x : Txn) where
+module _ (r r' : RootState) (n : Node) (reaction : Reaction) (f : RootFollows r.me r.tree n r) (k : ℕ)
+    (x : Txn) where
   abbrev place : Place
   place = root_place r.me r.tree
 
@@ -61,38 +62,60 @@ module _ (r r' : RootState) (n : Node) (reaction : Reaction) (f : RootFollows r.
   inquiry_quiet t Heuristic = refl
 
   -- to an Unknown case no child belongs by its view
-  unknown_holds_none : (t : Ticket) → v.standing ≡ Unknown → (in_list v.accepted t || in_list v.named t) ≡ false
+  unknown_holds_none : (t : Ticket) → v.standing ≡ Unknown
+      → (in_list v.accepted t || in_list v.named t) ≡ false
   unfolding in_list
   unknown_holds_none t e =
-      ap (λ (u : CoordinatorView). in_list u.accepted t || in_list u.named t) (seen r r' n reaction f x Unknown e)
+      ap (λ (u : CoordinatorView). in_list u.accepted t || in_list u.named t)
+      (seen r r' n reaction f x Unknown e)
 
-  same_test : (t : Ticket) (s : Standing) → v.standing ≡ s → (s ≡ Unknown → ⊥) → v.accepted ≡ m.accepted → v.named ≡ named_by c (kept n)
+  same_test : (t : Ticket) (s : Standing) → v.standing ≡ s → (s ≡ Unknown → ⊥) → v.accepted ≡ m.accepted
+      → v.named ≡ named_by c (kept n)
       → belongs m (kept n) c t ≡ (in_list v.accepted t || in_list v.named t)
   same_test t s e known accepted named = rw (accepted, named) refl
 
-  known_test : (t : Ticket) (s : Standing) → v.standing ≡ s → (s ≡ Unknown → ⊥) → belongs m (kept n) c t ≡ (in_list v.accepted t || in_list v.named t)
+  known_test : (t : Ticket) (s : Standing) → v.standing ≡ s → (s ≡ Unknown → ⊥)
+      → belongs m (kept n) c t ≡ (in_list v.accepted t || in_list v.named t)
   known_test t Unknown e h = absurd (h refl)
-  known_test t Active e h = let w = seen r r' n reaction f x Active e in same_test t Active e h (ap (λ (u : CoordinatorView). u.accepted) w) (ap (λ (u : CoordinatorView). u.named) w)
-  known_test t Collecting e h = let w = seen r r' n reaction f x Collecting e in same_test t Collecting e h (ap (λ (u : CoordinatorView). u.accepted) w) (ap (λ (u : CoordinatorView). u.named) w)
-  known_test t Prepared e h = let w = seen r r' n reaction f x Prepared e in same_test t Prepared e h (ap (λ (u : CoordinatorView). u.accepted) w) (ap (λ (u : CoordinatorView). u.named) w)
-  known_test t Committing e h = let w = seen r r' n reaction f x Committing e in same_test t Committing e h (ap (λ (u : CoordinatorView). u.accepted) w) (ap (λ (u : CoordinatorView). u.named) w)
-  known_test t Aborting e h = let w = seen r r' n reaction f x Aborting e in same_test t Aborting e h (ap (λ (u : CoordinatorView). u.accepted) w) (ap (λ (u : CoordinatorView). u.named) w)
-  known_test t Heuristic e h = let w = seen r r' n reaction f x Heuristic e in same_test t Heuristic e h (ap (λ (u : CoordinatorView). u.accepted) w) (ap (λ (u : CoordinatorView). u.named) w)
+  known_test t Active e h = let w = seen r r' n reaction f x Active e in
+      same_test t Active e h (ap (λ (u : CoordinatorView). u.accepted) w)
+      (ap (λ (u : CoordinatorView). u.named) w)
+  known_test t Collecting e h = let w = seen r r' n reaction f x Collecting e in
+      same_test t Collecting e h (ap (λ (u : CoordinatorView). u.accepted) w)
+      (ap (λ (u : CoordinatorView). u.named) w)
+  known_test t Prepared e h = let w = seen r r' n reaction f x Prepared e in
+      same_test t Prepared e h (ap (λ (u : CoordinatorView). u.accepted) w)
+      (ap (λ (u : CoordinatorView). u.named) w)
+  known_test t Committing e h = let w = seen r r' n reaction f x Committing e in
+      same_test t Committing e h (ap (λ (u : CoordinatorView). u.accepted) w)
+      (ap (λ (u : CoordinatorView). u.named) w)
+  known_test t Aborting e h = let w = seen r r' n reaction f x Aborting e in
+      same_test t Aborting e h (ap (λ (u : CoordinatorView). u.accepted) w)
+      (ap (λ (u : CoordinatorView). u.named) w)
+  known_test t Heuristic e h = let w = seen r r' n reaction f x Heuristic e in
+      same_test t Heuristic e h (ap (λ (u : CoordinatorView). u.accepted) w)
+      (ap (λ (u : CoordinatorView). u.named) w)
 
   -- what the model answers, by whether the child belongs to the case
-  inquired : (t : Ticket) → (b : Bool) → belongs m (kept n) c t ≡ b → hears_from_child place None n (Inquire (child_case x t)) ≡ inquiry_for place None n x t (if b then Some c else None)
+  inquired : (t : Ticket) → (b : Bool) → belongs m (kept n) c t ≡ b
+      → hears_from_child place None n (Inquire (child_case x t)) ≡ inquiry_for place None n x t
+      (if b then Some c else None)
   inquired t b e = ap (λ q. inquiry_for place None n x t (if q then Some c else None)) e
 
-  told_by_row : (t : Ticket) → inquiry_for place None n x t (Some c) ≡ row_effect c (on_inquiry seat t v v.standing)
+  told_by_row : (t : Ticket) → inquiry_for place None n x t (Some c) ≡ row_effect c
+      (on_inquiry seat t v v.standing)
   told_by_row t = ap (λ (u : CoordinatorView). row_effect c (on_inquiry seat t u u.standing)) (f.views x)
 
-  unknown_told : (t : Ticket) → v.standing ≡ Unknown → (b : Bool) → inquiry_for place None n x t (if b then Some c else None) ≡ sends_only (answer t ∷ [])
+  unknown_told : (t : Ticket) → v.standing ≡ Unknown → (b : Bool)
+      → inquiry_for place None n x t (if b then Some c else None) ≡ sends_only (answer t ∷ [])
   unknown_told t e true = told_by_row t ∙ ap (λ s. row_effect c (on_inquiry seat t v s)) e
   unknown_told t e false = refl
 
-  answered : (t : Ticket) (s : Standing) → v.standing ≡ s → (in_list v.accepted t || in_list v.named t) ≡ false
+  answered : (t : Ticket) (s : Standing) → v.standing ≡ s
+      → (in_list v.accepted t || in_list v.named t) ≡ false
       → hears_from_child place None n (Inquire (child_case x t)) ≡ sends_only (answer t ∷ [])
-  answered t Unknown e out = inquired t (belongs m (kept n) c t) refl ∙ unknown_told t e (belongs m (kept n) c t)
+  answered t Unknown e out = inquired t (belongs m (kept n) c t) refl
+      ∙ unknown_told t e (belongs m (kept n) c t)
   answered t Active e out = inquired t false (known_test t Active e (λ q. cc) ∙ out)
   answered t Collecting e out = inquired t false (known_test t Collecting e (λ q. cc) ∙ out)
   answered t Prepared e out = inquired t false (known_test t Prepared e (λ q. cc) ∙ out)
@@ -101,7 +124,8 @@ module _ (r r' : RootState) (n : Node) (reaction : Reaction) (f : RootFollows r.
   answered t Heuristic e out = inquired t false (known_test t Heuristic e (λ q. cc) ∙ out)
 
   taken : (t : Ticket) (s : Standing) → v.standing ≡ s → (in_list v.accepted t || in_list v.named t) ≡ true
-      → hears_from_child place None n (Inquire (child_case x t)) ≡ row_effect c (on_inquiry seat t v v.standing)
+      → hears_from_child place None n (Inquire (child_case x t)) ≡ row_effect c
+      (on_inquiry seat t v v.standing)
   taken t Unknown e inside = let no : true ≡ false = sym inside ∙ unknown_holds_none t e in absurd (cc)
   taken t Active e inside = inquired t true (known_test t Active e (λ q. cc) ∙ inside) ∙ told_by_row t
   taken t Collecting e inside = inquired t true (known_test t Collecting e (λ q. cc) ∙ inside) ∙ told_by_row t
@@ -115,33 +139,44 @@ module _ (r r' : RootState) (n : Node) (reaction : Reaction) (f : RootFollows r.
       → RootStep r.me r.tree n (MessageInput k (Inquire (child_case x t))) r' reaction
   inquiry_by t true test made =
       let d = child_case x t in
-      let P : CoordinatorView → Type 0 = λ u. MovesTxn place n (hears_message k (Inquire d) no_data) x (on_inquiry seat t u u.standing) in
+      let P : CoordinatorView → Type 0 = λ u. MovesTxn place n (hears_message k (Inquire d) no_data) x
+      (on_inquiry seat t u u.standing) in
       by_row r r' n reaction f x (MessageInput k (Inquire d)) (on_inquiry seat t v v.standing)
       (hears_as r.me r.tree n k (Inquire d) f.runs ∙ ap Does (taken t v.standing refl test))
       (subst P (f.views x) ((root_views r.me r.tree n x).inquiry k no_data t))
       made
-      (quiet_row c x.presumption m.phase m.phase (recorded_of c (kept n)) _ (f.sound.stands x) (inquiry_quiet t v.standing) refl)
+      (quiet_row c x.presumption m.phase m.phase (recorded_of c (kept n)) _ (f.sound.stands x)
+      (inquiry_quiet t v.standing) refl)
       (λ y o. refl)
       (λ j. refl)
   inquiry_by t false test made =
-      unheard_step r r' n reaction f k (Inquire (child_case x t)) (sends_only (answer t ∷ [])) made refl (answered t v.standing refl test) (λ y. refl)
+      unheard_step r r' n reaction f k (Inquire (child_case x t)) (sends_only (answer t ∷ [])) made refl
+      (answered t v.standing refl test) (λ y. refl)
 
   inquiry_step : (o : Option Ticket) → let d : Case = record { txn = x; ticket = o } in
-      Makes r r' (of_child o (inquiry_turn r x)) reaction → RootStep r.me r.tree n (MessageInput k (Inquire d)) r' reaction
+      Makes r r' (of_child o (inquiry_turn r x)) reaction
+      → RootStep r.me r.tree n (MessageInput k (Inquire d)) r' reaction
   inquiry_step None made = unheard_step r r' n reaction f k (Inquire c) no_effect made refl refl (λ y. refl)
   inquiry_step (Some t) made = inquiry_by t (in_list v.accepted t || in_list v.named t) refl made
 
 -- each message
-pub root_hears : (r r' : RootState) (n : Node) (reaction : Reaction) (f : RootFollows r.me r.tree n r) (k : ℕ) (message : Message)
-    → Makes r r' (message_turn r message) reaction → RootStep r.me r.tree n (MessageInput k message) r' reaction
+pub root_hears : (r r' : RootState) (n : Node) (reaction : Reaction) (f : RootFollows r.me r.tree n r)
+    (k : ℕ) (message : Message)
+    → Makes r r' (message_turn r message) reaction
+    → RootStep r.me r.tree n (MessageInput k message) r' reaction
 root_hears r r' n reaction f k (Joined d t) made = joined_step r r' n reaction f k d.txn d.ticket t made
 root_hears r r' n reaction f k (Yes d) made = vote_step r r' n reaction f k d.txn VoteYes d.ticket made
 root_hears r r' n reaction f k (No d) made = vote_step r r' n reaction f k d.txn VoteNo d.ticket made
 root_hears r r' n reaction f k (Read d) made = vote_step r r' n reaction f k d.txn VoteRead d.ticket made
 root_hears r r' n reaction f k (Ack d o) made = ack_step r r' n reaction f k d.txn o d.ticket made
 root_hears r r' n reaction f k (Inquire d) made = inquiry_step r r' n reaction f k d.txn d.ticket made
-root_hears r r' n reaction f k (Join d) made = unheard_step r r' n reaction f k (Join d) no_effect made refl refl (λ y. refl)
-root_hears r r' n reaction f k (Work d i op) made = unheard_step r r' n reaction f k (Work d i op) no_effect made refl refl (λ y. refl)
-root_hears r r' n reaction f k (Prepare d i) made = unheard_step r r' n reaction f k (Prepare d i) no_effect made refl refl (λ y. refl)
-root_hears r r' n reaction f k (Commit d) made = unheard_step r r' n reaction f k (Commit d) no_effect made refl refl (λ y. refl)
-root_hears r r' n reaction f k (Abort d) made = unheard_step r r' n reaction f k (Abort d) no_effect made refl refl (λ y. refl)
+root_hears r r' n reaction f k (Join d) made =
+    unheard_step r r' n reaction f k (Join d) no_effect made refl refl (λ y. refl)
+root_hears r r' n reaction f k (Work d i op) made =
+    unheard_step r r' n reaction f k (Work d i op) no_effect made refl refl (λ y. refl)
+root_hears r r' n reaction f k (Prepare d i) made =
+    unheard_step r r' n reaction f k (Prepare d i) no_effect made refl refl (λ y. refl)
+root_hears r r' n reaction f k (Commit d) made =
+    unheard_step r r' n reaction f k (Commit d) no_effect made refl refl (λ y. refl)
+root_hears r r' n reaction f k (Abort d) made =
+    unheard_step r r' n reaction f k (Abort d) no_effect made refl refl (λ y. refl)

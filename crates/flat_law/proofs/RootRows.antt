@@ -47,8 +47,7 @@ commit_stands me x c v PresumeAbort false f e = record { wrote = wrote_nothing r
 commit_stands me x c v PresumeCommit false f e =
     record {
       wrote = wrote_collecting v.accepted true refl;
-      stands =
-          ap (λ (g : Recorded). record g { collecting = true }) e;
+      stands = ap (λ (g : Recorded). record g { collecting = true }) e;
     }
 
 pub abort_stands : (c : Case) (p : Presumption) (f : Recorded) → f ≡ none_recorded → RowStands c p Over f []
@@ -91,8 +90,7 @@ read_only_stands : (c : Case) (s : Seat) (p : Presumption) (f : Recorded) → s.
 read_only_stands c s PresumeAbort f own e =
     record {
       wrote = wrote_nothing refl;
-      stands =
-          subst (λ g. IsPast PresumeAbort g) (sym e) (none_past PresumeAbort);
+      stands = subst (λ g. IsPast PresumeAbort g) (sym e) (none_past PresumeAbort);
     }
 read_only_stands c s PresumeCommit f own e =
     record {
@@ -192,8 +190,7 @@ pub ack_stands : (me : ProcessId) (c : Case) (v : CoordinatorView) (t : Ticket) 
     (if there then
     (if last then record {
       written = record { entry = EndRecord c; is_forced = false } ∷ [];
-      told =
-          None;
+      told = None;
       letters = [];
       accepts = [];
       counts = [];

@@ -36,7 +36,8 @@ unfolding same_case same_owner
 ticketed x y t = and_no (same_txn x y)
 
 -- a message that the root does not hear
-pub unheard_step : (r r' : RootState) (n : Node) (reaction : Reaction) (f : RootFollows r.me r.tree n r) (k : ℕ) (message : Message) (e : Effect)
+pub unheard_step : (r r' : RootState) (n : Node) (reaction : Reaction) (f : RootFollows r.me r.tree n r)
+    (k : ℕ) (message : Message) (e : Effect)
     → (r' ≡ r) × (reaction ≡ reaction_of e) → e.written ≡ []
     → hears_from_child (root_place r.me r.tree) None n message ≡ e
     → ((y : Txn) → remembered r r' n f y (MessageInput k message) ≡ memory r r' n f y)
@@ -54,7 +55,15 @@ unheard_step r r' n reaction f k message e made quiet does same =
 joined_quiet : (t : Ticket) (v : CoordinatorView) (s : Standing) → (on_joined t v s).written ≡ []
 joined_quiet t v Active = accepted (has_child v.accepted t.child)
   where
-    accepted : (b : Bool) → (if b then quiet v else record { written = []; told = None; letters = []; accepts = t ∷ []; counts = []; view = record v { accepted = v.accepted ++ t ∷ [] } }).written ≡ []
+    accepted : (b : Bool)
+        → (if b then quiet v else record {
+          written = [];
+          told = None;
+          letters = [];
+          accepts = t ∷ [];
+          counts = [];
+          view = record v { accepted = v.accepted ++ t ∷ [] };
+        }).written ≡ []
     accepted true = refl
     accepted false = refl
 joined_quiet t v Unknown = refl
@@ -66,12 +75,14 @@ joined_quiet t v Heuristic = refl
 
 accepted_phase : (m : Memory) (t : Ticket) (ph : Phase) → (accepts_ticket m t ph).phase ≡ m.phase
 accepted_phase m t Idle = refl
-accepted_phase m t Open = if_phase (has_child m.accepted t.child) (record m { accepted = m.accepted ++ t ∷ [] }) m refl
+accepted_phase m t Open =
+    if_phase (has_child m.accepted t.child) (record m { accepted = m.accepted ++ t ∷ [] }) m refl
 accepted_phase m t Asked = refl
 accepted_phase m t Over = refl
 
 -- a case that is not Active accepts nothing
-not_joined : (c : Case) (t : Ticket) (v : CoordinatorView) (s : Standing) → (s ≡ Active → ⊥) → row_effect c (on_joined t v s) ≡ no_effect
+not_joined : (c : Case) (t : Ticket) (v : CoordinatorView) (s : Standing) → (s ≡ Active → ⊥)
+    → row_effect c (on_joined t v s) ≡ no_effect
 not_joined c t v Active h = absurd (h refl)
 not_joined c t v Unknown h = refl
 not_joined c t v Collecting h = refl
@@ -80,14 +91,18 @@ not_joined c t v Committing h = refl
 not_joined c t v Aborting h = refl
 not_joined c t v Heuristic h = refl
 
-active_is_open : (place : Place) (n : Node) (c : Case) → (coordinator_view place n c).standing ≡ Active → (memory_of place n c).phase ≡ Open
+active_is_open : (place : Place) (n : Node) (c : Case) → (coordinator_view place n c).standing ≡ Active
+    → (memory_of place n c).phase ≡ Open
 unfolding coordinator_view
 active_is_open place n c h =
     let m = memory_of place n c in
-    let facts = active_facts _ _ _ _ _ _ _ (sym (view_standing (coordinator_standing (kept n) c m) (kept n) c m) ∙ h) in
+    let facts =
+    active_facts _ _ _ _ _ _ _
+    (sym (view_standing (coordinator_standing (kept n) c m) (kept n) c m) ∙ h) in
     phase_active c.txn.presumption m.phase facts.heard
 
-module _ (r r' : RootState) (n : Node) (reaction : Reaction) (f : RootFollows r.me r.tree n r) (k : ℕ) (x : Txn) where
+module _ (r r' : RootState) (n : Node) (reaction : Reaction) (f : RootFollows r.me r.tree n r) (k : ℕ)
+    (x : Txn) where
   abbrev place : Place
   place = root_place r.me r.tree
 
@@ -105,18 +120,24 @@ module _ (r r' : RootState) (n : Node) (reaction : Reaction) (f : RootFollows r.
 
   not_active : (u : Ticket) → (coordinator_view place n (child_case x u)).standing ≡ Active → ⊥
   not_active u h =
-      let no : Open ≡ Idle = sym (active_is_open place n (child_case x u) h) ∙ ticketed_is_idle r.me r.tree n x u in
+      let no : Open ≡ Idle = sym (active_is_open place n (child_case x u) h)
+      ∙ ticketed_is_idle r.me r.tree n x u in
       cc
 
   pub joined_step : (o : Option Ticket) (t : Ticket) → let d : Case = record { txn = x; ticket = o } in
-      Makes r r' (joined_turn r x t o) reaction → RootStep r.me r.tree n (MessageInput k (Joined d t)) r' reaction
+      Makes r r' (joined_turn r x t o) reaction
+      → RootStep r.me r.tree n (MessageInput k (Joined d t)) r' reaction
   joined_step None t made =
-      let P : CoordinatorView → Type 0 = λ u. MovesTxn place n (hears_message k (Joined c t) no_data) x (on_joined t u u.standing) in
+      let P : CoordinatorView → Type 0 = λ u. MovesTxn place n (hears_message k (Joined c t) no_data) x
+      (on_joined t u u.standing) in
       by_row r r' n reaction f x (MessageInput k (Joined c t)) (on_joined t v v.standing)
-      (hears_as r.me r.tree n k (Joined c t) f.runs ∙ ap (λ (u : CoordinatorView). Does (row_effect c (on_joined t u u.standing))) (f.views x))
-      (subst P (f.views x) ((root_views r.me r.tree n x).joined k no_data t (open_alike r.me r.tree n x f.sound)))
+      (hears_as r.me r.tree n k (Joined c t) f.runs
+      ∙ ap (λ (u : CoordinatorView). Does (row_effect c (on_joined t u u.standing))) (f.views x))
+      (subst P (f.views x)
+      ((root_views r.me r.tree n x).joined k no_data t (open_alike r.me r.tree n x f.sound)))
       made
-      (quiet_row c x.presumption m.phase _ (recorded_of c (kept n)) _ (f.sound.stands x) (joined_quiet t v v.standing)
+      (quiet_row c x.presumption m.phase _ (recorded_of c (kept n)) _ (f.sound.stands x)
+      (joined_quiet t v v.standing)
       (if_phase (same_case c c) m _ (accepted_phase m t m.phase)))
       (λ y o. if_other (same_case c (root_case y)) _ _ (apart_case x y o))
       (λ j. refl)

@@ -44,28 +44,37 @@ module _ (r r' : RootState) (n : Node) (reaction : Reaction) (f : RootFollows r.
   join_quiet x q v true = refl
   join_quiet x q v false = refl
 
-  join_child : (x : Txn) (q : ProcessId) (b : Bool) → is_child r.tree q r.me ≡ b → (r.view_of x).standing ≡ Active → names_listed r.tree (JoinAct (root_case x) q) ≡ true
-      → Makes r r' (if b then root.Takes x (active_join (seat_of r x) q (r.view_of x)) else root.Refuses NotAChild) reaction
+  join_child : (x : Txn) (q : ProcessId) (b : Bool) → is_child r.tree q r.me ≡ b
+      → (r.view_of x).standing ≡ Active → names_listed r.tree (JoinAct (root_case x) q) ≡ true
+      → Makes r r'
+      (if b then root.Takes x (active_join (seat_of r x) q (r.view_of x)) else root.Refuses NotAChild)
+      reaction
       → RootStep r.me r.tree n (ActInput (JoinAct (root_case x) q)) r' reaction
   join_child x q true child e listed made =
       let place = root_place r.me r.tree in
       let seat = seat_of r x in
       let v = r.view_of x in
       let c = root_case x in
-      let P : CoordinatorView → Type 0 = λ u. MovesTxn place n (hears_act (JoinAct c q) no_data) x (active_join seat q u) in
-      let Q : Bool → Reacts = λ b. if b then Does (row_effect c (active_join seat q v)) else Refused NotAChild in
+      let P : CoordinatorView → Type 0 =
+      λ u. MovesTxn place n (hears_act (JoinAct c q) no_data) x (active_join seat q u) in
+      let Q : Bool → Reacts =
+      λ b. if b then Does (row_effect c (active_join seat q v)) else Refused NotAChild in
       by_row r r' n reaction f x (ActInput (JoinAct c q)) (active_join seat q v)
       (acts_as r.me r.tree n (JoinAct c q) f.runs listed
-      ∙ (ap (λ (u : CoordinatorView). join_by seat r.tree q u u.standing) (f.views x) ∙ (ap (λ s. join_by seat r.tree q v s) e ∙ ap Q child)))
+      ∙ (ap (λ (u : CoordinatorView). join_by seat r.tree q u u.standing) (f.views x)
+      ∙ (ap (λ s. join_by seat r.tree q v s) e ∙ ap Q child)))
       (subst P (f.views x) ((root_views r.me r.tree n x).join no_data q))
       made
-      (quiet_row c x.presumption (memory r r' n f x).phase _ (recorded_of c (kept n)) _ (f.sound.stands x) (join_quiet x q v (has_child v.accepted q)) refl)
+      (quiet_row c x.presumption (memory r r' n f x).phase _ (recorded_of c (kept n)) _ (f.sound.stands x)
+      (join_quiet x q v (has_child v.accepted q)) refl)
       (λ y o. refl)
       (λ k. refl)
   join_child x q false child e listed made = absurd made
 
-  pub join_case : (x : Txn) (q : ProcessId) (s : Standing) → (r.view_of x).standing ≡ s → names_listed r.tree (JoinAct (root_case x) q) ≡ true
-      → Makes r r' (join_turn r x q (r.view_of x) s) reaction → RootStep r.me r.tree n (ActInput (JoinAct (root_case x) q)) r' reaction
+  pub join_case : (x : Txn) (q : ProcessId) (s : Standing) → (r.view_of x).standing ≡ s
+      → names_listed r.tree (JoinAct (root_case x) q) ≡ true
+      → Makes r r' (join_turn r x q (r.view_of x) s) reaction
+      → RootStep r.me r.tree n (ActInput (JoinAct (root_case x) q)) r' reaction
   join_case x q Active e listed made = join_child x q (is_child r.tree q r.me) refl e listed made
   join_case x q Unknown e listed made = absurd made
   join_case x q Collecting e listed made = absurd made
@@ -76,9 +85,13 @@ module _ (r r' : RootState) (n : Node) (reaction : Reaction) (f : RootFollows r.
 
   -- work for a child
 
-  work_child : (x : Txn) (q : ProcessId) (op : Op) (t : Ticket) (b : Bool) → is_leaf (role_of r.tree t.child) ≡ b → (r.view_of x).standing ≡ Active
-      → ticket_of_child (r.view_of x).accepted q ≡ Some t → names_listed r.tree (WorkAct (root_case x) q op) ≡ true
-      → Makes r r' (if b then root.Takes x (active_work (seat_of r x) t op (r.view_of x)) else root.Refuses NotAChild) reaction
+  work_child : (x : Txn) (q : ProcessId) (op : Op) (t : Ticket) (b : Bool)
+      → is_leaf (role_of r.tree t.child) ≡ b → (r.view_of x).standing ≡ Active
+      → ticket_of_child (r.view_of x).accepted q ≡ Some t
+      → names_listed r.tree (WorkAct (root_case x) q op) ≡ true
+      → Makes r r'
+      (if b then root.Takes x (active_work (seat_of r x) t op (r.view_of x)) else root.Refuses NotAChild)
+      reaction
       → RootStep r.me r.tree n (ActInput (WorkAct (root_case x) q op)) r' reaction
   work_child x q op t true leaf e found listed made =
       let place = root_place r.me r.tree in
@@ -86,13 +99,18 @@ module _ (r r' : RootState) (n : Node) (reaction : Reaction) (f : RootFollows r.
       let v = r.view_of x in
       let c = root_case x in
       let m = memory r r' n f x in
-      let P : CoordinatorView → Type 0 = λ u. MovesTxn place n (hears_act (WorkAct c q op) no_data) x (active_work seat t op u) in
-      let Q : Bool → Reacts = λ b. if b then Does (row_effect c (active_work seat t op v)) else Refused NotAChild in
+      let P : CoordinatorView → Type 0 = λ u. MovesTxn place n (hears_act (WorkAct c q op) no_data) x
+      (active_work seat t op u) in
+      let Q : Bool → Reacts =
+      λ b. if b then Does (row_effect c (active_work seat t op v)) else Refused NotAChild in
       by_row r r' n reaction f x (ActInput (WorkAct c q op)) (active_work seat t op v)
       (acts_as r.me r.tree n (WorkAct c q op) f.runs listed
       ∙ (ap (λ (u : CoordinatorView). work_by seat r.tree q op u u.standing) (f.views x)
-      ∙ (ap (λ s. work_by seat r.tree q op v s) e ∙ (ap (λ o. work_for seat r.tree op v o) found ∙ ap Q leaf))))
-      (subst P (f.views x) ((root_views r.me r.tree n x).work no_data q t op (ap (λ (u : CoordinatorView). u.standing) (f.views x) ∙ e)
+      ∙ (ap (λ s. work_by seat r.tree q op v s) e
+      ∙ (ap (λ o. work_for seat r.tree op v o) found ∙ ap Q leaf))))
+      (subst P (f.views x)
+      ((root_views r.me r.tree n x).work no_data q t op
+      (ap (λ (u : CoordinatorView). u.standing) (f.views x) ∙ e)
       (ap (λ (u : CoordinatorView). ticket_of_child u.accepted q) (f.views x) ∙ found)))
       made
       (quiet_row c x.presumption m.phase _ (recorded_of c (kept n)) _ (f.sound.stands x) refl
@@ -105,12 +123,16 @@ module _ (r r' : RootState) (n : Node) (reaction : Reaction) (f : RootFollows r.
       → ticket_of_child (r.view_of x).accepted q ≡ o → names_listed r.tree (WorkAct (root_case x) q op) ≡ true
       → Makes r r' (root.work_for r x op (r.view_of x) o) reaction
       → RootStep r.me r.tree n (ActInput (WorkAct (root_case x) q op)) r' reaction
-  work_ticket x q op (Some t) e found listed made = work_child x q op t (is_leaf (role_of r.tree t.child)) refl e found listed made
+  work_ticket x q op (Some t) e found listed made =
+      work_child x q op t (is_leaf (role_of r.tree t.child)) refl e found listed made
   work_ticket x q op None e found listed made = absurd made
 
-  pub work_case : (x : Txn) (q : ProcessId) (op : Op) (s : Standing) → (r.view_of x).standing ≡ s → names_listed r.tree (WorkAct (root_case x) q op) ≡ true
-      → Makes r r' (work_turn r x q op (r.view_of x) s) reaction → RootStep r.me r.tree n (ActInput (WorkAct (root_case x) q op)) r' reaction
-  work_case x q op Active e listed made = work_ticket x q op (ticket_of_child (r.view_of x).accepted q) e refl listed made
+  pub work_case : (x : Txn) (q : ProcessId) (op : Op) (s : Standing) → (r.view_of x).standing ≡ s
+      → names_listed r.tree (WorkAct (root_case x) q op) ≡ true
+      → Makes r r' (work_turn r x q op (r.view_of x) s) reaction
+      → RootStep r.me r.tree n (ActInput (WorkAct (root_case x) q op)) r' reaction
+  work_case x q op Active e listed made =
+      work_ticket x q op (ticket_of_child (r.view_of x).accepted q) e refl listed made
   work_case x q op Unknown e listed made = absurd made
   work_case x q op Collecting e listed made = absurd made
   work_case x q op Prepared e listed made = absurd made

@@ -45,8 +45,7 @@ same_leaf : (me : ProcessId) (tree : List TreeEntry) (w w' : World) (q : Process
 same_leaf me tree w w' q l same h =
     record {
       place = h.place;
-      follows =
-          subst (λ n. LeafFollows q me tree n l) (sym same) h.follows;
+      follows = subst (λ n. LeafFollows q me tree n l) (sym same) h.follows;
     }
 
 root_goes_on : (me : ProcessId) (tree : List TreeEntry) (es : List Made) (w : World) (s s' : FlatState)
@@ -106,7 +105,8 @@ leaf_goes_on me tree es w s s' q k message reaction l f stands o takes net entri
       root = subst (λ m. RootFollows me tree m s'.root) (sym (put_there q me n w.at o))
           (subst (λ r. RootFollows me tree (w.at me) r) (sym takes.root) f.root);
       listed = λ p away. elim (same_process_tells q p) [
-        | inl t ↦ ap (λ r. is_some (s'.leaf_at r)) (sym t.1) ∙ (ap is_some takes.stands ∙ (sym listed ∙ ap (λ r. is_listed tree r) t.1))
+        | inl t ↦ ap (λ r. is_some (s'.leaf_at r)) (sym t.1)
+            ∙ (ap is_some takes.stands ∙ (sym listed ∙ ap (λ r. is_listed tree r) t.1))
         | inr z ↦ ap is_some (takes.others p z.0) ∙ f.listed p away
       ];
       leaves = λ p u away h. elim (same_process_tells q p) [

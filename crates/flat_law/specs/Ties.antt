@@ -51,16 +51,24 @@ pub record Recorded : Type 0 where
 
 abbrev pub recorded_of : Case → List Record → Recorded
 recorded_of c rs =
-    record { ended = has (is_end c) rs; committed = has (is_commit c) rs; aborted = has (is_abort c) rs; prepared = has (is_prepare c) rs; collecting = has (is_collecting c) rs }
+    record {
+      ended = has (is_end c) rs;
+      committed = has (is_commit c) rs;
+      aborted = has (is_abort c) rs;
+      prepared = has (is_prepare c) rs;
+      collecting = has (is_collecting c) rs;
+    }
 
 abbrev pub none_recorded : Recorded
-none_recorded = record { ended = false; committed = false; aborted = false; prepared = false; collecting = false }
+none_recorded =
+    record { ended = false; committed = false; aborted = false; prepared = false; collecting = false }
 
 abbrev pub only_collecting : Recorded
-only_collecting = record { ended = false; committed = false; aborted = false; prepared = false; collecting = true }
+only_collecting =
+    record { ended = false; committed = false; aborted = false; prepared = false; collecting = true }
 
--- What stands of a case that is over: no promise; under Presumed Abort no record of a collection, and where there is
--- one, also the record that closed it.
+-- What stands of a case that is over: no promise; under Presumed Abort no record of a collection, and where there
+-- is one, also the record that closed it.
 pub record IsPast (p : Presumption) (f : Recorded) : Type 0 where
   pub unpromised : f.prepared ≡ false
   pub uncollected : p ≡ PresumeAbort → f.collecting ≡ false
@@ -76,7 +84,8 @@ StandsIn p Over f = IsPast p f
 
 -- the records of each transaction are those of its phase, and there is none of a case with a ticket
 pub record IsInPhase (me : ProcessId) (tree : List TreeEntry) (n : Node) : Type 0 where
-  pub stands : (x : Txn) → StandsIn x.presumption (memory_of (root_place me tree) n (root_case x)).phase (recorded_of (root_case x) (kept n))
+  pub stands : (x : Txn) → StandsIn x.presumption (memory_of (root_place me tree) n (root_case x)).phase
+      (recorded_of (root_case x) (kept n))
   pub unticketed : (x : Txn) (t : Ticket) → recorded_of (child_case x t) (kept n) ≡ none_recorded
 
 -- what a root keeps is what its lists read as
@@ -95,10 +104,12 @@ pub record RootFollows (me : ProcessId) (tree : List TreeEntry) (n : Node) (r : 
 
 -- no record is of a ticket that was not given yet
 pub record IsFreshAhead (n : Node) (given : ℕ) : Type 0 where
-  pub unmarked : (x : Txn) (t : Ticket) → given < t.number → mark_of (CaseBranch (child_case x t)) (kept n) ≡ Unmarked
+  pub unmarked : (x : Txn) (t : Ticket) → given < t.number
+      → mark_of (CaseBranch (child_case x t)) (kept n) ≡ Unmarked
 
 -- what a leaf keeps is what its lists read as
-pub record LeafFollows (me parent : ProcessId) (tree : List TreeEntry) (n : Node) (l : LeafState) : Type 0 where
+pub record LeafFollows (me parent : ProcessId) (tree : List TreeEntry) (n : Node)
+    (l : LeafState) : Type 0 where
   pub is_named : l.me ≡ me
   pub is_below : l.parent ≡ parent
   pub forced : n.forced ≡ l.log.forced
@@ -113,12 +124,14 @@ pub record LeafFollows (me parent : ProcessId) (tree : List TreeEntry) (n : Node
 -- The tree.
 
 -- a leaf in its tree
-pub record IsLeafOf (me : ProcessId) (tree : List TreeEntry) (w : World) (q : ProcessId) (l : LeafState) : Type 0 where
+pub record IsLeafOf (me : ProcessId) (tree : List TreeEntry) (w : World) (q : ProcessId)
+    (l : LeafState) : Type 0 where
   pub place : place_of tree q ≡ leaf_place q me tree
   pub follows : LeafFollows q me tree (w.at q) l
 
 -- a flat tree stands for the run of these moves, the newest first, that led to this world
-pub record Follows (me : ProcessId) (tree : List TreeEntry) (es : List Made) (w : World) (s : FlatState) : Type 0 where
+pub record Follows (me : ProcessId) (tree : List TreeEntry) (es : List Made) (w : World)
+    (s : FlatState) : Type 0 where
   pub is_run : IsRun tree es w
   pub shown : journal_of es ≡ s.entries
   pub net : s.net ≡ w.net
@@ -126,19 +139,21 @@ pub record Follows (me : ProcessId) (tree : List TreeEntry) (es : List Made) (w 
   pub place : place_of tree me ≡ root_place me tree
   pub root : RootFollows me tree (w.at me) s.root
   pub listed : (q : ProcessId) → same_process q me ≡ false → is_some (s.leaf_at q) ≡ is_listed tree q
-  pub leaves : (q : ProcessId) (l : LeafState) → same_process q me ≡ false → s.leaf_at q ≡ Some l → IsLeafOf me tree w q l
+  pub leaves : (q : ProcessId) (l : LeafState) → same_process q me ≡ false → s.leaf_at q ≡ Some l
+      → IsLeafOf me tree w q l
 
--- the run goes on by later moves, the newest first, to a world that a flat state stands for; where the test holds, each
--- of them is flat
-pub record GoesOn (me : ProcessId) (tree : List TreeEntry) (es : List Made) (w : World) (s : FlatState) (flat : Bool) : Type 0 where
+-- the run goes on by later moves, the newest first, to a world that a flat state stands for; where the test holds,
+-- each of them is flat
+pub record GoesOn (me : ProcessId) (tree : List TreeEntry) (es : List Made) (w : World) (s : FlatState)
+    (flat : Bool) : Type 0 where
   pub later : List Made
   pub world : World
   pub leads : Continues tree w later world
   pub follows : Follows me tree (later ++ es) world s
   pub are_flat : flat ≡ true → AreFlatMoves later
 
--- A flat state stands for a run of the model. Where the test holds, each of its moves is flat; and then no two processes
--- have ended one transaction differently, and commit was decided only where every participant consented.
+-- A flat state stands for a run of the model. Where the test holds, each of its moves is flat; and then no two
+-- processes have ended one transaction differently, and commit was decided only where every participant consented.
 pub record IsModelled (me : ProcessId) (tree : List TreeEntry) (s : FlatState) (flat : Bool) : Type 0 where
   pub moves : List Made
   pub world : World
@@ -179,7 +194,8 @@ model_refusal tree w m =
 -- the model refuses the act so, whatever the data of its process answer
 abbrev pub RefusesSo : ProcessId → List TreeEntry → World → Act → StepError → Type 0
 RefusesSo root tree w a e =
-    (d : DataAnswer) → model_refusal tree w (move_of (process_of_act root a) (Handles (ActInput a)) d) ≡ Some e
+    (d : DataAnswer)
+    → model_refusal tree w (move_of (process_of_act root a) (Handles (ActInput a)) d) ≡ Some e
 
 -- no process that is listed is to have a message with this number
 abbrev pub IsForNobody : List TreeEntry → Option Envelope → Type 0

@@ -10,7 +10,10 @@ pub returns : goal.returns
 returns c =
     record {
       leads = λ me tree s s' events flat h made.
-          modelled me tree opened_world s' (list_all is_flat_event events) flat (leads_on me tree [] opened_world s s' events (opened_follows me tree s flat h) made);
+          modelled me tree opened_world s' (list_all is_flat_event events) flat
+          (leads_on me tree [] opened_world s s' events (opened_follows me tree s flat h) made);
       leads_until = λ me tree s s' events n e flat h made.
-          modelled me tree opened_world s' (list_all is_flat_event events) flat (leads_until_on me tree [] opened_world s s' events n e (opened_follows me tree s flat h) made);
+          modelled me tree opened_world s' (list_all is_flat_event events) flat
+          (leads_until_on me tree [] opened_world s s' events n e (opened_follows me tree s flat h)
+          made);
     }

@@ -7,7 +7,8 @@ pub returns : goal.returns
 returns c =
     record {
       applies = applied_on;
-      stops = λ me tree es w s s' event e f h. weaker me tree es w s' true (is_flat_event event) (λ q. refl) (stopped_on me tree es w s s' event e f h);
+      stops = λ me tree es w s s' event e f h. weaker me tree es w s' true (is_flat_event event)
+          (λ q. refl) (stopped_on me tree es w s s' event e f h);
       leads = leads_on;
       leads_until = leads_until_on;
     }
