@@ -2,8 +2,10 @@
 use Rattle.std.proofs.Common.{◌≡◌, Bool, true, false, ◌||◌, refl, arith}
 use Rattle.tree_model.specs.Memory.{Phase, Idle, Open, Asked, Over}
 
--- The case was not begun yet; its phase; what its transaction's name says; records of it that are kept; a Commit ever
--- forced, an Abort ever written or told; of the ticket, whether it was ever accepted and ever counted as a consent, and
+-- The case was not begun yet; its phase; what its transaction's name says; records of it that are kept; a
+-- Commit ever
+-- forced, an Abort ever written or told; of the ticket, whether it was ever accepted and ever counted as a
+-- consent, and
 -- what is remembered of it.
 pub record CaseReading : Type 0 where
   pub is_ahead : Bool
@@ -51,7 +53,8 @@ pub record CaseHolds (r : CaseReading) : Type 0 where
   pub undecided_has_no_abort : is_undecided r.phase ≡ true → r.aborted ≡ false
   pub undecided_is_not_refused : is_undecided r.phase ≡ true → r.refused ≡ false
   pub undecided_remembers : is_undecided r.phase ≡ true → r.took_part ≡ true → r.accepted ≡ true
-  pub undecided_counted : is_undecided r.phase ≡ true → r.voted ≡ true → r.refused ≡ false → r.consented ≡ true
+  pub undecided_counted : is_undecided r.phase ≡ true → r.voted ≡ true → r.refused ≡ false
+      → r.consented ≡ true
   pub kept_is_forced : r.commit_kept ≡ true → r.committed ≡ true
   pub committed_is_not_aborted : r.committed ≡ true → r.aborted ≡ false
   pub committed_has_consents : r.committed ≡ true → r.took_part ≡ true → r.consented ≡ true
@@ -77,7 +80,8 @@ stays r h = record { holds = h; commits = λ e. e; aborts = λ a. a }
 abbrev pub numbered : Bool → CaseReading → CaseReading
 numbered b r = record r { is_ahead = b }
 
-pub leads_numbered : (r : CaseReading) (b : Bool) → CaseHolds r → (b ≡ true → r.is_ahead ≡ true) → Leads r (numbered b r)
+pub leads_numbered : (r : CaseReading) (b : Bool) → CaseHolds r → (b ≡ true → r.is_ahead ≡ true)
+    → Leads r (numbered b r)
 leads_numbered r b h e = record {
   holds = grind arith;
   commits = λ f. f;
@@ -88,29 +92,41 @@ leads_numbered r b h e = record {
 abbrev pub begun : CaseReading → CaseReading
 begun r = record r { is_ahead = false; phase = Open; accepted = false; refused = false; voted = false }
 
-pub leads_begun : (r : CaseReading) → CaseHolds r → r.is_ahead ≡ true → r.is_own ≡ true → r.presumes_abort ≡ true → Leads r (begun r)
+pub leads_begun : (r : CaseReading) → CaseHolds r → r.is_ahead ≡ true → r.is_own ≡ true
+    → r.presumes_abort ≡ true → Leads r (begun r)
 leads_begun r h a o p = grind arith
 
 -- votes are asked for; where nobody takes part it is over
 abbrev pub asked : Phase → CaseReading → CaseReading
 asked ph r = record r { phase = ph }
 
-pub leads_asked : (r : CaseReading) (ph : Phase) → CaseHolds r → r.phase ≡ Open → is_begun ph ≡ true → Leads r (asked ph r)
+pub leads_asked : (r : CaseReading) (ph : Phase) → CaseHolds r → r.phase ≡ Open → is_begun ph ≡ true
+    → Leads r (asked ph r)
 leads_asked r ph h o b = grind arith
 
--- it ends without a commit, with an Abort written or told or none; the ticket's vote may have been counted in it
+-- it ends without a commit, with an Abort written or told or none; the ticket's vote may have been counted
+-- in it
 abbrev pub ended : Bool → Bool → Bool → Bool → Bool → CaseReading → CaseReading
-ended abort record' consent refusal vote r = record r
-    { phase = Over; aborted = abort; recorded = record'; consented = consent || r.consented; refused = refusal; voted = vote }
+ended abort record' consent refusal vote r = record r {
+  phase = Over;
+  aborted = abort;
+  recorded = record';
+  consented = consent || r.consented;
+  refused =
+      refusal;
+  voted = vote;
+}
 
-pub leads_ended : (r : CaseReading) (a b c d e : Bool) → CaseHolds r → is_undecided r.phase ≡ true → Leads r (ended a b c d e r)
+pub leads_ended : (r : CaseReading) (a b c d e : Bool) → CaseHolds r → is_undecided r.phase ≡ true
+    → Leads r (ended a b c d e r)
 leads_ended r a b c d e h u = grind arith
 
 -- the ticket is accepted, or another one
 abbrev pub accepts : Bool → CaseReading → CaseReading
 accepts b r = record r { took_part = b || r.took_part; accepted = b || r.accepted }
 
-pub leads_accepts : (r : CaseReading) (b : Bool) → CaseHolds r → is_undecided r.phase ≡ true → Leads r (accepts b r)
+pub leads_accepts : (r : CaseReading) (b : Bool) → CaseHolds r → is_undecided r.phase ≡ true
+    → Leads r (accepts b r)
 leads_accepts r b h u = grind arith
 
 -- a vote is counted, the ticket's or another one's, and others are awaited
@@ -122,10 +138,18 @@ leads_counts r b h u = grind arith
 
 -- the last vote is counted, and a Commit is forced
 abbrev pub commits : Bool → CaseReading → CaseReading
-commits b r = record r
-    { phase = Over; recorded = true; commit_kept = true; committed = true; consented = b || r.consented; voted = b || r.voted }
+commits b r = record r {
+  phase = Over;
+  recorded = true;
+  commit_kept = true;
+  committed = true;
+  consented =
+      b || r.consented;
+  voted = b || r.voted;
+}
 
-pub leads_commits : (r : CaseReading) (b : Bool) → CaseHolds r → r.phase ≡ Asked → (r.accepted ≡ true → (b || r.voted) ≡ true) → Leads r (commits b r)
+pub leads_commits : (r : CaseReading) (b : Bool) → CaseHolds r → r.phase ≡ Asked
+    → (r.accepted ≡ true → (b || r.voted) ≡ true) → Leads r (commits b r)
 leads_commits r b h u v = grind arith
 
 -- an End is written of a case that is over
@@ -135,5 +159,6 @@ forgets r = record r { recorded = true }
 pub leads_forgets : (r : CaseReading) → CaseHolds r → r.recorded ≡ true → Leads r (forgets r)
 leads_forgets r h u = grind arith
 
-pub ended_aborted : (r : CaseReading) (a b c d e : Bool) → CaseHolds r → is_undecided r.phase ≡ true → IsAbortedCase (ended a b c d e r)
+pub ended_aborted : (r : CaseReading) (a b c d e : Bool) → CaseHolds r → is_undecided r.phase ≡ true
+    → IsAbortedCase (ended a b c d e r)
 ended_aborted r a b c d e h u = record { is_over = refl; not_committed = h.undecided_has_no_commit u }

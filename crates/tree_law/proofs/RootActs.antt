@@ -65,7 +65,8 @@ module _ (me : ProcessId) (tree : List TreeEntry) (n : Node) (holds : AllHold (r
   pub sends_step : (h : Heard) (ls : List Envelope)
       → ((x : Txn) (t : Ticket) → Leads (read x t) (reading_at (memory_then me tree n h x) n me x t))
       → AllSound here (after n h (sends ls)) ls → RootStep here n h (sends ls)
-  sends_step h ls f sound = still_step me tree n h (sends ls) (boot_of-nil (kept n)) (λ m x t. same_sends m n h me x t ls) f sound
+  sends_step h ls f sound =
+      still_step me tree n h (sends ls) (boot_of-nil (kept n)) (λ m x t. same_sends m n h me x t ls) f sound
 
   -- Begin.
 
@@ -74,27 +75,36 @@ module _ (me : ProcessId) (tree : List TreeEntry) (n : Node) (holds : AllHold (r
       → Leads (reading_at m n me x t) (reading_at (opens_case (record m { begun = m.begun + 1 })) n me x t)
   begun_next t m h =
       let x = next_txn me (boot_of (kept n)) m PresumeAbort in
-      let same : reading_at (opens_case (record m { begun = m.begun + 1 })) n me x t ≡ begun (reading_at m n me x t) =
+      let same : reading_at (opens_case (record m { begun = m.begun + 1 })) n me x t ≡ begun
+      (reading_at m n me x t) =
       simp ((next_number m.begun).1, in_none t, refused_none t, voted_none t) in
       rw same (leads_begun (reading_at m n me x t) h (next_number m.begun).0 (own_process me) presumes)
 
-  named_next : (x : Txn) (m : Memory) → same_case (root_case (next_txn me (boot_of (kept n)) m PresumeAbort)) (root_case x) ≡ true
+  named_next : (x : Txn) (m : Memory)
+      → same_case (root_case (next_txn me (boot_of (kept n)) m PresumeAbort)) (root_case x) ≡ true
       → next_txn me (boot_of (kept n)) m PresumeAbort ≡ x
-  named_next x m e = ap (λ (c : Case). c.txn) (told_same (root_case (next_txn me (boot_of (kept n)) m PresumeAbort)) (root_case x) e)
+  named_next x m e = ap (λ (c : Case). c.txn)
+      (told_same (root_case (next_txn me (boot_of (kept n)) m PresumeAbort)) (root_case x) e)
 
   begun_case : (x : Txn) (t : Ticket) (m : Memory) (b : Bool) → CaseHolds (reading_at m n me x t)
       → same_case (root_case (next_txn me (boot_of (kept n)) m PresumeAbort)) (root_case x) ≡ b
       → let counted = record m { begun = m.begun + 1 } in
       Leads (reading_at m n me x t) (reading_at (if b then opens_case counted else counted) n me x t)
-  begun_case x t m false h e = leads_numbered (reading_at m n me x t) (nat_lt (m.begun + 1) x.sequence) h (counted_less m.begun x.sequence)
+  begun_case x t m false h e =
+      leads_numbered (reading_at m n me x t) (nat_lt (m.begun + 1) x.sequence) h
+      (counted_less m.begun x.sequence)
   begun_case x t m true h e =
       let P : Txn → Type 0 = λ z. CaseHolds (reading_at m n me z t)
-      → Leads (reading_at m n me z t) (reading_at (opens_case (record m { begun = m.begun + 1 })) n me z t) in
+      → Leads (reading_at m n me z t)
+      (reading_at (opens_case (record m { begun = m.begun + 1 })) n me z t) in
       subst P (named_next x m e) (begun_next t m) h
 
-  pub begins : (a : DataAnswer) (e : Effect) → e ≡ sends [] → RootStep here n (hears_act (Begin PresumeAbort) a) e
+  pub begins : (a : DataAnswer) (e : Effect) → e ≡ sends []
+      → RootStep here n (hears_act (Begin PresumeAbort) a) e
   begins a e s = rw s (sends_step (hears_act (Begin PresumeAbort) a) []
-      (λ x t. begun_case x t (remembered x) (same_case (root_case (next_txn me (boot_of (kept n)) (remembered x) PresumeAbort)) (root_case x)) (holds x t) refl) tt)
+      (λ x t. begun_case x t (remembered x)
+      (same_case (root_case (next_txn me (boot_of (kept n)) (remembered x) PresumeAbort)) (root_case x))
+      (holds x t) refl) tt)
 
   -- Join and Work: nothing moves.
 
@@ -109,7 +119,8 @@ module _ (me : ProcessId) (tree : List TreeEntry) (n : Node) (holds : AllHold (r
   sent_work x t m (Some u) Asked = refl
   sent_work x t m (Some u) Over = refl
 
-  if_work : (x : Txn) (t : Ticket) (b : Bool) (m : Memory) (o : Option Ticket) → CaseHolds (reading_at m n me x t)
+  if_work : (x : Txn) (t : Ticket) (b : Bool) (m : Memory) (o : Option Ticket)
+      → CaseHolds (reading_at m n me x t)
       → Leads (reading_at m n me x t) (reading_at (if b then sends_work m o m.phase else m) n me x t)
   if_work x t true m o h = rw (sent_work x t m o m.phase) (stays (reading_at m n me x t) h)
   if_work x t false m o h = stays (reading_at m n me x t) h
@@ -118,9 +129,11 @@ module _ (me : ProcessId) (tree : List TreeEntry) (n : Node) (holds : AllHold (r
       → AllSound here (after n (hears_act (WorkAct c q op) a) (sends ls)) ls
       → RootStep here n (hears_act (WorkAct c q op) a) (sends ls)
   sends_works a c q op ls sound = sends_step (hears_act (WorkAct c q op) a) ls
-      (λ x t. if_work x t (same_case c (root_case x)) (remembered x) (ticket_of_child (remembered x).accepted q) (holds x t)) sound
+      (λ x t. if_work x t (same_case c (root_case x)) (remembered x)
+      (ticket_of_child (remembered x).accepted q) (holds x t)) sound
 
   pub sends_joins : (a : DataAnswer) (c : Case) (q : ProcessId) (ls : List Envelope)
       → AllSound here (after n (hears_act (JoinAct c q) a) (sends ls)) ls
       → RootStep here n (hears_act (JoinAct c q) a) (sends ls)
-  sends_joins a c q ls sound = sends_step (hears_act (JoinAct c q) a) ls (λ x t. stays (read x t) (holds x t)) sound
+  sends_joins a c q ls sound =
+      sends_step (hears_act (JoinAct c q) a) ls (λ x t. stays (read x t) (holds x t)) sound

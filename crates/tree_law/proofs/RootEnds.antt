@@ -35,7 +35,8 @@ effect_same e f h = cc
 
 -- every message of the list is a PREPARE for its ticket's child
 prepares_sound : (place : Place) (n : Node) (s : Seat) (v : CoordinatorView) (ts : List Ticket)
-    → AllSound place n (map (λ t. post s.me t.child (Prepare (child_case s.own.txn t) (works_of v.works t))) ts)
+    → AllSound place n (map (λ t. post s.me t.child (Prepare (child_case s.own.txn t) (works_of v.works t)))
+    ts)
 prepares_sound place n s v [] = tt
 prepares_sound place n s v (t ∷ ts) = (refl, prepares_sound place n s v ts)
 
@@ -57,7 +58,8 @@ commit_active s Heuristic rs m e h = absurd (cc)
 abort_cases : (s : Seat) (st : Standing) (rs : List Record) (m : Memory) (e : Effect)
     → abort_by s (view_at st rs s.own m) (view_at st rs s.own m).standing ≡ Does e
     → ((st ≡ Active) × (row_effect s.own (active_abort s (view_at Active rs s.own m)) ≡ e))
-    ⊎ ((st ≡ Collecting) × (row_effect s.own (collecting_abort s ByAct (view_at Collecting rs s.own m)) ≡ e))
+    ⊎ ((st ≡ Collecting) × (row_effect s.own
+    (collecting_abort s ByAct (view_at Collecting rs s.own m)) ≡ e))
 abort_cases s Active rs m e h = inl (refl, effect_same _ e h)
 abort_cases s Collecting rs m e h = inr (refl, effect_same _ e h)
 abort_cases s Unknown rs m e h = absurd (cc)
@@ -94,23 +96,31 @@ module _ (me : ProcessId) (tree : List TreeEntry) (n : Node) (holds : AllHold (r
 
   -- The commit act.
 
-  asked_open : (x : Txn) (t : Ticket) (m : Memory) (ph : Phase) → ph ≡ Open → m.phase ≡ ph → CaseHolds (reading_at m n me x t)
+  asked_open : (x : Txn) (t : Ticket) (m : Memory) (ph : Phase) → ph ≡ Open → m.phase ≡ ph
+      → CaseHolds (reading_at m n me x t)
       → Leads (reading_at m n me x t) (reading_at (asks_votes m ph) n me x t)
-  asked_open x t m Open o e h = leads_asked (reading_at m n me x t) (if none_of m.accepted then Over else Asked) h e (is_begun_next (none_of m.accepted))
+  asked_open x t m Open o e h =
+      leads_asked (reading_at m n me x t) (if none_of m.accepted then Over else Asked) h e
+      (is_begun_next (none_of m.accepted))
   asked_open x t m Idle o e h = absurd (cc)
   asked_open x t m Asked o e h = absurd (cc)
   asked_open x t m Over o e h = absurd (cc)
 
-  asked_if : (y x : Txn) (t : Ticket) (b : Bool) → same_case (root_case y) (root_case x) ≡ b → (remembered y).phase ≡ Open
-      → Leads (read x t) (reading_at (if b then asks_votes (remembered x) (remembered x).phase else remembered x) n me x t)
+  asked_if : (y x : Txn) (t : Ticket) (b : Bool) → same_case (root_case y) (root_case x) ≡ b
+      → (remembered y).phase ≡ Open
+      → Leads (read x t) (reading_at
+      (if b then asks_votes (remembered x) (remembered x).phase else remembered x) n me x t)
   asked_if y x t true e o =
       let same : y ≡ x = ap (λ (c : Case). c.txn) (told_same (root_case y) (root_case x) e) in
-      asked_open x t (remembered x) (remembered x).phase (subst (λ (z : Txn). (remembered z).phase ≡ Open) same o) refl (holds x t)
+      asked_open x t (remembered x) (remembered x).phase
+      (subst (λ (z : Txn). (remembered z).phase ≡ Open) same o) refl (holds x t)
   asked_if y x t false e o = stays (read x t) (holds x t)
 
-  commit_with : (y : Txn) (a : DataAnswer) (v : CoordinatorView) (b : Bool) (p : Presumption) → p ≡ PresumeAbort → (remembered y).phase ≡ Open
+  commit_with : (y : Txn) (a : DataAnswer) (v : CoordinatorView) (b : Bool) (p : Presumption)
+      → p ≡ PresumeAbort → (remembered y).phase ≡ Open
       → let s = root_seat me (root_case y) in
-      RootStep here n (hears_act (CommitAct y) a) (row_effect (root_case y) (if b then active_commit_alone s else active_commit_with s v p))
+      RootStep here n (hears_act (CommitAct y) a)
+      (row_effect (root_case y) (if b then active_commit_alone s else active_commit_with s v p))
   commit_with y a v true p e o =
       still_step me tree n (hears_act (CommitAct y) a) (tells y ReadOnly []) (boot_of-nil (kept n))
       (λ m x t. same_reads_only m n (hears_act (CommitAct y) a) me y x t [])
@@ -121,23 +131,27 @@ module _ (me : ProcessId) (tree : List TreeEntry) (n : Node) (holds : AllHold (r
       (prepares_sound here _ (root_seat me (root_case y)) v v.accepted)
   commit_with y a v false PresumeCommit e o = absurd (cc)
 
-  open_when_active : (y : Txn) → coordinator_standing (kept n) (root_case y) (remembered y) ≡ Active → (remembered y).phase ≡ Open
+  open_when_active : (y : Txn) → coordinator_standing (kept n) (root_case y) (remembered y) ≡ Active
+      → (remembered y).phase ≡ Open
   open_when_active y e = active_open _ _ _ _ _ _ _ _ e
 
   pub commits : (y : Txn) (a : DataAnswer) (e : Effect)
-      → commit_by (root_seat me (root_case y)) (coordinator_view here n (root_case y)) (coordinator_view here n (root_case y)).standing ≡ Does e
+      → commit_by (root_seat me (root_case y)) (coordinator_view here n (root_case y))
+      (coordinator_view here n (root_case y)).standing ≡ Does e
       → RootStep here n (hears_act (CommitAct y) a) e
   commits y a e made =
       let c = root_case y in
       let m = remembered y in
       let s = root_seat me c in
       let v = view_at Active (kept n) c m in
-      let seen : commit_by s (view_at (coordinator_standing (kept n) c m) (kept n) c m) (view_at (coordinator_standing (kept n) c m) (kept n) c m).standing ≡ Does e =
+      let seen : commit_by s (view_at (coordinator_standing (kept n) c m) (kept n) c m)
+      (view_at (coordinator_standing (kept n) c m) (kept n) c m).standing ≡ Does e =
       subst (λ (u : CoordinatorView). commit_by s u u.standing ≡ Does e) (viewed here n c) made in
       let both = commit_active s (coordinator_standing (kept n) c m) (kept n) m e seen in
       let o = open_when_active y both.0 in
       subst (λ (f : Effect). RootStep here n (hears_act (CommitAct y) a) f) both.1
-      (commit_with y a v (none_of v.accepted) y.presumption (presumption_abort y.presumption ((holds y any).undecided_presumes_abort (ap is_undecided o))) o)
+      (commit_with y a v (none_of v.accepted) y.presumption
+      (presumption_abort y.presumption ((holds y any).undecided_presumes_abort (ap is_undecided o))) o)
 
   -- The abort act.
 
@@ -149,7 +163,8 @@ module _ (me : ProcessId) (tree : List TreeEntry) (n : Node) (holds : AllHold (r
       → memory_then me tree n (hears_act (AbortAct y) a) x ≡ remembered x
   abort_elsewhere y x a o = rw (apart y x o) refl
 
-  aborts_active : (y : Txn) (a : DataAnswer) (v : CoordinatorView) → is_undecided (remembered y).phase ≡ true
+  aborts_active : (y : Txn) (a : DataAnswer) (v : CoordinatorView)
+      → is_undecided (remembered y).phase ≡ true
       → let s = root_seat me (root_case y) in
       RootStep here n (hears_act (AbortAct y) a) (row_effect (root_case y) (active_abort s v))
   aborts_active y a v u =
@@ -159,42 +174,53 @@ module _ (me : ProcessId) (tree : List TreeEntry) (n : Node) (holds : AllHold (r
       ended_step me tree n h (tells y ConcludedAborted ls) y v.accepted (boot_of-nil (kept n)) holds
       (λ x t o. rw (abort_elsewhere y x a o) (same_tells (remembered x) n h me x t y ConcludedAborted ls o))
       (λ t. true) (λ t. (read y t).recorded) (λ t. false) (λ t. (read y t).refused) (λ t. (read y t).voted)
-      (λ t. rw (abort_then y a u) (own_tells_aborted (record (remembered y) { phase = Over }) n h me y t ls))
-      u (ap (λ l. l ++ each s Abort v.accepted) (unacknowledged s y.presumption (presumption_abort y.presumption ((holds y any).undecided_presumes_abort u))))
+      (λ t. rw (abort_then y a u)
+      (own_tells_aborted (record (remembered y) { phase = Over }) n h me y t ls))
+      u (ap (λ l. l ++ each s Abort v.accepted)
+      (unacknowledged s y.presumption
+      (presumption_abort y.presumption ((holds y any).undecided_presumes_abort u))))
 
-  aborts_collecting : (y : Txn) (a : DataAnswer) (v : CoordinatorView) (us : List Ticket) (p : Presumption) → p ≡ PresumeAbort
+  aborts_collecting : (y : Txn) (a : DataAnswer) (v : CoordinatorView) (us : List Ticket) (p : Presumption)
+      → p ≡ PresumeAbort
       → is_undecided (remembered y).phase ≡ true
       → let s = root_seat me (root_case y) in
-      RootStep here n (hears_act (AbortAct y) a) (row_effect (root_case y) (collecting_abort_by s ByAct v us p))
+      RootStep here n (hears_act (AbortAct y) a)
+      (row_effect (root_case y) (collecting_abort_by s ByAct v us p))
   aborts_collecting y a v us PresumeAbort e u =
       let s = root_seat me (root_case y) in
       let h = hears_act (AbortAct y) a in
       let ls = each s Abort us in
-      ended_step me tree n h (aborting y ls) y us (boot_of-push (kept n) (AbortRecord (root_case y) [])) holds
+      ended_step me tree n h (aborting y ls) y us (boot_of-push (kept n) (AbortRecord (root_case y) []))
+      holds
       (λ x t o. rw (abort_elsewhere y x a o) (same_aborting (remembered x) n h me x t y ls o))
       (λ t. true) (λ t. true) (λ t. false) (λ t. (read y t).refused) (λ t. (read y t).voted)
       (λ t. rw (abort_then y a u) (own_aborting (record (remembered y) { phase = Over }) n h me y t ls))
       u refl
   aborts_collecting y a v us PresumeCommit e u = absurd (cc)
 
-  asked_when_collecting : (y : Txn) → coordinator_standing (kept n) (root_case y) (remembered y) ≡ Collecting → (remembered y).phase ≡ Asked
+  asked_when_collecting : (y : Txn)
+      → coordinator_standing (kept n) (root_case y) (remembered y) ≡ Collecting
+      → (remembered y).phase ≡ Asked
   asked_when_collecting y e = collecting_asked _ _ _ _ _ _ _ _ (holds y any).never_collects e
 
   pub aborts : (y : Txn) (a : DataAnswer) (e : Effect)
-      → abort_by (root_seat me (root_case y)) (coordinator_view here n (root_case y)) (coordinator_view here n (root_case y)).standing ≡ Does e
+      → abort_by (root_seat me (root_case y)) (coordinator_view here n (root_case y))
+      (coordinator_view here n (root_case y)).standing ≡ Does e
       → RootStep here n (hears_act (AbortAct y) a) e
   aborts y a e made =
       let c = root_case y in
       let m = remembered y in
       let s = root_seat me c in
-      let seen : abort_by s (view_at (coordinator_standing (kept n) c m) (kept n) c m) (view_at (coordinator_standing (kept n) c m) (kept n) c m).standing ≡ Does e =
+      let seen : abort_by s (view_at (coordinator_standing (kept n) c m) (kept n) c m)
+      (view_at (coordinator_standing (kept n) c m) (kept n) c m).standing ≡ Does e =
       subst (λ (u : CoordinatorView). abort_by s u u.standing ≡ Does e) (viewed here n c) made in
       elim (abort_cases s (coordinator_standing (kept n) c m) (kept n) m e seen) [
         | inl both ↦
             subst (λ (f : Effect). RootStep here n (hears_act (AbortAct y) a) f) both.1
             (aborts_active y a (view_at Active (kept n) c m) (ap is_undecided (open_when_active y both.0)))
         | inr both ↦
-            let u : is_undecided (remembered y).phase ≡ true = ap is_undecided (asked_when_collecting y both.0) in
+            let u : is_undecided (remembered y).phase ≡ true =
+            ap is_undecided (asked_when_collecting y both.0) in
             let v = view_at Collecting (kept n) c m in
             subst (λ (f : Effect). RootStep here n (hears_act (AbortAct y) a) f) both.1
             (aborts_collecting y a v (undecided_of v.accepted v.votes) y.presumption

@@ -33,13 +33,15 @@ taken_if : (b : Bool) (m r : Memory) → (b ≡ true → ⊥) → (if b then r e
 taken_if true m r h = absurd (h refl)
 taken_if false m r h = refl
 
-not_taken : (m : Memory) (u : Ticket) (w : Vote) (ph : Phase) → (ph ≡ Asked → is_counted m.accepted m.votes u ≡ true → ⊥) → takes_vote m u w ph ≡ m
+not_taken : (m : Memory) (u : Ticket) (w : Vote) (ph : Phase)
+    → (ph ≡ Asked → is_counted m.accepted m.votes u ≡ true → ⊥) → takes_vote m u w ph ≡ m
 not_taken m u w Idle h = refl
 not_taken m u w Open h = refl
 not_taken m u w Over h = refl
 not_taken m u w Asked h = taken_if (is_counted m.accepted m.votes u) m (with_vote m u w) (h refl)
 
-is_taken : (m : Memory) (u : Ticket) (w : Vote) (ph : Phase) → ph ≡ Asked → is_counted m.accepted m.votes u ≡ true → takes_vote m u w ph ≡ with_vote m u w
+is_taken : (m : Memory) (u : Ticket) (w : Vote) (ph : Phase) → ph ≡ Asked
+    → is_counted m.accepted m.votes u ≡ true → takes_vote m u w ph ≡ with_vote m u w
 is_taken m u w Asked e c = rw c refl
 is_taken m u w Idle e c = absurd (cc)
 is_taken m u w Open e c = absurd (cc)
@@ -49,7 +51,8 @@ asked_stands : (p : Presumption) → p ≡ PresumeAbort → phase_standing p Ask
 asked_stands PresumeAbort e = refl
 asked_stands PresumeCommit e = absurd (cc)
 
-counted_belongs : (m : Memory) (rs : List Record) (c : Case) (u : Ticket) → is_counted m.accepted m.votes u ≡ true → belongs m rs c u ≡ true
+counted_belongs : (m : Memory) (rs : List Record) (c : Case) (u : Ticket)
+    → is_counted m.accepted m.votes u ≡ true → belongs m rs c u ≡ true
 counted_belongs m rs c u e = grind arith
 
 module _ (me : ProcessId) (tree : List TreeEntry) (n : Node) (holds : AllHold (root_place me tree) n) where
@@ -71,14 +74,19 @@ module _ (me : ProcessId) (tree : List TreeEntry) (n : Node) (holds : AllHold (r
       let u : is_undecided (remembered x).phase ≡ true = ap is_undecided o in
       undecided_stands me tree n holds x u
       ∙ (ap (λ (ph : Phase). phase_standing x.presumption ph) o
-      ∙ asked_stands x.presumption (presumption_abort x.presumption ((holds x any).undecided_presumes_abort u)))
+      ∙ asked_stands x.presumption
+      (presumption_abort x.presumption ((holds x any).undecided_presumes_abort u)))
 
-  collecting_is_asked : (x : Txn) → coordinator_standing (kept n) (root_case x) (remembered x) ≡ Collecting → (remembered x).phase ≡ Asked
+  collecting_is_asked : (x : Txn) → coordinator_standing (kept n) (root_case x) (remembered x) ≡ Collecting
+      → (remembered x).phase ≡ Asked
   collecting_is_asked x e = collecting_asked _ _ _ _ _ _ _ _ (holds x any).never_collects e
 
-  counted_as : (h : Heard) (y : Txn) (u : Ticket) (w : Vote) → Takes me tree n holds h y u w (with_vote (remembered y) u w) → (remembered y).phase ≡ Asked
+  counted_as : (h : Heard) (y : Txn) (u : Ticket) (w : Vote)
+      → Takes me tree n holds h y u w (with_vote (remembered y) u w) → (remembered y).phase ≡ Asked
       → let v = view_at Collecting (kept n) (root_case y) (remembered y) in
-      RootStep here n h (row_effect (root_case y) (record (collecting_after (root_seat me (root_case y)) (record v { votes = v.votes ++ (u, w) ∷ [] }) w) { counts = (u, w) ∷ [] }))
+      RootStep here n h (row_effect (root_case y)
+      (record (collecting_after (root_seat me (root_case y))
+      (record v { votes = v.votes ++ (u, w) ∷ [] }) w) { counts = (u, w) ∷ [] }))
   counted_as h y u VoteNo takes o =
       let v = view_at Collecting (kept n) (root_case y) (remembered y) in
       let v' : CoordinatorView = record v { votes = v.votes ++ (u, VoteNo) ∷ [] } in
@@ -96,7 +104,9 @@ module _ (me : ProcessId) (tree : List TreeEntry) (n : Node) (holds : AllHold (r
       (all_voted v'.accepted v'.votes) refl takes v' (yes_of v'.accepted v'.votes)
 
   module _ (h : Heard) (y : Txn) (u : Ticket) (w : Vote)
-      (takes : (x : Txn) → memory_then me tree n h x ≡ (if same_txn y x then takes_vote (memory me tree n x) u w (memory me tree n x).phase else memory me tree n x)) where
+      (takes : (x : Txn) → memory_then me tree n h
+      x ≡ (if same_txn y x then takes_vote (memory me tree n x) u w (memory me tree n x).phase
+      else memory me tree n x)) where
     abbrev m : Memory
     m = memory me tree n y
 
@@ -105,21 +115,30 @@ module _ (me : ProcessId) (tree : List TreeEntry) (n : Node) (holds : AllHold (r
 
     -- the vote does not count
 
-    uncounted_case : (x : Txn) (t : Ticket) → ((memory me tree n y).phase ≡ Asked → is_counted (memory me tree n y).accepted (memory me tree n y).votes u ≡ true → ⊥)
-        → Leads (read x t) (reading_at (if same_txn y x then takes_vote (remembered x) u w (remembered x).phase else remembered x) n me x t)
+    uncounted_case : (x : Txn) (t : Ticket)
+        → ((memory me tree n y).phase ≡ Asked
+        → is_counted (memory me tree n y).accepted (memory me tree n y).votes u ≡ true → ⊥)
+        → Leads (read x t) (reading_at
+        (if same_txn y x then takes_vote (remembered x) u w (remembered x).phase else remembered x) n me
+        x t)
     uncounted_case x t no' = elim (same_txn_tells y x) [
       | inl s ↦
-          let P : Txn → Type 0 = λ z. (remembered z).phase ≡ Asked → is_counted (remembered z).accepted (remembered z).votes u ≡ true → ⊥ in
-          rw (s.0, not_taken (remembered x) u w (remembered x).phase (subst P s.1 no')) (stays (read x t) (holds x t))
+          let P : Txn → Type 0 = λ z. (remembered z).phase ≡ Asked
+          → is_counted (remembered z).accepted (remembered z).votes u ≡ true → ⊥ in
+          rw (s.0, not_taken (remembered x) u w (remembered x).phase (subst P s.1 no'))
+          (stays (read x t) (holds x t))
       | inr o ↦ rw o.0 (stays (read x t) (holds x t))
     ]
 
-    uncounted : ((memory me tree n y).phase ≡ Asked → is_counted (memory me tree n y).accepted (memory me tree n y).votes u ≡ true → ⊥) → RootStep here n h (sends [])
+    uncounted : ((memory me tree n y).phase ≡ Asked
+        → is_counted (memory me tree n y).accepted (memory me tree n y).votes u ≡ true → ⊥)
+        → RootStep here n h (sends [])
     uncounted no' = sends_step me tree n holds h [] (λ x t. rw (takes x) (uncounted_case x t no')) tt
 
     -- it counts
 
-    takes_with : m.phase ≡ Asked → is_counted m.accepted m.votes u ≡ true → Takes me tree n holds h y u w (with_vote m u w)
+    takes_with : m.phase ≡ Asked → is_counted m.accepted m.votes u ≡ true
+        → Takes me tree n holds h y u w (with_vote m u w)
     takes_with o e = record {
       own = takes y ∙ rw (same_txn-refl y) (is_taken m u w m.phase o e);
       others = λ x d. takes x ∙ rw d refl;
@@ -127,20 +146,26 @@ module _ (me : ProcessId) (tree : List TreeEntry) (n : Node) (holds : AllHold (r
 
     counted : m.phase ≡ Asked → is_counted m.accepted m.votes u ≡ true
         → let v = view_at Collecting (kept n) c m in
-        RootStep here n h (row_effect c (record (collecting_after (root_seat me c) (record v { votes = v.votes ++ (u, w) ∷ [] }) w) { counts = (u, w) ∷ [] }))
+        RootStep here n h (row_effect c
+        (record (collecting_after (root_seat me c) (record v { votes = v.votes ++ (u, w) ∷ [] }) w)
+        { counts = (u, w) ∷ [] }))
     counted o e = counted_as h y u w (takes_with o e) o
 
     collecting : m.phase ≡ Asked → (b : Bool) → is_counted m.accepted m.votes u ≡ b
         → let v = view_at Collecting (kept n) c m in
-        RootStep here n h (row_effect c (if b then record (collecting_after (root_seat me c) (record v { votes = v.votes ++ (u, w) ∷ [] }) w) { counts = (u, w) ∷ [] } else quiet v))
+        RootStep here n h (row_effect c
+        (if b then record (collecting_after (root_seat me c)
+        (record v { votes = v.votes ++ (u, w) ∷ [] }) w) { counts = (u, w) ∷ [] } else quiet v))
     collecting o true e = counted o e
     collecting o false e = uncounted (λ p q. let f : false ≡ true = sym e ∙ q in cc)
 
-    elsewhere : (st : Standing) → (st ≡ Collecting → ⊥) → coordinator_standing (kept n) c m ≡ st → RootStep here n h (sends [])
+    elsewhere : (st : Standing) → (st ≡ Collecting → ⊥) → coordinator_standing (kept n) c m ≡ st
+        → RootStep here n h (sends [])
     elsewhere st no' s = uncounted (λ p q. no' (sym s ∙ asked_is_collecting y p))
 
     voted_by : (st : Standing) → coordinator_standing (kept n) c m ≡ st
-        → let v = view_at st (kept n) c m in RootStep here n h (row_effect c (on_vote (root_seat me c) u w v v.standing))
+        → let v = view_at st (kept n) c m in RootStep here n h
+        (row_effect c (on_vote (root_seat me c) u w v v.standing))
     voted_by Collecting s = collecting (collecting_is_asked y s) (is_counted m.accepted m.votes u) refl
     voted_by Unknown s = elsewhere Unknown (λ f. cc) s
     voted_by Active s = elsewhere Active (λ f. cc) s
@@ -149,13 +174,17 @@ module _ (me : ProcessId) (tree : List TreeEntry) (n : Node) (holds : AllHold (r
     voted_by Aborting s = elsewhere Aborting (λ f. cc) s
     voted_by Heuristic s = elsewhere Heuristic (λ f. cc) s
 
-    voted_in : let v = coordinator_view here n c in RootStep here n h (row_effect c (on_vote (root_seat me c) u w v v.standing))
-    voted_in = subst (λ (v : CoordinatorView). RootStep here n h (row_effect c (on_vote (root_seat me c) u w v v.standing))) (sym (viewed here n c))
+    voted_in : let v = coordinator_view here n c in RootStep here n h
+        (row_effect c (on_vote (root_seat me c) u w v v.standing))
+    voted_in = subst (λ (v : CoordinatorView). RootStep here n h
+        (row_effect c (on_vote (root_seat me c) u w v v.standing))) (sym (viewed here n c))
         (voted_by (coordinator_standing (kept n) c m) refl)
 
-    voted_if : (b : Bool) → belongs m (kept n) c u ≡ b → RootStep here n h (vote_for here None n u w (if b then Some c else None))
+    voted_if : (b : Bool) → belongs m (kept n) c u ≡ b
+        → RootStep here n h (vote_for here None n u w (if b then Some c else None))
     voted_if true e = voted_in
-    voted_if false e = uncounted (λ p q. let f : false ≡ true = sym e ∙ counted_belongs m (kept n) c u q in cc)
+    voted_if false e = uncounted
+        (λ p q. let f : false ≡ true = sym e ∙ counted_belongs m (kept n) c u q in cc)
 
     pub voted : RootStep here n h (vote_for here None n u w (case_of_child here n y u))
     voted = voted_if (belongs m (kept n) c u) refl

@@ -63,17 +63,20 @@ pub record RootReacts (place : Place) (n : Node) (h : Heard) (e : Effect) : Type
   pub step : RootStep place n h e
   pub consents : (x : Txn) (t : Ticket) → has_heard_vote (after n h e) (root_case x) t is_consent ≡ true
       → (has_heard_vote n (root_case x) t is_consent ≡ true) ⊎ Consents (child_case x t) h.input
-  pub accepts : (x : Txn) (u t : Ticket) → has_accepted (after n h e) (child_case x u) t ≡ true → has_accepted n (child_case x u) t ≡ true
+  pub accepts : (x : Txn) (u t : Ticket) → has_accepted (after n h e) (child_case x u) t ≡ true
+      → has_accepted n (child_case x u) t ≡ true
 
 accepted_none : (n : Node) (h : Heard) (e : Effect) (c : Case) (t : Ticket) → AcceptsNone e
     → has_accepted (after n h e) c t ≡ true → has_accepted n c t ≡ true
 accepted_none n h e c t none f = rw none at f
 
 counted_none : (n : Node) (h : Heard) (e : Effect) (x : Txn) (t : Ticket) → CountsNone e
-    → has_heard_vote (after n h e) (root_case x) t is_consent ≡ true → has_heard_vote n (root_case x) t is_consent ≡ true
+    → has_heard_vote (after n h e) (root_case x) t is_consent ≡ true
+    → has_heard_vote n (root_case x) t is_consent ≡ true
 counted_none n h e x t none f = rw none at f
 
-pub none_reacts : (place : Place) (n : Node) (h : Heard) (e : Effect) → RootStep place n h e → CountsNone e → AcceptsNone e → RootReacts place n h e
+pub none_reacts : (place : Place) (n : Node) (h : Heard) (e : Effect) → RootStep place n h e → CountsNone e
+    → AcceptsNone e → RootReacts place n h e
 none_reacts place n h e s none takes = record {
   step = s;
   consents = λ x t f. inl (counted_none n h e x t none f);
@@ -86,24 +89,28 @@ is_first a b e = grind arith
 first_of_two : (a b : Bool) → (a && b) ≡ true → a ≡ true
 first_of_two a b e = grind arith
 
-both_named : (y x : Txn) (u t : Ticket) (b : Bool) → (same_case (root_case y) (root_case x) && (same_ticket u t && b)) ≡ true
+both_named : (y x : Txn) (u t : Ticket) (b : Bool)
+    → (same_case (root_case y) (root_case x) && (same_ticket u t && b)) ≡ true
     → (child_case y u ≡ child_case x t) × (b ≡ true)
 both_named y x u t b e = grind (arith, names)
 
 -- a vote that is counted was said
-vote_said : (y x : Txn) (u t : Ticket) (w : Vote) (k : ℕ) (n : Node) (h : Heard) (e : Effect) → CountsAtMost (root_case y) u w e
+vote_said : (y x : Txn) (u t : Ticket) (w : Vote) (k : ℕ) (n : Node) (h : Heard) (e : Effect)
+    → CountsAtMost (root_case y) u w e
     → (child_case y u ≡ child_case x t → is_consent w ≡ true → Consents (child_case x t) h.input)
     → has_heard_vote (after n h e) (root_case x) t is_consent ≡ true
     → (has_heard_vote n (root_case x) t is_consent ≡ true) ⊎ Consents (child_case x t) h.input
 vote_said y x u t w k n h e (inl none) says f = inl (counted_none n h e x t none f)
 vote_said y x u t w k n h e (inr one) says f =
     let g = rw one at f in
-    elim (is_first (same_case (root_case y) (root_case x) && (same_ticket u t && is_consent w)) (has_heard_vote n (root_case x) t is_consent) g) [
+    elim (is_first (same_case (root_case y) (root_case x) && (same_ticket u t && is_consent w))
+    (has_heard_vote n (root_case x) t is_consent) g) [
       | inl new ↦ let both = both_named y x u t (is_consent w) new in inr (says both.0 both.1)
       | inr old ↦ inl old
     ]
 
-module _ (me : ProcessId) (tree : List TreeEntry) (n : Node) (holds : AllHold (root_place me tree) n) (a : DataAnswer) where
+module _ (me : ProcessId) (tree : List TreeEntry) (n : Node) (holds : AllHold (root_place me tree) n)
+    (a : DataAnswer) where
   abbrev here : Place
   here = root_place me tree
 
@@ -115,7 +122,13 @@ module _ (me : ProcessId) (tree : List TreeEntry) (n : Node) (holds : AllHold (r
       let h = hears_act (Begin PresumeAbort) a in
       let x = next_begun here n PresumeAbort in
       let r = begins me tree n holds a (sends []) refl in
-      let s : RootReacts here n h (begin_effect x) = record { step = record { cases = r.cases; letters = r.letters }; consents = λ z t g. inl g; accepts = λ z u t g. g } in
+      let s : RootReacts here n h (begin_effect x) =
+      record {
+        step = record { cases = r.cases; letters = r.letters };
+        consents =
+            λ z t g. inl g;
+        accepts = λ z u t g. g;
+      } in
       subst (λ (g : Effect). RootReacts here n h g) (effect_same (begin_effect x) e made) s
   by_act (Begin PresumeCommit) e f made = absurd (cc)
   by_act (JoinAct c q) e f made =
@@ -130,11 +143,13 @@ module _ (me : ProcessId) (tree : List TreeEntry) (n : Node) (holds : AllHold (r
       (sends_works me tree n holds a c q op only.letters (only.sound here _)) refl refl)
   by_act (CommitAct y) e f made =
       let v = coordinator_view here n (root_case y) in
-      none_reacts here n (hears_act (CommitAct y) a) e (commits me tree n holds y a e made) (commit_none (root_seat me (root_case y)) v v.standing e made)
+      none_reacts here n (hears_act (CommitAct y) a) e (commits me tree n holds y a e made)
+      (commit_none (root_seat me (root_case y)) v v.standing e made)
       (commit_takes_none (root_seat me (root_case y)) v v.standing e made)
   by_act (AbortAct y) e f made =
       let v = coordinator_view here n (root_case y) in
-      none_reacts here n (hears_act (AbortAct y) a) e (aborts me tree n holds y a e made) (abort_none (root_seat me (root_case y)) v v.standing e made)
+      none_reacts here n (hears_act (AbortAct y) a) e (aborts me tree n holds y a e made)
+      (abort_none (root_seat me (root_case y)) v v.standing e made)
       (abort_takes_none (root_seat me (root_case y)) v v.standing e made)
   by_act (Ask c) e f made = absurd (cc)
   by_act (Decide c o) e f made = absurd (cc)
@@ -144,67 +159,96 @@ module _ (me : ProcessId) (tree : List TreeEntry) (n : Node) (holds : AllHold (r
 
   -- JOINED of a case with a ticket accepts none
   taken_by : (d : Case) (u : Ticket) (h : Heard) (e : Effect) (x : Txn) (y t : Ticket)
-      → (e.accepts ≡ []) ⊎ ((e.accepts ≡ (d, u) ∷ []) × (coordinator_standing (kept n) d (memory_of here n d) ≡ Active))
+      → (e.accepts ≡ []) ⊎ ((e.accepts ≡ (d, u) ∷ [])
+      × (coordinator_standing (kept n) d (memory_of here n d) ≡ Active))
       → has_accepted (after n h e) (child_case x y) t ≡ true → has_accepted n (child_case x y) t ≡ true
   taken_by d u h e x y t (inl none) f = accepted_none n h e (child_case x y) t none f
   taken_by d u h e x y t (inr one) f =
       let g = rw one.0 at f in
-      elim (is_first (same_case d (child_case x y) && same_ticket u t) (has_accepted n (child_case x y) t) g) [
+      elim (is_first (same_case d (child_case x y) && same_ticket u t) (has_accepted n (child_case x y) t)
+      g) [
         | inl new ↦
-            let same : d ≡ child_case x y = told_same d (child_case x y) (first_of_two (same_case d (child_case x y)) (same_ticket u t) new) in
-            absurd (never_active me tree n x y (subst (λ (z : Case). coordinator_standing (kept n) z (memory_of here n z) ≡ Active) same one.1))
+            let same : d ≡ child_case x y =
+            told_same d (child_case x y)
+            (first_of_two (same_case d (child_case x y)) (same_ticket u t) new) in
+            absurd (never_active me tree n x y
+            (subst (λ (z : Case). coordinator_standing (kept n) z (memory_of here n z) ≡ Active) same
+            one.1))
         | inr old ↦ old
       ]
 
-  nothing : (h : Heard) → ((x : Txn) → memory_then me tree n h x ≡ memory me tree n x) → RootReacts here n h no_effect
+  nothing : (h : Heard) → ((x : Txn) → memory_then me tree n h x ≡ memory me tree n x)
+      → RootReacts here n h no_effect
   nothing h same = none_reacts here n h no_effect
-      (sends_step me tree n holds h [] (λ x t. rw (same x) (stays (reading here n x t) (holds x t))) tt) refl refl
+      (sends_step me tree n holds h [] (λ x t. rw (same x) (stays (reading here n x t) (holds x t))) tt)
+      refl refl
 
   same_if : (b : Bool) (m : Memory) → (if b then m else m) ≡ m
   same_if true m = refl
   same_if false m = refl
 
   by_yes : (k : ℕ) (y : Txn) (o : Option Ticket) → let d : Case = record { txn = y; ticket = o } in
-      RootReacts here n (hears_message k (Yes d) a) (of_ticket o no_effect (λ t. vote_for here None n t VoteYes (case_of_child here n y t)))
-  by_yes k y None = nothing (hears_message k (Yes (root_case y)) a) (λ x. same_if (same_txn y x) (memory me tree n x))
+      RootReacts here n (hears_message k (Yes d) a)
+      (of_ticket o no_effect (λ t. vote_for here None n t VoteYes (case_of_child here n y t)))
+  by_yes k y None = nothing (hears_message k (Yes (root_case y)) a)
+      (λ x. same_if (same_txn y x) (memory me tree n x))
   by_yes k y (Some u) =
       let h = hears_message k (Yes (child_case y u)) a in
       record {
         step = voted me tree n holds h y u VoteYes (λ x. refl);
-        consents = λ x t f. vote_said y x u t VoteYes k n h (vote_for here None n u VoteYes (case_of_child here n y u)) (vote_for_counts me tree n y u VoteYes) (λ s c. s) f;
-        accepts = λ x v t f. accepted_none n h (vote_for here None n u VoteYes (case_of_child here n y u)) (child_case x v) t (vote_for_takes_none here n u VoteYes (case_of_child here n y u)) f;
+        consents = λ x t f. vote_said y x u t VoteYes k n h
+            (vote_for here None n u VoteYes (case_of_child here n y u))
+            (vote_for_counts me tree n y u VoteYes) (λ s c. s) f;
+        accepts = λ x v t f. accepted_none n h (vote_for here None n u VoteYes (case_of_child here n y u))
+            (child_case x v) t (vote_for_takes_none here n u VoteYes (case_of_child here n y u)) f;
       }
 
   by_read : (k : ℕ) (y : Txn) (o : Option Ticket) → let d : Case = record { txn = y; ticket = o } in
-      RootReacts here n (hears_message k (Read d) a) (of_ticket o no_effect (λ t. vote_for here None n t VoteRead (case_of_child here n y t)))
-  by_read k y None = nothing (hears_message k (Read (root_case y)) a) (λ x. same_if (same_txn y x) (memory me tree n x))
+      RootReacts here n (hears_message k (Read d) a)
+      (of_ticket o no_effect (λ t. vote_for here None n t VoteRead (case_of_child here n y t)))
+  by_read k y None = nothing (hears_message k (Read (root_case y)) a)
+      (λ x. same_if (same_txn y x) (memory me tree n x))
   by_read k y (Some u) =
       let h = hears_message k (Read (child_case y u)) a in
       record {
         step = voted me tree n holds h y u VoteRead (λ x. refl);
-        consents = λ x t f. vote_said y x u t VoteRead k n h (vote_for here None n u VoteRead (case_of_child here n y u)) (vote_for_counts me tree n y u VoteRead) (λ s c. s) f;
-        accepts = λ x v t f. accepted_none n h (vote_for here None n u VoteRead (case_of_child here n y u)) (child_case x v) t (vote_for_takes_none here n u VoteRead (case_of_child here n y u)) f;
+        consents = λ x t f. vote_said y x u t VoteRead k n h
+            (vote_for here None n u VoteRead (case_of_child here n y u))
+            (vote_for_counts me tree n y u VoteRead) (λ s c. s) f;
+        accepts = λ x v t f. accepted_none n h (vote_for here None n u VoteRead (case_of_child here n y u))
+            (child_case x v) t (vote_for_takes_none here n u VoteRead (case_of_child here n y u)) f;
       }
 
   by_no : (k : ℕ) (y : Txn) (o : Option Ticket) → let d : Case = record { txn = y; ticket = o } in
-      RootReacts here n (hears_message k (No d) a) (of_ticket o no_effect (λ t. vote_for here None n t VoteNo (case_of_child here n y t)))
-  by_no k y None = nothing (hears_message k (No (root_case y)) a) (λ x. same_if (same_txn y x) (memory me tree n x))
+      RootReacts here n (hears_message k (No d) a)
+      (of_ticket o no_effect (λ t. vote_for here None n t VoteNo (case_of_child here n y t)))
+  by_no k y None = nothing (hears_message k (No (root_case y)) a)
+      (λ x. same_if (same_txn y x) (memory me tree n x))
   by_no k y (Some u) =
       let h = hears_message k (No (child_case y u)) a in
       record {
         step = voted me tree n holds h y u VoteNo (λ x. refl);
-        consents = λ x t f. vote_said y x u t VoteNo k n h (vote_for here None n u VoteNo (case_of_child here n y u)) (vote_for_counts me tree n y u VoteNo) (λ s c. absurd (cc)) f;
-        accepts = λ x v t f. accepted_none n h (vote_for here None n u VoteNo (case_of_child here n y u)) (child_case x v) t (vote_for_takes_none here n u VoteNo (case_of_child here n y u)) f;
+        consents = λ x t f. vote_said y x u t VoteNo k n h
+            (vote_for here None n u VoteNo (case_of_child here n y u))
+            (vote_for_counts me tree n y u VoteNo) (λ s c. absurd (cc)) f;
+        accepts = λ x v t f. accepted_none n h (vote_for here None n u VoteNo (case_of_child here n y u))
+            (child_case x v) t (vote_for_takes_none here n u VoteNo (case_of_child here n y u)) f;
       }
 
-  by_ack : (k : ℕ) (y : Txn) (o : Option Ticket) (p : Outcome) → let d : Case = record { txn = y; ticket = o } in
-      RootReacts here n (hears_message k (Ack d p) a) (of_ticket o no_effect (λ t. ack_for here None n t p (case_of_child here n y t)))
-  by_ack k y None p = nothing (hears_message k (Ack (root_case y) p) a) (λ x. same_if (same_txn y x) (memory me tree n x))
+  by_ack : (k : ℕ) (y : Txn) (o : Option Ticket) (p : Outcome) → let d : Case =
+      record { txn = y; ticket = o } in
+      RootReacts here n (hears_message k (Ack d p) a)
+      (of_ticket o no_effect (λ t. ack_for here None n t p (case_of_child here n y t)))
+  by_ack k y None p = nothing (hears_message k (Ack (root_case y) p) a)
+      (λ x. same_if (same_txn y x) (memory me tree n x))
   by_ack k y (Some u) p =
       let h = hears_message k (Ack (child_case y u) p) a in
-      none_reacts here n h _ (acknowledged me tree n holds h y u p (λ x. refl)) (ack_for_none here n u p (case_of_child here n y u)) (ack_for_takes_none here n u p (case_of_child here n y u))
+      none_reacts here n h _ (acknowledged me tree n holds h y u p (λ x. refl))
+      (ack_for_none here n u p (case_of_child here n y u))
+      (ack_for_takes_none here n u p (case_of_child here n y u))
 
-  pub by_message : (k : ℕ) (m : Message) → IsNoQuestion m → RootReacts here n (hears_message k m a) (hears_from_child here None n m)
+  pub by_message : (k : ℕ) (m : Message) → IsNoQuestion m
+      → RootReacts here n (hears_message k m a) (hears_from_child here None n m)
   by_message k (Joined d u) q =
       let v = coordinator_view here n d in
       let h = hears_message k (Joined d u) a in
@@ -227,7 +271,8 @@ module _ (me : ProcessId) (tree : List TreeEntry) (n : Node) (holds : AllHold (r
 
   -- Any input.
 
-  let_through : (b f : Bool) (r : Reacts) (e : Effect) → (if b then (if f then Refused Failed else r) else Refused NoSuch) ≡ Does e → r ≡ Does e
+  let_through : (b f : Bool) (r : Reacts) (e : Effect)
+      → (if b then (if f then Refused Failed else r) else Refused NoSuch) ≡ Does e → r ≡ Does e
   let_through true false r e made = made
   let_through true true r e made = absurd (cc)
   let_through false f r e made = absurd (cc)
@@ -236,7 +281,10 @@ module _ (me : ProcessId) (tree : List TreeEntry) (n : Node) (holds : AllHold (r
       → reacts here n (record { input = i; data_answer = a }) ≡ Does e
       → RootReacts here n (record { input = i; data_answer = a }) e
   unfolding reacts
-  root_reacts (ActInput b) e f q made = by_act b e f (let_through (act_is_listed tree (ActInput b)) n.failed (coordinator_acts here None n b) e made)
+  root_reacts (ActInput b) e f q made =
+      by_act b e f (let_through (act_is_listed tree (ActInput b)) n.failed (coordinator_acts here None n b)
+      e made)
   root_reacts (MessageInput k m) e f q made =
-      let same : hears_from_child here None n m ≡ e = effect_same _ e (let_through true n.failed (Does (hears_from_child here None n m)) e made) in
+      let same : hears_from_child here None n m ≡ e =
+      effect_same _ e (let_through true n.failed (Does (hears_from_child here None n m)) e made) in
       subst (λ (g : Effect). RootReacts here n (hears_message k m a) g) same (by_message k m q)

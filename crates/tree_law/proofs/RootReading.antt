@@ -33,7 +33,8 @@ reading_at m n me x t =
       is_own = same_process x.root me;
       presumes_abort = same_presumption x.presumption PresumeAbort;
       collects = has (is_collecting c) (kept n);
-      recorded = has (is_end c) (kept n) || (has (is_commit c) (kept n) || (has (is_abort c) (kept n) || has (is_prepare c) (kept n)));
+      recorded = has (is_end c) (kept n) ||
+          (has (is_commit c) (kept n) || (has (is_abort c) (kept n) || has (is_prepare c) (kept n)));
       commit_kept = has (is_commit c) (kept n);
       committed = has (is_commit c) n.durable;
       aborted = has (is_abort c) n.life || list_any (is_told_aborted x) n.told;
@@ -50,7 +51,16 @@ reading place n x t = reading_at (memory_of place n (root_case x)) n place.me x 
 -- The effects of the root's rows.
 
 abbrev pub sends : List Envelope → Effect
-sends ls = record { begun = None; written = []; told = None; letters = ls; accepts = []; counts = []; remains = None }
+sends ls = record {
+  begun = None;
+  written = [];
+  told = None;
+  letters = ls;
+  accepts = [];
+  counts =
+      [];
+  remains = None;
+}
 
 abbrev pub tells : Txn → Conclusion → List Envelope → Effect
 tells y a ls = record (sends ls) { told = Some (record { txn = y; conclusion = a }) }
@@ -65,7 +75,8 @@ abbrev pub aborting : Txn → List Envelope → Effect
 aborting y ls = record (tells y ConcludedAborted ls) { written = plain (AbortRecord (root_case y) []) }
 
 abbrev pub committing : Txn → List Ticket → List Envelope → Effect
-committing y us ls = record (tells y ConcludedCommitted ls) { written = forced (CommitRecord (root_case y) us) }
+committing y us ls = record (tells y ConcludedCommitted ls)
+    { written = forced (CommitRecord (root_case y) us) }
 
 abbrev pub ending : Txn → Effect
 ending y = record (sends []) { written = plain (EndRecord (root_case y)) }
@@ -86,28 +97,39 @@ module _ (m : Memory) (n : Node) (h : Heard) (me : ProcessId) (x : Txn) (t : Tic
   pub same_sends : (ls : List Envelope) → Same (sends ls)
   same_sends ls = simp (lists)
 
-  pub same_tells : (y : Txn) (a : Conclusion) (ls : List Envelope) → same_txn y x ≡ false → Same (tells y a ls)
+  pub same_tells : (y : Txn) (a : Conclusion) (ls : List Envelope) → same_txn y x ≡ false
+      → Same (tells y a ls)
   same_tells y a ls o = simp (lists, o)
 
   pub same_accepting : (c : Case) (u : Ticket) → same_case c (root_case x) ≡ false → Same (accepting c u)
   same_accepting c u o = simp (lists, o)
 
-  pub same_counting : (y : Txn) (u : Ticket) (w : Vote) → same_txn y x ≡ false → Same (counting y u w (sends []))
+  pub same_counting : (y : Txn) (u : Ticket) (w : Vote) → same_txn y x ≡ false
+      → Same (counting y u w (sends []))
   same_counting y u w o = simp (lists, apart y x o)
 
-  pub same_counting_tells : (y : Txn) (u : Ticket) (w : Vote) (a : Conclusion) (ls : List Envelope) → same_txn y x ≡ false → Same (counting y u w (tells y a ls))
+  pub same_counting_tells : (y : Txn) (u : Ticket) (w : Vote) (a : Conclusion) (ls : List Envelope)
+      → same_txn y x ≡ false → Same (counting y u w (tells y a ls))
   same_counting_tells y u w a ls o = simp (lists, o, apart y x o)
 
   pub same_aborting : (y : Txn) (ls : List Envelope) → same_txn y x ≡ false → Same (aborting y ls)
   same_aborting y ls o = simp (lists, o, apart y x o)
 
-  pub same_counting_aborting : (y : Txn) (u : Ticket) (w : Vote) (ls : List Envelope) → same_txn y x ≡ false → Same (counting y u w (aborting y ls))
+  pub same_counting_aborting : (y : Txn) (u : Ticket) (w : Vote) (ls : List Envelope) → same_txn y x ≡ false
+      → Same (counting y u w (aborting y ls))
   same_counting_aborting y u w ls o = simp (lists, o, apart y x o)
 
-  pub same_counting_committing : (y : Txn) (u : Ticket) (w : Vote) (us : List Ticket) (ls : List Envelope) → (has (is_commit (root_case x)) (kept n) ≡ true → has (is_commit (root_case x)) n.durable ≡ true)
+  pub same_counting_committing : (y : Txn) (u : Ticket) (w : Vote) (us : List Ticket) (ls : List Envelope)
+      → (has (is_commit (root_case x)) (kept n) ≡ true → has (is_commit (root_case x)) n.durable ≡ true)
       → same_txn y x ≡ false → Same (counting y u w (committing y us ls))
   same_counting_committing y u w us ls k o =
-      simp (lists, o, apart y x o, absorbed (has (is_commit (root_case x)) (kept n)) (has (is_commit (root_case x)) n.durable) k)
+      simp (
+        lists,
+        o,
+        apart y x o,
+        absorbed (has (is_commit (root_case x)) (kept n))
+            (has (is_commit (root_case x)) n.durable) k,
+      )
 
   pub same_ending : (y : Txn) → same_txn y x ≡ false → Same (ending y)
   same_ending y o = simp (lists, apart y x o)
@@ -125,7 +147,8 @@ pub and-true : (a : Bool) → (a && true) ≡ a
 and-true a = grind arith
 
 -- `readonly` is no abort: it is told of any case
-pub same_reads_only : (m : Memory) (n : Node) (h : Heard) (me : ProcessId) (y x : Txn) (t : Ticket) (ls : List Envelope)
+pub same_reads_only : (m : Memory) (n : Node) (h : Heard) (me : ProcessId) (y x : Txn) (t : Ticket)
+    (ls : List Envelope)
     → reading_at m (after n h (tells y ReadOnly ls)) me x t ≡ reading_at m n me x t
 same_reads_only m n h me y x t ls = simp (lists, and-false)
 
@@ -140,26 +163,48 @@ module _ (m : Memory) (n : Node) (h : Heard) (me : ProcessId) (x : Txn) (t : Tic
   abbrev before : CaseReading
   before = reading_at m n me x t
 
-  pub own_tells_aborted : (ls : List Envelope) → Becomes (tells x ConcludedAborted ls) (record before { aborted = true })
+  pub own_tells_aborted : (ls : List Envelope)
+      → Becomes (tells x ConcludedAborted ls) (record before { aborted = true })
   own_tells_aborted ls = simp (own)
 
-  pub own_accepting : (u : Ticket) → Becomes (accepting (root_case x) u) (record before { took_part = same_ticket u t || before.took_part })
+  pub own_accepting : (u : Ticket)
+      → Becomes (accepting (root_case x) u)
+      (record before { took_part = same_ticket u t || before.took_part })
   own_accepting u = simp (own)
 
-  pub own_counting : (u : Ticket) (w : Vote) → Becomes (counting x u w (sends [])) (record before { consented = (same_ticket u t && is_consent w) || before.consented })
+  pub own_counting : (u : Ticket) (w : Vote)
+      → Becomes (counting x u w (sends []))
+      (record before { consented = (same_ticket u t && is_consent w) || before.consented })
   own_counting u w = simp (own)
 
-  pub own_counting_reads_only : (u : Ticket) (w : Vote) (ls : List Envelope) → Becomes (counting x u w (tells x ReadOnly ls)) (record before { consented = (same_ticket u t && is_consent w) || before.consented })
+  pub own_counting_reads_only : (u : Ticket) (w : Vote) (ls : List Envelope)
+      → Becomes (counting x u w (tells x ReadOnly ls))
+      (record before { consented = (same_ticket u t && is_consent w) || before.consented })
   own_counting_reads_only u w ls = simp (own)
 
-  pub own_aborting : (ls : List Envelope) → Becomes (aborting x ls) (record before { aborted = true; recorded = true })
+  pub own_aborting : (ls : List Envelope)
+      → Becomes (aborting x ls) (record before { aborted = true; recorded = true })
   own_aborting ls = simp (own)
 
-  pub own_counting_aborting : (u : Ticket) (w : Vote) (ls : List Envelope) → Becomes (counting x u w (aborting x ls)) (record before { aborted = true; recorded = true; consented = (same_ticket u t && is_consent w) || before.consented })
+  pub own_counting_aborting : (u : Ticket) (w : Vote) (ls : List Envelope)
+      → Becomes (counting x u w (aborting x ls))
+      (record before {
+        aborted = true;
+        recorded = true;
+        consented =
+            (same_ticket u t && is_consent w) || before.consented;
+      })
   own_counting_aborting u w ls = simp (own)
 
   pub own_counting_committing : (u : Ticket) (w : Vote) (us : List Ticket) (ls : List Envelope)
-      → Becomes (counting x u w (committing x us ls)) (record before { recorded = true; commit_kept = true; committed = true; consented = (same_ticket u t && is_consent w) || before.consented })
+      → Becomes (counting x u w (committing x us ls))
+      (record before {
+        recorded = true;
+        commit_kept = true;
+        committed = true;
+        consented =
+            (same_ticket u t && is_consent w) || before.consented;
+      })
   own_counting_committing u w us ls = simp (own)
 
   pub own_committed : (u : Ticket) (w : Vote) (us : List Ticket) (ls : List Envelope)

@@ -30,7 +30,8 @@ phase_asked PresumeCommit Idle e = absurd (cc)
 phase_asked PresumeAbort Over e = absurd (cc)
 phase_asked PresumeCommit Over e = absurd (cc)
 
-phase_recorded : (p : Presumption) (ph : Phase) → (phase_standing p ph ≡ Committing → ⊥) × (phase_standing p ph ≡ Aborting → ⊥)
+phase_recorded : (p : Presumption) (ph : Phase) → (phase_standing p ph ≡ Committing → ⊥)
+    × (phase_standing p ph ≡ Aborting → ⊥)
 phase_recorded p Open = (λ e. cc, λ e. cc)
 phase_recorded PresumeAbort Asked = (λ e. cc, λ e. cc)
 phase_recorded PresumeCommit Asked = (λ e. cc, λ e. cc)
@@ -88,7 +89,8 @@ unrecorded false false false true K N s e k = absurd (cc)
 unrecorded false false false false true N s e k = absurd (cc)
 unrecorded false false false false false N s e k = refl
 
-pub view_standing : (s : Standing) (rs : List Record) (c : Case) (m : Memory) → (view_at s rs c m).standing ≡ s
+pub view_standing : (s : Standing) (rs : List Record) (c : Case) (m : Memory)
+    → (view_at s rs c m).standing ≡ s
 view_standing Unknown rs c m = refl
 view_standing Active rs c m = refl
 view_standing Collecting rs c m = refl
@@ -99,6 +101,7 @@ view_standing Heuristic rs c m = refl
 
 -- the view is read off the records and what is remembered
 pub viewed : (place : Place) (n : Node) (c : Case)
-    → coordinator_view place n c ≡ view_at (coordinator_standing (kept n) c (memory_of place n c)) (kept n) c (memory_of place n c)
+    → coordinator_view place n c ≡ view_at (coordinator_standing (kept n) c (memory_of place n c)) (kept n)
+    c (memory_of place n c)
 unfolding coordinator_view
 viewed place n c = refl
