@@ -24,3 +24,4 @@ pub mod RootAccepts
 pub mod Runs
 pub mod Agreements
 pub mod FlatRuns
+pub mod PlayedRuns

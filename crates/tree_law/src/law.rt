@@ -1,5 +1,6 @@
 //! The laws of runs.
 ghost use Rattle.std.specs.Prelude.{List};
+ghost use Rattle.tree_law.specs.Committing.{CommittingRun};
 ghost use Rattle.tree_law.specs.Flat.{AreFlatMoves, IsFlat};
 ghost use Rattle.tree_model.specs.Outcomes.{Agreement, CommitRule};
 ghost use Rattle.tree_model.specs.World.{IsRun, Made, World};
@@ -12,4 +13,9 @@ pub fn flat_runs_agree()
         → AreFlatMoves es → Agreement tree w }
     ensures commit_rule { (tree : List TreeEntry) (es : List Made) (w : World) → IsFlat tree → IsRun tree es w
         → AreFlatMoves es → CommitRule tree w }
+{}
+
+/// There is such a run that commits a transaction in which a manager takes part.
+pub fn flat_runs_commit()
+    ensures { CommittingRun }
 {}
