@@ -26,7 +26,13 @@ use Rattle.tree_law.specs.Committing.{CommittingRun, committed_txn, committing_e
 
 -- what a run computes with
 unfoldable computing : ⊤
-unfolding other_tickets has_child ticket_of_child voted_so has_voted all_voted yes_of undecided_of works_of has_acked active_ticket without_ticket memory_of same_process same_presumption same_outcome same_txn same_ticket same_owner same_case is_listed is_child role_of sent is_commit_outcome writes_heard reacts has in_list none_of same_bytes same_xid same_branch named_by promised_by owing_by boot_of has_case cases_in recorded_view recorded_branch trimmed still_owed coordinator_view mark_of manager_view key_below with_pair without_key applied writes_of stored node_makes world_makes made_by node_by net_by entries_of journal_of
+unfolding other_tickets has_child ticket_of_child voted_so has_voted all_voted yes_of undecided_of
+    works_of has_acked active_ticket without_ticket memory_of same_process same_presumption same_outcome
+    same_txn same_ticket same_owner same_case is_listed is_child role_of sent is_commit_outcome
+    writes_heard reacts has in_list none_of same_bytes same_xid same_branch named_by promised_by owing_by
+    boot_of has_case cases_in recorded_view recorded_branch trimmed still_owed coordinator_view mark_of
+    manager_view key_below with_pair without_key applied writes_of stored node_makes world_makes made_by
+    node_by net_by entries_of journal_of
 computing = tt
 
 -- What is played is a run.
@@ -38,18 +44,21 @@ player_of (Stops e p) = p
 abbrev pub IsPlayed : List TreeEntry → Player → Type 0
 IsPlayed tree p = IsRun tree p.moves p.world
 
-sent_stands : (net : List Envelope) (k : ℕ) (e : Envelope) → sent_as net k ≡ Some e → IsSent net e.to k e.message
+sent_stands : (net : List Envelope) (k : ℕ) (e : Envelope) → sent_as net k ≡ Some e
+    → IsSent net e.to k e.message
 sent_stands net zero e f = absurd (cc)
 sent_stands net (suc j) e f =
     let less : suc j - 1 ≡ j = omega arith in
     record { sender = e.from; counted = omega arith; stands = ap (slice_get net) less ∙ f }
 
 makes_by : (tree : List TreeEntry) (p : Player) (m : Move) (delivered : List ℕ) (b : Bool) (s : Stepped)
-    → is_listed tree m.step.process ≡ b → node_makes (place_of tree m.step.process) (p.world.at m.step.process) m ≡ s
+    → is_listed tree m.step.process ≡ b
+    → node_makes (place_of tree m.step.process) (p.world.at m.step.process) m ≡ s
     → Stands p.world.net m.step.process m.step.happening → IsPlayed tree p
     → IsPlayed tree (player_of (if b then played p m delivered s else Stops NoSuch p))
 unfolding world_makes
-makes_by tree p m delivered true (Makes e n) l made stands run = makes p.moves p.world m e _ run stands (rw (l, made) refl)
+makes_by tree p m delivered true (Makes e n) l made stands run =
+    makes p.moves p.world m e _ run stands (rw (l, made) refl)
 makes_by tree p m delivered true (Refuses x) l made stands run = run
 makes_by tree p m delivered false s l made stands run = run
 
@@ -64,7 +73,9 @@ delivers_one : (tree : List TreeEntry) (p : Player) (k : ℕ) (o : Option Envelo
     → IsPlayed tree p → IsPlayed tree (player_of (delivers tree p k o))
 delivers_one tree p k None e run = run
 delivers_one tree p k (Some l) e run =
-    plays_one tree p (move_of l.to (Handles (MessageInput k l.message)) (plain_answer (p.world.at l.to) (MessageInput k l.message)))
+    plays_one tree p
+    (move_of l.to (Handles (MessageInput k l.message))
+    (plain_answer (p.world.at l.to) (MessageInput k l.message)))
     (k ∷ p.delivered) (sent_stands p.world.net k l e) run
 
 -- an act or a delivery
@@ -81,13 +92,15 @@ event_runs : (tree : List TreeEntry) (root : ProcessId) (p : Player) (e : Play) 
     → IsPlayed tree (player_of (plays tree root p e))
 event_runs tree root p (Acts a) f run =
     let q = process_of_act root a in
-    plays_one tree p (move_of q (Handles (ActInput a)) (plain_answer (p.world.at q) (ActInput a))) p.delivered tt run
+    plays_one tree p (move_of q (Handles (ActInput a)) (plain_answer (p.world.at q) (ActInput a)))
+    p.delivered tt run
 event_runs tree root p (Delivers k) f run = delivers_one tree p k (sent_as p.world.net k) refl run
 event_runs tree root p Settles f run = absurd f
 event_runs tree root p (Restarts q k) f run = absurd f
 event_runs tree root p (Trims q) f run = absurd f
 
-on_runs : (tree : List TreeEntry) (root : ProcessId) (d : Played) (e : Play) → IsPlain e → IsPlayed tree (player_of d)
+on_runs : (tree : List TreeEntry) (root : ProcessId) (d : Played) (e : Play) → IsPlain e
+    → IsPlayed tree (player_of d)
     → IsPlayed tree (player_of (plays_on tree root d e))
 on_runs tree root (Goes p) e f run = event_runs tree root p e f run
 on_runs tree root (Stops x p) e f run = run
@@ -95,7 +108,8 @@ on_runs tree root (Stops x p) e f run = run
 all_run : (tree : List TreeEntry) (root : ProcessId) (d : Played) (es : List Play) → ArePlain es
     → IsPlayed tree (player_of d) → IsPlayed tree (player_of (fold (plays_on tree root) d es))
 all_run tree root d [] f run = run
-all_run tree root d (e ∷ es) f run = all_run tree root (plays_on tree root d e) es f.1 (on_runs tree root d e f.0 run)
+all_run tree root d (e ∷ es) f run =
+    all_run tree root (plays_on tree root d e) es f.1 (on_runs tree root d e f.0 run)
 
 -- The run.
 
@@ -126,8 +140,25 @@ committing_run = record {
   txn = committed_txn;
   ticket = ticket 2 1 1;
   is_flat = is_flat_tree;
-  is_run = all_run tree_a (process 1) (Goes first_player) committing_events
-      (tt, (tt, (tt, (tt, (tt, (tt, (tt, (tt, (tt, (tt, (tt, (tt, (tt, (tt, (tt, (tt, (tt, (tt, (tt, (tt, tt))))))))))))))))))))
+  is_run = all_run tree_a (process 1) (Goes first_player) committing_events (
+    tt,
+    (
+      tt,
+      (
+        tt,
+        (
+          tt,
+          (
+            tt,
+            (
+              tt,
+              (tt, (tt, (tt, (tt, (tt, (tt, (tt, (tt, (tt, (tt, (tt, (tt, (tt, (tt, tt)))))))))))))),
+            ),
+          ),
+        ),
+      ),
+    ),
+  )
       opens;
   are_flat = are_flat;
   commits = commits;

@@ -6,16 +6,16 @@ use Rattle.tree_model.specs.declared.names.Case.{Case}
 use Rattle.tree_model.specs.declared.names.ProcessId.{ProcessId}
 use Rattle.tree_model.specs.declared.names.Ticket.{Ticket}
 use Rattle.tree_model.specs.declared.names.Txn.{Txn}
-use Rattle.tree_model.specs.declared.names.Presumption.TheVariants.{PresumeAbort}
+use Rattle.tree_model.specs.declared.names.Presumption.{Presumption}
 use Rattle.tree_model.specs.declared.messages.Envelope.{Envelope}
 use Rattle.tree_model.specs.declared.messages.Op.{Op}
 use Rattle.tree_model.specs.declared.standings.Vote.TheVariants.{No as VoteNo}
 use Rattle.tree_model.specs.declared.events.Act.TheVariants.{Begin, Join as JoinAct, Work as WorkAct}
 use Rattle.tree_model.specs.declared.trees.TreeEntry.{TreeEntry}
-use Rattle.tree_model.specs.Names.{same_case, root_case, same_process, same_presumption}
+use Rattle.tree_model.specs.Names.{same_case, root_case, same_process}
 use Rattle.tree_model.specs.NameLaws.{same_case_tells, same_process_tells}
 use Rattle.tree_model.specs.Records.{in_list, boot_of}
-use Rattle.tree_model.specs.Nodes.{Place, Node, kept, Heard, DataAnswer, Effect, after}
+use Rattle.tree_model.specs.Nodes.{Place, Node, kept, Heard, DataAnswer, after}
 use Rattle.tree_model.specs.Memory.{Memory, Phase, Idle, Open, Asked, Over, next_txn, opens_case, sends_work, ticket_of_child, has_voted, voted_so}
 use Rattle.tree_model.specs.Views.{root_place, hears_act}
 use Rattle.tree_law.proofs.Lists.{boot_of-nil}
@@ -40,10 +40,6 @@ voted_none t = refl
 refused_none : (t : Ticket) → voted_so VoteNo [] t ≡ false
 unfolding voted_so
 refused_none t = refl
-
-presumes : same_presumption PresumeAbort PresumeAbort ≡ true
-unfolding same_presumption
-presumes = refl
 
 own_process : (q : ProcessId) → same_process q q ≡ true
 own_process q = grind (arith, same_process_tells)
@@ -70,41 +66,41 @@ module _ (me : ProcessId) (tree : List TreeEntry) (n : Node) (holds : AllHold (r
 
   -- Begin.
 
-  begun_next : (t : Ticket) (m : Memory) → let x = next_txn me (boot_of (kept n)) m PresumeAbort in
+  begun_next : (t : Ticket) (m : Memory) (p : Presumption) → let x = next_txn me (boot_of (kept n)) m p in
       CaseHolds (reading_at m n me x t)
       → Leads (reading_at m n me x t) (reading_at (opens_case (record m { begun = m.begun + 1 })) n me x t)
-  begun_next t m h =
-      let x = next_txn me (boot_of (kept n)) m PresumeAbort in
+  begun_next t m p h =
+      let x = next_txn me (boot_of (kept n)) m p in
       let same : reading_at (opens_case (record m { begun = m.begun + 1 })) n me x t ≡ begun
       (reading_at m n me x t) =
       simp ((next_number m.begun).1, in_none t, refused_none t, voted_none t) in
-      rw same (leads_begun (reading_at m n me x t) h (next_number m.begun).0 (own_process me) presumes)
+      rw same (leads_begun (reading_at m n me x t) h (next_number m.begun).0 (own_process me))
 
-  named_next : (x : Txn) (m : Memory)
-      → same_case (root_case (next_txn me (boot_of (kept n)) m PresumeAbort)) (root_case x) ≡ true
-      → next_txn me (boot_of (kept n)) m PresumeAbort ≡ x
-  named_next x m e = ap (λ (c : Case). c.txn)
-      (told_same (root_case (next_txn me (boot_of (kept n)) m PresumeAbort)) (root_case x) e)
+  named_next : (x : Txn) (m : Memory) (p : Presumption)
+      → same_case (root_case (next_txn me (boot_of (kept n)) m p)) (root_case x) ≡ true
+      → next_txn me (boot_of (kept n)) m p ≡ x
+  named_next x m p e = ap (λ (c : Case). c.txn)
+      (told_same (root_case (next_txn me (boot_of (kept n)) m p)) (root_case x) e)
 
-  begun_case : (x : Txn) (t : Ticket) (m : Memory) (b : Bool) → CaseHolds (reading_at m n me x t)
-      → same_case (root_case (next_txn me (boot_of (kept n)) m PresumeAbort)) (root_case x) ≡ b
+  begun_case : (x : Txn) (t : Ticket) (m : Memory) (p : Presumption) (b : Bool)
+      → CaseHolds (reading_at m n me x t)
+      → same_case (root_case (next_txn me (boot_of (kept n)) m p)) (root_case x) ≡ b
       → let counted = record m { begun = m.begun + 1 } in
       Leads (reading_at m n me x t) (reading_at (if b then opens_case counted else counted) n me x t)
-  begun_case x t m false h e =
+  begun_case x t m p false h e =
       leads_numbered (reading_at m n me x t) (nat_lt (m.begun + 1) x.sequence) h
       (counted_less m.begun x.sequence)
-  begun_case x t m true h e =
+  begun_case x t m p true h e =
       let P : Txn → Type 0 = λ z. CaseHolds (reading_at m n me z t)
       → Leads (reading_at m n me z t)
       (reading_at (opens_case (record m { begun = m.begun + 1 })) n me z t) in
-      subst P (named_next x m e) (begun_next t m) h
+      subst P (named_next x m p e) (begun_next t m p) h
 
-  pub begins : (a : DataAnswer) (e : Effect) → e ≡ sends []
-      → RootStep here n (hears_act (Begin PresumeAbort) a) e
-  begins a e s = rw s (sends_step (hears_act (Begin PresumeAbort) a) []
-      (λ x t. begun_case x t (remembered x)
-      (same_case (root_case (next_txn me (boot_of (kept n)) (remembered x) PresumeAbort)) (root_case x))
-      (holds x t) refl) tt)
+  pub begins : (a : DataAnswer) (p : Presumption) → RootStep here n (hears_act (Begin p) a) (sends [])
+  begins a p = sends_step (hears_act (Begin p) a) []
+      (λ x t. begun_case x t (remembered x) p
+      (same_case (root_case (next_txn me (boot_of (kept n)) (remembered x) p)) (root_case x))
+      (holds x t) refl) tt
 
   -- Join and Work: nothing moves.
 

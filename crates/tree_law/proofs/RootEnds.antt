@@ -1,5 +1,5 @@
 -- The commit act and the abort act of the root keep what holds of its cases.
-use Rattle.std.proofs.Common.{◌≡◌, map, ap, subst, Bool, true, false, ◌⊎◌, inl, inr, List, [], ◌∷◌, ◌++◌, refl, if◌then◌else◌, arith}
+use Rattle.std.proofs.Common.{◌≡◌, map, ap, subst, Bool, true, false, ◌⊎◌, inl, inr, List, [], ◌∷◌, ◌++◌, refl, if◌then◌else◌, ◌∙◌, sym}
 use Rattle.tree_model.specs.declared.names.Case.{Case}
 use Rattle.tree_model.specs.declared.names.ProcessId.{ProcessId}
 use Rattle.tree_model.specs.declared.names.Ticket.{Ticket}
@@ -8,14 +8,14 @@ use Rattle.tree_model.specs.declared.names.Presumption.{Presumption}
 use Rattle.tree_model.specs.declared.names.Presumption.TheVariants.{PresumeAbort, PresumeCommit}
 use Rattle.tree_model.specs.declared.messages.Message.TheVariants.{Abort, Prepare}
 use Rattle.tree_model.specs.declared.records.Record.{Record}
-use Rattle.tree_model.specs.declared.records.Record.TheVariants.{Abort as AbortRecord}
+use Rattle.tree_model.specs.declared.records.Record.TheVariants.{Abort as AbortRecord, Collecting as CollectingRecord}
 use Rattle.tree_model.specs.declared.standings.Standing.{Standing}
 use Rattle.tree_model.specs.declared.standings.Standing.TheVariants.{Unknown, Active, Collecting, Prepared, Committing, Aborting, Heuristic}
 use Rattle.tree_model.specs.declared.events.Act.TheVariants.{Commit as CommitAct, Abort as AbortAct}
 use Rattle.tree_model.specs.declared.events.Conclusion.TheVariants.{Aborted as ConcludedAborted, ReadOnly}
 use Rattle.tree_model.specs.declared.trees.TreeEntry.{TreeEntry}
 use Rattle.tree_model.specs.Names.{same_txn, same_case, root_case, child_case, same_presumption}
-use Rattle.tree_model.specs.NameLaws.{same_case-refl, same_presumption_tells}
+use Rattle.tree_model.specs.NameLaws.{same_case-refl}
 use Rattle.tree_model.specs.Records.{none_of}
 use Rattle.tree_model.specs.Nodes.{Place, Node, kept, DataAnswer, Effect}
 use Rattle.tree_model.specs.Memory.{Memory, Phase, Idle, Open, Asked, Over, asks_votes, closes, works_of, undecided_of}
@@ -24,11 +24,11 @@ use Rattle.tree_model.specs.CoordinatorRows.{Seat, active_commit, active_commit_
 use Rattle.tree_model.specs.Reactions.{Does, row_effect, commit_by, abort_by}
 use Rattle.tree_model.specs.Views.{root_place, root_seat, hears_act}
 use Rattle.tree_law.proofs.Lists.{boot_of-nil, boot_of-push}
-use Rattle.tree_law.proofs.CaseMoves.{CaseReading, CaseHolds, Leads, is_undecided, is_begun, stays, leads_asked}
-use Rattle.tree_law.proofs.RootReading.{reading_at, reading, tells, aborting, same_tells, same_aborting, same_reads_only, own_tells_aborted, own_aborting, apart}
-use Rattle.tree_law.proofs.RootSteps.{AllHold, AllSound, RootStep, memory, memory_then, still_step, ended_step}
+use Rattle.tree_law.proofs.CaseMoves.{CaseReading, Leads, is_undecided, stays, leads_asked, leads_collected, collects_asked}
+use Rattle.tree_law.proofs.RootReading.{reading_at, reading, tells, aborting, aborting_named, collecting, same_tells, same_aborting, same_aborting_named, same_collecting, same_reads_only, own_tells_aborted, own_aborting, own_aborting_named, own_collecting, apart}
+use Rattle.tree_law.proofs.RootSteps.{AllHold, AllSound, RootStep, memory, memory_then, still_step, ended_step, own_and_others}
 use Rattle.tree_law.proofs.RootActs.{sends_step, told_same}
-use Rattle.tree_law.proofs.Standings.{active_open, collecting_asked, viewed}
+use Rattle.tree_law.proofs.Standings.{active_open, collecting_facts, viewed}
 
 pub effect_same : (e f : Effect) → Does e ≡ Does f → e ≡ f
 effect_same e f h = cc
@@ -40,9 +40,12 @@ prepares_sound : (place : Place) (n : Node) (s : Seat) (v : CoordinatorView) (ts
 prepares_sound place n s v [] = tt
 prepares_sound place n s v (t ∷ ts) = (refl, prepares_sound place n s v ts)
 
-is_begun_next : (b : Bool) → is_begun (if b then Over else Asked) ≡ true
-is_begun_next true = refl
-is_begun_next false = refl
+asked_next : (m : Memory) (ph : Phase) (b : Bool) → ph ≡ Open → none_of m.accepted ≡ b
+    → asks_votes m ph ≡ record m { phase = if b then Over else Asked }
+asked_next m Open b o e = rw e refl
+asked_next m Idle b o e = absurd (cc)
+asked_next m Asked b o e = absurd (cc)
+asked_next m Over b o e = absurd (cc)
 
 commit_active : (s : Seat) (st : Standing) (rs : List Record) (m : Memory) (e : Effect)
     → commit_by s (view_at st rs s.own m) (view_at st rs s.own m).standing ≡ Does e
@@ -74,12 +77,18 @@ closes_over m Asked u = refl
 closes_over m Idle u = absurd (cc)
 closes_over m Over u = absurd (cc)
 
-unacknowledged : (s : Seat) (p : Presumption) → p ≡ PresumeAbort → acknowledges_abort s p ≡ []
-unacknowledged s PresumeAbort e = refl
-unacknowledged s PresumeCommit e = absurd (cc)
+-- the root has nobody above it to acknowledge to
+unacknowledged : (me : ProcessId) (c : Case) (p : Presumption) → acknowledges_abort (root_seat me c) p ≡ []
+unacknowledged me c PresumeAbort = refl
+unacknowledged me c PresumeCommit = refl
 
-pub presumption_abort : (p : Presumption) → same_presumption p PresumeAbort ≡ true → p ≡ PresumeAbort
-presumption_abort p e = grind (arith, same_presumption_tells)
+pub abort_presumed : same_presumption PresumeAbort PresumeAbort ≡ true
+unfolding same_presumption
+abort_presumed = refl
+
+pub commit_presumed : same_presumption PresumeCommit PresumeAbort ≡ false
+unfolding same_presumption
+commit_presumed = refl
 
 module _ (me : ProcessId) (tree : List TreeEntry) (n : Node) (holds : AllHold (root_place me tree) n) where
   abbrev here : Place
@@ -96,40 +105,61 @@ module _ (me : ProcessId) (tree : List TreeEntry) (n : Node) (holds : AllHold (r
 
   -- The commit act.
 
-  asked_open : (x : Txn) (t : Ticket) (m : Memory) (ph : Phase) → ph ≡ Open → m.phase ≡ ph
-      → CaseHolds (reading_at m n me x t)
-      → Leads (reading_at m n me x t) (reading_at (asks_votes m ph) n me x t)
-  asked_open x t m Open o e h =
-      leads_asked (reading_at m n me x t) (if none_of m.accepted then Over else Asked) h e
-      (is_begun_next (none_of m.accepted))
-  asked_open x t m Idle o e h = absurd (cc)
-  asked_open x t m Asked o e h = absurd (cc)
-  asked_open x t m Over o e h = absurd (cc)
-
-  asked_if : (y x : Txn) (t : Ticket) (b : Bool) → same_case (root_case y) (root_case x) ≡ b
-      → (remembered y).phase ≡ Open
+  asked_if : (y : Txn)
+      → ((t : Ticket)
+      → Leads (read y t) (reading_at (asks_votes (remembered y) (remembered y).phase) n me y t))
+      → (x : Txn) (t : Ticket) (b : Bool) → same_case (root_case y) (root_case x) ≡ b
       → Leads (read x t) (reading_at
       (if b then asks_votes (remembered x) (remembered x).phase else remembered x) n me x t)
-  asked_if y x t true e o =
+  asked_if y own x t true e =
       let same : y ≡ x = ap (λ (c : Case). c.txn) (told_same (root_case y) (root_case x) e) in
-      asked_open x t (remembered x) (remembered x).phase
-      (subst (λ (z : Txn). (remembered z).phase ≡ Open) same o) refl (holds x t)
-  asked_if y x t false e o = stays (read x t) (holds x t)
+      subst (λ (z : Txn). Leads (read z t)
+      (reading_at (asks_votes (remembered z) (remembered z).phase) n me z t)) same (own t)
+  asked_if y own x t false e = stays (read x t) (holds x t)
 
+  ask_elsewhere : (y x : Txn) (a : DataAnswer) → same_txn y x ≡ false
+      → memory_then me tree n (hears_act (CommitAct y) a) x ≡ remembered x
+  ask_elsewhere y x a o = rw (apart y x o) refl
+
+  -- nobody takes part, or votes are asked for without a record, or behind one
   commit_with : (y : Txn) (a : DataAnswer) (v : CoordinatorView) (b : Bool) (p : Presumption)
-      → p ≡ PresumeAbort → (remembered y).phase ≡ Open
+      → none_of (remembered y).accepted ≡ b
+      → same_presumption y.presumption PresumeAbort ≡ same_presumption p PresumeAbort
+      → (remembered y).phase ≡ Open
       → let s = root_seat me (root_case y) in
       RootStep here n (hears_act (CommitAct y) a)
       (row_effect (root_case y) (if b then active_commit_alone s else active_commit_with s v p))
-  commit_with y a v true p e o =
+  commit_with y a v true p e q o =
       still_step me tree n (hears_act (CommitAct y) a) (tells y ReadOnly []) (boot_of-nil (kept n))
       (λ m x t. same_reads_only m n (hears_act (CommitAct y) a) me y x t [])
-      (λ x t. asked_if y x t (same_case (root_case y) (root_case x)) refl o) tt
-  commit_with y a v false PresumeAbort e o =
+      (λ x t. asked_if y
+      (λ u. rw (asked_next (remembered y) (remembered y).phase true o e)
+      (leads_asked (read y u) Over (holds y u) o refl (λ f. absurd (cc))))
+      x t (same_case (root_case y) (root_case x)) refl) tt
+  commit_with y a v false PresumeAbort e q o =
       sends_step me tree n holds (hears_act (CommitAct y) a) (prepares (root_seat me (root_case y)) v)
-      (λ x t. asked_if y x t (same_case (root_case y) (root_case x)) refl o)
+      (λ x t. asked_if y
+      (λ u. rw (asked_next (remembered y) (remembered y).phase false o e)
+      (leads_asked (read y u) Asked (holds y u) o refl (λ f. q ∙ abort_presumed)))
+      x t (same_case (root_case y) (root_case x)) refl)
       (prepares_sound here _ (root_seat me (root_case y)) v v.accepted)
-  commit_with y a v false PresumeCommit e o = absurd (cc)
+  commit_with y a v false PresumeCommit e q o =
+      let s = root_seat me (root_case y) in
+      let h = hears_act (CommitAct y) a in
+      let ls = prepares s v in
+      let us = v.accepted in
+      let asked' : Memory = record (remembered y) { phase = Asked } in
+      let own : memory_then me tree n h y ≡ asked' =
+      rw (same_case-refl (root_case y)) (asked_next (remembered y) (remembered y).phase false o e) in
+      record {
+        cases = own_and_others me tree n h (collecting y us ls) y
+            (boot_of-push (kept n) (CollectingRecord (root_case y) us)) holds
+            (λ x t d. rw (ask_elsewhere y x a d)
+            (same_collecting (remembered x) n h me x t y us ls (holds x t).kept_is_forced d))
+            (λ t. rw (own, own_collecting asked' n h me y t us ls (holds y t).kept_is_forced)
+            (leads_collected (read y t) (holds y t) o (q ∙ commit_presumed)));
+        letters = prepares_sound here _ s v v.accepted;
+      }
 
   open_when_active : (y : Txn) → coordinator_standing (kept n) (root_case y) (remembered y) ≡ Active
       → (remembered y).phase ≡ Open
@@ -150,8 +180,7 @@ module _ (me : ProcessId) (tree : List TreeEntry) (n : Node) (holds : AllHold (r
       let both = commit_active s (coordinator_standing (kept n) c m) (kept n) m e seen in
       let o = open_when_active y both.0 in
       subst (λ (f : Effect). RootStep here n (hears_act (CommitAct y) a) f) both.1
-      (commit_with y a v (none_of v.accepted) y.presumption
-      (presumption_abort y.presumption ((holds y any).undecided_presumes_abort (ap is_undecided o))) o)
+      (commit_with y a v (none_of v.accepted) y.presumption refl refl o)
 
   -- The abort act.
 
@@ -163,30 +192,28 @@ module _ (me : ProcessId) (tree : List TreeEntry) (n : Node) (holds : AllHold (r
       → memory_then me tree n (hears_act (AbortAct y) a) x ≡ remembered x
   abort_elsewhere y x a o = rw (apart y x o) refl
 
-  aborts_active : (y : Txn) (a : DataAnswer) (v : CoordinatorView)
-      → is_undecided (remembered y).phase ≡ true
+  aborts_active : (y : Txn) (a : DataAnswer) (v : CoordinatorView) → (remembered y).phase ≡ Open
       → let s = root_seat me (root_case y) in
       RootStep here n (hears_act (AbortAct y) a) (row_effect (root_case y) (active_abort s v))
-  aborts_active y a v u =
+  aborts_active y a v o =
       let s = root_seat me (root_case y) in
       let h = hears_act (AbortAct y) a in
+      let u : is_undecided (remembered y).phase ≡ true = ap is_undecided o in
       let ls = acknowledges_abort s y.presumption ++ each s Abort v.accepted in
       ended_step me tree n h (tells y ConcludedAborted ls) y v.accepted (boot_of-nil (kept n)) holds
-      (λ x t o. rw (abort_elsewhere y x a o) (same_tells (remembered x) n h me x t y ConcludedAborted ls o))
+      (λ x t d. rw (abort_elsewhere y x a d) (same_tells (remembered x) n h me x t y ConcludedAborted ls d))
       (λ t. true) (λ t. (read y t).recorded) (λ t. false) (λ t. (read y t).refused) (λ t. (read y t).voted)
       (λ t. rw (abort_then y a u)
       (own_tells_aborted (record (remembered y) { phase = Over }) n h me y t ls))
-      u (ap (λ l. l ++ each s Abort v.accepted)
-      (unacknowledged s y.presumption
-      (presumption_abort y.presumption ((holds y any).undecided_presumes_abort u))))
+      (λ t k. absurd (let f : false ≡ true = sym ((holds y t).open_collects_not o) ∙ k in cc))
+      u (ap (λ l. l ++ each s Abort v.accepted) (unacknowledged me (root_case y) y.presumption))
 
   aborts_collecting : (y : Txn) (a : DataAnswer) (v : CoordinatorView) (us : List Ticket) (p : Presumption)
-      → p ≡ PresumeAbort
       → is_undecided (remembered y).phase ≡ true
       → let s = root_seat me (root_case y) in
       RootStep here n (hears_act (AbortAct y) a)
       (row_effect (root_case y) (collecting_abort_by s ByAct v us p))
-  aborts_collecting y a v us PresumeAbort e u =
+  aborts_collecting y a v us PresumeAbort u =
       let s = root_seat me (root_case y) in
       let h = hears_act (AbortAct y) a in
       let ls = each s Abort us in
@@ -195,13 +222,31 @@ module _ (me : ProcessId) (tree : List TreeEntry) (n : Node) (holds : AllHold (r
       (λ x t o. rw (abort_elsewhere y x a o) (same_aborting (remembered x) n h me x t y ls o))
       (λ t. true) (λ t. true) (λ t. false) (λ t. (read y t).refused) (λ t. (read y t).voted)
       (λ t. rw (abort_then y a u) (own_aborting (record (remembered y) { phase = Over }) n h me y t ls))
-      u refl
-  aborts_collecting y a v us PresumeCommit e u = absurd (cc)
+      (λ t k. refl) u refl
+  aborts_collecting y a v us PresumeCommit u =
+      let s = root_seat me (root_case y) in
+      let h = hears_act (AbortAct y) a in
+      let ls = each s Abort us in
+      ended_step me tree n h (aborting_named y us ls) y us
+      (boot_of-push (kept n) (AbortRecord (root_case y) us))
+      holds
+      (λ x t o. rw (abort_elsewhere y x a o)
+      (same_aborting_named (remembered x) n h me x t y us ls (holds x t).kept_is_forced o))
+      (λ t. true) (λ t. true) (λ t. false) (λ t. (read y t).refused) (λ t. (read y t).voted)
+      (λ t. rw (abort_then y a u)
+      (own_aborting_named (record (remembered y) { phase = Over }) n h me y t us ls
+      (holds y t).kept_is_forced))
+      (λ t k. refl) u refl
 
-  asked_when_collecting : (y : Txn)
+  pub asked_when_collecting : (y : Txn)
       → coordinator_standing (kept n) (root_case y) (remembered y) ≡ Collecting
       → (remembered y).phase ≡ Asked
-  asked_when_collecting y e = collecting_asked _ _ _ _ _ _ _ _ (holds y any).never_collects e
+  asked_when_collecting y e =
+      let facts = collecting_facts _ _ _ _ _ _ _ _ e in
+      elim facts.1 [
+        | inl k ↦ collects_asked (read y any) (holds y any) k facts.0
+        | inr p ↦ p
+      ]
 
   pub aborts : (y : Txn) (a : DataAnswer) (e : Effect)
       → abort_by (root_seat me (root_case y)) (coordinator_view here n (root_case y))
@@ -217,12 +262,11 @@ module _ (me : ProcessId) (tree : List TreeEntry) (n : Node) (holds : AllHold (r
       elim (abort_cases s (coordinator_standing (kept n) c m) (kept n) m e seen) [
         | inl both ↦
             subst (λ (f : Effect). RootStep here n (hears_act (AbortAct y) a) f) both.1
-            (aborts_active y a (view_at Active (kept n) c m) (ap is_undecided (open_when_active y both.0)))
+            (aborts_active y a (view_at Active (kept n) c m) (open_when_active y both.0))
         | inr both ↦
             let u : is_undecided (remembered y).phase ≡ true =
             ap is_undecided (asked_when_collecting y both.0) in
             let v = view_at Collecting (kept n) c m in
             subst (λ (f : Effect). RootStep here n (hears_act (AbortAct y) a) f) both.1
-            (aborts_collecting y a v (undecided_of v.accepted v.votes) y.presumption
-            (presumption_abort y.presumption ((holds y any).undecided_presumes_abort u)) u)
+            (aborts_collecting y a v (undecided_of v.accepted v.votes) y.presumption u)
       ]

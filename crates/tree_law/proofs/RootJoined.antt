@@ -54,22 +54,15 @@ module _ (me : ProcessId) (tree : List TreeEntry) (n : Node) (holds : AllHold (r
   abbrev any : Ticket
   any = record { child = me; boot = 0; number = 0 }
 
-  -- while a case can be decided, it stands as its phase says
-  pub undecided_stands : (x : Txn) → is_undecided (remembered x).phase ≡ true
-      → coordinator_standing (kept n) (root_case x) (remembered x) ≡ phase_standing x.presumption
-      (remembered x).phase
-  undecided_stands x u =
+  open_is_active : (x : Txn) → (remembered x).phase ≡ Open
+      → coordinator_standing (kept n) (root_case x) (remembered x) ≡ Active
+  open_is_active x o =
       let c = root_case x in
       let f = holds x any in
       unrecorded (has (is_end c) (kept n)) (has (is_commit c) (kept n)) (has (is_abort c) (kept n))
-      (has (is_prepare c) (kept n))
-      (has (is_collecting c) (kept n)) (none_of (owing_by c (kept n)))
-      (phase_standing x.presumption (remembered x).phase)
-      (f.undecided_has_no_record u) f.never_collects
-
-  open_is_active : (x : Txn) → (remembered x).phase ≡ Open
-      → coordinator_standing (kept n) (root_case x) (remembered x) ≡ Active
-  open_is_active x o = undecided_stands x (ap is_undecided o)
+      (has (is_prepare c) (kept n)) (has (is_collecting c) (kept n)) (none_of (owing_by c (kept n)))
+      (phase_standing x.presumption (remembered x).phase) (f.undecided_has_no_record (ap is_undecided o))
+      (f.open_collects_not o)
       ∙ (ap (λ (ph : Phase). phase_standing x.presumption ph) o ∙ open_stands x.presumption)
 
   module _ (d : Case) (u : Ticket) (a : DataAnswer) (k : ℕ) where

@@ -1,11 +1,10 @@
 -- The messages of children keep what holds of the root's cases.
 use Rattle.std.proofs.Common.{◌≡◌, ◌∙◌, ap, sym, subst, Bool, true, false, inl, inr, Some, None, List, [], ◌∷◌, ◌++◌, refl, if◌then◌else◌, arith}
+use Rattle.tree_model.specs.Records.{has, none_of, is_end, is_commit, is_abort, is_prepare, is_collecting, owing_by}
 use Rattle.tree_model.specs.declared.names.Case.{Case}
 use Rattle.tree_model.specs.declared.names.ProcessId.{ProcessId}
 use Rattle.tree_model.specs.declared.names.Ticket.{Ticket}
 use Rattle.tree_model.specs.declared.names.Txn.{Txn}
-use Rattle.tree_model.specs.declared.names.Presumption.{Presumption}
-use Rattle.tree_model.specs.declared.names.Presumption.TheVariants.{PresumeAbort, PresumeCommit}
 use Rattle.tree_model.specs.declared.records.Record.{Record}
 use Rattle.tree_model.specs.declared.standings.Standing.{Standing}
 use Rattle.tree_model.specs.declared.standings.Standing.TheVariants.{Unknown, Active, Collecting, Prepared, Committing, Aborting, Heuristic}
@@ -16,7 +15,7 @@ use Rattle.tree_model.specs.Names.{same_txn, root_case}
 use Rattle.tree_model.specs.NameLaws.{same_txn-refl, same_txn_tells}
 use Rattle.tree_model.specs.Nodes.{Place, Node, kept, Heard}
 use Rattle.tree_model.specs.Memory.{Memory, Phase, Idle, Open, Asked, Over, all_voted, is_counted, takes_vote, with_vote, undecided_of, yes_of}
-use Rattle.tree_model.specs.Standings.{CoordinatorView, coordinator_view, coordinator_standing, view_at, phase_standing, belongs, case_of_child}
+use Rattle.tree_model.specs.Standings.{standing_by, phase_standing, CoordinatorView, coordinator_view, coordinator_standing, view_at, belongs, case_of_child}
 use Rattle.tree_model.specs.CoordinatorRows.{on_vote, collecting_after, quiet}
 use Rattle.tree_model.specs.Reactions.{row_effect, vote_for}
 use Rattle.tree_model.specs.Views.{root_place, root_seat}
@@ -24,10 +23,9 @@ use Rattle.tree_law.proofs.CaseMoves.{CaseReading, Leads, is_undecided, stays}
 use Rattle.tree_law.proofs.RootReading.{reading_at, reading, sends}
 use Rattle.tree_law.proofs.RootSteps.{AllHold, RootStep, memory, memory_then}
 use Rattle.tree_law.proofs.RootActs.{sends_step}
-use Rattle.tree_law.proofs.RootEnds.{presumption_abort}
-use Rattle.tree_law.proofs.RootJoined.{undecided_stands}
+use Rattle.tree_law.proofs.RootEnds.{asked_when_collecting}
 use Rattle.tree_law.proofs.RootVotes.{Takes, refused_step, for_step}
-use Rattle.tree_law.proofs.Standings.{collecting_asked, viewed}
+use Rattle.tree_law.proofs.Standings.{asked_stands, viewed}
 
 taken_if : (b : Bool) (m r : Memory) → (b ≡ true → ⊥) → (if b then r else m) ≡ m
 taken_if true m r h = absurd (h refl)
@@ -46,10 +44,6 @@ is_taken m u w Asked e c = rw c refl
 is_taken m u w Idle e c = absurd (cc)
 is_taken m u w Open e c = absurd (cc)
 is_taken m u w Over e c = absurd (cc)
-
-asked_stands : (p : Presumption) → p ≡ PresumeAbort → phase_standing p Asked ≡ Collecting
-asked_stands PresumeAbort e = refl
-asked_stands PresumeCommit e = absurd (cc)
 
 counted_belongs : (m : Memory) (rs : List Record) (c : Case) (u : Ticket)
     → is_counted m.accepted m.votes u ≡ true → belongs m rs c u ≡ true
@@ -71,15 +65,17 @@ module _ (me : ProcessId) (tree : List TreeEntry) (n : Node) (holds : AllHold (r
   asked_is_collecting : (x : Txn) → (remembered x).phase ≡ Asked
       → coordinator_standing (kept n) (root_case x) (remembered x) ≡ Collecting
   asked_is_collecting x o =
-      let u : is_undecided (remembered x).phase ≡ true = ap is_undecided o in
-      undecided_stands me tree n holds x u
-      ∙ (ap (λ (ph : Phase). phase_standing x.presumption ph) o
-      ∙ asked_stands x.presumption
-      (presumption_abort x.presumption ((holds x any).undecided_presumes_abort u)))
-
-  collecting_is_asked : (x : Txn) → coordinator_standing (kept n) (root_case x) (remembered x) ≡ Collecting
-      → (remembered x).phase ≡ Asked
-  collecting_is_asked x e = collecting_asked _ _ _ _ _ _ _ _ (holds x any).never_collects e
+      let c = root_case x in
+      let f = holds x any in
+      let at : Phase → Standing = λ ph. standing_by (has (is_end c) (kept n)) (has (is_commit c) (kept n))
+      (has (is_abort c) (kept n))
+      (has (is_prepare c) (kept n)) (has (is_collecting c) (kept n)) (none_of (owing_by c (kept n)))
+      (phase_standing x.presumption ph) in
+      ap at o ∙ asked_stands (has (is_end c) (kept n)) (has (is_commit c) (kept n))
+      (has (is_abort c) (kept n))
+      (has (is_prepare c) (kept n)) (has (is_collecting c) (kept n)) (none_of (owing_by c (kept n)))
+      x.presumption
+      (f.undecided_has_no_record (ap is_undecided o)) f.abort_collects_not (f.asked_collects o)
 
   counted_as : (h : Heard) (y : Txn) (u : Ticket) (w : Vote)
       → Takes me tree n holds h y u w (with_vote (remembered y) u w) → (remembered y).phase ≡ Asked
@@ -90,8 +86,7 @@ module _ (me : ProcessId) (tree : List TreeEntry) (n : Node) (holds : AllHold (r
   counted_as h y u VoteNo takes o =
       let v = view_at Collecting (kept n) (root_case y) (remembered y) in
       let v' : CoordinatorView = record v { votes = v.votes ++ (u, VoteNo) ∷ [] } in
-      refused_step me tree n holds h y u VoteNo v' (undecided_of v'.accepted v'.votes) y.presumption
-      (presumption_abort y.presumption ((holds y any).undecided_presumes_abort (ap is_undecided o))) o takes
+      refused_step me tree n holds h y u VoteNo v' (undecided_of v'.accepted v'.votes) y.presumption o takes
   counted_as h y u VoteYes takes o =
       let v = view_at Collecting (kept n) (root_case y) (remembered y) in
       let v' : CoordinatorView = record v { votes = v.votes ++ (u, VoteYes) ∷ [] } in
@@ -166,7 +161,8 @@ module _ (me : ProcessId) (tree : List TreeEntry) (n : Node) (holds : AllHold (r
     voted_by : (st : Standing) → coordinator_standing (kept n) c m ≡ st
         → let v = view_at st (kept n) c m in RootStep here n h
         (row_effect c (on_vote (root_seat me c) u w v v.standing))
-    voted_by Collecting s = collecting (collecting_is_asked y s) (is_counted m.accepted m.votes u) refl
+    voted_by Collecting s =
+        collecting (asked_when_collecting me tree n holds y s) (is_counted m.accepted m.votes u) refl
     voted_by Unknown s = elsewhere Unknown (λ f. cc) s
     voted_by Active s = elsewhere Active (λ f. cc) s
     voted_by Prepared s = elsewhere Prepared (λ f. cc) s

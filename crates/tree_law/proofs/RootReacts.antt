@@ -5,7 +5,6 @@ use Rattle.tree_model.specs.declared.names.ProcessId.{ProcessId}
 use Rattle.tree_model.specs.declared.names.Ticket.{Ticket}
 use Rattle.tree_model.specs.declared.names.Txn.{Txn}
 use Rattle.tree_model.specs.declared.names.Outcome.{Outcome}
-use Rattle.tree_model.specs.declared.names.Presumption.TheVariants.{PresumeAbort, PresumeCommit}
 use Rattle.tree_model.specs.declared.messages.Message.{Message}
 use Rattle.tree_model.specs.declared.messages.Message.TheVariants.{Join, Joined, Work, Prepare, Yes, No, Read, Commit, Abort, Ack, Inquire}
 use Rattle.tree_model.specs.declared.standings.Vote.{Vote}
@@ -118,10 +117,10 @@ module _ (me : ProcessId) (tree : List TreeEntry) (n : Node) (holds : AllHold (r
 
   by_act : (b : Act) (e : Effect) → is_flat_act b ≡ true → coordinator_acts here None n b ≡ Does e
       → RootReacts here n (hears_act b a) e
-  by_act (Begin PresumeAbort) e f made =
-      let h = hears_act (Begin PresumeAbort) a in
-      let x = next_begun here n PresumeAbort in
-      let r = begins me tree n holds a (sends []) refl in
+  by_act (Begin p) e f made =
+      let h = hears_act (Begin p) a in
+      let x = next_begun here n p in
+      let r = begins me tree n holds a p in
       let s : RootReacts here n h (begin_effect x) =
       record {
         step = record { cases = r.cases; letters = r.letters };
@@ -130,7 +129,6 @@ module _ (me : ProcessId) (tree : List TreeEntry) (n : Node) (holds : AllHold (r
         accepts = λ z u t g. g;
       } in
       subst (λ (g : Effect). RootReacts here n h g) (effect_same (begin_effect x) e made) s
-  by_act (Begin PresumeCommit) e f made = absurd (cc)
   by_act (JoinAct c q) e f made =
       let v = coordinator_view here n c in
       let only = join_sends (root_seat me c) tree q v v.standing e made in

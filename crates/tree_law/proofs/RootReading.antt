@@ -8,7 +8,7 @@ use Rattle.tree_model.specs.declared.names.Ticket.{Ticket}
 use Rattle.tree_model.specs.declared.names.Txn.{Txn}
 use Rattle.tree_model.specs.declared.names.Presumption.TheVariants.{PresumeAbort}
 use Rattle.tree_model.specs.declared.messages.Envelope.{Envelope}
-use Rattle.tree_model.specs.declared.records.Record.TheVariants.{Commit as CommitRecord, Abort as AbortRecord, End as EndRecord}
+use Rattle.tree_model.specs.declared.records.Record.TheVariants.{Collecting as CollectingRecord, Commit as CommitRecord, Abort as AbortRecord, End as EndRecord}
 use Rattle.tree_model.specs.declared.standings.Vote.{Vote}
 use Rattle.tree_model.specs.declared.standings.Vote.TheVariants.{No as VoteNo}
 use Rattle.tree_model.specs.declared.events.Conclusion.{Conclusion}
@@ -81,6 +81,16 @@ committing y us ls = record (tells y ConcludedCommitted ls)
 abbrev pub ending : Txn → Effect
 ending y = record (sends []) { written = plain (EndRecord (root_case y)) }
 
+abbrev pub collecting : Txn → List Ticket → List Envelope → Effect
+collecting y us ls = record (sends ls) { written = forced (CollectingRecord (root_case y) us) }
+
+abbrev pub aborting_named : Txn → List Ticket → List Envelope → Effect
+aborting_named y us ls =
+    record (tells y ConcludedAborted ls) { written = forced (AbortRecord (root_case y) us) }
+
+abbrev pub ending_read : Txn → Effect
+ending_read y = record (tells y ReadOnly []) { written = plain (EndRecord (root_case y)) }
+
 -- Another transaction's case stays.
 
 pub apart : (y x : Txn) → same_txn y x ≡ false → same_case (root_case y) (root_case x) ≡ false
@@ -130,6 +140,46 @@ module _ (m : Memory) (n : Node) (h : Heard) (me : ProcessId) (x : Txn) (t : Tic
         absorbed (has (is_commit (root_case x)) (kept n))
             (has (is_commit (root_case x)) n.durable) k,
       )
+
+  abbrev Forced : Type 0
+  Forced = has (is_commit (root_case x)) (kept n) ≡ true → has (is_commit (root_case x)) n.durable ≡ true
+
+  pub same_collecting : (y : Txn) (us : List Ticket) (ls : List Envelope) → Forced → same_txn y x ≡ false
+      → Same (collecting y us ls)
+  same_collecting y us ls k o =
+      simp (
+        lists,
+        apart y x o,
+        absorbed (has (is_commit (root_case x)) (kept n))
+            (has (is_commit (root_case x)) n.durable) k,
+      )
+
+  pub same_aborting_named : (y : Txn) (us : List Ticket) (ls : List Envelope) → Forced → same_txn y x ≡ false
+      → Same (aborting_named y us ls)
+  same_aborting_named y us ls k o =
+      simp (
+        lists,
+        o,
+        apart y x o,
+        absorbed (has (is_commit (root_case x)) (kept n))
+            (has (is_commit (root_case x)) n.durable) k,
+      )
+
+  pub same_counting_aborting_named : (y : Txn) (u : Ticket) (w : Vote) (us : List Ticket)
+      (ls : List Envelope) → Forced
+      → same_txn y x ≡ false → Same (counting y u w (aborting_named y us ls))
+  same_counting_aborting_named y u w us ls k o =
+      simp (
+        lists,
+        o,
+        apart y x o,
+        absorbed (has (is_commit (root_case x)) (kept n))
+            (has (is_commit (root_case x)) n.durable) k,
+      )
+
+  pub same_counting_ending_read : (y : Txn) (u : Ticket) (w : Vote) → same_txn y x ≡ false
+      → Same (counting y u w (ending_read y))
+  same_counting_ending_read y u w o = simp (lists, o, apart y x o)
 
   pub same_ending : (y : Txn) → same_txn y x ≡ false → Same (ending y)
   same_ending y o = simp (lists, apart y x o)
@@ -210,6 +260,47 @@ module _ (m : Memory) (n : Node) (h : Heard) (me : ProcessId) (x : Txn) (t : Tic
   pub own_committed : (u : Ticket) (w : Vote) (us : List Ticket) (ls : List Envelope)
       → has (is_commit (root_case x)) (after n h (counting x u w (committing x us ls))).durable ≡ true
   own_committed u w us ls = simp (own)
+
+  abbrev ForcedOwn : Type 0
+  ForcedOwn = has (is_commit (root_case x)) (kept n) ≡ true → has (is_commit (root_case x)) n.durable ≡ true
+
+  pub own_collecting : (us : List Ticket) (ls : List Envelope) → ForcedOwn
+      → Becomes (collecting x us ls) (record before { collects = true })
+  own_collecting us ls k =
+      simp (
+        own,
+        absorbed (has (is_commit (root_case x)) (kept n))
+            (has (is_commit (root_case x)) n.durable) k,
+      )
+
+  pub own_aborting_named : (us : List Ticket) (ls : List Envelope) → ForcedOwn
+      → Becomes (aborting_named x us ls) (record before { aborted = true; recorded = true })
+  own_aborting_named us ls k =
+      simp (
+        own,
+        absorbed (has (is_commit (root_case x)) (kept n))
+            (has (is_commit (root_case x)) n.durable) k,
+      )
+
+  pub own_counting_aborting_named : (u : Ticket) (w : Vote) (us : List Ticket) (ls : List Envelope)
+      → ForcedOwn
+      → Becomes (counting x u w (aborting_named x us ls)) (record before {
+        aborted = true;
+        recorded = true;
+        consented =
+            (same_ticket u t && is_consent w) || before.consented;
+      })
+  own_counting_aborting_named u w us ls k =
+      simp (
+        own,
+        absorbed (has (is_commit (root_case x)) (kept n))
+            (has (is_commit (root_case x)) n.durable) k,
+      )
+
+  pub own_counting_ending_read : (u : Ticket) (w : Vote)
+      → Becomes (counting x u w (ending_read x)) (record before
+      { recorded = true; consented = (same_ticket u t && is_consent w) || before.consented })
+  own_counting_ending_read u w = simp (own)
 
   pub own_ending : Becomes (ending x) (record before { recorded = true })
   own_ending = simp (own)

@@ -112,9 +112,10 @@ module _ (me : ProcessId) (tree : List TreeEntry) (n : Node) where
       → (a b c d f : Ticket → Bool)
       → ((t : Ticket) → reading_at (memory_then h y) (after n h e) me y t ≡ ended (a t) (b t) (c t) (d t)
       (f t) (reading (root_place me tree) n y t))
+      → ((t : Ticket) → (reading (root_place me tree) n y t).collects ≡ true → b t ≡ true)
       → is_undecided (memory y).phase ≡ true → e.letters ≡ each (root_seat me (root_case y)) Abort us
       → RootStep (root_place me tree) n h e
-  ended_step h e y us boot holds others a b c d f own u ls =
+  ended_step h e y us boot holds others a b c d f own k u ls =
       let t : Ticket = record { child = me; boot = 0; number = 0 } in
       let r = reading (root_place me tree) n y t in
       let became : reading (root_place me tree) (after n h e) y t ≡ ended (a t) (b t) (c t) (d t) (f t) r =
@@ -124,7 +125,7 @@ module _ (me : ProcessId) (tree : List TreeEntry) (n : Node) where
       record {
         cases = own_and_others h e y boot holds others
             (λ t. rw (own t) (leads_ended (reading (root_place me tree) n y t) (a t) (b t) (c t) (d t) (f t)
-            (holds y t) u));
+            (holds y t) u (k t)));
         letters = rw ls (each_sound (root_place me tree) (after n h e) (root_seat me (root_case y)) Abort us
             (λ v. aborted_by h e y t over));
       }

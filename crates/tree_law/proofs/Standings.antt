@@ -1,8 +1,9 @@
 -- What a standing says of the phase and the records of a case, and what these say of the standing.
-use Rattle.std.proofs.Common.{◌≡◌, Bool, true, false, ◌||◌, List, refl}
+use Rattle.std.proofs.Common.{◌⊎◌, inl, inr, ◌≡◌, Bool, true, false, ◌||◌, List, refl}
 use Rattle.tree_model.specs.declared.names.Case.{Case}
 use Rattle.tree_model.specs.declared.names.Presumption.{Presumption}
 use Rattle.tree_model.specs.declared.names.Presumption.TheVariants.{PresumeAbort, PresumeCommit}
+use Rattle.tree_model.specs.Names.{same_presumption}
 use Rattle.tree_model.specs.declared.records.Record.{Record}
 use Rattle.tree_model.specs.declared.standings.Standing.{Standing}
 use Rattle.tree_model.specs.declared.standings.Standing.TheVariants.{Unknown, Active, Collecting, Prepared, Committing, Aborting, Heuristic}
@@ -51,16 +52,33 @@ active_open false false false true K N p ph e = absurd (cc)
 active_open false false false false true N p ph e = absurd (cc)
 active_open false false false false false N p ph e = phase_open p ph e
 
-pub collecting_asked : (E C A P K N : Bool) (p : Presumption) (ph : Phase) → K ≡ false
-    → standing_by E C A P K N (phase_standing p ph) ≡ Collecting → ph ≡ Asked
-collecting_asked true C A P K N p ph k e = absurd (cc)
-collecting_asked false true A P K true p ph k e = absurd (cc)
-collecting_asked false true A P K false p ph k e = absurd (cc)
-collecting_asked false false true P K true p ph k e = absurd (cc)
-collecting_asked false false true P K false p ph k e = absurd (cc)
-collecting_asked false false false true K N p ph k e = absurd (cc)
-collecting_asked false false false false true N p ph k e = absurd (cc)
-collecting_asked false false false false false N p ph k e = phase_asked p ph e
+-- a case that stands at Collecting has no other record, and it is Asked or has one that collects
+pub collecting_facts : (E C A P K N : Bool) (p : Presumption) (ph : Phase)
+    → standing_by E C A P K N (phase_standing p ph) ≡ Collecting
+    → ((E || (C || (A || P))) ≡ false) × ((K ≡ true) ⊎ (ph ≡ Asked))
+collecting_facts true C A P K N p ph e = absurd (cc)
+collecting_facts false true A P K true p ph e = absurd (cc)
+collecting_facts false true A P K false p ph e = absurd (cc)
+collecting_facts false false true P K true p ph e = absurd (cc)
+collecting_facts false false true P K false p ph e = absurd (cc)
+collecting_facts false false false true K N p ph e = absurd (cc)
+collecting_facts false false false false true N p ph e = (refl, inl refl)
+collecting_facts false false false false false N p ph e = (refl, inr (phase_asked p ph e))
+
+-- an Asked case stands at Collecting, under Presumed Commit by its record
+pub asked_stands : (E C A P K N : Bool) (p : Presumption) → (E || (C || (A || P))) ≡ false
+    → (same_presumption p PresumeAbort ≡ true → K ≡ false)
+    → (same_presumption p PresumeAbort ≡ false → K ≡ true)
+    → standing_by E C A P K N (phase_standing p Asked) ≡ Collecting
+unfolding same_presumption
+asked_stands true C A P K N p e a c = absurd (cc)
+asked_stands false true A P K N p e a c = absurd (cc)
+asked_stands false false true P K N p e a c = absurd (cc)
+asked_stands false false false true K N p e a c = absurd (cc)
+asked_stands false false false false true N p e a c = refl
+asked_stands false false false false false N PresumeAbort e a c = refl
+asked_stands false false false false false N PresumeCommit e a c = let f : false ≡ true = c refl in
+    absurd (cc)
 
 pub committing_recorded : (E C A P K N : Bool) (p : Presumption) (ph : Phase)
     → standing_by E C A P K N (phase_standing p ph) ≡ Committing → (E || (C || (A || P))) ≡ true
