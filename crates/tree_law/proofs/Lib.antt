@@ -1,6 +1,7 @@
 pub mod Lists
 pub mod CaseMoves
 pub mod RootReading
+pub mod RootOwn
 pub mod Standings
 pub mod RootSteps
 pub mod RootActs
@@ -10,6 +11,7 @@ pub mod RootVotes
 pub mod RootMessages
 pub mod RootAcks
 pub mod RootCounts
+pub mod Consents
 pub mod RootReacts
 pub mod LeafSteps
 pub mod LeafRows

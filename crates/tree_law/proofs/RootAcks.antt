@@ -21,7 +21,8 @@ use Rattle.tree_model.specs.Reactions.{row_effect, ack_for}
 use Rattle.tree_model.specs.Views.{root_place, root_seat}
 use Rattle.tree_law.proofs.Lists.{boot_of-push}
 use Rattle.tree_law.proofs.CaseMoves.{CaseReading, stays, leads_forgets, forgets}
-use Rattle.tree_law.proofs.RootReading.{reading_at, reading, sends, ending, same_ending, own_ending}
+use Rattle.tree_law.proofs.RootReading.{reading_at, reading, sends, ending, same_ending}
+use Rattle.tree_law.proofs.RootOwn.{own_ending}
 use Rattle.tree_law.proofs.RootSteps.{AllHold, RootStep, memory, memory_then, own_and_others}
 use Rattle.tree_law.proofs.RootActs.{sends_step}
 use Rattle.tree_law.proofs.Standings.{committing_recorded, aborting_recorded, viewed}

@@ -25,7 +25,8 @@ use Rattle.tree_model.specs.Reactions.{Does, row_effect, commit_by, abort_by}
 use Rattle.tree_model.specs.Views.{root_place, root_seat, hears_act}
 use Rattle.tree_law.proofs.Lists.{boot_of-nil, boot_of-push}
 use Rattle.tree_law.proofs.CaseMoves.{CaseReading, Leads, is_undecided, stays, leads_asked, leads_collected, collects_asked}
-use Rattle.tree_law.proofs.RootReading.{reading_at, reading, tells, aborting, aborting_named, collecting, same_tells, same_aborting, same_aborting_named, same_collecting, same_reads_only, own_tells_aborted, own_aborting, own_aborting_named, own_collecting, apart}
+use Rattle.tree_law.proofs.RootReading.{reading_at, reading, tells, aborting, aborting_named, collecting, same_tells, same_aborting, same_aborting_named, same_collecting, same_reads_only, apart}
+use Rattle.tree_law.proofs.RootOwn.{own_tells_aborted, own_aborting, own_aborting_named, own_collecting}
 use Rattle.tree_law.proofs.RootSteps.{AllHold, AllSound, RootStep, memory, memory_then, still_step, ended_step, own_and_others}
 use Rattle.tree_law.proofs.RootActs.{sends_step, told_same}
 use Rattle.tree_law.proofs.Standings.{active_open, collecting_facts, viewed}

@@ -21,7 +21,8 @@ use Rattle.tree_model.specs.Reactions.{row_effect}
 use Rattle.tree_model.specs.Views.{root_place, hears_message}
 use Rattle.tree_law.proofs.Lists.{boot_of-nil}
 use Rattle.tree_law.proofs.CaseMoves.{CaseReading, CaseHolds, Leads, is_undecided, stays, accepts, leads_accepts}
-use Rattle.tree_law.proofs.RootReading.{reading_at, reading, sends, accepting, same_accepting, own_accepting}
+use Rattle.tree_law.proofs.RootReading.{reading_at, reading, sends, accepting, same_accepting}
+use Rattle.tree_law.proofs.RootOwn.{own_accepting}
 use Rattle.tree_law.proofs.RootSteps.{AllHold, RootStep, memory, then_reads}
 use Rattle.tree_law.proofs.RootActs.{sends_step, told_same}
 use Rattle.tree_law.proofs.Standings.{active_open, unrecorded, viewed}

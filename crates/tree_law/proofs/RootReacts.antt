@@ -1,5 +1,5 @@
 -- Every input of the root keeps what holds of its cases, and a consent that is counted was said.
-use Rattle.std.proofs.Common.{◌≡◌, subst, ℕ, Bool, true, false, ◌||◌, ◌&&◌, ◌⊎◌, inl, inr, Option, Some, None, List, [], ◌∷◌, refl, if◌then◌else◌, arith}
+use Rattle.std.proofs.Common.{◌≡◌, subst, ℕ, Bool, true, false, ◌&&◌, ◌⊎◌, inl, inr, Option, Some, None, List, [], ◌∷◌, refl, if◌then◌else◌}
 use Rattle.tree_model.specs.declared.names.Case.{Case}
 use Rattle.tree_model.specs.declared.names.ProcessId.{ProcessId}
 use Rattle.tree_model.specs.declared.names.Ticket.{Ticket}
@@ -7,7 +7,6 @@ use Rattle.tree_model.specs.declared.names.Txn.{Txn}
 use Rattle.tree_model.specs.declared.names.Outcome.{Outcome}
 use Rattle.tree_model.specs.declared.messages.Message.{Message}
 use Rattle.tree_model.specs.declared.messages.Message.TheVariants.{Join, Joined, Work, Prepare, Yes, No, Read, Commit, Abort, Ack, Inquire}
-use Rattle.tree_model.specs.declared.standings.Vote.{Vote}
 use Rattle.tree_model.specs.declared.standings.Vote.TheVariants.{Yes as VoteYes, No as VoteNo, Read as VoteRead}
 use Rattle.tree_model.specs.declared.standings.Standing.TheVariants.{Active}
 use Rattle.tree_model.specs.declared.events.Act.{Act}
@@ -17,96 +16,26 @@ use Rattle.tree_model.specs.declared.events.Input.TheVariants.{Act as ActInput, 
 use Rattle.tree_model.specs.declared.events.StepError.TheVariants.{Failed, NoSuch}
 use Rattle.tree_model.specs.declared.trees.TreeEntry.{TreeEntry}
 use Rattle.tree_model.specs.Names.{same_txn, same_ticket, same_case, root_case, child_case}
-use Rattle.tree_model.specs.NameLaws.{names}
 use Rattle.tree_model.specs.Nodes.{Place, Node, kept, Heard, DataAnswer, Effect, after, no_effect}
 use Rattle.tree_model.specs.Memory.{Memory, memory_of, of_ticket}
 use Rattle.tree_model.specs.Standings.{coordinator_view, coordinator_standing, case_of_child}
 use Rattle.tree_model.specs.CoordinatorRows.{on_joined}
 use Rattle.tree_model.specs.Reactions.{Reacts, Does, Refused, reacts, act_is_listed, row_effect, vote_for, ack_for, hears_from_child, coordinator_acts}
-use Rattle.tree_model.specs.Outcomes.{has_accepted, has_heard_vote, is_consent}
+use Rattle.tree_model.specs.Outcomes.{has_accepted}
 use Rattle.tree_model.specs.Views.{root_place, root_seat, hears_act, hears_message, next_begun, begin_effect}
 use Rattle.tree_law.specs.Flat.{is_flat_act, is_flat_input}
 use Rattle.tree_law.proofs.CaseMoves.{stays}
 use Rattle.tree_law.proofs.RootReading.{reading, sends}
-use Rattle.tree_law.proofs.RootSteps.{AllHold, RootStep, memory, memory_then}
+use Rattle.tree_law.proofs.RootSteps.{AllHold, memory, memory_then}
 use Rattle.tree_law.proofs.RootActs.{told_same, sends_step, begins, sends_joins, sends_works}
 use Rattle.tree_law.proofs.RootEnds.{commits, aborts, effect_same}
 use Rattle.tree_law.proofs.RootJoined.{joined}
 use Rattle.tree_law.proofs.RootMessages.{voted}
 use Rattle.tree_law.proofs.RootAcks.{acknowledged}
 use Rattle.tree_law.proofs.ChildCases.{never_active}
-use Rattle.tree_law.proofs.RootAccepts.{AcceptsNone, commit_takes_none, abort_takes_none, ack_for_takes_none, vote_for_takes_none, joined_accepts}
-use Rattle.tree_law.proofs.RootCounts.{CountsNone, CountsAtMost, join_sends, work_sends, commit_none, abort_none, joined_none, ack_for_none, vote_for_counts}
-
--- The message is a consent of the case.
-abbrev pub SaysConsent : Case → Message → Type 0
-SaysConsent c (Yes d) = d ≡ c
-SaysConsent c (Read d) = d ≡ c
-SaysConsent c _ = ⊥
-
-abbrev pub Consents : Case → Input → Type 0
-Consents c (ActInput a) = ⊥
-Consents c (MessageInput k m) = SaysConsent c m
-
--- no question is asked
-abbrev pub IsNoQuestion : Message → Type 0
-IsNoQuestion (Inquire d) = ⊥
-IsNoQuestion _ = Unit {0}
-
-abbrev pub AsksNothing : Input → Type 0
-AsksNothing (ActInput a) = Unit {0}
-AsksNothing (MessageInput k m) = IsNoQuestion m
-
--- a step of the root, whose counted consents were said
-pub record RootReacts (place : Place) (n : Node) (h : Heard) (e : Effect) : Type 0 where
-  pub step : RootStep place n h e
-  pub consents : (x : Txn) (t : Ticket) → has_heard_vote (after n h e) (root_case x) t is_consent ≡ true
-      → (has_heard_vote n (root_case x) t is_consent ≡ true) ⊎ Consents (child_case x t) h.input
-  pub accepts : (x : Txn) (u t : Ticket) → has_accepted (after n h e) (child_case x u) t ≡ true
-      → has_accepted n (child_case x u) t ≡ true
-
-accepted_none : (n : Node) (h : Heard) (e : Effect) (c : Case) (t : Ticket) → AcceptsNone e
-    → has_accepted (after n h e) c t ≡ true → has_accepted n c t ≡ true
-accepted_none n h e c t none f = rw none at f
-
-counted_none : (n : Node) (h : Heard) (e : Effect) (x : Txn) (t : Ticket) → CountsNone e
-    → has_heard_vote (after n h e) (root_case x) t is_consent ≡ true
-    → has_heard_vote n (root_case x) t is_consent ≡ true
-counted_none n h e x t none f = rw none at f
-
-pub none_reacts : (place : Place) (n : Node) (h : Heard) (e : Effect) → RootStep place n h e → CountsNone e
-    → AcceptsNone e → RootReacts place n h e
-none_reacts place n h e s none takes = record {
-  step = s;
-  consents = λ x t f. inl (counted_none n h e x t none f);
-  accepts = λ x u t f. accepted_none n h e (child_case x u) t takes f;
-}
-
-is_first : (a b : Bool) → (a || b) ≡ true → (a ≡ true) ⊎ (b ≡ true)
-is_first a b e = grind arith
-
-first_of_two : (a b : Bool) → (a && b) ≡ true → a ≡ true
-first_of_two a b e = grind arith
-
-both_named : (y x : Txn) (u t : Ticket) (b : Bool)
-    → (same_case (root_case y) (root_case x) && (same_ticket u t && b)) ≡ true
-    → (child_case y u ≡ child_case x t) × (b ≡ true)
-both_named y x u t b e = grind (arith, names)
-
--- a vote that is counted was said
-vote_said : (y x : Txn) (u t : Ticket) (w : Vote) (k : ℕ) (n : Node) (h : Heard) (e : Effect)
-    → CountsAtMost (root_case y) u w e
-    → (child_case y u ≡ child_case x t → is_consent w ≡ true → Consents (child_case x t) h.input)
-    → has_heard_vote (after n h e) (root_case x) t is_consent ≡ true
-    → (has_heard_vote n (root_case x) t is_consent ≡ true) ⊎ Consents (child_case x t) h.input
-vote_said y x u t w k n h e (inl none) says f = inl (counted_none n h e x t none f)
-vote_said y x u t w k n h e (inr one) says f =
-    let g = rw one at f in
-    elim (is_first (same_case (root_case y) (root_case x) && (same_ticket u t && is_consent w))
-    (has_heard_vote n (root_case x) t is_consent) g) [
-      | inl new ↦ let both = both_named y x u t (is_consent w) new in inr (says both.0 both.1)
-      | inr old ↦ inl old
-    ]
+use Rattle.tree_law.proofs.RootAccepts.{commit_takes_none, abort_takes_none, ack_for_takes_none, vote_for_takes_none, joined_accepts}
+use Rattle.tree_law.proofs.RootCounts.{join_sends, work_sends, commit_none, abort_none, joined_none, ack_for_none, vote_for_counts}
+use Rattle.tree_law.proofs.Consents.{IsNoQuestion, AsksNothing, RootReacts, accepted_none, counted_none, none_reacts, is_first, first_of_two, vote_said}
 
 module _ (me : ProcessId) (tree : List TreeEntry) (n : Node) (holds : AllHold (root_place me tree) n)
     (a : DataAnswer) where

@@ -25,7 +25,8 @@ use Rattle.tree_model.specs.Outcomes.{is_consent}
 use Rattle.tree_model.specs.Views.{root_place, root_seat}
 use Rattle.tree_law.proofs.Lists.{boot_of-nil, boot_of-push}
 use Rattle.tree_law.proofs.CaseMoves.{CaseReading, is_undecided, counts, leads_counts, commits, leads_commits}
-use Rattle.tree_law.proofs.RootReading.{reading_at, reading, sends, tells, counting, aborting, committing, same_counting, same_counting_tells, same_counting_aborting, same_counting_committing, own_counting, own_counting_reads_only, own_counting_aborting, own_counting_committing, own_committed, and-true, aborting_named, ending_read, same_counting_aborting_named, same_counting_ending_read, own_counting_aborting_named, own_counting_ending_read}
+use Rattle.tree_law.proofs.RootReading.{reading_at, reading, sends, tells, counting, aborting, committing, same_counting, same_counting_tells, same_counting_aborting, same_counting_committing, and-true, aborting_named, ending_read, same_counting_aborting_named, same_counting_ending_read}
+use Rattle.tree_law.proofs.RootOwn.{own_counting, own_counting_reads_only, own_counting_aborting, own_counting_committing, own_committed, own_counting_aborting_named, own_counting_ending_read}
 use Rattle.tree_law.proofs.RootSteps.{AllHold, RootStep, memory, memory_then, own_and_others, each_sound, ended_step}
 use Rattle.tree_law.proofs.RootEnds.{abort_presumed}
 

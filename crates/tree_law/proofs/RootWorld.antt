@@ -19,7 +19,7 @@ use Rattle.tree_model.specs.Views.{root_place}
 use Rattle.tree_model.specs.World.{World, put_at, InputStands}
 use Rattle.tree_law.proofs.Lists.{sent-append}
 use Rattle.tree_law.proofs.RootSteps.{IsAborted, IsSound, AllSound}
-use Rattle.tree_law.proofs.RootReacts.{RootReacts, Consents, AsksNothing}
+use Rattle.tree_law.proofs.Consents.{RootReacts, Consents, AsksNothing}
 use Rattle.tree_law.proofs.LeafSteps.{HasPromised}
 use Rattle.tree_law.proofs.Moves.{sent_at}
 use Rattle.tree_law.proofs.Worlds.{WorldHolds, Grows, IsTrue, AllTrue, IsCommitted, HasAborted, HasConsented, all_append, all_stay, consent_stays, true_at, life_after, promise_after, dropped_after, at_own, at_other}
