@@ -6,6 +6,8 @@ pub mod Standings
 pub mod RootSteps
 pub mod RootActs
 pub mod RootEnds
+pub mod RootCommits
+pub mod RootAborts
 pub mod RootJoined
 pub mod RootVotes
 pub mod RootMessages

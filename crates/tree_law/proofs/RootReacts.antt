@@ -28,7 +28,9 @@ use Rattle.tree_law.proofs.CaseMoves.{stays}
 use Rattle.tree_law.proofs.RootReading.{reading, sends}
 use Rattle.tree_law.proofs.RootSteps.{AllHold, memory, memory_then}
 use Rattle.tree_law.proofs.RootActs.{told_same, sends_step, begins, sends_joins, sends_works}
-use Rattle.tree_law.proofs.RootEnds.{commits, aborts, effect_same}
+use Rattle.tree_law.proofs.RootEnds.{effect_same}
+use Rattle.tree_law.proofs.RootCommits.{commits}
+use Rattle.tree_law.proofs.RootAborts.{aborts}
 use Rattle.tree_law.proofs.RootJoined.{joined}
 use Rattle.tree_law.proofs.RootMessages.{voted}
 use Rattle.tree_law.proofs.RootAcks.{acknowledged}
