@@ -25,7 +25,8 @@ use Rattle.tree_law.proofs.LeafSteps.{HasPromised}
 use Rattle.tree_law.proofs.FlatTrees.{IsManager, role_in}
 use Rattle.tree_law.proofs.Worlds.{WorldHolds, IsTrue, AllTrue, IsCommitted, HasAborted}
 
-outcome_is : (b : Bool) (w : World) (x : Txn) → is_commit_outcome w x ≡ b → outcome_of w x ≡ (if b then CommittedOutcome else AbortedOutcome)
+outcome_is : (b : Bool) (w : World) (x : Txn) → is_commit_outcome w x ≡ b
+    → outcome_of w x ≡ (if b then CommittedOutcome else AbortedOutcome)
 outcome_is b w x e = rw e refl
 
 same_is : (p q : ProcessId) → same_process p q ≡ true → p ≡ q
@@ -46,7 +47,8 @@ no_abort a b d c e f g = grind arith
 -- a YES that was sent says the promise
 yes_true : (tree : List TreeEntry) (root : ProcessId) (w : World) (q : ProcessId) (c : Case) (m : Message)
     → IsTrue tree root w q m → is_yes_message c m ≡ true → HasPromised c (w.at (process_of c))
-yes_true tree root w q c (Yes d) t e = subst (λ (z : Case). HasPromised z (w.at (process_of z))) (told_same d c e) t
+yes_true tree root w q c (Yes d) t e =
+    subst (λ (z : Case). HasPromised z (w.at (process_of z))) (told_same d c e) t
 yes_true tree root w q c (Join d) t e = absurd (cc)
 yes_true tree root w q c (Joined d u) t e = absurd (cc)
 yes_true tree root w q c (Work d j op) t e = absurd (cc)
@@ -65,17 +67,20 @@ all_yes_true : (tree : List TreeEntry) (root : ProcessId) (w : World) (c : Case)
     → AllTrue tree root w ls → sent (is_yes_message c) ls ≡ true → HasPromised c (w.at (process_of c))
 unfolding sent
 all_yes_true tree root w c [] a e = absurd (cc)
-all_yes_true tree root w c (l ∷ ls) a e = elim (either (is_yes_message c l.message) (sent (is_yes_message c) ls) e) [
-  | inl now ↦ yes_true tree root w l.to c l.message a.0 now
-  | inr old ↦ all_yes_true tree root w c ls a.1 old
-]
+all_yes_true tree root w c (l ∷ ls) a e =
+    elim (either (is_yes_message c l.message) (sent (is_yes_message c) ls) e) [
+      | inl now ↦ yes_true tree root w l.to c l.message a.0 now
+      | inr old ↦ all_yes_true tree root w c ls a.1 old
+    ]
 
 module _ (tree : List TreeEntry) (root : ProcessId) (flat : list_all (is_flat_entry root) tree ≡ true)
     (w : World) (holds : WorldHolds tree root w) where
   -- Who takes part.
 
-  never_accepts : (q : ProcessId) (c : Case) (t : Ticket) → same_process q root ≡ false → has_accepted (w.at q) c t ≡ true → ⊥
-  never_accepts q c t o a = let f : false ≡ true = sym (none_accepted (w.at q) c t (holds.root_accepts q o)) ∙ a in cc
+  never_accepts : (q : ProcessId) (c : Case) (t : Ticket) → same_process q root ≡ false
+      → has_accepted (w.at q) c t ≡ true → ⊥
+  never_accepts q c t o a = let f : false ≡ true =
+      sym (none_accepted (w.at q) c t (holds.root_accepts q o)) ∙ a in cc
 
   -- a ticket is accepted by no case that has a ticket
   no_child_case : (x : Txn) (u t : Ticket) → has_accepted (w.at u.child) (child_case x u) t ≡ true → ⊥
@@ -94,13 +99,15 @@ module _ (tree : List TreeEntry) (root : ProcessId) (flat : list_all (is_flat_en
   ]
 
   -- taking part in a flat tree is being accepted by the root
-  takes_part_at_root : (x : Txn) (t : Ticket) → TakesPart w x t → has_accepted (w.at x.root) (root_case x) t ≡ true
+  takes_part_at_root : (x : Txn) (t : Ticket) → TakesPart w x t
+      → has_accepted (w.at x.root) (root_case x) t ≡ true
   takes_part_at_root x t (at_root _ a) = a
   takes_part_at_root x t (below u _ k a) = absurd (no_child_case x u t a)
 
   -- The root.
 
-  committed_here : (x : Txn) → x.root ≡ root → is_commit_outcome w x ≡ has (is_commit (root_case x)) (w.at root).durable
+  committed_here : (x : Txn) → x.root ≡ root
+      → is_commit_outcome w x ≡ has (is_commit (root_case x)) (w.at root).durable
   unfolding is_commit_outcome
   committed_here x s = ap (λ (z : ProcessId). has (is_commit (root_case x)) (w.at z).durable) s
 
@@ -108,27 +115,35 @@ module _ (tree : List TreeEntry) (root : ProcessId) (flat : list_all (is_flat_en
   own_txn x t c = let f = holds.cases x t in same_is x.root root (f.begun_is_own (f.committed_is_begun c))
 
   aborted_txn : (x : Txn) (t : Ticket) → HasAborted tree root w x → x.root ≡ root
-  aborted_txn x t a = let f = holds.cases x t in same_is x.root root (f.begun_is_own (ap is_begun a.is_over))
+  aborted_txn x t a = let f =
+      holds.cases x t in same_is x.root root (f.begun_is_own (ap is_begun a.is_over))
 
   root_by : (x : Txn) (o : Outcome) → x.root ≡ root → root_ends (w.at root) x o ≡ true → o ≡ outcome_of w x
   root_by x CommittedOutcome s e = sym (outcome_is true w x (committed_here x s ∙ e))
   root_by x AbortedOutcome s e =
       let t : Ticket = record { child = root; boot = 0; number = 0 } in
-      let none : list_any (λ (y : Txn). same_txn y x) (w.at root).dropped ≡ false = rw holds.none_dropped refl in
+      let none : list_any (λ (y : Txn). same_txn y x) (w.at root).dropped ≡ false =
+      rw holds.none_dropped refl in
       sym (outcome_is false w x (committed_here x s
-      ∙ no_abort (has (is_abort (root_case x)) (w.at root).life) (list_any (is_told_aborted x) (w.at root).told) _ _ e none (holds.cases x t).committed_is_not_aborted))
+      ∙ no_abort (has (is_abort (root_case x)) (w.at root).life)
+      (list_any (is_told_aborted x) (w.at root).told) _ _ e none
+      (holds.cases x t).committed_is_not_aborted))
 
-  opened_ends : (x : Txn) (o : Outcome) → w.at x.root ≡ opened_node → root_ends (w.at x.root) x o ≡ true → o ≡ outcome_of w x
+  opened_ends : (x : Txn) (o : Outcome) → w.at x.root ≡ opened_node → root_ends (w.at x.root) x o ≡ true
+      → o ≡ outcome_of w x
   unfolding has
   opened_ends x CommittedOutcome s e = let f = rw s at e in absurd (cc)
   opened_ends x AbortedOutcome s e = let f = rw s at e in absurd (cc)
 
-  top_agrees : (x : Txn) (o : Outcome) (b : Bool) → is_listed tree x.root ≡ b → (is_listed tree x.root ≡ true → x.root ≡ root)
+  top_agrees : (x : Txn) (o : Outcome) (b : Bool) → is_listed tree x.root ≡ b
+      → (is_listed tree x.root ≡ true → x.root ≡ root)
       → root_ends (w.at x.root) x o ≡ true → o ≡ outcome_of w x
-  top_agrees x o true l s e = root_by x o (s l) (subst (λ (z : ProcessId). root_ends (w.at z) x o ≡ true) (s l) e)
+  top_agrees x o true l s e =
+      root_by x o (s l) (subst (λ (z : ProcessId). root_ends (w.at z) x o ≡ true) (s l) e)
   top_agrees x o false l s e = opened_ends x o (holds.unlisted x.root l) e
 
-  root_agrees : (x : Txn) (o : Outcome) → role_of tree x.root ≡ AtRoot → root_ends (w.at x.root) x o ≡ true → o ≡ outcome_of w x
+  root_agrees : (x : Txn) (o : Outcome) → role_of tree x.root ≡ AtRoot → root_ends (w.at x.root) x o ≡ true
+      → o ≡ outcome_of w x
   root_agrees x o r e = elim (role_in root tree x.root flat) [
     | inl top ↦ top_agrees x o (is_listed tree x.root) refl top.root_if_listed e
     | inr k ↦ absurd (let f : AtLeaf root ≡ AtRoot = sym k.role ∙ r in cc)
@@ -136,15 +151,18 @@ module _ (tree : List TreeEntry) (root : ProcessId) (flat : list_all (is_flat_en
 
   -- The commit rule.
 
-  consented : (x : Txn) (t : Ticket) → is_commit_outcome w x ≡ true → has_accepted (w.at x.root) (root_case x) t ≡ true
+  consented : (x : Txn) (t : Ticket) → is_commit_outcome w x ≡ true
+      → has_accepted (w.at x.root) (root_case x) t ≡ true
       → has_heard_vote (w.at x.root) (root_case x) t is_consent ≡ true
   consented x t c a =
       let s = root_accepted x t a in
       let f = holds.cases x t in
       subst (λ (z : ProcessId). has_heard_vote (w.at z) (root_case x) t is_consent ≡ true) (sym s)
-      (f.committed_has_consents (sym (committed_here x s) ∙ c) (subst (λ (z : ProcessId). has_accepted (w.at z) (root_case x) t ≡ true) s a))
+      (f.committed_has_consents (sym (committed_here x s) ∙ c)
+      (subst (λ (z : ProcessId). has_accepted (w.at z) (root_case x) t ≡ true) s a))
 
-  all_consented : (x : Txn) (t : Ticket) (c : Case) → is_commit_outcome w x ≡ true → TakesPart w x t → IsAcceptor w x t c
+  all_consented : (x : Txn) (t : Ticket) (c : Case) → is_commit_outcome w x ≡ true → TakesPart w x t
+      → IsAcceptor w x t c
       → has_heard_vote (w.at (process_of c)) c t is_consent ≡ true
   all_consented x t _ c part (by_root a) = consented x t c a
   all_consented x t _ c part (by_ticket u a) = absurd (no_child_case x u t a)
@@ -157,14 +175,17 @@ module _ (tree : List TreeEntry) (root : ProcessId) (flat : list_all (is_flat_en
 
   -- The managers.
 
-  manager_by : (x : Txn) (t : Ticket) (o : Outcome) → IsManager root tree t.child → manager_ends (w.at t.child) (child_case x t) o ≡ true → o ≡ outcome_of w x
+  manager_by : (x : Txn) (t : Ticket) (o : Outcome) → IsManager root tree t.child
+      → manager_ends (w.at t.child) (child_case x t) o ≡ true → o ≡ outcome_of w x
   manager_by x t CommittedOutcome k e =
       let c = child_case x t in
-      let done : IsCommitted root w x = holds.commits t.child c k (follows_has (is_committed c) (is_prepared c) (w.at t.child).life e) in
+      let done : IsCommitted root w x =
+      holds.commits t.child c k (follows_has (is_committed c) (is_prepared c) (w.at t.child).life e) in
       sym (outcome_is true w x (committed_here x (own_txn x t done) ∙ done))
   manager_by x t AbortedOutcome k e =
       let c = child_case x t in
-      let done : HasAborted tree root w x = holds.aborts t.child c k (follows_has (is_rolled_back c) (is_prepared c) (w.at t.child).life e) in
+      let done : HasAborted tree root w x =
+      holds.aborts t.child c k (follows_has (is_rolled_back c) (is_prepared c) (w.at t.child).life e) in
       sym (outcome_is false w x (committed_here x (aborted_txn x t done) ∙ done.not_committed))
 
   -- a participant of a commit has promised, or said READ
@@ -172,17 +193,20 @@ module _ (tree : List TreeEntry) (root : ProcessId) (flat : list_all (is_flat_en
   lives x t d c =
       let a = takes_part_at_root x t d.takes_part in
       let s = root_accepted x t a in
-      let v = subst (λ (z : ProcessId). has_heard_vote (w.at z) (root_case x) t is_consent ≡ true) s (consented x t c a) in
+      let v = subst (λ (z : ProcessId). has_heard_vote (w.at z) (root_case x) t is_consent ≡ true) s
+      (consented x t c a) in
       elim (holds.consents x t v) [
         | inl p ↦ (let f : false ≡ true = sym d.never_promised ∙ p in cc)
         | inr r ↦ (let f : false ≡ true = sym d.never_read ∙ r in cc)
       ]
 
-  died : (x : Txn) (t : Ticket) (b : Bool) → is_commit_outcome w x ≡ b → DiesUnprepared tree w x t → AbortedOutcome ≡ outcome_of w x
+  died : (x : Txn) (t : Ticket) (b : Bool) → is_commit_outcome w x ≡ b → DiesUnprepared tree w x t
+      → AbortedOutcome ≡ outcome_of w x
   died x t false e d = sym (outcome_is false w x e)
   died x t true e d = absurd (lives x t d e)
 
-  leaf_agrees : (x : Txn) (t : Ticket) (o : Outcome) → IsManager root tree t.child → EndsIn (AtLeaf root) tree w x t o → o ≡ outcome_of w x
+  leaf_agrees : (x : Txn) (t : Ticket) (o : Outcome) → IsManager root tree t.child
+      → EndsIn (AtLeaf root) tree w x t o → o ≡ outcome_of w x
   leaf_agrees x t o k (inl e) = manager_by x t o k e
   leaf_agrees x t o k (inr d) = d.0 ∙ died x t (is_commit_outcome w x) refl d.1
 

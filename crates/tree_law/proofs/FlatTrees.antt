@@ -47,17 +47,21 @@ role_if root q e es true s f rest =
     let same : e.id ≡ q = same_is e.id q s in
     elim (entry_by root e.id e.kind e.parent f) [
       | inl top ↦ inl (record { role = rw s top.0; root_if_listed = λ l. sym same ∙ top.1 })
-      | inr below ↦ inr (record { role = rw s below.0; elsewhere = ap (λ z. same_process z root) (sym same) ∙ below.1 })
+      | inr below ↦ inr (record
+          { role = rw s below.0; elsewhere = ap (λ z. same_process z root) (sym same) ∙ below.1 })
     ]
-role_if root q e es false s f (inl top) = inl (record { role = rw s top.role; root_if_listed = λ l. top.root_if_listed (rw s at l) })
-role_if root q e es false s f (inr below) = inr (record { role = rw s below.role; elsewhere = below.elsewhere })
+role_if root q e es false s f (inl top) =
+    inl (record { role = rw s top.role; root_if_listed = λ l. top.root_if_listed (rw s at l) })
+role_if root q e es false s f (inr below) =
+    inr (record { role = rw s below.role; elsewhere = below.elsewhere })
 
 none_top : (root q : ProcessId) → IsTop root [] q
 unfolding role_of is_listed
 none_top root q = record { role = refl; root_if_listed = λ l. absurd (cc) }
 
 -- each process has no parent, or is a manager
-pub role_in : (root : ProcessId) (tree : List TreeEntry) (q : ProcessId) → list_all (is_flat_entry root) tree ≡ true
+pub role_in : (root : ProcessId) (tree : List TreeEntry) (q : ProcessId)
+    → list_all (is_flat_entry root) tree ≡ true
     → IsTop root tree q ⊎ IsManager root tree q
 role_in root [] q f = inl (none_top root q)
 role_in root (e ∷ es) q f =
@@ -65,8 +69,10 @@ role_in root (e ∷ es) q f =
     role_if root q e es (same_process e.id q) refl both.0 (role_in root es q both.1)
 
 -- the root has no parent
-pub root_is_top : (root : ProcessId) (tree : List TreeEntry) → list_all (is_flat_entry root) tree ≡ true → role_of tree root ≡ AtRoot
+pub root_is_top : (root : ProcessId) (tree : List TreeEntry) → list_all (is_flat_entry root) tree ≡ true
+    → role_of tree root ≡ AtRoot
 root_is_top root tree f = elim (role_in root tree root f) [
   | inl top ↦ top.role
-  | inr below ↦ absurd (let e : same_process root root ≡ false = below.elsewhere in grind (arith, same_process_tells))
+  | inr below ↦ absurd (let e : same_process root root ≡ false =
+      below.elsewhere in grind (arith, same_process_tells))
 ]

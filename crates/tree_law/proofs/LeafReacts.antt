@@ -50,61 +50,74 @@ childless Aborting e h = cc
 childless Heuristic e h = cc
 
 -- the view is read off the records and what is remembered
-viewed : (place : Place) (n : Node) (c : Case) → manager_view place n c ≡ marked_branch (memory_of place n c) (mark_of (CaseBranch c) (kept n))
+viewed : (place : Place) (n : Node) (c : Case)
+    → manager_view place n c ≡ marked_branch (memory_of place n c) (mark_of (CaseBranch c) (kept n))
 unfolding manager_view
 viewed place n c = refl
 
-module _ (q p : ProcessId) (tree : List TreeEntry) (n : Node) (opens : OpenHavePromised n) (a : DataAnswer) where
-  abbrev here : Place
-  here = leaf_place q p tree
+module _ (q p : ProcessId) (tree : List TreeEntry) (n : Node) (opens : OpenHavePromised n) (a : DataAnswer)
+  where
+    abbrev here : Place
+    here = leaf_place q p tree
 
-  no_act : (b : Act) (e : Effect) → is_flat_act b ≡ true → manager_acts here p n b ≡ Does e → ⊥
-  no_act (Begin r) e f made = cc
-  no_act (JoinAct c r) e f made = childless (manager_view here n c).standing e made
-  no_act (WorkAct c r op) e f made = childless (manager_view here n c).standing e made
-  no_act (CommitAct x) e f made = cc
-  no_act (AbortAct x) e f made = cc
-  no_act (Ask c) e f made = cc
-  no_act (Decide c o) e f made = cc
-  no_act (Forget c) e f made = cc
+    no_act : (b : Act) (e : Effect) → is_flat_act b ≡ true → manager_acts here p n b ≡ Does e → ⊥
+    no_act (Begin r) e f made = cc
+    no_act (JoinAct c r) e f made = childless (manager_view here n c).standing e made
+    no_act (WorkAct c r op) e f made = childless (manager_view here n c).standing e made
+    no_act (CommitAct x) e f made = cc
+    no_act (AbortAct x) e f made = cc
+    no_act (Ask c) e f made = cc
+    no_act (Decide c o) e f made = cc
+    no_act (Forget c) e f made = cc
 
-  joins_by : (k : ℕ) (d : Case) (m : Memory) (b : Bool) (o : Option Ticket)
-      → LeafStep q n (hears_message k (Join d) a) (Join d) (leaf_joins here p n d m b o)
-  joins_by k d m true (Some t) = says q p n opens (hears_message k (Join d) a) d (Join d) (Joined d t) tt
-  joins_by k d m false (Some t) = says q p n opens (hears_message k (Join d) a) d (Join d) (Joined d t) tt
-  joins_by k d m true None = says q p n opens (hears_message k (Join d) a) d (Join d) (Joined d _) tt
-  joins_by k d m false None = nothing q p n opens (hears_message k (Join d) a) d (Join d)
+    joins_by : (k : ℕ) (d : Case) (m : Memory) (b : Bool) (o : Option Ticket)
+        → LeafStep q n (hears_message k (Join d) a) (Join d) (leaf_joins here p n d m b o)
+    joins_by k d m true (Some t) = says q p n opens (hears_message k (Join d) a) d (Join d) (Joined d t) tt
+    joins_by k d m false (Some t) = says q p n opens (hears_message k (Join d) a) d (Join d) (Joined d t) tt
+    joins_by k d m true None = says q p n opens (hears_message k (Join d) a) d (Join d) (Joined d _) tt
+    joins_by k d m false None = nothing q p n opens (hears_message k (Join d) a) d (Join d)
 
-  hears_by : (k : ℕ) (m : Message) → IsForMessage q m → LeafStep q n (hears_message k m a) m (manager_hears here p n a m)
-  hears_by k (Join d) f = let m = memory_of here n d in joins_by k d m a.starts (active_ticket m.active d)
-  hears_by k (Work d i op) f =
-      let v = manager_view here n d in worked q p n opens (hears_message k (Work d i op) a) d (Work d i op) i a.does v v.standing
-  hears_by k (Prepare d i) f =
-      subst (λ (v : ManagerView). LeafStep q n (hears_message k (Prepare d i) a) (Prepare d i) (leaf_effect (on_prepare (leaf_of here p d) i a.holding v v.standing)))
-      (sym (viewed here n d)) (prepared q p n opens (hears_message k (Prepare d i) a) d i a.holding (memory_of here n d) (mark_of (CaseBranch d) (kept n)) refl f)
-  hears_by k (Commit d) f =
-      subst (λ (v : ManagerView). LeafStep q n (hears_message k (Commit d) a) (Commit d) (leaf_effect (on_commit (leaf_of here p d) v v.standing)))
-      (sym (viewed here n d)) (committed q p n opens (hears_message k (Commit d) a) d (memory_of here n d) (mark_of (CaseBranch d) (kept n)) refl)
-  hears_by k (Abort d) f =
-      subst (λ (v : ManagerView). LeafStep q n (hears_message k (Abort d) a) (Abort d) (leaf_effect (on_abort (leaf_of here p d) v v.standing)))
-      (sym (viewed here n d)) (aborted q p n opens (hears_message k (Abort d) a) d (memory_of here n d) (mark_of (CaseBranch d) (kept n)) refl)
-  hears_by k (Joined d t) f = nothing q p n opens (hears_message k (Joined d t) a) d (Joined d t)
-  hears_by k (Yes d) f = nothing q p n opens (hears_message k (Yes d) a) d (Yes d)
-  hears_by k (No d) f = nothing q p n opens (hears_message k (No d) a) d (No d)
-  hears_by k (Read d) f = nothing q p n opens (hears_message k (Read d) a) d (Read d)
-  hears_by k (Ack d o) f = nothing q p n opens (hears_message k (Ack d o) a) d (Ack d o)
-  hears_by k (Inquire d) f = nothing q p n opens (hears_message k (Inquire d) a) d (Inquire d)
+    hears_by : (k : ℕ) (m : Message) → IsForMessage q m
+        → LeafStep q n (hears_message k m a) m (manager_hears here p n a m)
+    hears_by k (Join d) f = let m = memory_of here n d in joins_by k d m a.starts (active_ticket m.active d)
+    hears_by k (Work d i op) f =
+        let v = manager_view here n d in worked q p n opens (hears_message k (Work d i op) a) d (Work d i op)
+        i a.does v v.standing
+    hears_by k (Prepare d i) f =
+        subst (λ (v : ManagerView). LeafStep q n (hears_message k (Prepare d i) a) (Prepare d i)
+        (leaf_effect (on_prepare (leaf_of here p d) i a.holding v v.standing)))
+        (sym (viewed here n d)) (prepared q p n opens (hears_message k (Prepare d i) a) d i a.holding
+        (memory_of here n d) (mark_of (CaseBranch d) (kept n)) refl f)
+    hears_by k (Commit d) f =
+        subst (λ (v : ManagerView). LeafStep q n (hears_message k (Commit d) a) (Commit d)
+        (leaf_effect (on_commit (leaf_of here p d) v v.standing)))
+        (sym (viewed here n d)) (committed q p n opens (hears_message k (Commit d) a) d (memory_of here n d)
+        (mark_of (CaseBranch d) (kept n)) refl)
+    hears_by k (Abort d) f =
+        subst (λ (v : ManagerView). LeafStep q n (hears_message k (Abort d) a) (Abort d)
+        (leaf_effect (on_abort (leaf_of here p d) v v.standing)))
+        (sym (viewed here n d)) (aborted q p n opens (hears_message k (Abort d) a) d (memory_of here n d)
+        (mark_of (CaseBranch d) (kept n)) refl)
+    hears_by k (Joined d t) f = nothing q p n opens (hears_message k (Joined d t) a) d (Joined d t)
+    hears_by k (Yes d) f = nothing q p n opens (hears_message k (Yes d) a) d (Yes d)
+    hears_by k (No d) f = nothing q p n opens (hears_message k (No d) a) d (No d)
+    hears_by k (Read d) f = nothing q p n opens (hears_message k (Read d) a) d (Read d)
+    hears_by k (Ack d o) f = nothing q p n opens (hears_message k (Ack d o) a) d (Ack d o)
+    hears_by k (Inquire d) f = nothing q p n opens (hears_message k (Inquire d) a) d (Inquire d)
 
-  let_through : (b f : Bool) (r : Reacts) (e : Effect) → (if b then (if f then Refused Failed else r) else Refused NoSuch) ≡ Does e → r ≡ Does e
-  let_through true false r e made = made
-  let_through true true r e made = absurd (cc)
-  let_through false f r e made = absurd (cc)
+    let_through : (b f : Bool) (r : Reacts) (e : Effect)
+        → (if b then (if f then Refused Failed else r) else Refused NoSuch) ≡ Does e → r ≡ Does e
+    let_through true false r e made = made
+    let_through true true r e made = absurd (cc)
+    let_through false f r e made = absurd (cc)
 
-  pub leaf_reacts : (i : Input) (e : Effect) → is_flat_input i ≡ true → IsFor q i
-      → reacts here n (record { input = i; data_answer = a }) ≡ Does e
-      → LeafDoes q n (record { input = i; data_answer = a }) e i
-  unfolding reacts
-  leaf_reacts (ActInput b) e f g made = no_act b e f (let_through (act_is_listed tree (ActInput b)) n.failed (manager_acts here p n b) e made)
-  leaf_reacts (MessageInput k m) e f g made =
-      let same : manager_hears here p n a m ≡ e = effect_same _ e (let_through true n.failed (Does (manager_hears here p n a m)) e made) in
-      subst (λ (e' : Effect). LeafStep q n (hears_message k m a) m e') same (hears_by k m g)
+    pub leaf_reacts : (i : Input) (e : Effect) → is_flat_input i ≡ true → IsFor q i
+        → reacts here n (record { input = i; data_answer = a }) ≡ Does e
+        → LeafDoes q n (record { input = i; data_answer = a }) e i
+    unfolding reacts
+    leaf_reacts (ActInput b) e f g made =
+        no_act b e f (let_through (act_is_listed tree (ActInput b)) n.failed (manager_acts here p n b) e made)
+    leaf_reacts (MessageInput k m) e f g made =
+        let same : manager_hears here p n a m ≡ e =
+        effect_same _ e (let_through true n.failed (Does (manager_hears here p n a m)) e made) in
+        subst (λ (e' : Effect). LeafStep q n (hears_message k m a) m e') same (hears_by k m g)

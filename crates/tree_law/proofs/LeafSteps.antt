@@ -42,8 +42,10 @@ AllFair q n (l ∷ ls) = IsFair q n l.message × AllFair q n ls
 pub record LeafStep (q : ProcessId) (n : Node) (h : Heard) (m : Message) (e : Effect) : Type 0 where
   pub left_open : OpenHavePromised (after n h e)
   pub promises : (c : Case) → HasPromised c n → HasPromised c (after n h e)
-  pub committed : (c : Case) → has (is_committed c) (after n h e).life ≡ true → (has (is_committed c) n.life ≡ true) ⊎ (m ≡ Commit c)
-  pub rolled_back : (c : Case) → has (is_rolled_back c) (after n h e).life ≡ true → (has (is_rolled_back c) n.life ≡ true) ⊎ (m ≡ Abort c)
+  pub committed : (c : Case) → has (is_committed c) (after n h e).life ≡ true
+      → (has (is_committed c) n.life ≡ true) ⊎ (m ≡ Commit c)
+  pub rolled_back : (c : Case) → has (is_rolled_back c) (after n h e).life ≡ true
+      → (has (is_rolled_back c) n.life ≡ true) ⊎ (m ≡ Abort c)
   pub letters : AllFair q (after n h e) e.letters
   pub accepts_none : e.accepts ≡ []
 
@@ -64,7 +66,8 @@ module _ (q : ProcessId) (n : Node) (opens : OpenHavePromised n) (h : Heard) (m 
   pub leaf_sends : (ls : List Envelope) → AllFair q (after n h (sends ls)) ls → LeafStep q n h m (sends ls)
   leaf_sends ls fair = record {
     left_open = λ c o.
-        let was : is_open (mark_of (CaseBranch c) (kept n)) ≡ true = ap (λ rs. is_open (mark_of (CaseBranch c) rs)) (sym (kept_same ls)) ∙ o in
+        let was : is_open (mark_of (CaseBranch c) (kept n)) ≡ true =
+        ap (λ rs. is_open (mark_of (CaseBranch c) rs)) (sym (kept_same ls)) ∙ o in
         let p = opens c was in
         record { was_forced = p.was_forced; was_written = p.was_written };
     promises = λ c p. record { was_forced = p.was_forced; was_written = p.was_written };
@@ -76,22 +79,29 @@ module _ (q : ProcessId) (n : Node) (opens : OpenHavePromised n) (h : Heard) (m 
 
   durable_grows : (r : Record) (b : Bool) (ls : List Envelope) (t : Record → Bool) → has t n.durable ≡ true
       → has t (after n h (writes r b ls)).durable ≡ true
-  durable_grows r true ls t e = has-cons t r (kept n ++ n.durable) ∙ second (t r) _ (has-append t (kept n) n.durable ∙ ap (λ x. x || has t (kept n)) e)
+  durable_grows r true ls t e =
+      has-cons t r (kept n ++ n.durable)
+      ∙ second (t r) _ (has-append t (kept n) n.durable ∙ ap (λ x. x || has t (kept n)) e)
   durable_grows r false ls t e = e
 
   life_grows : (r : Record) (b : Bool) (ls : List Envelope) → (after n h (writes r b ls)).life ≡ r ∷ n.life
   life_grows r true ls = refl
   life_grows r false ls = refl
 
-  pub promise_stays : (r : Record) (b : Bool) (ls : List Envelope) (c : Case) → HasPromised c n → HasPromised c (after n h (writes r b ls))
+  pub promise_stays : (r : Record) (b : Bool) (ls : List Envelope) (c : Case) → HasPromised c n
+      → HasPromised c (after n h (writes r b ls))
   promise_stays r b ls c p = record {
     was_forced = durable_grows r b ls (is_prepared c) p.was_forced;
-    was_written = rw (life_grows r b ls) (has-cons (is_prepared c) r n.life ∙ second (is_prepared c r) (has (is_prepared c) n.life) p.was_written);
+    was_written = rw (life_grows r b ls)
+        (has-cons (is_prepared c) r n.life
+        ∙ second (is_prepared c r) (has (is_prepared c) n.life) p.was_written);
   }
 
-  new_or_old : (r : Record) (b : Bool) (ls : List Envelope) (t : Record → Bool) → has t (after n h (writes r b ls)).life ≡ true
+  new_or_old : (r : Record) (b : Bool) (ls : List Envelope) (t : Record → Bool)
+      → has t (after n h (writes r b ls)).life ≡ true
       → (t r ≡ true) ⊎ (has t n.life ≡ true)
-  new_or_old r b ls t e = either (t r) (has t n.life) (sym (has-cons t r n.life) ∙ (sym (ap (has t) (life_grows r b ls)) ∙ e))
+  new_or_old r b ls t e = either (t r) (has t n.life)
+      (sym (has-cons t r n.life) ∙ (sym (ap (has t) (life_grows r b ls)) ∙ e))
 
   pub leaf_writes : (r : Record) (b : Bool) (ls : List Envelope)
       → ((c : Case) → is_open (mark_after (CaseBranch c) (mark_of (CaseBranch c) (kept n)) r) ≡ true
@@ -102,16 +112,20 @@ module _ (q : ProcessId) (n : Node) (opens : OpenHavePromised n) (h : Heard) (m 
   leaf_writes r b ls marks commit abort fair = record {
     left_open = λ c o.
         let now : is_open (mark_after (CaseBranch c) (mark_of (CaseBranch c) (kept n)) r) ≡ true =
-        ap is_open (sym (mark_of-push (CaseBranch c) (kept n) r)) ∙ (ap (λ rs. is_open (mark_of (CaseBranch c) rs)) (sym (kept-after n h (writes r b ls))) ∙ o) in
+        ap is_open (sym (mark_of-push (CaseBranch c) (kept n) r))
+        ∙ (ap (λ rs. is_open (mark_of (CaseBranch c) rs)) (sym (kept-after n h (writes r b ls))) ∙ o) in
         by_old c (is_open (mark_of (CaseBranch c) (kept n))) refl now;
     promises = λ c p. promise_stays r b ls c p;
-    committed = λ c e. elim (new_or_old r b ls (is_committed c) e) [ inl f ↦ inr (commit c f) | inr f ↦ inl f ];
-    rolled_back = λ c e. elim (new_or_old r b ls (is_rolled_back c) e) [ inl f ↦ inr (abort c f) | inr f ↦ inl f ];
+    committed = λ c e. elim (new_or_old r b ls (is_committed c) e)
+        [ inl f ↦ inr (commit c f) | inr f ↦ inl f ];
+    rolled_back = λ c e. elim (new_or_old r b ls (is_rolled_back c) e)
+        [ inl f ↦ inr (abort c f) | inr f ↦ inl f ];
     letters = fair;
     accepts_none = refl;
   }
     where
       by_old : (c : Case) (k : Bool) → is_open (mark_of (CaseBranch c) (kept n)) ≡ k
-          → is_open (mark_after (CaseBranch c) (mark_of (CaseBranch c) (kept n)) r) ≡ true → HasPromised c (after n h (writes r b ls))
+          → is_open (mark_after (CaseBranch c) (mark_of (CaseBranch c) (kept n)) r) ≡ true
+          → HasPromised c (after n h (writes r b ls))
       by_old c true e now = promise_stays r b ls c (opens c e)
       by_old c false e now = marks c now e

@@ -20,7 +20,8 @@ use Rattle.tree_law.proofs.RootWorld.{IsHeard, node_is, sent_more, apart_if}
 use Rattle.tree_law.proofs.Worlds.{WorldHolds, Grows, IsTrue, AllTrue, IsCommitted, HasAborted, all_append, all_stay, consent_stays, life_after, promise_after, at_own, at_other}
 
 -- a PREPARE that comes is for its process
-pub is_for : (tree : List TreeEntry) (root : ProcessId) (w : World) (q : ProcessId) (i : Input) → IsHeard tree root w q i → IsFor q i
+pub is_for : (tree : List TreeEntry) (root : ProcessId) (w : World) (q : ProcessId) (i : Input)
+    → IsHeard tree root w q i → IsFor q i
 is_for tree root w q (ActInput a) h = tt
 is_for tree root w q (MessageInput k (Prepare d j)) h = h
 is_for tree root w q (MessageInput k (Inquire d)) h = tt
@@ -58,7 +59,8 @@ module _ (tree : List TreeEntry) (root : ProcessId) (w : World) (holds : WorldHo
   }
 
   fair_true : (r : ProcessId) (a : Message) → IsFair q node a → IsTrue tree root then r a
-  fair_true r (Yes d) f = subst (λ (z : ProcessId). HasPromised d (then.at z)) (sym f.0) (rw (at_own q node w.at) f.1)
+  fair_true r (Yes d) f = subst (λ (z : ProcessId). HasPromised d (then.at z)) (sym f.0)
+      (rw (at_own q node w.at) f.1)
   fair_true r (Joined d t) f = tt
   fair_true r (No d) f = tt
   fair_true r (Read d) f = tt
@@ -85,20 +87,27 @@ module _ (tree : List TreeEntry) (root : ProcessId) (w : World) (holds : WorldHo
     cases = λ x t. rw root_stays (holds.cases x t);
     consents = λ x t f.
         consent_stays tree root w then leaf_grows x t
-        (holds.consents x t (ap (λ (n : Node). has_heard_vote n (root_case x) t is_consent) (sym root_stays) ∙ f));
+        (holds.consents x t (ap (λ (n : Node). has_heard_vote n (root_case x) t is_consent) (sym root_stays)
+        ∙ f));
     promises = λ r k. node_is OpenHavePromised q r node w (λ s. step.left_open) (λ o. holds.promises r k);
     commits = λ r c k f.
-        leaf_grows.commits c.txn (node_is (λ n. has (is_committed c) n.life ≡ true → IsCommitted root w c.txn) q r node w
-        (λ s g. elim (step.committed c g) [ inl old ↦ holds.commits q c manager old | inr now ↦ commit_heard c true' now ])
+        leaf_grows.commits c.txn (node_is
+        (λ n. has (is_committed c) n.life ≡ true → IsCommitted root w c.txn) q r node w
+        (λ s g. elim (step.committed c g)
+        [ inl old ↦ holds.commits q c manager old | inr now ↦ commit_heard c true' now ])
         (λ o g. holds.commits r c k g) f);
     aborts = λ r c k f.
-        leaf_grows.aborts c.txn (node_is (λ n. has (is_rolled_back c) n.life ≡ true → HasAborted tree root w c.txn) q r node w
-        (λ s g. elim (step.rolled_back c g) [ inl old ↦ holds.aborts q c manager old | inr now ↦ abort_heard c true' now ])
+        leaf_grows.aborts c.txn (node_is
+        (λ n. has (is_rolled_back c) n.life ≡ true → HasAborted tree root w c.txn) q r node w
+        (λ s g. elim (step.rolled_back c g)
+        [ inl old ↦ holds.aborts q c manager old | inr now ↦ abort_heard c true' now ])
         (λ o g. holds.aborts r c k g) f);
-    net = all_append tree root then w.net e.letters (all_stay tree root w then leaf_grows w.net holds.net) (all_fair_true e.letters step.letters);
+    net = all_append tree root then w.net e.letters (all_stay tree root w then leaf_grows w.net holds.net)
+        (all_fair_true e.letters step.letters);
     own_children = λ x u t. rw root_stays (holds.own_children x u t);
     root_accepts = λ r o. node_is (λ n. n.accepted ≡ []) q r node w
-        (λ s. rw step.accepts_none (subst (λ (z : ProcessId). (w.at z).accepted ≡ []) (sym s) (holds.root_accepts r o)))
+        (λ s. rw step.accepts_none
+        (subst (λ (z : ProcessId). (w.at z).accepted ≡ []) (sym s) (holds.root_accepts r o)))
         (λ d. holds.root_accepts r o);
     none_dropped = ap (λ (n : Node). n.dropped) root_stays ∙ holds.none_dropped;
     unlisted = λ r l. at_other q r node w.at (apart_if q r tree listed l) ∙ holds.unlisted r l;

@@ -1,15 +1,19 @@
 pub mod Lists
 pub mod CaseMoves
 pub mod RootReading
+pub mod RootOwn
 pub mod Standings
 pub mod RootSteps
 pub mod RootActs
 pub mod RootEnds
+pub mod RootCommits
+pub mod RootAborts
 pub mod RootJoined
 pub mod RootVotes
 pub mod RootMessages
 pub mod RootAcks
 pub mod RootCounts
+pub mod Consents
 pub mod RootReacts
 pub mod LeafSteps
 pub mod LeafRows
@@ -24,3 +28,4 @@ pub mod RootAccepts
 pub mod Runs
 pub mod Agreements
 pub mod FlatRuns
+pub mod PlayedRuns

@@ -18,7 +18,8 @@ pub has-append : (q : Record → Bool) (xs ys : List Record) → has q (xs ++ ys
 unfolding has
 has-append q xs ys = grind (arith, list_any-append)
 
-pub has-push : (q : Record → Bool) (xs : List Record) (r : Record) → has q (xs ++ r ∷ []) ≡ (q r || has q xs)
+pub has-push : (q : Record → Bool) (xs : List Record) (r : Record)
+    → has q (xs ++ r ∷ []) ≡ (q r || has q xs)
 unfolding has
 has-push q xs r = grind (arith, list_any-append)
 
@@ -46,11 +47,13 @@ has-history q f l d = list_any-append q (f ++ l) d
 
 pub ruleset lists = (has-push, has-push_behind, has-nil, has-nil_behind, has-cons, has-history)
 
-pub sent-append : (q : Message → Bool) (xs ys : List Envelope) → sent q (xs ++ ys) ≡ (sent q ys || sent q xs)
+pub sent-append : (q : Message → Bool) (xs ys : List Envelope)
+    → sent q (xs ++ ys) ≡ (sent q ys || sent q xs)
 unfolding sent
 sent-append q xs ys = grind (arith, list_any-append)
 
-pub mark_of-push : (b : Branch) (xs : List Record) (r : Record) → mark_of b (xs ++ r ∷ []) ≡ mark_after b (mark_of b xs) r
+pub mark_of-push : (b : Branch) (xs : List Record) (r : Record)
+    → mark_of b (xs ++ r ∷ []) ≡ mark_after b (mark_of b xs) r
 unfolding mark_of
 mark_of-push b xs r = fold-append _ _ xs (r ∷ [])
 
@@ -67,16 +70,19 @@ kept-appends n ws =
     (append-nil (kept n ++ entries_written ws))
     (sym (append_assoc n.forced n.loose (entries_written ws)))
 
-pub kept-after : (n : Node) (h : Heard) (e : Effect) → kept (after n h e) ≡ kept n ++ entries_written e.written
+pub kept-after : (n : Node) (h : Heard) (e : Effect)
+    → kept (after n h e) ≡ kept n ++ entries_written e.written
 kept-after n h e = kept-appends n e.written
 
 -- what is remembered after an input, where the boot stays
 pub memory_of-after : (place : Place) (n : Node) (h : Heard) (e : Effect) (c : Case)
     → boot_of (kept n ++ entries_written e.written) ≡ boot_of (kept n)
-    → memory_of place (after n h e) c ≡ remembers place.me place.role (boot_of (kept n)) c (memory_of place n c) h
+    → memory_of place (after n h e) c ≡ remembers place.me place.role (boot_of (kept n)) c
+    (memory_of place n c) h
 unfolding memory_of
 memory_of-after place n h e c boot =
-    let same_boot : boot_of (kept (after n h e)) ≡ boot_of (kept n) = ap boot_of (kept-after n h e) ∙ boot in
+    let same_boot : boot_of (kept (after n h e)) ≡ boot_of (kept n) =
+    ap boot_of (kept-after n h e) ∙ boot in
     rw same_boot (fold-append _ _ n.heard (h ∷ []))
 
 pub boot_of-push : (xs : List Record) (r : Record) → boot_of (xs ++ r ∷ []) ≡ boot_after (boot_of xs) r

@@ -21,8 +21,14 @@ pub record Handled (tree : List TreeEntry) (w : World) (m : Move) (e : Effect) (
   pub input : Input
   pub handles : m.step.happening ≡ Handles input
   pub flat : is_flat_input input ≡ true
-  pub reaction : reacts (place_of tree m.step.process) (w.at m.step.process) (record { input = input; data_answer = m.data_answer }) ≡ Does e
-  pub world : w' ≡ record { at = put_at m.step.process (after (w.at m.step.process) (record { input = input; data_answer = m.data_answer }) e) w.at; net = w.net ++ e.letters }
+  pub reaction : reacts (place_of tree m.step.process) (w.at m.step.process)
+      (record { input = input; data_answer = m.data_answer }) ≡ Does e
+  pub world : w' ≡ record {
+    at =
+        put_at m.step.process (after (w.at m.step.process)
+        (record { input = input; data_answer = m.data_answer }) e) w.at;
+    net = w.net ++ e.letters;
+  }
 
 pair_same : {A B : Type 0} (d : A × B) (p q : A × B) → Some p ≡ Some q → p ≡ q
 pair_same d p q h = cc
@@ -30,7 +36,8 @@ pair_same d p q h = cc
 makes_same : (e f : Effect) (n k : Node) → Makes e n ≡ Makes f k → (e ≡ f) × (n ≡ k)
 makes_same e f n k h = (cc, cc)
 
-input_made : (n : Node) (h : Heard) (f : Option Fault) (r : Reacts) (e : Effect) (k : Node) → is_none f ≡ true
+input_made : (n : Node) (h : Heard) (f : Option Fault) (r : Reacts) (e : Effect) (k : Node)
+    → is_none f ≡ true
     → input_makes n h f r ≡ Makes e k → (r ≡ Does e) × (k ≡ after n h e)
 input_made n h None (Refused x) e k o made = absurd (cc)
 input_made n h None (Does g) e k o made =
@@ -39,14 +46,16 @@ input_made n h None (Does g) e k o made =
 input_made n h (Some f) r e k o made = absurd (cc)
 
 -- a happening at one process
-record Happened (place : Place) (n : Node) (m : Move) (hp : Happening) (e : Effect) (k : Node) : Type 0 where
-  input : Input
-  handles : hp ≡ Handles input
-  flat : is_flat_input input ≡ true
-  reaction : reacts place n (record { input = input; data_answer = m.data_answer }) ≡ Does e
-  left : k ≡ after n (record { input = input; data_answer = m.data_answer }) e
+record Happened (place : Place) (n : Node) (m : Move) (hp : Happening) (e : Effect) (k : Node) : Type 0
+  where
+    input : Input
+    handles : hp ≡ Handles input
+    flat : is_flat_input input ≡ true
+    reaction : reacts place n (record { input = input; data_answer = m.data_answer }) ≡ Does e
+    left : k ≡ after n (record { input = input; data_answer = m.data_answer }) e
 
-happened : (place : Place) (n : Node) (m : Move) (hp : Happening) (e : Effect) (k : Node) → is_none m.step.fault ≡ true → is_flat_happening hp ≡ true
+happened : (place : Place) (n : Node) (m : Move) (hp : Happening) (e : Effect) (k : Node)
+    → is_none m.step.fault ≡ true → is_flat_happening hp ≡ true
     → happening_makes place n m hp ≡ Makes e k → Happened place n m hp e k
 happened place n m (Handles i) e k o f made =
     let h : Heard = record { input = i; data_answer = m.data_answer } in
@@ -55,21 +64,30 @@ happened place n m (Handles i) e k o f made =
 happened place n m (Restart j) e k o f made = absurd (cc)
 happened place n m Trim e k o f made = absurd (cc)
 
-stepped_at : (w : World) (q : ProcessId) (s : Stepped) (e : Effect) (w' : World) → world_stepped w q s ≡ Some (e, w')
+stepped_at : (w : World) (q : ProcessId) (s : Stepped) (e : Effect) (w' : World)
+    → world_stepped w q s ≡ Some (e, w')
     → (n : Node) × (s ≡ Makes e n) × (w' ≡ record { at = put_at q n w.at; net = w.net ++ e.letters })
 stepped_at w q (Refuses r) e w' h = absurd (cc)
 stepped_at w q (Makes f n) e w' h =
-    let same : (f, record { at = put_at q n w.at; net = w.net ++ f.letters }) ≡ (e, w') = pair_same (f, w) _ _ h in
+    let same : (f, record { at = put_at q n w.at; net = w.net ++ f.letters }) ≡ (e, w') =
+    pair_same (f, w) _ _ h in
     let fe : f ≡ e = ap (λ (p : Effect × World). p.0) same in
-    let we : record { at = put_at q n w.at; net = w.net ++ f.letters } ≡ w' = ap (λ (p : Effect × World). p.1) same in
-    (n, ap (λ x. Makes x n) fe, sym we ∙ ap (λ (x : Effect). record { at = put_at q n w.at; net = w.net ++ x.letters }) fe)
+    let we : record { at = put_at q n w.at; net = w.net ++ f.letters } ≡ w' =
+    ap (λ (p : Effect × World). p.1) same in (
+      n,
+      ap (λ x. Makes x n) fe,
+      sym we
+          ∙ ap (λ (x : Effect). record { at = put_at q n w.at; net = w.net ++ x.letters }) fe,
+    )
 
 split : (a b : Bool) → (a && b) ≡ true → (a ≡ true) × (b ≡ true)
 split a b e = grind arith
 
-handled_if : (tree : List TreeEntry) (w : World) (m : Move) (e : Effect) (w' : World) (b : Bool) → is_listed tree m.step.process ≡ b
+handled_if : (tree : List TreeEntry) (w : World) (m : Move) (e : Effect) (w' : World) (b : Bool)
+    → is_listed tree m.step.process ≡ b
     → is_flat_move (record { move = m; effect = e }) ≡ true
-    → (if b then world_stepped w m.step.process (node_makes (place_of tree m.step.process) (w.at m.step.process) m) else None) ≡ Some (e, w')
+    → (if b then world_stepped w m.step.process
+    (node_makes (place_of tree m.step.process) (w.at m.step.process) m) else None) ≡ Some (e, w')
     → Handled tree w m e w'
 unfolding node_makes
 handled_if tree w m e w' true l f h =
@@ -88,7 +106,8 @@ handled_if tree w m e w' true l f h =
 handled_if tree w m e w' false l f h = absurd (cc)
 
 pub handled : (tree : List TreeEntry) (w : World) (m : Move) (e : Effect) (w' : World)
-    → is_flat_move (record { move = m; effect = e }) ≡ true → world_makes tree w m ≡ Some (e, w') → Handled tree w m e w'
+    → is_flat_move (record { move = m; effect = e }) ≡ true → world_makes tree w m ≡ Some (e, w')
+    → Handled tree w m e w'
 unfolding world_makes
 handled tree w m e w' f h = handled_if tree w m e w' (is_listed tree m.step.process) refl f h
 
@@ -96,7 +115,8 @@ handled tree w m e w' f h = handled_if tree w m e w' (is_listed tree m.step.proc
 right : (a b : Bool) → b ≡ true → (a || b) ≡ true
 right a b e = grind arith
 
-pub sent_at : (t : Message → Bool) (ls : List Envelope) (k : ℕ) (l : Envelope) → slice_get ls k ≡ Some l → t l.message ≡ true → sent t ls ≡ true
+pub sent_at : (t : Message → Bool) (ls : List Envelope) (k : ℕ) (l : Envelope) → slice_get ls k ≡ Some l
+    → t l.message ≡ true → sent t ls ≡ true
 unfolding sent
 sent_at t [] k l e f = absurd (cc)
 sent_at t (m ∷ ls) zero l e f = let g : m ≡ l = cc in rw (g, f) refl

@@ -30,17 +30,21 @@ AcceptsNone e = e.accepts ≡ []
 none_by : (e f : Effect) → Does e ≡ Does f → AcceptsNone e → AcceptsNone f
 none_by e f h c = subst AcceptsNone (effect_same e f h) c
 
-commit_accepts : (s : Seat) (c : Case) (v : CoordinatorView) (b : Bool) (p : Presumption) → AcceptsNone (row_effect c (if b then active_commit_alone s else active_commit_with s v p))
+commit_accepts : (s : Seat) (c : Case) (v : CoordinatorView) (b : Bool) (p : Presumption)
+    → AcceptsNone (row_effect c (if b then active_commit_alone s else active_commit_with s v p))
 commit_accepts s c v true p = refl
 commit_accepts s c v false PresumeAbort = refl
 commit_accepts s c v false PresumeCommit = refl
 
-abort_accepts : (s : Seat) (why : Reason) (v : CoordinatorView) (us : List Ticket) (p : Presumption) → (collecting_abort_by s why v us p).accepts ≡ []
+abort_accepts : (s : Seat) (why : Reason) (v : CoordinatorView) (us : List Ticket) (p : Presumption)
+    → (collecting_abort_by s why v us p).accepts ≡ []
 abort_accepts s why v us PresumeAbort = refl
 abort_accepts s why v us PresumeCommit = refl
 
-pub commit_takes_none : (s : Seat) (v : CoordinatorView) (st : Standing) (e : Effect) → commit_by s v st ≡ Does e → AcceptsNone e
-commit_takes_none s v Active e h = none_by _ e h (commit_accepts s s.own v (none_of v.accepted) s.own.txn.presumption)
+pub commit_takes_none : (s : Seat) (v : CoordinatorView) (st : Standing) (e : Effect)
+    → commit_by s v st ≡ Does e → AcceptsNone e
+commit_takes_none s v Active e h =
+    none_by _ e h (commit_accepts s s.own v (none_of v.accepted) s.own.txn.presumption)
 commit_takes_none s v Unknown e h = absurd (cc)
 commit_takes_none s v Collecting e h = absurd (cc)
 commit_takes_none s v Prepared e h = absurd (cc)
@@ -51,11 +55,13 @@ commit_takes_none s v Heuristic e h = absurd (cc)
 none_of_row : (c : Case) (r : Row) → r.accepts ≡ [] → AcceptsNone (row_effect c r)
 none_of_row c r e = rw e refl
 
-pub abort_takes_none : (s : Seat) (v : CoordinatorView) (st : Standing) (e : Effect) → abort_by s v st ≡ Does e → AcceptsNone e
+pub abort_takes_none : (s : Seat) (v : CoordinatorView) (st : Standing) (e : Effect)
+    → abort_by s v st ≡ Does e → AcceptsNone e
 abort_takes_none s v Active e h = none_by (row_effect s.own (active_abort s v)) e h refl
 abort_takes_none s v Collecting e h =
     let us = undecided_of v.accepted v.votes in
-    none_by _ e h (none_of_row s.own (collecting_abort_by s ByAct v us s.own.txn.presumption) (abort_accepts s ByAct v us s.own.txn.presumption))
+    none_by _ e h (none_of_row s.own (collecting_abort_by s ByAct v us s.own.txn.presumption)
+    (abort_accepts s ByAct v us s.own.txn.presumption))
 abort_takes_none s v Unknown e h = absurd (cc)
 abort_takes_none s v Prepared e h = absurd (cc)
 abort_takes_none s v Committing e h = absurd (cc)
@@ -65,14 +71,27 @@ abort_takes_none s v Heuristic e h = absurd (cc)
 -- Acknowledgements.
 
 decided_takes_none : (s : Seat) (left : List Ticket) (v : CoordinatorView) (b1 b2 : Bool)
-    → (if b1 then (if b2 then record { written = record { entry = EndRecord s.own; is_forced = false } ∷ []; told = None; letters = []; accepts = []; counts = []; view = unknown_view } else quiet (record v { owed = left })) else quiet v).accepts ≡ []
+    → (if b1 then (if b2 then record {
+      written =
+          record { entry = EndRecord s.own; is_forced = false } ∷ [];
+      told = None;
+      letters = [];
+      accepts =
+          [];
+      counts = [];
+      view = unknown_view;
+    } else quiet (record v { owed = left })) else quiet
+    v).accepts ≡ []
 decided_takes_none s left v true true = refl
 decided_takes_none s left v true false = refl
 decided_takes_none s left v false b2 = refl
 
-ack_takes_none : (s : Seat) (t : Ticket) (o : Outcome) (v : CoordinatorView) (st : Standing) → (on_ack s t o v st).accepts ≡ []
-ack_takes_none s t CommittedOutcome v Committing = let left = other_tickets t v.owed in decided_takes_none s left v (in_list v.owed t) (none_of left)
-ack_takes_none s t AbortedOutcome v Aborting = let left = other_tickets t v.owed in decided_takes_none s left v (in_list v.owed t) (none_of left)
+ack_takes_none : (s : Seat) (t : Ticket) (o : Outcome) (v : CoordinatorView) (st : Standing)
+    → (on_ack s t o v st).accepts ≡ []
+ack_takes_none s t CommittedOutcome v Committing = let left =
+    other_tickets t v.owed in decided_takes_none s left v (in_list v.owed t) (none_of left)
+ack_takes_none s t AbortedOutcome v Aborting = let left =
+    other_tickets t v.owed in decided_takes_none s left v (in_list v.owed t) (none_of left)
 ack_takes_none s t CommittedOutcome v Unknown = refl
 ack_takes_none s t CommittedOutcome v Active = refl
 ack_takes_none s t CommittedOutcome v Collecting = refl
@@ -86,15 +105,18 @@ ack_takes_none s t AbortedOutcome v Prepared = refl
 ack_takes_none s t AbortedOutcome v Committing = refl
 ack_takes_none s t AbortedOutcome v Heuristic = refl
 
-pub ack_for_takes_none : (place : Place) (n : Node) (t : Ticket) (o : Outcome) (c : Option Case) → AcceptsNone (ack_for place None n t o c)
+pub ack_for_takes_none : (place : Place) (n : Node) (t : Ticket) (o : Outcome) (c : Option Case)
+    → AcceptsNone (ack_for place None n t o c)
 ack_for_takes_none place n t o None = refl
 ack_for_takes_none place n t o (Some c) =
     let v = coordinator_view place n c in
-    none_of_row c (on_ack (seat_of place None c) t o v v.standing) (ack_takes_none (seat_of place None c) t o v v.standing)
+    none_of_row c (on_ack (seat_of place None c) t o v v.standing)
+    (ack_takes_none (seat_of place None c) t o v v.standing)
 
 -- Votes, at a seat with no parent.
 
-decides_none : (s : Seat) (v : CoordinatorView) (us : List Ticket) (p : Presumption) → (root_commits s v us p).accepts ≡ []
+decides_none : (s : Seat) (v : CoordinatorView) (us : List Ticket) (p : Presumption)
+    → (root_commits s v us p).accepts ≡ []
 decides_none s v us PresumeAbort = refl
 decides_none s v us PresumeCommit = refl
 
@@ -103,22 +125,26 @@ module _ (me : ProcessId) (c : Case) where
   s = record { me = me; parent = None; own = c }
 
   for_none : (v : CoordinatorView) (us : List Ticket) (b1 b2 : Bool)
-      → (if b1 then (if b2 then collecting_read_only s else root_commits s v us c.txn.presumption) else quiet v).accepts ≡ []
+      → (if b1 then (if b2 then collecting_read_only s else root_commits s v us c.txn.presumption)
+      else quiet v).accepts ≡ []
   for_none v us true true = refl
   for_none v us true false = decides_none s v us c.txn.presumption
   for_none v us false b2 = refl
 
   after_none : (v : CoordinatorView) (w : Vote) → (collecting_after s v w).accepts ≡ []
   after_none v VoteNo = abort_accepts s ByVote v (undecided_of v.accepted v.votes) c.txn.presumption
-  after_none v VoteYes = let us = yes_of v.accepted v.votes in for_none v us (all_voted v.accepted v.votes) (none_of us)
-  after_none v VoteRead = let us = yes_of v.accepted v.votes in for_none v us (all_voted v.accepted v.votes) (none_of us)
+  after_none v VoteYes = let us =
+      yes_of v.accepted v.votes in for_none v us (all_voted v.accepted v.votes) (none_of us)
+  after_none v VoteRead = let us =
+      yes_of v.accepted v.votes in for_none v us (all_voted v.accepted v.votes) (none_of us)
 
   counted_none : (t : Ticket) (w : Vote) (v : CoordinatorView) (r : Row) (b : Bool) → r.accepts ≡ []
       → (if b then record r { counts = (t, w) ∷ [] } else quiet v).accepts ≡ []
   counted_none t w v r true e = e
   counted_none t w v r false e = refl
 
-  vote_none : (t : Ticket) (w : Vote) (v : CoordinatorView) (st : Standing) → (on_vote s t w v st).accepts ≡ []
+  vote_none : (t : Ticket) (w : Vote) (v : CoordinatorView) (st : Standing)
+      → (on_vote s t w v st).accepts ≡ []
   vote_none t w v Collecting =
       let v' : CoordinatorView = record v { votes = v.votes ++ (t, w) ∷ [] } in
       counted_none t w v (collecting_after s v' w) (is_counted v.accepted v.votes t) (after_none v' w)
@@ -129,7 +155,8 @@ module _ (me : ProcessId) (c : Case) where
   vote_none t w v Aborting = refl
   vote_none t w v Heuristic = refl
 
-pub vote_for_takes_none : (place : Place) (n : Node) (t : Ticket) (w : Vote) (c : Option Case) → AcceptsNone (vote_for place None n t w c)
+pub vote_for_takes_none : (place : Place) (n : Node) (t : Ticket) (w : Vote) (c : Option Case)
+    → AcceptsNone (vote_for place None n t w c)
 vote_for_takes_none place n t w None = refl
 vote_for_takes_none place n t w (Some c) =
     let v = coordinator_view place n c in
@@ -138,7 +165,16 @@ vote_for_takes_none place n t w (Some c) =
 -- JOINED of a case with a ticket accepts none; of another one only for it.
 
 joined_at_most : (d : Case) (u : Ticket) (v : CoordinatorView) (b : Bool)
-    → let e = row_effect d (if b then quiet v else record { written = []; told = None; letters = []; accepts = u ∷ []; counts = []; view = record v { accepted = v.accepted ++ u ∷ [] } }) in
+    → let e = row_effect d (if b then quiet v
+    else record {
+      written = [];
+      told = None;
+      letters = [];
+      accepts = u ∷ [];
+      counts = [];
+      view =
+          record v { accepted = v.accepted ++ u ∷ [] };
+    }) in
     (e.accepts ≡ []) ⊎ (e.accepts ≡ (d, u) ∷ [])
 joined_at_most d u v true = inl refl
 joined_at_most d u v false = inr refl
@@ -147,10 +183,12 @@ joined_by : (me : ProcessId) (tree : List TreeEntry) (n : Node) (d : Case) (u : 
     → coordinator_standing (kept n) d (memory_of (root_place me tree) n d) ≡ st
     → let v = view_at st (kept n) d (memory_of (root_place me tree) n d) in
     let e = row_effect d (on_joined u v v.standing) in
-    (e.accepts ≡ []) ⊎ ((e.accepts ≡ (d, u) ∷ []) × (coordinator_standing (kept n) d (memory_of (root_place me tree) n d) ≡ Active))
+    (e.accepts ≡ []) ⊎ ((e.accepts ≡ (d, u) ∷ [])
+    × (coordinator_standing (kept n) d (memory_of (root_place me tree) n d) ≡ Active))
 joined_by me tree n d u Active s =
     let v = view_at Active (kept n) d (memory_of (root_place me tree) n d) in
-    elim (joined_at_most d u v (has_child v.accepted u.child)) [ inl none ↦ inl none | inr one ↦ inr (one, s) ]
+    elim (joined_at_most d u v (has_child v.accepted u.child))
+    [ inl none ↦ inl none | inr one ↦ inr (one, s) ]
 joined_by me tree n d u Unknown s = inl refl
 joined_by me tree n d u Collecting s = inl refl
 joined_by me tree n d u Prepared s = inl refl
@@ -162,9 +200,11 @@ joined_by me tree n d u Heuristic s = inl refl
 pub joined_accepts : (me : ProcessId) (tree : List TreeEntry) (n : Node) (d : Case) (u : Ticket)
     → let v = coordinator_view (root_place me tree) n d in
     let e = row_effect d (on_joined u v v.standing) in
-    (e.accepts ≡ []) ⊎ ((e.accepts ≡ (d, u) ∷ []) × (coordinator_standing (kept n) d (memory_of (root_place me tree) n d) ≡ Active))
+    (e.accepts ≡ []) ⊎ ((e.accepts ≡ (d, u) ∷ [])
+    × (coordinator_standing (kept n) d (memory_of (root_place me tree) n d) ≡ Active))
 joined_accepts me tree n d u =
     subst (λ (v : CoordinatorView). ((row_effect d (on_joined u v v.standing)).accepts ≡ [])
-    ⊎ (((row_effect d (on_joined u v v.standing)).accepts ≡ (d, u) ∷ []) × (coordinator_standing (kept n) d (memory_of (root_place me tree) n d) ≡ Active)))
+    ⊎ (((row_effect d (on_joined u v v.standing)).accepts ≡ (d, u) ∷ [])
+    × (coordinator_standing (kept n) d (memory_of (root_place me tree) n d) ≡ Active)))
     (sym (viewed (root_place me tree) n d))
     (joined_by me tree n d u (coordinator_standing (kept n) d (memory_of (root_place me tree) n d)) refl)

@@ -21,7 +21,8 @@ use Rattle.tree_model.specs.Reactions.{row_effect, ack_for}
 use Rattle.tree_model.specs.Views.{root_place, root_seat}
 use Rattle.tree_law.proofs.Lists.{boot_of-push}
 use Rattle.tree_law.proofs.CaseMoves.{CaseReading, stays, leads_forgets, forgets}
-use Rattle.tree_law.proofs.RootReading.{reading_at, reading, sends, ending, same_ending, own_ending}
+use Rattle.tree_law.proofs.RootReading.{reading_at, reading, sends, ending, same_ending}
+use Rattle.tree_law.proofs.RootOwn.{own_ending}
 use Rattle.tree_law.proofs.RootSteps.{AllHold, RootStep, memory, memory_then, own_and_others}
 use Rattle.tree_law.proofs.RootActs.{sends_step}
 use Rattle.tree_law.proofs.Standings.{committing_recorded, aborting_recorded, viewed}
@@ -38,8 +39,11 @@ acked_if : (b : Bool) (m : Memory) (n : Node) (me : ProcessId) (x : Txn) (t u : 
 acked_if true m n me x t u o = acked_same m n me x t u o m.phase
 acked_if false m n me x t u o = refl
 
-module _ (me : ProcessId) (tree : List TreeEntry) (n : Node) (holds : AllHold (root_place me tree) n) (h : Heard) (y : Txn) (u : Ticket) (o : Outcome)
-    (takes : (x : Txn) → memory_then me tree n h x ≡ (if same_txn y x then takes_ack (memory me tree n x) u o (memory me tree n x).phase else memory me tree n x)) where
+module _ (me : ProcessId) (tree : List TreeEntry) (n : Node) (holds : AllHold (root_place me tree) n)
+    (h : Heard) (y : Txn) (u : Ticket) (o : Outcome)
+    (takes : (x : Txn) → memory_then me tree n h
+    x ≡ (if same_txn y x then takes_ack (memory me tree n x) u o (memory me tree n x).phase else memory
+    me tree n x)) where
   abbrev here : Place
   here = root_place me tree
 
@@ -54,9 +58,11 @@ module _ (me : ProcessId) (tree : List TreeEntry) (n : Node) (holds : AllHold (r
 
   quiet_ack : RootStep here n h (sends [])
   quiet_ack = sends_step me tree n holds h []
-      (λ x t. rw (takes x, acked_if (same_txn y x) (memory me tree n x) n me x t u o) (stays (read x t) (holds x t))) tt
+      (λ x t. rw (takes x, acked_if (same_txn y x) (memory me tree n x) n me x t u o)
+      (stays (read x t) (holds x t))) tt
 
-  end_ack : (read y (record { child = me; boot = 0; number = 0 })).recorded ≡ true → RootStep here n h (ending y)
+  end_ack : (read y (record { child = me; boot = 0; number = 0 })).recorded ≡ true
+      → RootStep here n h (ending y)
   end_ack e = record {
     cases = own_and_others me tree n h (ending y) y (boot_of-push (kept n) (EndRecord (root_case y))) holds
         (λ x t d. rw (takes x, d) (same_ending (memory me tree n x) n h me x t y d))
@@ -70,15 +76,27 @@ module _ (me : ProcessId) (tree : List TreeEntry) (n : Node) (holds : AllHold (r
     letters = tt;
   }
 
-  decided_by : (b1 b2 : Bool) (left : List Ticket) (v : CoordinatorView) → (read y (record { child = me; boot = 0; number = 0 })).recorded ≡ true
-      → RootStep here n h (row_effect c (if b1 then (if b2 then record { written = record { entry = EndRecord c; is_forced = false } ∷ []; told = None; letters = []; accepts = []; counts = []; view = unknown_view }
+  decided_by : (b1 b2 : Bool) (left : List Ticket) (v : CoordinatorView)
+      → (read y (record { child = me; boot = 0; number = 0 })).recorded ≡ true
+      → RootStep here n h (row_effect c
+      (if b1 then (if b2 then record {
+        written =
+            record { entry = EndRecord c; is_forced = false } ∷ [];
+        told = None;
+        letters = [];
+        accepts =
+            [];
+        counts = [];
+        view = unknown_view;
+      }
       else quiet (record v { owed = left })) else quiet v))
   decided_by true true left v e = end_ack e
   decided_by true false left v e = quiet_ack
   decided_by false b2 left v e = quiet_ack
 
   acked_by : (p : Outcome) (st : Standing) → coordinator_standing (kept n) c m ≡ st
-      → let v = view_at st (kept n) c m in RootStep here n h (row_effect c (on_ack (root_seat me c) u p v v.standing))
+      → let v = view_at st (kept n) c m in RootStep here n h
+      (row_effect c (on_ack (root_seat me c) u p v v.standing))
   acked_by CommittedOutcome Committing s =
       let v = view_at Committing (kept n) c m in
       let left = other_tickets u v.owed in
@@ -100,8 +118,10 @@ module _ (me : ProcessId) (tree : List TreeEntry) (n : Node) (holds : AllHold (r
   acked_by AbortedOutcome Committing s = quiet_ack
   acked_by AbortedOutcome Heuristic s = quiet_ack
 
-  acked_in : let v = coordinator_view here n c in RootStep here n h (row_effect c (on_ack (root_seat me c) u o v v.standing))
-  acked_in = subst (λ (v : CoordinatorView). RootStep here n h (row_effect c (on_ack (root_seat me c) u o v v.standing))) (sym (viewed here n c))
+  acked_in : let v = coordinator_view here n c in RootStep here n h
+      (row_effect c (on_ack (root_seat me c) u o v v.standing))
+  acked_in = subst (λ (v : CoordinatorView). RootStep here n h
+      (row_effect c (on_ack (root_seat me c) u o v v.standing))) (sym (viewed here n c))
       (acked_by o (coordinator_standing (kept n) c m) refl)
 
   acked_where : (b : Bool) → RootStep here n h (ack_for here None n u o (if b then Some c else None))

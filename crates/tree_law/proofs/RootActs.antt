@@ -6,16 +6,16 @@ use Rattle.tree_model.specs.declared.names.Case.{Case}
 use Rattle.tree_model.specs.declared.names.ProcessId.{ProcessId}
 use Rattle.tree_model.specs.declared.names.Ticket.{Ticket}
 use Rattle.tree_model.specs.declared.names.Txn.{Txn}
-use Rattle.tree_model.specs.declared.names.Presumption.TheVariants.{PresumeAbort}
+use Rattle.tree_model.specs.declared.names.Presumption.{Presumption}
 use Rattle.tree_model.specs.declared.messages.Envelope.{Envelope}
 use Rattle.tree_model.specs.declared.messages.Op.{Op}
 use Rattle.tree_model.specs.declared.standings.Vote.TheVariants.{No as VoteNo}
 use Rattle.tree_model.specs.declared.events.Act.TheVariants.{Begin, Join as JoinAct, Work as WorkAct}
 use Rattle.tree_model.specs.declared.trees.TreeEntry.{TreeEntry}
-use Rattle.tree_model.specs.Names.{same_case, root_case, same_process, same_presumption}
+use Rattle.tree_model.specs.Names.{same_case, root_case, same_process}
 use Rattle.tree_model.specs.NameLaws.{same_case_tells, same_process_tells}
 use Rattle.tree_model.specs.Records.{in_list, boot_of}
-use Rattle.tree_model.specs.Nodes.{Place, Node, kept, Heard, DataAnswer, Effect, after}
+use Rattle.tree_model.specs.Nodes.{Place, Node, kept, Heard, DataAnswer, after}
 use Rattle.tree_model.specs.Memory.{Memory, Phase, Idle, Open, Asked, Over, next_txn, opens_case, sends_work, ticket_of_child, has_voted, voted_so}
 use Rattle.tree_model.specs.Views.{root_place, hears_act}
 use Rattle.tree_law.proofs.Lists.{boot_of-nil}
@@ -41,10 +41,6 @@ refused_none : (t : Ticket) → voted_so VoteNo [] t ≡ false
 unfolding voted_so
 refused_none t = refl
 
-presumes : same_presumption PresumeAbort PresumeAbort ≡ true
-unfolding same_presumption
-presumes = refl
-
 own_process : (q : ProcessId) → same_process q q ≡ true
 own_process q = grind (arith, same_process_tells)
 
@@ -65,36 +61,46 @@ module _ (me : ProcessId) (tree : List TreeEntry) (n : Node) (holds : AllHold (r
   pub sends_step : (h : Heard) (ls : List Envelope)
       → ((x : Txn) (t : Ticket) → Leads (read x t) (reading_at (memory_then me tree n h x) n me x t))
       → AllSound here (after n h (sends ls)) ls → RootStep here n h (sends ls)
-  sends_step h ls f sound = still_step me tree n h (sends ls) (boot_of-nil (kept n)) (λ m x t. same_sends m n h me x t ls) f sound
+  sends_step h ls f sound =
+      still_step me tree n h (sends ls) (boot_of-nil (kept n)) (λ m x t. same_sends m n h me x t ls) f sound
 
   -- Begin.
 
-  begun_next : (t : Ticket) (m : Memory) → let x = next_txn me (boot_of (kept n)) m PresumeAbort in
+  begun_next : (t : Ticket) (m : Memory) (p : Presumption) → let x = next_txn me (boot_of (kept n)) m p in
       CaseHolds (reading_at m n me x t)
       → Leads (reading_at m n me x t) (reading_at (opens_case (record m { begun = m.begun + 1 })) n me x t)
-  begun_next t m h =
-      let x = next_txn me (boot_of (kept n)) m PresumeAbort in
-      let same : reading_at (opens_case (record m { begun = m.begun + 1 })) n me x t ≡ begun (reading_at m n me x t) =
+  begun_next t m p h =
+      let x = next_txn me (boot_of (kept n)) m p in
+      let same : reading_at (opens_case (record m { begun = m.begun + 1 })) n me x t ≡ begun
+      (reading_at m n me x t) =
       simp ((next_number m.begun).1, in_none t, refused_none t, voted_none t) in
-      rw same (leads_begun (reading_at m n me x t) h (next_number m.begun).0 (own_process me) presumes)
+      rw same (leads_begun (reading_at m n me x t) h (next_number m.begun).0 (own_process me))
 
-  named_next : (x : Txn) (m : Memory) → same_case (root_case (next_txn me (boot_of (kept n)) m PresumeAbort)) (root_case x) ≡ true
-      → next_txn me (boot_of (kept n)) m PresumeAbort ≡ x
-  named_next x m e = ap (λ (c : Case). c.txn) (told_same (root_case (next_txn me (boot_of (kept n)) m PresumeAbort)) (root_case x) e)
+  named_next : (x : Txn) (m : Memory) (p : Presumption)
+      → same_case (root_case (next_txn me (boot_of (kept n)) m p)) (root_case x) ≡ true
+      → next_txn me (boot_of (kept n)) m p ≡ x
+  named_next x m p e = ap (λ (c : Case). c.txn)
+      (told_same (root_case (next_txn me (boot_of (kept n)) m p)) (root_case x) e)
 
-  begun_case : (x : Txn) (t : Ticket) (m : Memory) (b : Bool) → CaseHolds (reading_at m n me x t)
-      → same_case (root_case (next_txn me (boot_of (kept n)) m PresumeAbort)) (root_case x) ≡ b
+  begun_case : (x : Txn) (t : Ticket) (m : Memory) (p : Presumption) (b : Bool)
+      → CaseHolds (reading_at m n me x t)
+      → same_case (root_case (next_txn me (boot_of (kept n)) m p)) (root_case x) ≡ b
       → let counted = record m { begun = m.begun + 1 } in
       Leads (reading_at m n me x t) (reading_at (if b then opens_case counted else counted) n me x t)
-  begun_case x t m false h e = leads_numbered (reading_at m n me x t) (nat_lt (m.begun + 1) x.sequence) h (counted_less m.begun x.sequence)
-  begun_case x t m true h e =
+  begun_case x t m p false h e =
+      leads_numbered (reading_at m n me x t) (nat_lt (m.begun + 1) x.sequence) h
+      (counted_less m.begun x.sequence)
+  begun_case x t m p true h e =
       let P : Txn → Type 0 = λ z. CaseHolds (reading_at m n me z t)
-      → Leads (reading_at m n me z t) (reading_at (opens_case (record m { begun = m.begun + 1 })) n me z t) in
-      subst P (named_next x m e) (begun_next t m) h
+      → Leads (reading_at m n me z t)
+      (reading_at (opens_case (record m { begun = m.begun + 1 })) n me z t) in
+      subst P (named_next x m p e) (begun_next t m p) h
 
-  pub begins : (a : DataAnswer) (e : Effect) → e ≡ sends [] → RootStep here n (hears_act (Begin PresumeAbort) a) e
-  begins a e s = rw s (sends_step (hears_act (Begin PresumeAbort) a) []
-      (λ x t. begun_case x t (remembered x) (same_case (root_case (next_txn me (boot_of (kept n)) (remembered x) PresumeAbort)) (root_case x)) (holds x t) refl) tt)
+  pub begins : (a : DataAnswer) (p : Presumption) → RootStep here n (hears_act (Begin p) a) (sends [])
+  begins a p = sends_step (hears_act (Begin p) a) []
+      (λ x t. begun_case x t (remembered x) p
+      (same_case (root_case (next_txn me (boot_of (kept n)) (remembered x) p)) (root_case x))
+      (holds x t) refl) tt
 
   -- Join and Work: nothing moves.
 
@@ -109,7 +115,8 @@ module _ (me : ProcessId) (tree : List TreeEntry) (n : Node) (holds : AllHold (r
   sent_work x t m (Some u) Asked = refl
   sent_work x t m (Some u) Over = refl
 
-  if_work : (x : Txn) (t : Ticket) (b : Bool) (m : Memory) (o : Option Ticket) → CaseHolds (reading_at m n me x t)
+  if_work : (x : Txn) (t : Ticket) (b : Bool) (m : Memory) (o : Option Ticket)
+      → CaseHolds (reading_at m n me x t)
       → Leads (reading_at m n me x t) (reading_at (if b then sends_work m o m.phase else m) n me x t)
   if_work x t true m o h = rw (sent_work x t m o m.phase) (stays (reading_at m n me x t) h)
   if_work x t false m o h = stays (reading_at m n me x t) h
@@ -118,9 +125,11 @@ module _ (me : ProcessId) (tree : List TreeEntry) (n : Node) (holds : AllHold (r
       → AllSound here (after n (hears_act (WorkAct c q op) a) (sends ls)) ls
       → RootStep here n (hears_act (WorkAct c q op) a) (sends ls)
   sends_works a c q op ls sound = sends_step (hears_act (WorkAct c q op) a) ls
-      (λ x t. if_work x t (same_case c (root_case x)) (remembered x) (ticket_of_child (remembered x).accepted q) (holds x t)) sound
+      (λ x t. if_work x t (same_case c (root_case x)) (remembered x)
+      (ticket_of_child (remembered x).accepted q) (holds x t)) sound
 
   pub sends_joins : (a : DataAnswer) (c : Case) (q : ProcessId) (ls : List Envelope)
       → AllSound here (after n (hears_act (JoinAct c q) a) (sends ls)) ls
       → RootStep here n (hears_act (JoinAct c q) a) (sends ls)
-  sends_joins a c q ls sound = sends_step (hears_act (JoinAct c q) a) ls (λ x t. stays (read x t) (holds x t)) sound
+  sends_joins a c q ls sound =
+      sends_step (hears_act (JoinAct c q) a) ls (λ x t. stays (read x t) (holds x t)) sound

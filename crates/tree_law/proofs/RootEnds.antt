@@ -1,83 +1,32 @@
--- The commit act and the abort act of the root keep what holds of its cases.
-use Rattle.std.proofs.Common.{◌≡◌, map, ap, subst, Bool, true, false, ◌⊎◌, inl, inr, List, [], ◌∷◌, ◌++◌, refl, if◌then◌else◌, arith}
-use Rattle.tree_model.specs.declared.names.Case.{Case}
+-- What the commit act, the abort act and the last vote find at the root.
+use Rattle.std.proofs.Common.{◌≡◌, true, false, inl, inr, List, refl}
 use Rattle.tree_model.specs.declared.names.ProcessId.{ProcessId}
 use Rattle.tree_model.specs.declared.names.Ticket.{Ticket}
 use Rattle.tree_model.specs.declared.names.Txn.{Txn}
-use Rattle.tree_model.specs.declared.names.Presumption.{Presumption}
 use Rattle.tree_model.specs.declared.names.Presumption.TheVariants.{PresumeAbort, PresumeCommit}
-use Rattle.tree_model.specs.declared.messages.Message.TheVariants.{Abort, Prepare}
-use Rattle.tree_model.specs.declared.records.Record.{Record}
-use Rattle.tree_model.specs.declared.records.Record.TheVariants.{Abort as AbortRecord}
-use Rattle.tree_model.specs.declared.standings.Standing.{Standing}
-use Rattle.tree_model.specs.declared.standings.Standing.TheVariants.{Unknown, Active, Collecting, Prepared, Committing, Aborting, Heuristic}
-use Rattle.tree_model.specs.declared.events.Act.TheVariants.{Commit as CommitAct, Abort as AbortAct}
-use Rattle.tree_model.specs.declared.events.Conclusion.TheVariants.{Aborted as ConcludedAborted, ReadOnly}
+use Rattle.tree_model.specs.declared.standings.Standing.TheVariants.{Active, Collecting}
 use Rattle.tree_model.specs.declared.trees.TreeEntry.{TreeEntry}
-use Rattle.tree_model.specs.Names.{same_txn, same_case, root_case, child_case, same_presumption}
-use Rattle.tree_model.specs.NameLaws.{same_case-refl, same_presumption_tells}
-use Rattle.tree_model.specs.Records.{none_of}
-use Rattle.tree_model.specs.Nodes.{Place, Node, kept, DataAnswer, Effect}
-use Rattle.tree_model.specs.Memory.{Memory, Phase, Idle, Open, Asked, Over, asks_votes, closes, works_of, undecided_of}
-use Rattle.tree_model.specs.Standings.{CoordinatorView, coordinator_view, coordinator_standing, view_at}
-use Rattle.tree_model.specs.CoordinatorRows.{Seat, active_commit, active_commit_alone, active_commit_with, active_abort, collecting_abort, collecting_abort_by, ByAct, prepares, each, post, acknowledges_abort}
-use Rattle.tree_model.specs.Reactions.{Does, row_effect, commit_by, abort_by}
-use Rattle.tree_model.specs.Views.{root_place, root_seat, hears_act}
-use Rattle.tree_law.proofs.Lists.{boot_of-nil, boot_of-push}
-use Rattle.tree_law.proofs.CaseMoves.{CaseReading, CaseHolds, Leads, is_undecided, is_begun, stays, leads_asked}
-use Rattle.tree_law.proofs.RootReading.{reading_at, reading, tells, aborting, same_tells, same_aborting, same_reads_only, own_tells_aborted, own_aborting, apart}
-use Rattle.tree_law.proofs.RootSteps.{AllHold, AllSound, RootStep, memory, memory_then, still_step, ended_step}
-use Rattle.tree_law.proofs.RootActs.{sends_step, told_same}
-use Rattle.tree_law.proofs.Standings.{active_open, collecting_asked, viewed}
+use Rattle.tree_model.specs.Names.{root_case, same_presumption}
+use Rattle.tree_model.specs.Nodes.{Place, Node, kept, Effect}
+use Rattle.tree_model.specs.Memory.{Memory, Open, Asked}
+use Rattle.tree_model.specs.Standings.{coordinator_standing}
+use Rattle.tree_model.specs.Reactions.{Does}
+use Rattle.tree_model.specs.Views.{root_place}
+use Rattle.tree_law.proofs.CaseMoves.{CaseReading, collects_asked}
+use Rattle.tree_law.proofs.RootReading.{reading}
+use Rattle.tree_law.proofs.RootSteps.{AllHold, memory}
+use Rattle.tree_law.proofs.Standings.{active_open, collecting_facts}
 
 pub effect_same : (e f : Effect) → Does e ≡ Does f → e ≡ f
 effect_same e f h = cc
 
--- every message of the list is a PREPARE for its ticket's child
-prepares_sound : (place : Place) (n : Node) (s : Seat) (v : CoordinatorView) (ts : List Ticket)
-    → AllSound place n (map (λ t. post s.me t.child (Prepare (child_case s.own.txn t) (works_of v.works t))) ts)
-prepares_sound place n s v [] = tt
-prepares_sound place n s v (t ∷ ts) = (refl, prepares_sound place n s v ts)
+pub abort_presumed : same_presumption PresumeAbort PresumeAbort ≡ true
+unfolding same_presumption
+abort_presumed = refl
 
-is_begun_next : (b : Bool) → is_begun (if b then Over else Asked) ≡ true
-is_begun_next true = refl
-is_begun_next false = refl
-
-commit_active : (s : Seat) (st : Standing) (rs : List Record) (m : Memory) (e : Effect)
-    → commit_by s (view_at st rs s.own m) (view_at st rs s.own m).standing ≡ Does e
-    → (st ≡ Active) × (row_effect s.own (active_commit s (view_at Active rs s.own m)) ≡ e)
-commit_active s Active rs m e h = (refl, effect_same _ e h)
-commit_active s Unknown rs m e h = absurd (cc)
-commit_active s Collecting rs m e h = absurd (cc)
-commit_active s Prepared rs m e h = absurd (cc)
-commit_active s Committing rs m e h = absurd (cc)
-commit_active s Aborting rs m e h = absurd (cc)
-commit_active s Heuristic rs m e h = absurd (cc)
-
-abort_cases : (s : Seat) (st : Standing) (rs : List Record) (m : Memory) (e : Effect)
-    → abort_by s (view_at st rs s.own m) (view_at st rs s.own m).standing ≡ Does e
-    → ((st ≡ Active) × (row_effect s.own (active_abort s (view_at Active rs s.own m)) ≡ e))
-    ⊎ ((st ≡ Collecting) × (row_effect s.own (collecting_abort s ByAct (view_at Collecting rs s.own m)) ≡ e))
-abort_cases s Active rs m e h = inl (refl, effect_same _ e h)
-abort_cases s Collecting rs m e h = inr (refl, effect_same _ e h)
-abort_cases s Unknown rs m e h = absurd (cc)
-abort_cases s Prepared rs m e h = absurd (cc)
-abort_cases s Committing rs m e h = absurd (cc)
-abort_cases s Aborting rs m e h = absurd (cc)
-abort_cases s Heuristic rs m e h = absurd (cc)
-
-closes_over : (m : Memory) (ph : Phase) → is_undecided ph ≡ true → closes m ph ≡ record m { phase = Over }
-closes_over m Open u = refl
-closes_over m Asked u = refl
-closes_over m Idle u = absurd (cc)
-closes_over m Over u = absurd (cc)
-
-unacknowledged : (s : Seat) (p : Presumption) → p ≡ PresumeAbort → acknowledges_abort s p ≡ []
-unacknowledged s PresumeAbort e = refl
-unacknowledged s PresumeCommit e = absurd (cc)
-
-pub presumption_abort : (p : Presumption) → same_presumption p PresumeAbort ≡ true → p ≡ PresumeAbort
-presumption_abort p e = grind (arith, same_presumption_tells)
+pub commit_presumed : same_presumption PresumeCommit PresumeAbort ≡ false
+unfolding same_presumption
+commit_presumed = refl
 
 module _ (me : ProcessId) (tree : List TreeEntry) (n : Node) (holds : AllHold (root_place me tree) n) where
   abbrev here : Place
@@ -92,111 +41,16 @@ module _ (me : ProcessId) (tree : List TreeEntry) (n : Node) (holds : AllHold (r
   abbrev any : Ticket
   any = record { child = me; boot = 0; number = 0 }
 
-  -- The commit act.
-
-  asked_open : (x : Txn) (t : Ticket) (m : Memory) (ph : Phase) → ph ≡ Open → m.phase ≡ ph → CaseHolds (reading_at m n me x t)
-      → Leads (reading_at m n me x t) (reading_at (asks_votes m ph) n me x t)
-  asked_open x t m Open o e h = leads_asked (reading_at m n me x t) (if none_of m.accepted then Over else Asked) h e (is_begun_next (none_of m.accepted))
-  asked_open x t m Idle o e h = absurd (cc)
-  asked_open x t m Asked o e h = absurd (cc)
-  asked_open x t m Over o e h = absurd (cc)
-
-  asked_if : (y x : Txn) (t : Ticket) (b : Bool) → same_case (root_case y) (root_case x) ≡ b → (remembered y).phase ≡ Open
-      → Leads (read x t) (reading_at (if b then asks_votes (remembered x) (remembered x).phase else remembered x) n me x t)
-  asked_if y x t true e o =
-      let same : y ≡ x = ap (λ (c : Case). c.txn) (told_same (root_case y) (root_case x) e) in
-      asked_open x t (remembered x) (remembered x).phase (subst (λ (z : Txn). (remembered z).phase ≡ Open) same o) refl (holds x t)
-  asked_if y x t false e o = stays (read x t) (holds x t)
-
-  commit_with : (y : Txn) (a : DataAnswer) (v : CoordinatorView) (b : Bool) (p : Presumption) → p ≡ PresumeAbort → (remembered y).phase ≡ Open
-      → let s = root_seat me (root_case y) in
-      RootStep here n (hears_act (CommitAct y) a) (row_effect (root_case y) (if b then active_commit_alone s else active_commit_with s v p))
-  commit_with y a v true p e o =
-      still_step me tree n (hears_act (CommitAct y) a) (tells y ReadOnly []) (boot_of-nil (kept n))
-      (λ m x t. same_reads_only m n (hears_act (CommitAct y) a) me y x t [])
-      (λ x t. asked_if y x t (same_case (root_case y) (root_case x)) refl o) tt
-  commit_with y a v false PresumeAbort e o =
-      sends_step me tree n holds (hears_act (CommitAct y) a) (prepares (root_seat me (root_case y)) v)
-      (λ x t. asked_if y x t (same_case (root_case y) (root_case x)) refl o)
-      (prepares_sound here _ (root_seat me (root_case y)) v v.accepted)
-  commit_with y a v false PresumeCommit e o = absurd (cc)
-
-  open_when_active : (y : Txn) → coordinator_standing (kept n) (root_case y) (remembered y) ≡ Active → (remembered y).phase ≡ Open
+  pub open_when_active : (y : Txn) → coordinator_standing (kept n) (root_case y) (remembered y) ≡ Active
+      → (remembered y).phase ≡ Open
   open_when_active y e = active_open _ _ _ _ _ _ _ _ e
 
-  pub commits : (y : Txn) (a : DataAnswer) (e : Effect)
-      → commit_by (root_seat me (root_case y)) (coordinator_view here n (root_case y)) (coordinator_view here n (root_case y)).standing ≡ Does e
-      → RootStep here n (hears_act (CommitAct y) a) e
-  commits y a e made =
-      let c = root_case y in
-      let m = remembered y in
-      let s = root_seat me c in
-      let v = view_at Active (kept n) c m in
-      let seen : commit_by s (view_at (coordinator_standing (kept n) c m) (kept n) c m) (view_at (coordinator_standing (kept n) c m) (kept n) c m).standing ≡ Does e =
-      subst (λ (u : CoordinatorView). commit_by s u u.standing ≡ Does e) (viewed here n c) made in
-      let both = commit_active s (coordinator_standing (kept n) c m) (kept n) m e seen in
-      let o = open_when_active y both.0 in
-      subst (λ (f : Effect). RootStep here n (hears_act (CommitAct y) a) f) both.1
-      (commit_with y a v (none_of v.accepted) y.presumption (presumption_abort y.presumption ((holds y any).undecided_presumes_abort (ap is_undecided o))) o)
-
-  -- The abort act.
-
-  abort_then : (y : Txn) (a : DataAnswer) → is_undecided (remembered y).phase ≡ true
-      → memory_then me tree n (hears_act (AbortAct y) a) y ≡ record (remembered y) { phase = Over }
-  abort_then y a u = rw (same_case-refl (root_case y)) (closes_over (remembered y) (remembered y).phase u)
-
-  abort_elsewhere : (y x : Txn) (a : DataAnswer) → same_txn y x ≡ false
-      → memory_then me tree n (hears_act (AbortAct y) a) x ≡ remembered x
-  abort_elsewhere y x a o = rw (apart y x o) refl
-
-  aborts_active : (y : Txn) (a : DataAnswer) (v : CoordinatorView) → is_undecided (remembered y).phase ≡ true
-      → let s = root_seat me (root_case y) in
-      RootStep here n (hears_act (AbortAct y) a) (row_effect (root_case y) (active_abort s v))
-  aborts_active y a v u =
-      let s = root_seat me (root_case y) in
-      let h = hears_act (AbortAct y) a in
-      let ls = acknowledges_abort s y.presumption ++ each s Abort v.accepted in
-      ended_step me tree n h (tells y ConcludedAborted ls) y v.accepted (boot_of-nil (kept n)) holds
-      (λ x t o. rw (abort_elsewhere y x a o) (same_tells (remembered x) n h me x t y ConcludedAborted ls o))
-      (λ t. true) (λ t. (read y t).recorded) (λ t. false) (λ t. (read y t).refused) (λ t. (read y t).voted)
-      (λ t. rw (abort_then y a u) (own_tells_aborted (record (remembered y) { phase = Over }) n h me y t ls))
-      u (ap (λ l. l ++ each s Abort v.accepted) (unacknowledged s y.presumption (presumption_abort y.presumption ((holds y any).undecided_presumes_abort u))))
-
-  aborts_collecting : (y : Txn) (a : DataAnswer) (v : CoordinatorView) (us : List Ticket) (p : Presumption) → p ≡ PresumeAbort
-      → is_undecided (remembered y).phase ≡ true
-      → let s = root_seat me (root_case y) in
-      RootStep here n (hears_act (AbortAct y) a) (row_effect (root_case y) (collecting_abort_by s ByAct v us p))
-  aborts_collecting y a v us PresumeAbort e u =
-      let s = root_seat me (root_case y) in
-      let h = hears_act (AbortAct y) a in
-      let ls = each s Abort us in
-      ended_step me tree n h (aborting y ls) y us (boot_of-push (kept n) (AbortRecord (root_case y) [])) holds
-      (λ x t o. rw (abort_elsewhere y x a o) (same_aborting (remembered x) n h me x t y ls o))
-      (λ t. true) (λ t. true) (λ t. false) (λ t. (read y t).refused) (λ t. (read y t).voted)
-      (λ t. rw (abort_then y a u) (own_aborting (record (remembered y) { phase = Over }) n h me y t ls))
-      u refl
-  aborts_collecting y a v us PresumeCommit e u = absurd (cc)
-
-  asked_when_collecting : (y : Txn) → coordinator_standing (kept n) (root_case y) (remembered y) ≡ Collecting → (remembered y).phase ≡ Asked
-  asked_when_collecting y e = collecting_asked _ _ _ _ _ _ _ _ (holds y any).never_collects e
-
-  pub aborts : (y : Txn) (a : DataAnswer) (e : Effect)
-      → abort_by (root_seat me (root_case y)) (coordinator_view here n (root_case y)) (coordinator_view here n (root_case y)).standing ≡ Does e
-      → RootStep here n (hears_act (AbortAct y) a) e
-  aborts y a e made =
-      let c = root_case y in
-      let m = remembered y in
-      let s = root_seat me c in
-      let seen : abort_by s (view_at (coordinator_standing (kept n) c m) (kept n) c m) (view_at (coordinator_standing (kept n) c m) (kept n) c m).standing ≡ Does e =
-      subst (λ (u : CoordinatorView). abort_by s u u.standing ≡ Does e) (viewed here n c) made in
-      elim (abort_cases s (coordinator_standing (kept n) c m) (kept n) m e seen) [
-        | inl both ↦
-            subst (λ (f : Effect). RootStep here n (hears_act (AbortAct y) a) f) both.1
-            (aborts_active y a (view_at Active (kept n) c m) (ap is_undecided (open_when_active y both.0)))
-        | inr both ↦
-            let u : is_undecided (remembered y).phase ≡ true = ap is_undecided (asked_when_collecting y both.0) in
-            let v = view_at Collecting (kept n) c m in
-            subst (λ (f : Effect). RootStep here n (hears_act (AbortAct y) a) f) both.1
-            (aborts_collecting y a v (undecided_of v.accepted v.votes) y.presumption
-            (presumption_abort y.presumption ((holds y any).undecided_presumes_abort u)) u)
+  pub asked_when_collecting : (y : Txn)
+      → coordinator_standing (kept n) (root_case y) (remembered y) ≡ Collecting
+      → (remembered y).phase ≡ Asked
+  asked_when_collecting y e =
+      let facts = collecting_facts _ _ _ _ _ _ _ _ e in
+      elim facts.1 [
+        | inl k ↦ collects_asked (read y any) (holds y any) k facts.0
+        | inr p ↦ p
       ]

@@ -1,14 +1,12 @@
 -- Every input of the root keeps what holds of its cases, and a consent that is counted was said.
-use Rattle.std.proofs.Common.{◌≡◌, subst, ℕ, Bool, true, false, ◌||◌, ◌&&◌, ◌⊎◌, inl, inr, Option, Some, None, List, [], ◌∷◌, refl, if◌then◌else◌, arith}
+use Rattle.std.proofs.Common.{◌≡◌, subst, ℕ, Bool, true, false, ◌&&◌, ◌⊎◌, inl, inr, Option, Some, None, List, [], ◌∷◌, refl, if◌then◌else◌}
 use Rattle.tree_model.specs.declared.names.Case.{Case}
 use Rattle.tree_model.specs.declared.names.ProcessId.{ProcessId}
 use Rattle.tree_model.specs.declared.names.Ticket.{Ticket}
 use Rattle.tree_model.specs.declared.names.Txn.{Txn}
 use Rattle.tree_model.specs.declared.names.Outcome.{Outcome}
-use Rattle.tree_model.specs.declared.names.Presumption.TheVariants.{PresumeAbort, PresumeCommit}
 use Rattle.tree_model.specs.declared.messages.Message.{Message}
 use Rattle.tree_model.specs.declared.messages.Message.TheVariants.{Join, Joined, Work, Prepare, Yes, No, Read, Commit, Abort, Ack, Inquire}
-use Rattle.tree_model.specs.declared.standings.Vote.{Vote}
 use Rattle.tree_model.specs.declared.standings.Vote.TheVariants.{Yes as VoteYes, No as VoteNo, Read as VoteRead}
 use Rattle.tree_model.specs.declared.standings.Standing.TheVariants.{Active}
 use Rattle.tree_model.specs.declared.events.Act.{Act}
@@ -18,92 +16,31 @@ use Rattle.tree_model.specs.declared.events.Input.TheVariants.{Act as ActInput, 
 use Rattle.tree_model.specs.declared.events.StepError.TheVariants.{Failed, NoSuch}
 use Rattle.tree_model.specs.declared.trees.TreeEntry.{TreeEntry}
 use Rattle.tree_model.specs.Names.{same_txn, same_ticket, same_case, root_case, child_case}
-use Rattle.tree_model.specs.NameLaws.{names}
 use Rattle.tree_model.specs.Nodes.{Place, Node, kept, Heard, DataAnswer, Effect, after, no_effect}
 use Rattle.tree_model.specs.Memory.{Memory, memory_of, of_ticket}
 use Rattle.tree_model.specs.Standings.{coordinator_view, coordinator_standing, case_of_child}
 use Rattle.tree_model.specs.CoordinatorRows.{on_joined}
 use Rattle.tree_model.specs.Reactions.{Reacts, Does, Refused, reacts, act_is_listed, row_effect, vote_for, ack_for, hears_from_child, coordinator_acts}
-use Rattle.tree_model.specs.Outcomes.{has_accepted, has_heard_vote, is_consent}
+use Rattle.tree_model.specs.Outcomes.{has_accepted}
 use Rattle.tree_model.specs.Views.{root_place, root_seat, hears_act, hears_message, next_begun, begin_effect}
 use Rattle.tree_law.specs.Flat.{is_flat_act, is_flat_input}
 use Rattle.tree_law.proofs.CaseMoves.{stays}
 use Rattle.tree_law.proofs.RootReading.{reading, sends}
-use Rattle.tree_law.proofs.RootSteps.{AllHold, RootStep, memory, memory_then}
+use Rattle.tree_law.proofs.RootSteps.{AllHold, memory, memory_then}
 use Rattle.tree_law.proofs.RootActs.{told_same, sends_step, begins, sends_joins, sends_works}
-use Rattle.tree_law.proofs.RootEnds.{commits, aborts, effect_same}
+use Rattle.tree_law.proofs.RootEnds.{effect_same}
+use Rattle.tree_law.proofs.RootCommits.{commits}
+use Rattle.tree_law.proofs.RootAborts.{aborts}
 use Rattle.tree_law.proofs.RootJoined.{joined}
 use Rattle.tree_law.proofs.RootMessages.{voted}
 use Rattle.tree_law.proofs.RootAcks.{acknowledged}
 use Rattle.tree_law.proofs.ChildCases.{never_active}
-use Rattle.tree_law.proofs.RootAccepts.{AcceptsNone, commit_takes_none, abort_takes_none, ack_for_takes_none, vote_for_takes_none, joined_accepts}
-use Rattle.tree_law.proofs.RootCounts.{CountsNone, CountsAtMost, join_sends, work_sends, commit_none, abort_none, joined_none, ack_for_none, vote_for_counts}
+use Rattle.tree_law.proofs.RootAccepts.{commit_takes_none, abort_takes_none, ack_for_takes_none, vote_for_takes_none, joined_accepts}
+use Rattle.tree_law.proofs.RootCounts.{join_sends, work_sends, commit_none, abort_none, joined_none, ack_for_none, vote_for_counts}
+use Rattle.tree_law.proofs.Consents.{IsNoQuestion, AsksNothing, RootReacts, accepted_none, counted_none, none_reacts, is_first, first_of_two, vote_said}
 
--- The message is a consent of the case.
-abbrev pub SaysConsent : Case → Message → Type 0
-SaysConsent c (Yes d) = d ≡ c
-SaysConsent c (Read d) = d ≡ c
-SaysConsent c _ = ⊥
-
-abbrev pub Consents : Case → Input → Type 0
-Consents c (ActInput a) = ⊥
-Consents c (MessageInput k m) = SaysConsent c m
-
--- no question is asked
-abbrev pub IsNoQuestion : Message → Type 0
-IsNoQuestion (Inquire d) = ⊥
-IsNoQuestion _ = Unit {0}
-
-abbrev pub AsksNothing : Input → Type 0
-AsksNothing (ActInput a) = Unit {0}
-AsksNothing (MessageInput k m) = IsNoQuestion m
-
--- a step of the root, whose counted consents were said
-pub record RootReacts (place : Place) (n : Node) (h : Heard) (e : Effect) : Type 0 where
-  pub step : RootStep place n h e
-  pub consents : (x : Txn) (t : Ticket) → has_heard_vote (after n h e) (root_case x) t is_consent ≡ true
-      → (has_heard_vote n (root_case x) t is_consent ≡ true) ⊎ Consents (child_case x t) h.input
-  pub accepts : (x : Txn) (u t : Ticket) → has_accepted (after n h e) (child_case x u) t ≡ true → has_accepted n (child_case x u) t ≡ true
-
-accepted_none : (n : Node) (h : Heard) (e : Effect) (c : Case) (t : Ticket) → AcceptsNone e
-    → has_accepted (after n h e) c t ≡ true → has_accepted n c t ≡ true
-accepted_none n h e c t none f = rw none at f
-
-counted_none : (n : Node) (h : Heard) (e : Effect) (x : Txn) (t : Ticket) → CountsNone e
-    → has_heard_vote (after n h e) (root_case x) t is_consent ≡ true → has_heard_vote n (root_case x) t is_consent ≡ true
-counted_none n h e x t none f = rw none at f
-
-pub none_reacts : (place : Place) (n : Node) (h : Heard) (e : Effect) → RootStep place n h e → CountsNone e → AcceptsNone e → RootReacts place n h e
-none_reacts place n h e s none takes = record {
-  step = s;
-  consents = λ x t f. inl (counted_none n h e x t none f);
-  accepts = λ x u t f. accepted_none n h e (child_case x u) t takes f;
-}
-
-is_first : (a b : Bool) → (a || b) ≡ true → (a ≡ true) ⊎ (b ≡ true)
-is_first a b e = grind arith
-
-first_of_two : (a b : Bool) → (a && b) ≡ true → a ≡ true
-first_of_two a b e = grind arith
-
-both_named : (y x : Txn) (u t : Ticket) (b : Bool) → (same_case (root_case y) (root_case x) && (same_ticket u t && b)) ≡ true
-    → (child_case y u ≡ child_case x t) × (b ≡ true)
-both_named y x u t b e = grind (arith, names)
-
--- a vote that is counted was said
-vote_said : (y x : Txn) (u t : Ticket) (w : Vote) (k : ℕ) (n : Node) (h : Heard) (e : Effect) → CountsAtMost (root_case y) u w e
-    → (child_case y u ≡ child_case x t → is_consent w ≡ true → Consents (child_case x t) h.input)
-    → has_heard_vote (after n h e) (root_case x) t is_consent ≡ true
-    → (has_heard_vote n (root_case x) t is_consent ≡ true) ⊎ Consents (child_case x t) h.input
-vote_said y x u t w k n h e (inl none) says f = inl (counted_none n h e x t none f)
-vote_said y x u t w k n h e (inr one) says f =
-    let g = rw one at f in
-    elim (is_first (same_case (root_case y) (root_case x) && (same_ticket u t && is_consent w)) (has_heard_vote n (root_case x) t is_consent) g) [
-      | inl new ↦ let both = both_named y x u t (is_consent w) new in inr (says both.0 both.1)
-      | inr old ↦ inl old
-    ]
-
-module _ (me : ProcessId) (tree : List TreeEntry) (n : Node) (holds : AllHold (root_place me tree) n) (a : DataAnswer) where
+module _ (me : ProcessId) (tree : List TreeEntry) (n : Node) (holds : AllHold (root_place me tree) n)
+    (a : DataAnswer) where
   abbrev here : Place
   here = root_place me tree
 
@@ -111,13 +48,18 @@ module _ (me : ProcessId) (tree : List TreeEntry) (n : Node) (holds : AllHold (r
 
   by_act : (b : Act) (e : Effect) → is_flat_act b ≡ true → coordinator_acts here None n b ≡ Does e
       → RootReacts here n (hears_act b a) e
-  by_act (Begin PresumeAbort) e f made =
-      let h = hears_act (Begin PresumeAbort) a in
-      let x = next_begun here n PresumeAbort in
-      let r = begins me tree n holds a (sends []) refl in
-      let s : RootReacts here n h (begin_effect x) = record { step = record { cases = r.cases; letters = r.letters }; consents = λ z t g. inl g; accepts = λ z u t g. g } in
+  by_act (Begin p) e f made =
+      let h = hears_act (Begin p) a in
+      let x = next_begun here n p in
+      let r = begins me tree n holds a p in
+      let s : RootReacts here n h (begin_effect x) =
+      record {
+        step = record { cases = r.cases; letters = r.letters };
+        consents =
+            λ z t g. inl g;
+        accepts = λ z u t g. g;
+      } in
       subst (λ (g : Effect). RootReacts here n h g) (effect_same (begin_effect x) e made) s
-  by_act (Begin PresumeCommit) e f made = absurd (cc)
   by_act (JoinAct c q) e f made =
       let v = coordinator_view here n c in
       let only = join_sends (root_seat me c) tree q v v.standing e made in
@@ -130,11 +72,13 @@ module _ (me : ProcessId) (tree : List TreeEntry) (n : Node) (holds : AllHold (r
       (sends_works me tree n holds a c q op only.letters (only.sound here _)) refl refl)
   by_act (CommitAct y) e f made =
       let v = coordinator_view here n (root_case y) in
-      none_reacts here n (hears_act (CommitAct y) a) e (commits me tree n holds y a e made) (commit_none (root_seat me (root_case y)) v v.standing e made)
+      none_reacts here n (hears_act (CommitAct y) a) e (commits me tree n holds y a e made)
+      (commit_none (root_seat me (root_case y)) v v.standing e made)
       (commit_takes_none (root_seat me (root_case y)) v v.standing e made)
   by_act (AbortAct y) e f made =
       let v = coordinator_view here n (root_case y) in
-      none_reacts here n (hears_act (AbortAct y) a) e (aborts me tree n holds y a e made) (abort_none (root_seat me (root_case y)) v v.standing e made)
+      none_reacts here n (hears_act (AbortAct y) a) e (aborts me tree n holds y a e made)
+      (abort_none (root_seat me (root_case y)) v v.standing e made)
       (abort_takes_none (root_seat me (root_case y)) v v.standing e made)
   by_act (Ask c) e f made = absurd (cc)
   by_act (Decide c o) e f made = absurd (cc)
@@ -144,67 +88,96 @@ module _ (me : ProcessId) (tree : List TreeEntry) (n : Node) (holds : AllHold (r
 
   -- JOINED of a case with a ticket accepts none
   taken_by : (d : Case) (u : Ticket) (h : Heard) (e : Effect) (x : Txn) (y t : Ticket)
-      → (e.accepts ≡ []) ⊎ ((e.accepts ≡ (d, u) ∷ []) × (coordinator_standing (kept n) d (memory_of here n d) ≡ Active))
+      → (e.accepts ≡ []) ⊎ ((e.accepts ≡ (d, u) ∷ [])
+      × (coordinator_standing (kept n) d (memory_of here n d) ≡ Active))
       → has_accepted (after n h e) (child_case x y) t ≡ true → has_accepted n (child_case x y) t ≡ true
   taken_by d u h e x y t (inl none) f = accepted_none n h e (child_case x y) t none f
   taken_by d u h e x y t (inr one) f =
       let g = rw one.0 at f in
-      elim (is_first (same_case d (child_case x y) && same_ticket u t) (has_accepted n (child_case x y) t) g) [
+      elim (is_first (same_case d (child_case x y) && same_ticket u t) (has_accepted n (child_case x y) t)
+      g) [
         | inl new ↦
-            let same : d ≡ child_case x y = told_same d (child_case x y) (first_of_two (same_case d (child_case x y)) (same_ticket u t) new) in
-            absurd (never_active me tree n x y (subst (λ (z : Case). coordinator_standing (kept n) z (memory_of here n z) ≡ Active) same one.1))
+            let same : d ≡ child_case x y =
+            told_same d (child_case x y)
+            (first_of_two (same_case d (child_case x y)) (same_ticket u t) new) in
+            absurd (never_active me tree n x y
+            (subst (λ (z : Case). coordinator_standing (kept n) z (memory_of here n z) ≡ Active) same
+            one.1))
         | inr old ↦ old
       ]
 
-  nothing : (h : Heard) → ((x : Txn) → memory_then me tree n h x ≡ memory me tree n x) → RootReacts here n h no_effect
+  nothing : (h : Heard) → ((x : Txn) → memory_then me tree n h x ≡ memory me tree n x)
+      → RootReacts here n h no_effect
   nothing h same = none_reacts here n h no_effect
-      (sends_step me tree n holds h [] (λ x t. rw (same x) (stays (reading here n x t) (holds x t))) tt) refl refl
+      (sends_step me tree n holds h [] (λ x t. rw (same x) (stays (reading here n x t) (holds x t))) tt)
+      refl refl
 
   same_if : (b : Bool) (m : Memory) → (if b then m else m) ≡ m
   same_if true m = refl
   same_if false m = refl
 
   by_yes : (k : ℕ) (y : Txn) (o : Option Ticket) → let d : Case = record { txn = y; ticket = o } in
-      RootReacts here n (hears_message k (Yes d) a) (of_ticket o no_effect (λ t. vote_for here None n t VoteYes (case_of_child here n y t)))
-  by_yes k y None = nothing (hears_message k (Yes (root_case y)) a) (λ x. same_if (same_txn y x) (memory me tree n x))
+      RootReacts here n (hears_message k (Yes d) a)
+      (of_ticket o no_effect (λ t. vote_for here None n t VoteYes (case_of_child here n y t)))
+  by_yes k y None = nothing (hears_message k (Yes (root_case y)) a)
+      (λ x. same_if (same_txn y x) (memory me tree n x))
   by_yes k y (Some u) =
       let h = hears_message k (Yes (child_case y u)) a in
       record {
         step = voted me tree n holds h y u VoteYes (λ x. refl);
-        consents = λ x t f. vote_said y x u t VoteYes k n h (vote_for here None n u VoteYes (case_of_child here n y u)) (vote_for_counts me tree n y u VoteYes) (λ s c. s) f;
-        accepts = λ x v t f. accepted_none n h (vote_for here None n u VoteYes (case_of_child here n y u)) (child_case x v) t (vote_for_takes_none here n u VoteYes (case_of_child here n y u)) f;
+        consents = λ x t f. vote_said y x u t VoteYes k n h
+            (vote_for here None n u VoteYes (case_of_child here n y u))
+            (vote_for_counts me tree n y u VoteYes) (λ s c. s) f;
+        accepts = λ x v t f. accepted_none n h (vote_for here None n u VoteYes (case_of_child here n y u))
+            (child_case x v) t (vote_for_takes_none here n u VoteYes (case_of_child here n y u)) f;
       }
 
   by_read : (k : ℕ) (y : Txn) (o : Option Ticket) → let d : Case = record { txn = y; ticket = o } in
-      RootReacts here n (hears_message k (Read d) a) (of_ticket o no_effect (λ t. vote_for here None n t VoteRead (case_of_child here n y t)))
-  by_read k y None = nothing (hears_message k (Read (root_case y)) a) (λ x. same_if (same_txn y x) (memory me tree n x))
+      RootReacts here n (hears_message k (Read d) a)
+      (of_ticket o no_effect (λ t. vote_for here None n t VoteRead (case_of_child here n y t)))
+  by_read k y None = nothing (hears_message k (Read (root_case y)) a)
+      (λ x. same_if (same_txn y x) (memory me tree n x))
   by_read k y (Some u) =
       let h = hears_message k (Read (child_case y u)) a in
       record {
         step = voted me tree n holds h y u VoteRead (λ x. refl);
-        consents = λ x t f. vote_said y x u t VoteRead k n h (vote_for here None n u VoteRead (case_of_child here n y u)) (vote_for_counts me tree n y u VoteRead) (λ s c. s) f;
-        accepts = λ x v t f. accepted_none n h (vote_for here None n u VoteRead (case_of_child here n y u)) (child_case x v) t (vote_for_takes_none here n u VoteRead (case_of_child here n y u)) f;
+        consents = λ x t f. vote_said y x u t VoteRead k n h
+            (vote_for here None n u VoteRead (case_of_child here n y u))
+            (vote_for_counts me tree n y u VoteRead) (λ s c. s) f;
+        accepts = λ x v t f. accepted_none n h (vote_for here None n u VoteRead (case_of_child here n y u))
+            (child_case x v) t (vote_for_takes_none here n u VoteRead (case_of_child here n y u)) f;
       }
 
   by_no : (k : ℕ) (y : Txn) (o : Option Ticket) → let d : Case = record { txn = y; ticket = o } in
-      RootReacts here n (hears_message k (No d) a) (of_ticket o no_effect (λ t. vote_for here None n t VoteNo (case_of_child here n y t)))
-  by_no k y None = nothing (hears_message k (No (root_case y)) a) (λ x. same_if (same_txn y x) (memory me tree n x))
+      RootReacts here n (hears_message k (No d) a)
+      (of_ticket o no_effect (λ t. vote_for here None n t VoteNo (case_of_child here n y t)))
+  by_no k y None = nothing (hears_message k (No (root_case y)) a)
+      (λ x. same_if (same_txn y x) (memory me tree n x))
   by_no k y (Some u) =
       let h = hears_message k (No (child_case y u)) a in
       record {
         step = voted me tree n holds h y u VoteNo (λ x. refl);
-        consents = λ x t f. vote_said y x u t VoteNo k n h (vote_for here None n u VoteNo (case_of_child here n y u)) (vote_for_counts me tree n y u VoteNo) (λ s c. absurd (cc)) f;
-        accepts = λ x v t f. accepted_none n h (vote_for here None n u VoteNo (case_of_child here n y u)) (child_case x v) t (vote_for_takes_none here n u VoteNo (case_of_child here n y u)) f;
+        consents = λ x t f. vote_said y x u t VoteNo k n h
+            (vote_for here None n u VoteNo (case_of_child here n y u))
+            (vote_for_counts me tree n y u VoteNo) (λ s c. absurd (cc)) f;
+        accepts = λ x v t f. accepted_none n h (vote_for here None n u VoteNo (case_of_child here n y u))
+            (child_case x v) t (vote_for_takes_none here n u VoteNo (case_of_child here n y u)) f;
       }
 
-  by_ack : (k : ℕ) (y : Txn) (o : Option Ticket) (p : Outcome) → let d : Case = record { txn = y; ticket = o } in
-      RootReacts here n (hears_message k (Ack d p) a) (of_ticket o no_effect (λ t. ack_for here None n t p (case_of_child here n y t)))
-  by_ack k y None p = nothing (hears_message k (Ack (root_case y) p) a) (λ x. same_if (same_txn y x) (memory me tree n x))
+  by_ack : (k : ℕ) (y : Txn) (o : Option Ticket) (p : Outcome) → let d : Case =
+      record { txn = y; ticket = o } in
+      RootReacts here n (hears_message k (Ack d p) a)
+      (of_ticket o no_effect (λ t. ack_for here None n t p (case_of_child here n y t)))
+  by_ack k y None p = nothing (hears_message k (Ack (root_case y) p) a)
+      (λ x. same_if (same_txn y x) (memory me tree n x))
   by_ack k y (Some u) p =
       let h = hears_message k (Ack (child_case y u) p) a in
-      none_reacts here n h _ (acknowledged me tree n holds h y u p (λ x. refl)) (ack_for_none here n u p (case_of_child here n y u)) (ack_for_takes_none here n u p (case_of_child here n y u))
+      none_reacts here n h _ (acknowledged me tree n holds h y u p (λ x. refl))
+      (ack_for_none here n u p (case_of_child here n y u))
+      (ack_for_takes_none here n u p (case_of_child here n y u))
 
-  pub by_message : (k : ℕ) (m : Message) → IsNoQuestion m → RootReacts here n (hears_message k m a) (hears_from_child here None n m)
+  pub by_message : (k : ℕ) (m : Message) → IsNoQuestion m
+      → RootReacts here n (hears_message k m a) (hears_from_child here None n m)
   by_message k (Joined d u) q =
       let v = coordinator_view here n d in
       let h = hears_message k (Joined d u) a in
@@ -227,7 +200,8 @@ module _ (me : ProcessId) (tree : List TreeEntry) (n : Node) (holds : AllHold (r
 
   -- Any input.
 
-  let_through : (b f : Bool) (r : Reacts) (e : Effect) → (if b then (if f then Refused Failed else r) else Refused NoSuch) ≡ Does e → r ≡ Does e
+  let_through : (b f : Bool) (r : Reacts) (e : Effect)
+      → (if b then (if f then Refused Failed else r) else Refused NoSuch) ≡ Does e → r ≡ Does e
   let_through true false r e made = made
   let_through true true r e made = absurd (cc)
   let_through false f r e made = absurd (cc)
@@ -236,7 +210,10 @@ module _ (me : ProcessId) (tree : List TreeEntry) (n : Node) (holds : AllHold (r
       → reacts here n (record { input = i; data_answer = a }) ≡ Does e
       → RootReacts here n (record { input = i; data_answer = a }) e
   unfolding reacts
-  root_reacts (ActInput b) e f q made = by_act b e f (let_through (act_is_listed tree (ActInput b)) n.failed (coordinator_acts here None n b) e made)
+  root_reacts (ActInput b) e f q made =
+      by_act b e f (let_through (act_is_listed tree (ActInput b)) n.failed (coordinator_acts here None n b)
+      e made)
   root_reacts (MessageInput k m) e f q made =
-      let same : hears_from_child here None n m ≡ e = effect_same _ e (let_through true n.failed (Does (hears_from_child here None n m)) e made) in
+      let same : hears_from_child here None n m ≡ e =
+      effect_same _ e (let_through true n.failed (Does (hears_from_child here None n m)) e made) in
       subst (λ (g : Effect). RootReacts here n (hears_message k m a) g) same (by_message k m q)

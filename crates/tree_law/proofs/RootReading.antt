@@ -1,4 +1,4 @@
--- The reading of the root's case, and what the effects of its rows change in it beside its memory.
+-- The reading of the root's case, and what the effects of rows leave of another transaction's case.
 use Rattle.std.proofs.Common.{◌≡◌, Bool, true, false, ◌||◌, ◌&&◌, Some, None, List, [], ◌∷◌, refl, arith}
 use Rattle.std.specs.Prelude.{nat_lt}
 use Rattle.std.specs.List.{list_any}
@@ -8,13 +8,12 @@ use Rattle.tree_model.specs.declared.names.Ticket.{Ticket}
 use Rattle.tree_model.specs.declared.names.Txn.{Txn}
 use Rattle.tree_model.specs.declared.names.Presumption.TheVariants.{PresumeAbort}
 use Rattle.tree_model.specs.declared.messages.Envelope.{Envelope}
-use Rattle.tree_model.specs.declared.records.Record.TheVariants.{Commit as CommitRecord, Abort as AbortRecord, End as EndRecord}
+use Rattle.tree_model.specs.declared.records.Record.TheVariants.{Collecting as CollectingRecord, Commit as CommitRecord, Abort as AbortRecord, End as EndRecord}
 use Rattle.tree_model.specs.declared.standings.Vote.{Vote}
 use Rattle.tree_model.specs.declared.standings.Vote.TheVariants.{No as VoteNo}
 use Rattle.tree_model.specs.declared.events.Conclusion.{Conclusion}
 use Rattle.tree_model.specs.declared.events.Conclusion.TheVariants.{Committed as ConcludedCommitted, Aborted as ConcludedAborted, ReadOnly}
-use Rattle.tree_model.specs.Names.{same_process, same_presumption, same_txn, same_ticket, same_case, root_case}
-use Rattle.tree_model.specs.NameLaws.{same_case-refl, same_txn-refl}
+use Rattle.tree_model.specs.Names.{same_process, same_presumption, same_txn, same_case, root_case}
 use Rattle.tree_model.specs.Records.{has, in_list, is_end, is_commit, is_abort, is_prepare, is_collecting}
 use Rattle.tree_model.specs.Nodes.{Place, Node, kept, Heard, Effect, after}
 use Rattle.tree_model.specs.Memory.{Memory, memory_of, has_voted, voted_so}
@@ -33,7 +32,8 @@ reading_at m n me x t =
       is_own = same_process x.root me;
       presumes_abort = same_presumption x.presumption PresumeAbort;
       collects = has (is_collecting c) (kept n);
-      recorded = has (is_end c) (kept n) || (has (is_commit c) (kept n) || (has (is_abort c) (kept n) || has (is_prepare c) (kept n)));
+      recorded = has (is_end c) (kept n) ||
+          (has (is_commit c) (kept n) || (has (is_abort c) (kept n) || has (is_prepare c) (kept n)));
       commit_kept = has (is_commit c) (kept n);
       committed = has (is_commit c) n.durable;
       aborted = has (is_abort c) n.life || list_any (is_told_aborted x) n.told;
@@ -50,7 +50,16 @@ reading place n x t = reading_at (memory_of place n (root_case x)) n place.me x 
 -- The effects of the root's rows.
 
 abbrev pub sends : List Envelope → Effect
-sends ls = record { begun = None; written = []; told = None; letters = ls; accepts = []; counts = []; remains = None }
+sends ls = record {
+  begun = None;
+  written = [];
+  told = None;
+  letters = ls;
+  accepts = [];
+  counts =
+      [];
+  remains = None;
+}
 
 abbrev pub tells : Txn → Conclusion → List Envelope → Effect
 tells y a ls = record (sends ls) { told = Some (record { txn = y; conclusion = a }) }
@@ -65,10 +74,21 @@ abbrev pub aborting : Txn → List Envelope → Effect
 aborting y ls = record (tells y ConcludedAborted ls) { written = plain (AbortRecord (root_case y) []) }
 
 abbrev pub committing : Txn → List Ticket → List Envelope → Effect
-committing y us ls = record (tells y ConcludedCommitted ls) { written = forced (CommitRecord (root_case y) us) }
+committing y us ls = record (tells y ConcludedCommitted ls)
+    { written = forced (CommitRecord (root_case y) us) }
 
 abbrev pub ending : Txn → Effect
 ending y = record (sends []) { written = plain (EndRecord (root_case y)) }
+
+abbrev pub collecting : Txn → List Ticket → List Envelope → Effect
+collecting y us ls = record (sends ls) { written = forced (CollectingRecord (root_case y) us) }
+
+abbrev pub aborting_named : Txn → List Ticket → List Envelope → Effect
+aborting_named y us ls =
+    record (tells y ConcludedAborted ls) { written = forced (AbortRecord (root_case y) us) }
+
+abbrev pub ending_read : Txn → Effect
+ending_read y = record (tells y ReadOnly []) { written = plain (EndRecord (root_case y)) }
 
 -- Another transaction's case stays.
 
@@ -76,7 +96,7 @@ pub apart : (y x : Txn) → same_txn y x ≡ false → same_case (root_case y) (
 unfolding same_case
 apart y x o = rw o refl
 
-absorbed : (k d : Bool) → (k ≡ true → d ≡ true) → (k || d) ≡ d
+pub absorbed : (k d : Bool) → (k ≡ true → d ≡ true) → (k || d) ≡ d
 absorbed k d e = grind arith
 
 module _ (m : Memory) (n : Node) (h : Heard) (me : ProcessId) (x : Txn) (t : Ticket) where
@@ -86,28 +106,79 @@ module _ (m : Memory) (n : Node) (h : Heard) (me : ProcessId) (x : Txn) (t : Tic
   pub same_sends : (ls : List Envelope) → Same (sends ls)
   same_sends ls = simp (lists)
 
-  pub same_tells : (y : Txn) (a : Conclusion) (ls : List Envelope) → same_txn y x ≡ false → Same (tells y a ls)
+  pub same_tells : (y : Txn) (a : Conclusion) (ls : List Envelope) → same_txn y x ≡ false
+      → Same (tells y a ls)
   same_tells y a ls o = simp (lists, o)
 
   pub same_accepting : (c : Case) (u : Ticket) → same_case c (root_case x) ≡ false → Same (accepting c u)
   same_accepting c u o = simp (lists, o)
 
-  pub same_counting : (y : Txn) (u : Ticket) (w : Vote) → same_txn y x ≡ false → Same (counting y u w (sends []))
+  pub same_counting : (y : Txn) (u : Ticket) (w : Vote) → same_txn y x ≡ false
+      → Same (counting y u w (sends []))
   same_counting y u w o = simp (lists, apart y x o)
 
-  pub same_counting_tells : (y : Txn) (u : Ticket) (w : Vote) (a : Conclusion) (ls : List Envelope) → same_txn y x ≡ false → Same (counting y u w (tells y a ls))
+  pub same_counting_tells : (y : Txn) (u : Ticket) (w : Vote) (a : Conclusion) (ls : List Envelope)
+      → same_txn y x ≡ false → Same (counting y u w (tells y a ls))
   same_counting_tells y u w a ls o = simp (lists, o, apart y x o)
 
   pub same_aborting : (y : Txn) (ls : List Envelope) → same_txn y x ≡ false → Same (aborting y ls)
   same_aborting y ls o = simp (lists, o, apart y x o)
 
-  pub same_counting_aborting : (y : Txn) (u : Ticket) (w : Vote) (ls : List Envelope) → same_txn y x ≡ false → Same (counting y u w (aborting y ls))
+  pub same_counting_aborting : (y : Txn) (u : Ticket) (w : Vote) (ls : List Envelope) → same_txn y x ≡ false
+      → Same (counting y u w (aborting y ls))
   same_counting_aborting y u w ls o = simp (lists, o, apart y x o)
 
-  pub same_counting_committing : (y : Txn) (u : Ticket) (w : Vote) (us : List Ticket) (ls : List Envelope) → (has (is_commit (root_case x)) (kept n) ≡ true → has (is_commit (root_case x)) n.durable ≡ true)
+  pub same_counting_committing : (y : Txn) (u : Ticket) (w : Vote) (us : List Ticket) (ls : List Envelope)
+      → (has (is_commit (root_case x)) (kept n) ≡ true → has (is_commit (root_case x)) n.durable ≡ true)
       → same_txn y x ≡ false → Same (counting y u w (committing y us ls))
   same_counting_committing y u w us ls k o =
-      simp (lists, o, apart y x o, absorbed (has (is_commit (root_case x)) (kept n)) (has (is_commit (root_case x)) n.durable) k)
+      simp (
+        lists,
+        o,
+        apart y x o,
+        absorbed (has (is_commit (root_case x)) (kept n))
+            (has (is_commit (root_case x)) n.durable) k,
+      )
+
+  abbrev Forced : Type 0
+  Forced = has (is_commit (root_case x)) (kept n) ≡ true → has (is_commit (root_case x)) n.durable ≡ true
+
+  pub same_collecting : (y : Txn) (us : List Ticket) (ls : List Envelope) → Forced → same_txn y x ≡ false
+      → Same (collecting y us ls)
+  same_collecting y us ls k o =
+      simp (
+        lists,
+        apart y x o,
+        absorbed (has (is_commit (root_case x)) (kept n))
+            (has (is_commit (root_case x)) n.durable) k,
+      )
+
+  pub same_aborting_named : (y : Txn) (us : List Ticket) (ls : List Envelope) → Forced → same_txn y x ≡ false
+      → Same (aborting_named y us ls)
+  same_aborting_named y us ls k o =
+      simp (
+        lists,
+        o,
+        apart y x o,
+        absorbed (has (is_commit (root_case x)) (kept n))
+            (has (is_commit (root_case x)) n.durable) k,
+      )
+
+  pub same_counting_aborting_named : (y : Txn) (u : Ticket) (w : Vote) (us : List Ticket)
+      (ls : List Envelope) → Forced
+      → same_txn y x ≡ false → Same (counting y u w (aborting_named y us ls))
+  same_counting_aborting_named y u w us ls k o =
+      simp (
+        lists,
+        o,
+        apart y x o,
+        absorbed (has (is_commit (root_case x)) (kept n))
+            (has (is_commit (root_case x)) n.durable) k,
+      )
+
+  pub same_counting_ending_read : (y : Txn) (u : Ticket) (w : Vote) → same_txn y x ≡ false
+      → Same (counting y u w (ending_read y))
+  same_counting_ending_read y u w o = simp (lists, o, apart y x o)
 
   pub same_ending : (y : Txn) → same_txn y x ≡ false → Same (ending y)
   same_ending y o = simp (lists, apart y x o)
@@ -125,46 +196,7 @@ pub and-true : (a : Bool) → (a && true) ≡ a
 and-true a = grind arith
 
 -- `readonly` is no abort: it is told of any case
-pub same_reads_only : (m : Memory) (n : Node) (h : Heard) (me : ProcessId) (y x : Txn) (t : Ticket) (ls : List Envelope)
+pub same_reads_only : (m : Memory) (n : Node) (h : Heard) (me : ProcessId) (y x : Txn) (t : Ticket)
+    (ls : List Envelope)
     → reading_at m (after n h (tells y ReadOnly ls)) me x t ≡ reading_at m n me x t
 same_reads_only m n h me y x t ls = simp (lists, and-false)
-
--- The transaction's own case moves.
-
-ruleset own = (lists, same_case-refl, same_txn-refl, or-true, or-false, and-true, and-false)
-
-module _ (m : Memory) (n : Node) (h : Heard) (me : ProcessId) (x : Txn) (t : Ticket) where
-  abbrev Becomes : Effect → CaseReading → Type 0
-  Becomes e r = reading_at m (after n h e) me x t ≡ r
-
-  abbrev before : CaseReading
-  before = reading_at m n me x t
-
-  pub own_tells_aborted : (ls : List Envelope) → Becomes (tells x ConcludedAborted ls) (record before { aborted = true })
-  own_tells_aborted ls = simp (own)
-
-  pub own_accepting : (u : Ticket) → Becomes (accepting (root_case x) u) (record before { took_part = same_ticket u t || before.took_part })
-  own_accepting u = simp (own)
-
-  pub own_counting : (u : Ticket) (w : Vote) → Becomes (counting x u w (sends [])) (record before { consented = (same_ticket u t && is_consent w) || before.consented })
-  own_counting u w = simp (own)
-
-  pub own_counting_reads_only : (u : Ticket) (w : Vote) (ls : List Envelope) → Becomes (counting x u w (tells x ReadOnly ls)) (record before { consented = (same_ticket u t && is_consent w) || before.consented })
-  own_counting_reads_only u w ls = simp (own)
-
-  pub own_aborting : (ls : List Envelope) → Becomes (aborting x ls) (record before { aborted = true; recorded = true })
-  own_aborting ls = simp (own)
-
-  pub own_counting_aborting : (u : Ticket) (w : Vote) (ls : List Envelope) → Becomes (counting x u w (aborting x ls)) (record before { aborted = true; recorded = true; consented = (same_ticket u t && is_consent w) || before.consented })
-  own_counting_aborting u w ls = simp (own)
-
-  pub own_counting_committing : (u : Ticket) (w : Vote) (us : List Ticket) (ls : List Envelope)
-      → Becomes (counting x u w (committing x us ls)) (record before { recorded = true; commit_kept = true; committed = true; consented = (same_ticket u t && is_consent w) || before.consented })
-  own_counting_committing u w us ls = simp (own)
-
-  pub own_committed : (u : Ticket) (w : Vote) (us : List Ticket) (ls : List Envelope)
-      → has (is_commit (root_case x)) (after n h (counting x u w (committing x us ls))).durable ≡ true
-  own_committed u w us ls = simp (own)
-
-  pub own_ending : Becomes (ending x) (record before { recorded = true })
-  own_ending = simp (own)

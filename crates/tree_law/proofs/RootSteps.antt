@@ -69,28 +69,35 @@ module _ (me : ProcessId) (tree : List TreeEntry) (n : Node) where
   pub then_reads : (h : Heard) (e : Effect) (x : Txn) (t : Ticket) → LeavesBoot e
       → reading (root_place me tree) (after n h e) x t ≡ reading_at (memory_then h x) (after n h e) me x t
   then_reads h e x t boot =
-      ap (λ (m : Memory). reading_at m (after n h e) me x t) (memory_of-after (root_place me tree) n h e (root_case x) boot)
+      ap (λ (m : Memory). reading_at m (after n h e) me x t)
+      (memory_of-after (root_place me tree) n h e (root_case x) boot)
 
   -- a step that leaves each other transaction's case
   pub own_and_others : (h : Heard) (e : Effect) (y : Txn) → LeavesBoot e → AllHold (root_place me tree) n
-      → ((x : Txn) (t : Ticket) → same_txn y x ≡ false → reading_at (memory_then h x) (after n h e) me x t ≡ reading (root_place me tree) n x t)
-      → ((t : Ticket) → Leads (reading (root_place me tree) n y t) (reading_at (memory_then h y) (after n h e) me y t))
-      → (x : Txn) (t : Ticket) → Leads (reading (root_place me tree) n x t) (reading (root_place me tree) (after n h e) x t)
+      → ((x : Txn) (t : Ticket) → same_txn y x ≡ false
+      → reading_at (memory_then h x) (after n h e) me x t ≡ reading (root_place me tree) n x t)
+      → ((t : Ticket) → Leads (reading (root_place me tree) n y t)
+      (reading_at (memory_then h y) (after n h e) me y t))
+      → (x : Txn) (t : Ticket) → Leads (reading (root_place me tree) n x t)
+      (reading (root_place me tree) (after n h e) x t)
   own_and_others h e y boot holds others own x t =
       rw (then_reads h e x t boot) (elim (same_txn_tells y x) [
-        | inl s ↦ subst (λ (z : Txn). Leads (reading (root_place me tree) n z t) (reading_at (memory_then h z) (after n h e) me z t)) s.1 (own t)
+        | inl s ↦ subst (λ (z : Txn). Leads (reading (root_place me tree) n z t)
+            (reading_at (memory_then h z) (after n h e) me z t)) s.1 (own t)
         | inr o ↦ rw (others x t o.0) (stays (reading (root_place me tree) n x t) (holds x t))
       ])
 
   -- a case that was led to its end is aborted
-  pub aborted_by : (h : Heard) (e : Effect) (y : Txn) (t : Ticket) → IsAbortedCase (reading (root_place me tree) (after n h e) y t)
+  pub aborted_by : (h : Heard) (e : Effect) (y : Txn) (t : Ticket)
+      → IsAbortedCase (reading (root_place me tree) (after n h e) y t)
       → IsAborted (root_place me tree) (after n h e) y
   aborted_by h e y t a = record { is_over = a.is_over; not_committed = a.not_committed }
 
   -- an effect that leaves each case but for its memory
   pub still_step : (h : Heard) (e : Effect) → LeavesBoot e
       → ((m : Memory) (x : Txn) (t : Ticket) → reading_at m (after n h e) me x t ≡ reading_at m n me x t)
-      → ((x : Txn) (t : Ticket) → Leads (reading (root_place me tree) n x t) (reading_at (memory_then h x) n me x t))
+      → ((x : Txn) (t : Ticket)
+      → Leads (reading (root_place me tree) n x t) (reading_at (memory_then h x) n me x t))
       → AllSound (root_place me tree) (after n h e) e.letters → RootStep (root_place me tree) n h e
   still_step h e boot same f sound = record {
     cases = λ x t. rw (then_reads h e x t boot, same (memory_then h x) x t) (f x t);
@@ -98,19 +105,27 @@ module _ (me : ProcessId) (tree : List TreeEntry) (n : Node) where
   }
 
   -- an effect that ends a case without a commit, and says so
-  pub ended_step : (h : Heard) (e : Effect) (y : Txn) (us : List Ticket) → LeavesBoot e → AllHold (root_place me tree) n
-      → ((x : Txn) (t : Ticket) → same_txn y x ≡ false → reading_at (memory_then h x) (after n h e) me x t ≡ reading (root_place me tree) n x t)
+  pub ended_step : (h : Heard) (e : Effect) (y : Txn) (us : List Ticket) → LeavesBoot e
+      → AllHold (root_place me tree) n
+      → ((x : Txn) (t : Ticket) → same_txn y x ≡ false
+      → reading_at (memory_then h x) (after n h e) me x t ≡ reading (root_place me tree) n x t)
       → (a b c d f : Ticket → Bool)
-      → ((t : Ticket) → reading_at (memory_then h y) (after n h e) me y t ≡ ended (a t) (b t) (c t) (d t) (f t) (reading (root_place me tree) n y t))
+      → ((t : Ticket) → reading_at (memory_then h y) (after n h e) me y t ≡ ended (a t) (b t) (c t) (d t)
+      (f t) (reading (root_place me tree) n y t))
+      → ((t : Ticket) → (reading (root_place me tree) n y t).collects ≡ true → b t ≡ true)
       → is_undecided (memory y).phase ≡ true → e.letters ≡ each (root_seat me (root_case y)) Abort us
       → RootStep (root_place me tree) n h e
-  ended_step h e y us boot holds others a b c d f own u ls =
+  ended_step h e y us boot holds others a b c d f own k u ls =
       let t : Ticket = record { child = me; boot = 0; number = 0 } in
       let r = reading (root_place me tree) n y t in
-      let became : reading (root_place me tree) (after n h e) y t ≡ ended (a t) (b t) (c t) (d t) (f t) r = then_reads h e y t boot ∙ own t in
+      let became : reading (root_place me tree) (after n h e) y t ≡ ended (a t) (b t) (c t) (d t) (f t) r =
+      then_reads h e y t boot ∙ own t in
       let over : IsAbortedCase (reading (root_place me tree) (after n h e) y t) =
       rw became (ended_aborted r (a t) (b t) (c t) (d t) (f t) (holds y t) u) in
       record {
-        cases = own_and_others h e y boot holds others (λ t. rw (own t) (leads_ended (reading (root_place me tree) n y t) (a t) (b t) (c t) (d t) (f t) (holds y t) u));
-        letters = rw ls (each_sound (root_place me tree) (after n h e) (root_seat me (root_case y)) Abort us (λ v. aborted_by h e y t over));
+        cases = own_and_others h e y boot holds others
+            (λ t. rw (own t) (leads_ended (reading (root_place me tree) n y t) (a t) (b t) (c t) (d t) (f t)
+            (holds y t) u (k t)));
+        letters = rw ls (each_sound (root_place me tree) (after n h e) (root_seat me (root_case y)) Abort us
+            (λ v. aborted_by h e y t over));
       }

@@ -19,7 +19,7 @@ use Rattle.tree_model.specs.Views.{root_place}
 use Rattle.tree_model.specs.World.{World, put_at, InputStands}
 use Rattle.tree_law.proofs.Lists.{sent-append}
 use Rattle.tree_law.proofs.RootSteps.{IsAborted, IsSound, AllSound}
-use Rattle.tree_law.proofs.RootReacts.{RootReacts, Consents, AsksNothing}
+use Rattle.tree_law.proofs.Consents.{RootReacts, Consents, AsksNothing}
 use Rattle.tree_law.proofs.LeafSteps.{HasPromised}
 use Rattle.tree_law.proofs.Moves.{sent_at}
 use Rattle.tree_law.proofs.Worlds.{WorldHolds, Grows, IsTrue, AllTrue, IsCommitted, HasAborted, HasConsented, all_append, all_stay, consent_stays, true_at, life_after, promise_after, dropped_after, at_own, at_other}
@@ -34,16 +34,19 @@ pub sent_more : (t : Message → Bool) (ls ms : List Envelope) → sent t ls ≡
 sent_more t ls ms e = let f = sent-append t ls ms in grind (arith, f)
 
 -- What the process of a step has, and the other processes have still.
-pub node_is : (P : Node → Type 0) (q r : ProcessId) (n : Node) (w : World) → (q ≡ r → P n) → (same_process q r ≡ false → P (w.at r)) → P (put_at q n w.at r)
+pub node_is : (P : Node → Type 0) (q r : ProcessId) (n : Node) (w : World) → (q ≡ r → P n)
+    → (same_process q r ≡ false → P (w.at r)) → P (put_at q n w.at r)
 node_is P q r n w own other = elim (same_process_tells q r) [
   | inl s ↦ rw s.0 (own s.1)
   | inr o ↦ rw o.0 (other o.0)
 ]
 
 -- a process that is listed and one that is not are two
-pub apart_if : (q r : ProcessId) (tree : List TreeEntry) → is_listed tree q ≡ true → is_listed tree r ≡ false → same_process q r ≡ false
+pub apart_if : (q r : ProcessId) (tree : List TreeEntry) → is_listed tree q ≡ true
+    → is_listed tree r ≡ false → same_process q r ≡ false
 apart_if q r tree e f = elim (same_process_tells q r) [
-  | inl s ↦ absurd (let g : is_listed tree q ≡ is_listed tree r = ap (is_listed tree) s.1 in let g' : true ≡ false = sym e ∙ (g ∙ f) in cc)
+  | inl s ↦ absurd (let g : is_listed tree q ≡ is_listed tree r =
+      ap (is_listed tree) s.1 in let g' : true ≡ false = sym e ∙ (g ∙ f) in cc)
   | inr o ↦ o.0
 ]
 
@@ -52,13 +55,15 @@ abbrev pub IsHeard : List TreeEntry → ProcessId → World → ProcessId → In
 IsHeard tree root w q (ActInput a) = Unit {0}
 IsHeard tree root w q (MessageInput k m) = IsTrue tree root w q m
 
-pub heard_true : (tree : List TreeEntry) (root : ProcessId) (w : World) (q : ProcessId) (i : Input) → WorldHolds tree root w
+pub heard_true : (tree : List TreeEntry) (root : ProcessId) (w : World) (q : ProcessId) (i : Input)
+    → WorldHolds tree root w
     → InputStands w.net q i → IsHeard tree root w q i
 heard_true tree root w q (ActInput a) h s = tt
 heard_true tree root w q (MessageInput k m) h s = true_at tree root w w.net _ _ h.net s.stands
 
 -- a consent that is heard was given
-consent_said : (tree : List TreeEntry) (root : ProcessId) (w : World) (q : ProcessId) (x : Txn) (t : Ticket) (i : Input)
+consent_said : (tree : List TreeEntry) (root : ProcessId) (w : World) (q : ProcessId) (x : Txn) (t : Ticket)
+    (i : Input)
     → IsHeard tree root w q i → InputStands w.net q i → Consents (child_case x t) i → HasConsented w x t
 consent_said tree root w q x t (ActInput a) h s c = absurd c
 consent_said tree root w q x t (MessageInput k (Yes d)) h s c =
@@ -77,7 +82,8 @@ consent_said tree root w q x t (MessageInput k (Ack d o)) h s c = absurd c
 consent_said tree root w q x t (MessageInput k (Inquire d)) h s c = absurd c
 
 -- no question comes
-pub asks_nothing : (tree : List TreeEntry) (root : ProcessId) (w : World) (q : ProcessId) (i : Input) → IsHeard tree root w q i → AsksNothing i
+pub asks_nothing : (tree : List TreeEntry) (root : ProcessId) (w : World) (q : ProcessId) (i : Input)
+    → IsHeard tree root w q i → AsksNothing i
 asks_nothing tree root w q (ActInput a) h = tt
 asks_nothing tree root w q (MessageInput k (Inquire d)) h = h
 asks_nothing tree root w q (MessageInput k (Yes d)) h = tt
@@ -111,7 +117,8 @@ module _ (tree : List TreeEntry) (root : ProcessId) (w : World) (holds : WorldHo
 
     abort_stays : (x : Txn) → HasAborted tree root w x → IsAborted (root_place root tree) node x
     abort_stays x b =
-        let c = (r.step.cases x any).aborts (record { is_over = b.is_over; not_committed = b.not_committed }) in
+        let c = (r.step.cases x any).aborts
+        (record { is_over = b.is_over; not_committed = b.not_committed }) in
         record { is_over = c.is_over; not_committed = c.not_committed }
 
     root_grows : Grows tree root w then
@@ -119,13 +126,16 @@ module _ (tree : List TreeEntry) (root : ProcessId) (w : World) (holds : WorldHo
       commits = λ x c. rw (at_own root node w.at) (commit_stays x c);
       aborts = λ x b. rw (at_own root node w.at) (abort_stays x b);
       promises = λ q c p. node_is (λ n. HasPromised c n) root q node w
-          (λ s. promise_after c (w.at root) heard e (subst (λ z. HasPromised c (w.at z)) (sym s) p)) (λ o. p);
+          (λ s. promise_after c (w.at root) heard e (subst (λ z. HasPromised c (w.at z)) (sym s) p))
+          (λ o. p);
       writes = λ q t f. node_is (λ n. has t n.life ≡ true) root q node w
-          (λ s. life_after t (w.at root) heard e (subst (λ z. has t (w.at z).life ≡ true) (sym s) f)) (λ o. f);
+          (λ s. life_after t (w.at root) heard e (subst (λ z. has t (w.at z).life ≡ true) (sym s) f))
+          (λ o. f);
       sends = λ t f. sent_more t w.net e.letters f;
     }
 
-    sound_true : (q : ProcessId) (m : Message) → IsSound (root_place root tree) node q m → IsTrue tree root then q m
+    sound_true : (q : ProcessId) (m : Message) → IsSound (root_place root tree) node q m
+        → IsTrue tree root then q m
     sound_true q (Join d) s = tt
     sound_true q (Work d j op) s = tt
     sound_true q (Prepare d k) s = s
@@ -138,7 +148,8 @@ module _ (tree : List TreeEntry) (root : ProcessId) (w : World) (holds : WorldHo
     sound_true q (Ack d o) s = tt
     sound_true q (Inquire d) s = s
 
-    all_sound_true : (ls : List Envelope) → AllSound (root_place root tree) node ls → AllTrue tree root then ls
+    all_sound_true : (ls : List Envelope) → AllSound (root_place root tree) node ls
+        → AllTrue tree root then ls
     all_sound_true [] s = tt
     all_sound_true (l ∷ ls) s = (sound_true l.to l.message s.0, all_sound_true ls s.1)
 
@@ -146,23 +157,32 @@ module _ (tree : List TreeEntry) (root : ProcessId) (w : World) (holds : WorldHo
     still q o = at_other root q node w.at o
 
     -- the root's own step
-    pub root_keeps : is_listed tree root ≡ true → IsHeard tree root w root i → InputStands w.net root i → WorldHolds tree root then
+    pub root_keeps : is_listed tree root ≡ true → IsHeard tree root w root i → InputStands w.net root i
+        → WorldHolds tree root then
     root_keeps listed true' stands = record {
       cases = λ x t. rw (at_own root node w.at) (r.step.cases x t).holds;
       consents = λ x t f.
-          let g : has_heard_vote node (root_case x) t is_consent ≡ true = ap (λ (n : Node). has_heard_vote n (root_case x) t is_consent) (sym (at_own root node w.at)) ∙ f in
+          let g : has_heard_vote node (root_case x) t is_consent ≡ true =
+          ap (λ (n : Node). has_heard_vote n (root_case x) t is_consent) (sym (at_own root node w.at))
+          ∙ f in
           consent_stays tree root w then root_grows x t (elim (r.consents x t g) [
             | inl old ↦ holds.consents x t old
             | inr said ↦ consent_said tree root w root x t i true' stands said
           ]);
       promises = λ q m. rw (still q (other_way q root m.elsewhere)) (holds.promises q m);
       commits = λ q c m f.
-          root_grows.commits c.txn (holds.commits q c m (ap (λ (n : Node). has (is_committed c) n.life) (sym (still q (other_way q root m.elsewhere))) ∙ f));
+          root_grows.commits c.txn (holds.commits q c m
+          (ap (λ (n : Node). has (is_committed c) n.life) (sym (still q (other_way q root m.elsewhere)))
+          ∙ f));
       aborts = λ q c m f.
-          root_grows.aborts c.txn (holds.aborts q c m (ap (λ (n : Node). has (is_rolled_back c) n.life) (sym (still q (other_way q root m.elsewhere))) ∙ f));
-      net = all_append tree root then w.net e.letters (all_stay tree root w then root_grows w.net holds.net) (all_sound_true e.letters r.step.letters);
+          root_grows.aborts c.txn (holds.aborts q c m
+          (ap (λ (n : Node). has (is_rolled_back c) n.life)
+          (sym (still q (other_way q root m.elsewhere))) ∙ f));
+      net = all_append tree root then w.net e.letters (all_stay tree root w then root_grows w.net holds.net)
+          (all_sound_true e.letters r.step.letters);
       own_children = λ x u t. rw (at_own root node w.at)
-          (not_now (has_accepted node (child_case x u) t) (has_accepted (w.at root) (child_case x u) t) (r.accepts x u t) (holds.own_children x u t));
+          (not_now (has_accepted node (child_case x u) t) (has_accepted (w.at root) (child_case x u) t)
+          (r.accepts x u t) (holds.own_children x u t));
       root_accepts = λ q o. rw (still q (other_way q root o)) (holds.root_accepts q o);
       none_dropped = rw (at_own root node w.at) (dropped_after (w.at root) heard e ∙ holds.none_dropped);
       unlisted = λ q l. rw (still q (apart_if root q tree listed l)) (holds.unlisted q l);

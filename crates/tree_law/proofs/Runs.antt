@@ -31,11 +31,13 @@ use Rattle.tree_law.proofs.LeafWorld.{is_for, leaf_keeps}
 
 -- The opened world.
 
-opened_case : (root : ProcessId) (tree : List TreeEntry) (x : Txn) (t : Ticket) → CaseHolds (reading (root_place root tree) opened_node x t)
+opened_case : (root : ProcessId) (tree : List TreeEntry) (x : Txn) (t : Ticket)
+    → CaseHolds (reading (root_place root tree) opened_node x t)
 unfolding memory_of has
 opened_case root tree x t = grind arith
 
-opened_open : (c : Case) → is_open (mark_of (CaseBranch c) (opened_node.forced ++ opened_node.loose)) ≡ false
+opened_open : (c : Case) → is_open
+    (mark_of (CaseBranch c) (opened_node.forced ++ opened_node.loose)) ≡ false
 unfolding mark_of
 opened_open c = refl
 
@@ -57,7 +59,8 @@ opened_holds tree root = record {
 -- A step.
 
 module _ (tree : List TreeEntry) (root : ProcessId) (flat : list_all (is_flat_entry root) tree ≡ true)
-    (w : World) (holds : WorldHolds tree root w) (m : Move) (e : Effect) (w' : World) (h : Handled tree w m e w')
+    (w : World) (holds : WorldHolds tree root w) (m : Move) (e : Effect) (w' : World)
+    (h : Handled tree w m e w')
     (stands : Stands w.net m.step.process m.step.happening) where
   abbrev heard : Heard
   heard = record { input = h.input; data_answer = m.data_answer }
@@ -74,15 +77,22 @@ module _ (tree : List TreeEntry) (root : ProcessId) (flat : list_all (is_flat_en
   root_move same =
       let s : InputStands w.net root h.input = stood root same in
       let t : IsHeard tree root w root h.input = heard_true tree root w root h.input holds s in
-      let at_root : reacts (place_of tree root) (w.at root) heard ≡ Does e = subst (λ (z : ProcessId). reacts (place_of tree z) (w.at z) heard ≡ Does e) same h.reaction in
+      let at_root : reacts (place_of tree root) (w.at root) heard ≡ Does e =
+      subst (λ (z : ProcessId). reacts (place_of tree z) (w.at z) heard ≡ Does e) same h.reaction in
       let made : reacts (root_place root tree) (w.at root) heard ≡ Does e =
-      subst (λ (r : Role). reacts (record { me = root; role = r; tree = tree }) (w.at root) heard ≡ Does e) (root_is_top root tree flat) at_root in
-      let r = root_reacts root tree (w.at root) holds.cases m.data_answer h.input e h.flat (asks_nothing tree root w root h.input t) made in
-      let listed : is_listed tree root ≡ true = subst (λ (z : ProcessId). is_listed tree z ≡ true) same h.listed in
-      let kept : WorldHolds tree root (then root) = root_keeps tree root w holds h.input m.data_answer e r listed t s in
-      subst (WorldHolds tree root) (sym h.world) (subst (λ (z : ProcessId). WorldHolds tree root (then z)) (sym same) kept)
+      subst (λ (r : Role). reacts (record { me = root; role = r; tree = tree }) (w.at root) heard ≡ Does e)
+      (root_is_top root tree flat) at_root in
+      let r = root_reacts root tree (w.at root) holds.cases m.data_answer h.input e h.flat
+      (asks_nothing tree root w root h.input t) made in
+      let listed : is_listed tree root ≡ true =
+      subst (λ (z : ProcessId). is_listed tree z ≡ true) same h.listed in
+      let kept : WorldHolds tree root (then root) =
+      root_keeps tree root w holds h.input m.data_answer e r listed t s in
+      subst (WorldHolds tree root) (sym h.world)
+      (subst (λ (z : ProcessId). WorldHolds tree root (then z)) (sym same) kept)
 
-  leaf_does : (q : ProcessId) → IsManager root tree q → is_listed tree q ≡ true → (i : Input) → IsHeard tree root w q i
+  leaf_does : (q : ProcessId) → IsManager root tree q → is_listed tree q ≡ true → (i : Input)
+      → IsHeard tree root w q i
       → LeafDoes q (w.at q) heard e i → WorldHolds tree root (then q)
   leaf_does q k l (ActInput a) t d = absurd d
   leaf_does q k l (MessageInput j message) t d = leaf_keeps tree root w holds q k heard message e d l t
@@ -92,8 +102,10 @@ module _ (tree : List TreeEntry) (root : ProcessId) (flat : list_all (is_flat_en
       let q = m.step.process in
       let t : IsHeard tree root w q h.input = heard_true tree root w q h.input holds (stood q refl) in
       let made : reacts (leaf_place q root tree) (w.at q) heard ≡ Does e =
-      subst (λ (r : Role). reacts (record { me = q; role = r; tree = tree }) (w.at q) heard ≡ Does e) k.role h.reaction in
-      let d = leaf_reacts q root tree (w.at q) (holds.promises q k) m.data_answer h.input e h.flat (is_for tree root w q h.input t) made in
+      subst (λ (r : Role). reacts (record { me = q; role = r; tree = tree }) (w.at q) heard ≡ Does e) k.role
+      h.reaction in
+      let d = leaf_reacts q root tree (w.at q) (holds.promises q k) m.data_answer h.input e h.flat
+      (is_for tree root w q h.input t) made in
       subst (WorldHolds tree root) (sym h.world) (leaf_does q k h.listed h.input t d)
 
   pub step_keeps : WorldHolds tree root w'
@@ -112,4 +124,5 @@ pub run_holds : (tree : List TreeEntry) (root : ProcessId) → list_all (is_flat
 run_holds tree root flat _ _ opens moves = opened_holds tree root
 run_holds tree root flat _ _ (makes es w m e w' run stands step) moves =
     let both = split (is_flat_move (record { move = m; effect = e })) (list_all is_flat_move es) moves in
-    step_keeps tree root flat w (run_holds tree root flat es w run both.1) m e w' (handled tree w m e w' both.0 step) stands
+    step_keeps tree root flat w (run_holds tree root flat es w run both.1) m e w'
+    (handled tree w m e w' both.0 step) stands

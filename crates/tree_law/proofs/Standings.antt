@@ -1,8 +1,9 @@
 -- What a standing says of the phase and the records of a case, and what these say of the standing.
-use Rattle.std.proofs.Common.{◌≡◌, Bool, true, false, ◌||◌, List, refl}
+use Rattle.std.proofs.Common.{◌⊎◌, inl, inr, ◌≡◌, Bool, true, false, ◌||◌, List, refl}
 use Rattle.tree_model.specs.declared.names.Case.{Case}
 use Rattle.tree_model.specs.declared.names.Presumption.{Presumption}
 use Rattle.tree_model.specs.declared.names.Presumption.TheVariants.{PresumeAbort, PresumeCommit}
+use Rattle.tree_model.specs.Names.{same_presumption}
 use Rattle.tree_model.specs.declared.records.Record.{Record}
 use Rattle.tree_model.specs.declared.standings.Standing.{Standing}
 use Rattle.tree_model.specs.declared.standings.Standing.TheVariants.{Unknown, Active, Collecting, Prepared, Committing, Aborting, Heuristic}
@@ -30,7 +31,8 @@ phase_asked PresumeCommit Idle e = absurd (cc)
 phase_asked PresumeAbort Over e = absurd (cc)
 phase_asked PresumeCommit Over e = absurd (cc)
 
-phase_recorded : (p : Presumption) (ph : Phase) → (phase_standing p ph ≡ Committing → ⊥) × (phase_standing p ph ≡ Aborting → ⊥)
+phase_recorded : (p : Presumption) (ph : Phase) → (phase_standing p ph ≡ Committing → ⊥)
+    × (phase_standing p ph ≡ Aborting → ⊥)
 phase_recorded p Open = (λ e. cc, λ e. cc)
 phase_recorded PresumeAbort Asked = (λ e. cc, λ e. cc)
 phase_recorded PresumeCommit Asked = (λ e. cc, λ e. cc)
@@ -50,16 +52,33 @@ active_open false false false true K N p ph e = absurd (cc)
 active_open false false false false true N p ph e = absurd (cc)
 active_open false false false false false N p ph e = phase_open p ph e
 
-pub collecting_asked : (E C A P K N : Bool) (p : Presumption) (ph : Phase) → K ≡ false
-    → standing_by E C A P K N (phase_standing p ph) ≡ Collecting → ph ≡ Asked
-collecting_asked true C A P K N p ph k e = absurd (cc)
-collecting_asked false true A P K true p ph k e = absurd (cc)
-collecting_asked false true A P K false p ph k e = absurd (cc)
-collecting_asked false false true P K true p ph k e = absurd (cc)
-collecting_asked false false true P K false p ph k e = absurd (cc)
-collecting_asked false false false true K N p ph k e = absurd (cc)
-collecting_asked false false false false true N p ph k e = absurd (cc)
-collecting_asked false false false false false N p ph k e = phase_asked p ph e
+-- a case that stands at Collecting has no other record, and it is Asked or has one that collects
+pub collecting_facts : (E C A P K N : Bool) (p : Presumption) (ph : Phase)
+    → standing_by E C A P K N (phase_standing p ph) ≡ Collecting
+    → ((E || (C || (A || P))) ≡ false) × ((K ≡ true) ⊎ (ph ≡ Asked))
+collecting_facts true C A P K N p ph e = absurd (cc)
+collecting_facts false true A P K true p ph e = absurd (cc)
+collecting_facts false true A P K false p ph e = absurd (cc)
+collecting_facts false false true P K true p ph e = absurd (cc)
+collecting_facts false false true P K false p ph e = absurd (cc)
+collecting_facts false false false true K N p ph e = absurd (cc)
+collecting_facts false false false false true N p ph e = (refl, inl refl)
+collecting_facts false false false false false N p ph e = (refl, inr (phase_asked p ph e))
+
+-- an Asked case stands at Collecting, under Presumed Commit by its record
+pub asked_stands : (E C A P K N : Bool) (p : Presumption) → (E || (C || (A || P))) ≡ false
+    → (same_presumption p PresumeAbort ≡ true → K ≡ false)
+    → (same_presumption p PresumeAbort ≡ false → K ≡ true)
+    → standing_by E C A P K N (phase_standing p Asked) ≡ Collecting
+unfolding same_presumption
+asked_stands true C A P K N p e a c = absurd (cc)
+asked_stands false true A P K N p e a c = absurd (cc)
+asked_stands false false true P K N p e a c = absurd (cc)
+asked_stands false false false true K N p e a c = absurd (cc)
+asked_stands false false false false true N p e a c = refl
+asked_stands false false false false false N PresumeAbort e a c = refl
+asked_stands false false false false false N PresumeCommit e a c = let f : false ≡ true = c refl in
+    absurd (cc)
 
 pub committing_recorded : (E C A P K N : Bool) (p : Presumption) (ph : Phase)
     → standing_by E C A P K N (phase_standing p ph) ≡ Committing → (E || (C || (A || P))) ≡ true
@@ -88,7 +107,8 @@ unrecorded false false false true K N s e k = absurd (cc)
 unrecorded false false false false true N s e k = absurd (cc)
 unrecorded false false false false false N s e k = refl
 
-pub view_standing : (s : Standing) (rs : List Record) (c : Case) (m : Memory) → (view_at s rs c m).standing ≡ s
+pub view_standing : (s : Standing) (rs : List Record) (c : Case) (m : Memory)
+    → (view_at s rs c m).standing ≡ s
 view_standing Unknown rs c m = refl
 view_standing Active rs c m = refl
 view_standing Collecting rs c m = refl
@@ -99,6 +119,7 @@ view_standing Heuristic rs c m = refl
 
 -- the view is read off the records and what is remembered
 pub viewed : (place : Place) (n : Node) (c : Case)
-    → coordinator_view place n c ≡ view_at (coordinator_standing (kept n) c (memory_of place n c)) (kept n) c (memory_of place n c)
+    → coordinator_view place n c ≡ view_at (coordinator_standing (kept n) c (memory_of place n c)) (kept n)
+    c (memory_of place n c)
 unfolding coordinator_view
 viewed place n c = refl

@@ -4,7 +4,6 @@ use Rattle.std.specs.List.{list_all}
 use Rattle.tree_model.specs.declared.names.ProcessId.{ProcessId}
 use Rattle.tree_model.specs.declared.names.Kind.{Kind}
 use Rattle.tree_model.specs.declared.names.Kind.TheVariants.{Coordinator, Manager}
-use Rattle.tree_model.specs.declared.names.Presumption.TheVariants.{PresumeAbort}
 use Rattle.tree_model.specs.declared.trees.TreeEntry.{TreeEntry}
 use Rattle.tree_model.specs.declared.events.Act.{Act}
 use Rattle.tree_model.specs.declared.events.Act.TheVariants.{Begin, Join, Work, Commit, Abort}
@@ -29,9 +28,9 @@ pub record IsFlat (tree : List TreeEntry) : Type 0 where
   pub root : ProcessId
   pub entries : list_all (is_flat_entry root) tree ≡ true
 
--- an act of the application, and no transaction is begun but under Presumed Abort
+-- an act of the application
 abbrev pub is_flat_act : Act → Bool
-is_flat_act (Begin PresumeAbort) = true
+is_flat_act (Begin p) = true
 is_flat_act (Join c q) = true
 is_flat_act (Work c q op) = true
 is_flat_act (Commit x) = true
