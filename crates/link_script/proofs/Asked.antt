@@ -2,9 +2,7 @@
 use Rattle.std.proofs.Common.{◌≡◌, ℕ, ◌+◌, ◌≤◌, ◌<◌, true, false, List, [], ◌∷◌, ◌++◌, length, get_or, drop, map, Bor, Option, Some, None, Result, Ok, Err, refl, ap, sym, ◌∙◌, append_assoc}
 use Rattle.std.proofs.lemmas.List.{append-nil, drop_all, at_drop_more, length-map}
 use Rattle.std.proofs.Math.ListN.{get_or-map}
-use Rattle.tree_model.specs.declared.names.ProcessId.{ProcessId}
 use Rattle.tree_model.specs.declared.events.Event.{Event}
-use Rattle.link_script.specs.Events.{event_at}
 use Rattle.link_script.specs.Script.{is_skipped, with_front, line_then, events_at}
 
 -- the texts of some lines
@@ -20,62 +18,62 @@ text_at lines i = get_or-map (λ (s : Bor (List ℕ)). s.now) lines i blank
 pub long : (lines : List (Bor (List ℕ))) → length (texts lines) ≡ length lines
 long lines = length-map lines (λ (s : Bor (List ℕ)). s.now)
 
-at_line : (root : ProcessId) (n : ℕ) (l : List ℕ) (ls : List (List ℕ)) → is_skipped l ≡ false
-    → events_at root n (l ∷ ls) ≡ line_then n (event_at root l) (events_at root (n + 1) ls)
+at_line : (read : List ℕ → Option Event) (n : ℕ) (l : List ℕ) (ls : List (List ℕ)) → is_skipped l ≡ false
+    → events_at read n (l ∷ ls) ≡ line_then n (read l) (events_at read (n + 1) ls)
 unfolding events_at
-at_line root n l ls e = rw e refl
+at_line read n l ls e = rw e refl
 
-at_skipped : (root : ProcessId) (n : ℕ) (l : List ℕ) (ls : List (List ℕ)) → is_skipped l ≡ true
-    → events_at root n (l ∷ ls) ≡ events_at root (n + 1) ls
+at_skipped : (read : List ℕ → Option Event) (n : ℕ) (l : List ℕ) (ls : List (List ℕ)) → is_skipped l ≡ true
+    → events_at read n (l ∷ ls) ≡ events_at read (n + 1) ls
 unfolding events_at
-at_skipped root n l ls e = rw e refl
+at_skipped read n l ls e = rw e refl
 
 fronts : (es : List Event) (e : Event) (r : Result (List Event) ℕ)
     → with_front es (with_front (e ∷ []) r) ≡ with_front (es ++ e ∷ []) r
 fronts es e (Ok more) = ap (λ (x : List Event). Ok x) (sym (append_assoc es (e ∷ []) more))
 fronts es e (Err f) = refl
 
-at : (root : ProcessId) (front : List Event) (n i : ℕ) (ls : List (List ℕ)) → i < length ls
-    → with_front front (events_at root n (drop i ls)) ≡ with_front front (events_at root n (get_or ls i [] ∷ drop (i + 1) ls))
-at root front n i ls lt = at_drop_more (λ xs. with_front front (events_at root n xs)) ls i [] lt
+at : (read : List ℕ → Option Event) (front : List Event) (n i : ℕ) (ls : List (List ℕ)) → i < length ls
+    → with_front front (events_at read n (drop i ls)) ≡ with_front front (events_at read n (get_or ls i [] ∷ drop (i + 1) ls))
+at read front n i ls lt = at_drop_more (λ xs. with_front front (events_at read n xs)) ls i [] lt
 
-pub skips : (root : ProcessId) (front : List Event) (ls : List (List ℕ)) (n m i : ℕ) (total : Result (List Event) ℕ)
+pub skips : (read : List ℕ → Option Event) (front : List Event) (ls : List (List ℕ)) (n m i : ℕ) (total : Result (List Event) ℕ)
     → i < length ls → is_skipped (get_or ls i []) ≡ true → m ≡ n + 1
-    → with_front front (events_at root n (drop i ls)) ≡ total
-    → with_front front (events_at root m (drop (i + 1) ls)) ≡ total
-skips root front ls n m i total lt skip next so_far =
-    ap (λ (k : ℕ). with_front front (events_at root k (drop (i + 1) ls))) next
-    ∙ sym (at root front n i ls lt ∙ ap (with_front front) (at_skipped root n (get_or ls i []) (drop (i + 1) ls) skip))
+    → with_front front (events_at read n (drop i ls)) ≡ total
+    → with_front front (events_at read m (drop (i + 1) ls)) ≡ total
+skips read front ls n m i total lt skip next so_far =
+    ap (λ (k : ℕ). with_front front (events_at read k (drop (i + 1) ls))) next
+    ∙ sym (at read front n i ls lt ∙ ap (with_front front) (at_skipped read n (get_or ls i []) (drop (i + 1) ls) skip))
     ∙ so_far
 
-reads : (root : ProcessId) (front : List Event) (ls : List (List ℕ)) (n i : ℕ) → i < length ls
+reads : (read : List ℕ → Option Event) (front : List Event) (ls : List (List ℕ)) (n i : ℕ) → i < length ls
     → is_skipped (get_or ls i []) ≡ false
-    → with_front front (events_at root n (drop i ls))
-    ≡ with_front front (line_then n (event_at root (get_or ls i [])) (events_at root (n + 1) (drop (i + 1) ls)))
-reads root front ls n i lt kept =
-    at root front n i ls lt ∙ ap (with_front front) (at_line root n (get_or ls i []) (drop (i + 1) ls) kept)
+    → with_front front (events_at read n (drop i ls))
+    ≡ with_front front (line_then n (read (get_or ls i [])) (events_at read (n + 1) (drop (i + 1) ls)))
+reads read front ls n i lt kept =
+    at read front n i ls lt ∙ ap (with_front front) (at_line read n (get_or ls i []) (drop (i + 1) ls) kept)
 
-pub goes_on : (root : ProcessId) (front : List Event) (ls : List (List ℕ)) (n m i : ℕ) (e : Event)
+pub goes_on : (read : List ℕ → Option Event) (front : List Event) (ls : List (List ℕ)) (n m i : ℕ) (e : Event)
     (total : Result (List Event) ℕ) → i < length ls → is_skipped (get_or ls i []) ≡ false
-    → event_at root (get_or ls i []) ≡ Some e → m ≡ n + 1
-    → with_front front (events_at root n (drop i ls)) ≡ total
-    → with_front (front ++ e ∷ []) (events_at root m (drop (i + 1) ls)) ≡ total
-goes_on root front ls n m i e total lt kept is next so_far =
-    ap (λ (k : ℕ). with_front (front ++ e ∷ []) (events_at root k (drop (i + 1) ls))) next
-    ∙ sym (fronts front e (events_at root (n + 1) (drop (i + 1) ls)))
-    ∙ ap (λ (o : Option Event). with_front front (line_then n o (events_at root (n + 1) (drop (i + 1) ls)))) (sym is)
-    ∙ sym (reads root front ls n i lt kept) ∙ so_far
+    → read (get_or ls i []) ≡ Some e → m ≡ n + 1
+    → with_front front (events_at read n (drop i ls)) ≡ total
+    → with_front (front ++ e ∷ []) (events_at read m (drop (i + 1) ls)) ≡ total
+goes_on read front ls n m i e total lt kept is next so_far =
+    ap (λ (k : ℕ). with_front (front ++ e ∷ []) (events_at read k (drop (i + 1) ls))) next
+    ∙ sym (fronts front e (events_at read (n + 1) (drop (i + 1) ls)))
+    ∙ ap (λ (o : Option Event). with_front front (line_then n o (events_at read (n + 1) (drop (i + 1) ls)))) (sym is)
+    ∙ sym (reads read front ls n i lt kept) ∙ so_far
 
-pub stops : (root : ProcessId) (front : List Event) (ls : List (List ℕ)) (n i : ℕ) (total : Result (List Event) ℕ)
-    → i < length ls → is_skipped (get_or ls i []) ≡ false → event_at root (get_or ls i []) ≡ None
-    → with_front front (events_at root n (drop i ls)) ≡ total → total ≡ Err n
-stops root front ls n i total lt kept is so_far =
-    sym so_far ∙ reads root front ls n i lt kept
-    ∙ ap (λ (o : Option Event). with_front front (line_then n o (events_at root (n + 1) (drop (i + 1) ls)))) is
+pub stops : (read : List ℕ → Option Event) (front : List Event) (ls : List (List ℕ)) (n i : ℕ) (total : Result (List Event) ℕ)
+    → i < length ls → is_skipped (get_or ls i []) ≡ false → read (get_or ls i []) ≡ None
+    → with_front front (events_at read n (drop i ls)) ≡ total → total ≡ Err n
+stops read front ls n i total lt kept is so_far =
+    sym so_far ∙ reads read front ls n i lt kept
+    ∙ ap (λ (o : Option Event). with_front front (line_then n o (events_at read (n + 1) (drop (i + 1) ls)))) is
 
-pub ends : (root : ProcessId) (front : List Event) (ls : List (List ℕ)) (n i : ℕ) (total : Result (List Event) ℕ)
-    → length ls ≤ i → with_front front (events_at root n (drop i ls)) ≡ total → total ≡ Ok front
+pub ends : (read : List ℕ → Option Event) (front : List Event) (ls : List (List ℕ)) (n i : ℕ) (total : Result (List Event) ℕ)
+    → length ls ≤ i → with_front front (events_at read n (drop i ls)) ≡ total → total ≡ Ok front
 unfolding events_at
-ends root front ls n i total le so_far =
-    sym so_far ∙ ap (λ (x : List (List ℕ)). with_front front (events_at root n x)) (drop_all i ls le)
+ends read front ls n i total le so_far =
+    sym so_far ∙ ap (λ (x : List (List ℕ)). with_front front (events_at read n x)) (drop_all i ls le)
     ∙ ap (λ (x : List Event). Ok x) (append-nil front)

@@ -10,6 +10,8 @@ use Rattle.link_script.specs.declared.script.ScriptFault.{ScriptFault}
 use Rattle.link_script.specs.declared.script.ScriptFault.TheVariants.{Utf8, TreeText, Tree, TooLong, Line}
 use Rattle.link_script.specs.declared.script.ScriptError.{ScriptError}
 use Rattle.link_script.specs.declared.script.ScriptError.TheVariants.{Memory, Fault}
+use Rattle.link_script.specs.declared.stage.Stage.{Stage}
+use Rattle.link_script.specs.Stages.{reading}
 use Rattle.link_script.specs.Documents.{IsTreeText}
 use Rattle.link_script.specs.Rules.{pieces, around_rule}
 use Rattle.link_script.specs.Script.{asked_in, events_at}
@@ -24,41 +26,41 @@ unfoldable pub root_of : List TreeEntry → ProcessId
 root_of es = entry_id (find is_top es)
 
 -- bytes that are text, with a tree text before the first line of three dashes
-pub record HasTreeText (bytes : List ℕ) (fronts behind : List (List ℕ)) (tree : List TreeEntry) : Type 0 where
+pub record HasTreeText (stage : Stage) (bytes : List ℕ) (fronts behind : List (List ℕ)) (tree : List TreeEntry) : Type 0 where
   pub text : IsUtf8 bytes
   pub rule : around_rule (pieces bytes) ≡ Some (fronts, behind)
-  pub tree_text : IsTreeText (lines_text fronts) tree
+  pub tree_text : IsTreeText stage (lines_text fronts) tree
 
 -- what the lines behind the rule ask for; the first of them is the second behind the tree text
-abbrev pub script_events : List (List ℕ) → List (List ℕ) → List TreeEntry → Result (List Event) ℕ
-script_events fronts behind tree = events_at (root_of tree) (length fronts + 1 + 1) (lines_of_parts behind)
+abbrev pub script_events : Stage → List (List ℕ) → List (List ℕ) → List TreeEntry → Result (List Event) ℕ
+script_events stage fronts behind tree = events_at (reading stage (root_of tree)) (length fronts + 1 + 1) (lines_of_parts behind)
 
 -- bytes that are a script of this tree and these events
-abbrev pub IsScript : List ℕ → List TreeEntry → List Event → Type 0
-IsScript bytes tree events =
-    (fronts : List (List ℕ)) × (behind : List (List ℕ)) × HasTreeText bytes fronts behind tree × IsTree tree
-    × (asked_in (lines_of_parts behind) ≤ 100000) × (script_events fronts behind tree ≡ Ok events)
+abbrev pub IsScript : Stage → List ℕ → List TreeEntry → List Event → Type 0
+IsScript stage bytes tree events =
+    (fronts : List (List ℕ)) × (behind : List (List ℕ)) × HasTreeText stage bytes fronts behind tree × IsTree tree
+    × (asked_in (lines_of_parts behind) ≤ 100000) × (script_events stage fronts behind tree ≡ Ok events)
 
 -- what is wrong with bytes, each fault where none of those above it is there
-abbrev pub IsScriptFault : List ℕ → ScriptFault → Type 0
-IsScriptFault bytes Utf8 = IsUtf8 bytes → ⊥
-IsScriptFault bytes TreeText =
-    IsUtf8 bytes × ((fronts behind : List (List ℕ)) (tree : List TreeEntry) → HasTreeText bytes fronts behind tree → ⊥)
-IsScriptFault bytes (Tree cause) =
+abbrev pub IsScriptFault : Stage → List ℕ → ScriptFault → Type 0
+IsScriptFault stage bytes Utf8 = IsUtf8 bytes → ⊥
+IsScriptFault stage bytes TreeText =
+    IsUtf8 bytes × ((fronts behind : List (List ℕ)) (tree : List TreeEntry) → HasTreeText stage bytes fronts behind tree → ⊥)
+IsScriptFault stage bytes (Tree cause) =
     (fronts : List (List ℕ)) × (behind : List (List ℕ)) × (tree : List TreeEntry)
-    × HasTreeText bytes fronts behind tree × IsFirstFault tree cause
-IsScriptFault bytes TooLong =
+    × HasTreeText stage bytes fronts behind tree × IsFirstFault tree cause
+IsScriptFault stage bytes TooLong =
     (fronts : List (List ℕ)) × (behind : List (List ℕ)) × (tree : List TreeEntry)
-    × HasTreeText bytes fronts behind tree × IsTree tree × (100000 < asked_in (lines_of_parts behind))
-IsScriptFault bytes (Line number) =
+    × HasTreeText stage bytes fronts behind tree × IsTree tree × (100000 < asked_in (lines_of_parts behind))
+IsScriptFault stage bytes (Line number) =
     (fronts : List (List ℕ)) × (behind : List (List ℕ)) × (tree : List TreeEntry)
-    × HasTreeText bytes fronts behind tree × IsTree tree × (asked_in (lines_of_parts behind) ≤ 100000)
-    × (script_events fronts behind tree ≡ Err number)
+    × HasTreeText stage bytes fronts behind tree × IsTree tree × (asked_in (lines_of_parts behind) ≤ 100000)
+    × (script_events stage fronts behind tree ≡ Err number)
 
 -- memory was refused, or there is this fault
-abbrev pub IsScriptError : List ℕ → ScriptError → Type 0
-IsScriptError bytes Memory = Unit {0}
-IsScriptError bytes (Fault fault) = IsScriptFault bytes fault
+abbrev pub IsScriptError : Stage → List ℕ → ScriptError → Type 0
+IsScriptError stage bytes Memory = Unit {0}
+IsScriptError stage bytes (Fault fault) = IsScriptFault stage bytes fault
 
 -- the number of a fault
 abbrev pub script_fault_number : ScriptFault → ℕ

@@ -1,4 +1,5 @@
 pub mod Names
+pub mod Stages
 pub mod Events
 pub mod Spellings
 pub mod Documents

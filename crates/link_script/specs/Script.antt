@@ -1,10 +1,8 @@
 -- Reading a script line by line.
 use Rattle.std.specs.Prelude.{ℕ, ◌+◌, List, [], ◌∷◌, ◌++◌, length, Bool, ◌||◌, ◌==◌, not, Option, Some, None, Result, Ok, Err, if◌then◌else◌, slice_index, count_by, ◌≡◌}
-use Rattle.tree_model.specs.declared.names.ProcessId.{ProcessId}
 use Rattle.tree_model.specs.declared.events.Event.{Event}
 use Rattle.link_script.specs.declared.lines.LineError.{LineError}
 use Rattle.link_script.specs.declared.lines.LineError.TheVariants.{Memory, Line}
-use Rattle.link_script.specs.Events.{event_at}
 
 -- an empty line, or a remark
 abbrev pub is_skipped : List ℕ → Bool
@@ -24,13 +22,13 @@ abbrev pub line_then : ℕ → Option Event → Result (List Event) ℕ → Resu
 line_then n None more = Err n
 line_then n (Some e) more = with_front (e ∷ []) more
 
--- the events of lines, the first of which has this number, over a tree with this root; or the number of the first
--- line that is the line of no event
-unfoldable pub events_at : ProcessId → ℕ → List (List ℕ) → Result (List Event) ℕ
-events_at root n [] = Ok []
-events_at root n (line ∷ lines) =
-    if is_skipped line then events_at root (n + 1) lines
-    else line_then n (event_at root line) (events_at root (n + 1) lines)
+-- the events of lines, each read so, the first of which has this number; or the number of the first line that is the line
+-- of no event
+unfoldable pub events_at : (List ℕ → Option Event) → ℕ → List (List ℕ) → Result (List Event) ℕ
+events_at read n [] = Ok []
+events_at read n (line ∷ lines) =
+    if is_skipped line then events_at read (n + 1) lines
+    else line_then n (read line) (events_at read (n + 1) lines)
 
 -- memory was refused, or this is the number of the first line that is the line of no event
 abbrev pub IsLineFault : LineError → Result (List Event) ℕ → Type 0

@@ -7,6 +7,7 @@ ghost use Rattle.link_script.specs.Inputs.{root_of as root_id, script_fault_numb
 
 use crate::document::{DocumentError, read_tree};
 use crate::lines::{LineError, around, count_asked, events_of, lines_of};
+use crate::stage::Stage;
 use std::alloc::{AllocError, Global};
 use std::str;
 use thiserror::Error;
@@ -71,10 +72,10 @@ impl From<AllocError> for ScriptError {
 }
 
 /// The tree and the events of a script: the tree's text, a line `---`, and a line for each event. Empty lines and lines
-/// that begin with `#` are skipped.
-pub fn read(alloc: Global, bytes: &[u8]) -> Result<(Tree, Vec<Event>), ScriptError>
-    ensures ok { IfOk result (λ (tree, events). IsScript bytes.now tree events.items) }
-    ensures err { IfErr result (λ error. IsScriptError bytes.now error) }
+/// that begin with `#` are skipped. What the stage does not read is a fault of the tree's text, or of its line.
+pub fn read(alloc: Global, stage: Stage, bytes: &[u8]) -> Result<(Tree, Vec<Event>), ScriptError>
+    ensures ok { IfOk result (λ (tree, events). IsScript stage bytes.now tree events.items) }
+    ensures err { IfErr result (λ error. IsScriptError stage bytes.now error) }
 {
     let Ok(text) = str::from_utf8(bytes) else {
         return Err(ScriptError::Fault(ScriptFault::Utf8));
@@ -82,7 +83,7 @@ pub fn read(alloc: Global, bytes: &[u8]) -> Result<(Tree, Vec<Event>), ScriptErr
     let Some((document, before, behind)) = around(text) else {
         return Err(ScriptError::Fault(ScriptFault::TreeText));
     };
-    let tree = match read_tree(alloc, document) {
+    let tree = match read_tree(alloc, stage, document) {
         Ok(tree) => tree,
         Err(DocumentError::Memory) => return Err(ScriptError::Memory),
         Err(DocumentError::TreeText) => return Err(ScriptError::Fault(ScriptFault::TreeText)),
@@ -94,7 +95,7 @@ pub fn read(alloc: Global, bytes: &[u8]) -> Result<(Tree, Vec<Event>), ScriptErr
     if count_asked(&lines) > MOST_EVENTS {
         return Err(ScriptError::Fault(ScriptFault::TooLong));
     }
-    match events_of(alloc, root_of(&tree), before + 1, &lines) {
+    match events_of(alloc, stage, root_of(&tree), before + 1, &lines) {
         Ok(events) => Ok((tree, events)),
         Err(LineError::Memory) => Err(ScriptError::Memory),
         Err(LineError::Line(number)) => Err(ScriptError::Fault(ScriptFault::Line(number))),

@@ -13,7 +13,9 @@ fn each_form_of_event(rt: HostRuntime) -> Result<(), Fail> {
     let script = format!(in rt.alloc();
         "{TREE}---\r\n# remark\n\nbegin pa\njoin a1.1 2\nwork a1.1 2 put x 1\nwork c1.2@2.1.1 3 get x\nwork a1.1 2 del x\ncommit a1.1\nabort c1.1\nask a1.1@2.1.1\ndeliver 7\nsettle\nrestart 2\nrestart 2 9\ntrim 1\nheur a1.1@2.1.1 rollback\nforget a1.1@2.1.1"
     )?;
-    let (tree, events) = read(rt.alloc(), script.as_bytes()).ok().ok_or("a script")?;
+    let (tree, events) = read(rt.alloc(), Stage::Whole, script.as_bytes())
+        .ok()
+        .ok_or("a script")?;
     assert_eq!(rt; tree.entries().len(), 2);
     for entry in tree.entries() {
         assert!(rt; (entry.kind == Kind::Manager) == entry.parent.is_some());
@@ -60,7 +62,7 @@ fn refused_scripts(rt: HostRuntime) -> Result<(), Fail> {
         (TREE, "--- \n", 1),
     ] {
         let script = format!(in rt.alloc(); "{front}{back}")?;
-        let refused = match read(rt.alloc(), script.as_bytes()) {
+        let refused = match read(rt.alloc(), Stage::Whole, script.as_bytes()) {
             Err(ScriptError::Fault(fault)) => fault.number(),
             _ => 0,
         };
@@ -69,13 +71,13 @@ fn refused_scripts(rt: HostRuntime) -> Result<(), Fail> {
     let script = format!(in rt.alloc(); "{TREE}---\n\n#\nsettle\nsettle \nx")?;
     assert!(rt;
         matches!(
-            read(rt.alloc(), script.as_bytes()),
+            read(rt.alloc(), Stage::Whole, script.as_bytes()),
             Err(ScriptError::Fault(ScriptFault::Line(13)))
         )
     );
     assert!(rt;
         matches!(
-            read(rt.alloc(), b"\xff"),
+            read(rt.alloc(), Stage::Whole, b"\xff"),
             Err(ScriptError::Fault(ScriptFault::Utf8))
         )
     );

@@ -1,1 +1,4 @@
 pub mod Roots
+pub mod Rows
+pub mod States
+pub mod Asking

@@ -1,5 +1,5 @@
 -- The root: what it keeps, which row of the reaction table an input meets, and what the row makes of it.
-use Rattle.std.specs.Prelude.{◌≡◌, ◌+◌, ℕ, false, ◌||◌, if◌then◌else◌, Option, Some, None, List, [], ◌∷◌}
+use Rattle.std.specs.Prelude.{◌≡◌, ◌⊎◌, ◌+◌, ℕ, false, ◌||◌, if◌then◌else◌, Option, Some, None, List, [], ◌∷◌}
 use Rattle.tree_model.specs.declared.names.Case.{Case}
 use Rattle.tree_model.specs.declared.names.ProcessId.{ProcessId}
 use Rattle.tree_model.specs.declared.names.Ticket.{Ticket}
@@ -18,7 +18,7 @@ use Rattle.tree_model.specs.declared.events.Act.{Act}
 use Rattle.tree_model.specs.declared.events.Act.TheVariants.{Begin, Join, Work, Commit, Abort, Ask, Decide, Forget}
 use Rattle.tree_model.specs.declared.events.Reaction.{Reaction}
 use Rattle.tree_model.specs.declared.events.StepError.{StepError}
-use Rattle.tree_model.specs.declared.events.StepError.TheVariants.{UnknownTxn, NotAChild, Closed, NotInDoubt, NothingToForget, NoSuch}
+use Rattle.tree_model.specs.declared.events.StepError.TheVariants.{Memory, UnknownTxn, NotAChild, Closed, NotInDoubt, NothingToForget, NoSuch}
 use Rattle.tree_model.specs.declared.trees.TreeEntry.{TreeEntry}
 use Rattle.tree_model.specs.Names.{same_txn, root_case, child_case, presumed}
 use Rattle.tree_model.specs.Records.{in_list}
@@ -179,9 +179,16 @@ Makes old new (Takes x row) reaction = Moves old new x row × (reaction ≡ reac
 Makes old new (Answers letter) reaction = (new ≡ old) × (reaction ≡ reaction_of (sends_only (letter ∷ [])))
 Makes old new Ignores reaction = (new ≡ old) × (reaction ≡ reaction_of no_effect)
 
--- a turn is a refusal by this error
-abbrev pub IsRefusal : Turn → StepError → Type 0
-IsRefusal turn e = turn ≡ Refuses e
+-- nothing is otherwise
+pub record Same (old new : RootState) : Type 0 where
+  pub log : new.log ≡ old.log
+  pub views : (y : Txn) → new.view_of y ≡ old.view_of y
+  pub begun : new.begun ≡ old.begun
+  pub remains : Remains old new
+
+-- a turn was refused by this error, or for want of memory, and nothing changed
+abbrev pub Refused : RootState → RootState → Turn → StepError → Type 0
+Refused old new turn e = ((e ≡ Memory) × Same old new) ⊎ ((turn ≡ Refuses e) × (new ≡ old))
 
 -- a root as it opens an empty log: its boot is 1, and it began nothing
 pub record IsOpened (r : RootState) (me : ProcessId) (tree : List TreeEntry) : Type 0 where

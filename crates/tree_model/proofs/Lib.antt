@@ -13,3 +13,4 @@ pub mod BeginLaws
 pub mod CostLaws
 pub mod NameTests
 pub mod TextLaws
+pub mod Equality

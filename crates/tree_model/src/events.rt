@@ -7,6 +7,7 @@ use crate::lists::Sequence;
 use crate::messages::{Letters, Message, Op};
 use crate::names::{Case, Outcome, Presumption, ProcessId, Txn};
 use crate::records::Logged;
+use std::alloc::AllocError;
 use thiserror::Error;
 
 /// What an application or an operator asks of one process.
@@ -136,6 +137,17 @@ pub enum StepError {
     /// No process or no message has this number.
     #[error("no such process or message")]
     NoSuch,
+}
+
+impl From<AllocError> for StepError {
+    ghost use Rattle.std.specs.Prelude.{◌≡◌};
+    ghost use Rattle.tree_model.specs.declared.events.StepError.TheVariants.{Memory};
+
+    ghost from_gives = { λ _ e. e ≡ Memory };
+
+    fn from(_e: AllocError) -> StepError {
+        StepError::Memory
+    }
 }
 
 impl StepError {

@@ -43,6 +43,16 @@ pub struct Txn {
     pub presumption: Presumption,
 }
 
+impl Txn {
+    /// Whether the other name is the same.
+    #[tactic(auto, using(crate::proofs::Equality::txn_equality))]
+    pub fn is(&self, other: &Txn) -> bool
+        ensures { result ≡ same_txn self.now other.now }
+    {
+        self == other
+    }
+}
+
 /// A child's promise to take part in one case of its parent: the child, its boot, and the number in that boot
 /// (both from 1). It is issued once and never again.
 #[derive(Clone, Copy, Debug, PartialEq, Eq, Hash)]
@@ -50,6 +60,16 @@ pub struct Ticket {
     pub child: ProcessId,
     pub boot: u64,
     pub number: u64,
+}
+
+impl Ticket {
+    /// Whether the other name is the same.
+    #[tactic(auto, using(crate::proofs::Equality::ticket_equality))]
+    pub fn is(&self, other: &Ticket) -> bool
+        ensures { result ≡ same_ticket self.now other.now }
+    {
+        self == other
+    }
 }
 
 /// Tickets, in order of acceptance.
@@ -60,6 +80,16 @@ pub type Tickets = Sequence<Ticket>;
 pub struct Case {
     pub txn: Txn,
     pub ticket: Option<Ticket>,
+}
+
+impl Case {
+    /// Whether the other name is the same.
+    #[tactic(auto, using(crate::proofs::Equality::case_equality))]
+    pub fn is(&self, other: &Case) -> bool
+        ensures { result ≡ same_case self.now other.now }
+    {
+        self == other
+    }
 }
 
 /// The equality of names, in code and as the keys of a map, is that of the definitions.

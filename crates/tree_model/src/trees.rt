@@ -123,6 +123,21 @@ impl Tree {
         &self.entries
     }
 
+    /// The first entry of a process, if it is listed.
+    #[tactic(auto, unfolding(crate::specs::Names::same_process))]
+    pub fn entry(&self, id: ProcessId) -> Option<&TreeEntry>
+        ensures { option_copied result ≡ find (λ e. same_process e.id id) self.now }
+    {
+        entry_of(&self.entries, id)
+    }
+
+    /// Whether a process is listed.
+    pub fn is_listed(&self, id: ProcessId) -> bool
+        ensures { result ≡ is_listed_in self.now id }
+    {
+        is_listed(&self.entries, id)
+    }
+
     /// Whether the processes are a tree. It takes no memory. The faults are looked for in this order: Empty, TooMany,
     /// TwoParents, Unknown, Cycle, Roots, ManagerWithChildren, TooDeep; the first is answered.
     pub fn check(&self) -> Result<(), TreeError>
