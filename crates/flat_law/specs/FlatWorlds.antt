@@ -1,5 +1,5 @@
 -- A flat tree that runs: a root and plain leaves, the messages ever sent, and the journal. What each event makes of it.
-use Rattle.std.specs.Prelude.{◌≡◌, ◌⊎◌, ◌+◌, ℕ, zero, suc, Bool, true, false, if◌then◌else◌, Option, Some, None, IsNone, is_some, List, [], ◌∷◌, ◌++◌, length, slice_get, slice_set, map, take}
+use Rattle.std.specs.Prelude.{◌≡◌, ◌⊎◌, ◌+◌, ℕ, zero, suc, Bool, true, false, Option, Some, None, IsNone, is_some, List, [], ◌∷◌, ◌++◌, slice_get, slice_set, map, take}
 use Rattle.tree_model.specs.declared.names.ProcessId.{ProcessId}
 use Rattle.tree_model.specs.declared.messages.Message.{Message}
 use Rattle.tree_model.specs.declared.messages.Envelope.{Envelope}

@@ -1,10 +1,5 @@
-//! A flat tree that runs.
+//! What a root and plain leaves make of each event is a run of the model. The functions do nothing: each one's
+//! contract is a law.
 #![tactic(auto)]
 
-ghost use Rattle.flat_law.specs.FlatWorlds.{FlatState};
-ghost use Rattle.std.specs.Prelude.{◌≡◌};
-
-/// Nothing.
-pub fn nothing()
-    ensures { (w : FlatState) → w ≡ w }
-{}
+pub mod law;

@@ -36,11 +36,11 @@ use Rattle.tree_model.proofs.ListLaws.{memory_of-after, kept-after}
 abbrev pub marks : Branch → Mark → List Record → Mark
 marks b m rs = fold (mark_after b) m rs
 
-mark_of-append : (b : Branch) (xs ys : List Record) → mark_of b (xs ++ ys) ≡ marks b (mark_of b xs) ys
+pub mark_of-append : (b : Branch) (xs ys : List Record) → mark_of b (xs ++ ys) ≡ marks b (mark_of b xs) ys
 unfolding mark_of
 mark_of-append b xs ys = fold-append _ _ xs ys
 
-boot_of-append : (xs ys : List Record) → boot_of (xs ++ ys) ≡ fold boot_after (boot_of xs) ys
+pub boot_of-append : (xs ys : List Record) → boot_of (xs ++ ys) ≡ fold boot_after (boot_of xs) ys
 unfolding boot_of
 boot_of-append xs ys = fold-append _ _ xs ys
 
@@ -114,7 +114,7 @@ active_writes : (b : Bool) (r q : LeafRow) → entries_written r.written ≡ [] 
 active_writes true r q h k = h
 active_writes false r q h k = k
 
-work_writes : (i : ℕ) (does : Bool) (v : ManagerView) (s : Standing) → entries_written (leaf.on_work i does v s).written ≡ []
+pub work_writes : (i : ℕ) (does : Bool) (v : ManagerView) (s : Standing) → entries_written (leaf.on_work i does v s).written ≡ []
 work_writes i does v Active = active_writes ((i == v.done + 1) && not v.spoiled) (leaf.unmoved (if does then record v { done = i } else record v { spoiled = true })) (leaf.unmoved v) refl refl
 work_writes i does v Unknown = refl
 work_writes i does v Collecting = refl
@@ -171,7 +171,7 @@ prepares_own l (Holds ws) = record { boot = λ b. refl; others = λ c mark o. rw
 quiet_own : (l : Leaf) (row : LeafRow) → row.written ≡ [] → IsOwn l row
 quiet_own l row h = record { boot = λ b. rw h refl; others = λ c mark o. rw h refl }
 
-prepare_own : (l : Leaf) (i : ℕ) (holding : Holding) (v : ManagerView) (s : Standing) → IsOwn l (leaf.on_prepare l i holding v s)
+pub prepare_own : (l : Leaf) (i : ℕ) (holding : Holding) (v : ManagerView) (s : Standing) → IsOwn l (leaf.on_prepare l i holding v s)
 prepare_own l i holding v Active = choice_own l _ _ ((v.done == i) && not v.spoiled) (prepares_own l holding) (quiet_own l _ refl)
 prepare_own l i holding v Unknown = quiet_own l _ refl
 prepare_own l i holding v Collecting = quiet_own l _ refl
@@ -221,7 +221,7 @@ heuristic_own : (l : Leaf) (o : Outcome) (v : ManagerView) (told : Option Outcom
 heuristic_own l o v None = record { boot = λ b. refl; others = λ c mark q. rw (other_branch l.own c q) refl }
 heuristic_own l o v (Some told) = choice_own l _ _ (same_outcome told o) (quiet_own l _ refl) (quiet_own l _ refl)
 
-commit_own : (l : Leaf) (v : ManagerView) (s : Standing) → IsOwn l (leaf.on_commit l v s)
+pub commit_own : (l : Leaf) (v : ManagerView) (s : Standing) → IsOwn l (leaf.on_commit l v s)
 commit_own l v Prepared = outcome_own l CommittedOutcome
 commit_own l v Heuristic = heuristic_own l CommittedOutcome v v.told
 commit_own l v Unknown = quiet_own l _ refl
@@ -249,7 +249,7 @@ abort_moves l m Decided = rw (same_branch-refl l.own) refl
 abort_moves l m (ToldOf told) = told_again l (closes (retires m l.own) m.phase) AbortedOutcome told (same_outcome told AbortedOutcome)
 abort_moves l m Finished = refl
 
-abort_own : (l : Leaf) (v : ManagerView) (s : Standing) → IsOwn l (leaf.on_abort l v s)
+pub abort_own : (l : Leaf) (v : ManagerView) (s : Standing) → IsOwn l (leaf.on_abort l v s)
 abort_own l v Prepared = outcome_own l AbortedOutcome
 abort_own l v Heuristic = heuristic_own l AbortedOutcome v v.told
 abort_own l v Unknown = quiet_own l _ refl
@@ -313,20 +313,20 @@ same_gives : (m r : Memory) (b : Bool) → givens_of r ≡ givens_of m → given
 same_gives m r true h = h
 same_gives m r false h = refl
 
-works_gives : (m : Memory) (i : ℕ) (does : Bool) (phase : Phase) → givens_of (works m i does phase) ≡ givens_of m
+pub works_gives : (m : Memory) (i : ℕ) (does : Bool) (phase : Phase) → givens_of (works m i does phase) ≡ givens_of m
 works_gives m i does Idle = refl
 works_gives m i true Open = same_gives m (record m { done = i }) ((i == m.done + 1) && not m.spoiled) refl
 works_gives m i false Open = same_gives m (record m { spoiled = true }) ((i == m.done + 1) && not m.spoiled) refl
 works_gives m i does Asked = refl
 works_gives m i does Over = refl
 
-closes_gives : (m : Memory) (phase : Phase) → givens_of (closes m phase) ≡ givens_of m
+pub closes_gives : (m : Memory) (phase : Phase) → givens_of (closes m phase) ≡ givens_of m
 closes_gives m Idle = refl
 closes_gives m Open = refl
 closes_gives m Asked = refl
 closes_gives m Over = refl
 
-hears_gives : (me : ProcessId) (boot : ℕ) (c : Case) (m : Memory) (a : DataAnswer) (message : Message)
+pub hears_gives : (me : ProcessId) (boot : ℕ) (c : Case) (m : Memory) (a : DataAnswer) (message : Message)
     → givens_of (manager_hears me boot c m a message) ≡ gives_next me boot (givens_of m) a message
 hears_gives me boot c m a (Join d) = started_gives m _ _ a.starts (joined_gives me boot c d m (active_ticket m.active d))
 hears_gives me boot c m a (Work d i op) = same_gives m _ (same_case d c) (works_gives m i a.does m.phase)
@@ -340,7 +340,7 @@ hears_gives me boot c m a (Commit d) = refl
 hears_gives me boot c m a (Ack d o) = refl
 hears_gives me boot c m a (Inquire d) = refl
 
-remembers_gives : (me p : ProcessId) (boot : ℕ) (c : Case) (m : Memory) (a : DataAnswer) (i : Input)
+pub remembers_gives : (me p : ProcessId) (boot : ℕ) (c : Case) (m : Memory) (a : DataAnswer) (i : Input)
     → givens_of (manager_remembers me boot c m a i) ≡ gives_heard me boot (givens_of m) a i
 remembers_gives me p boot c m a (ActInput x) = refl
 remembers_gives me p boot c m a (MessageInput k message) = hears_gives me boot c m a message
@@ -352,7 +352,7 @@ fold_gives me p boot c m (h ∷ hs) =
     fold_gives me p boot c (remembers me (AtLeaf p) boot c m h) hs
     ∙ ap (λ g. fold (λ g' h'. gives_heard me boot g' h'.data_answer h'.input) g hs) (remembers_gives me p boot c m h.data_answer h.input)
 
-same_givens : (me p : ProcessId) (tree : List TreeEntry) (n : Node) (c d : Case)
+pub same_givens : (me p : ProcessId) (tree : List TreeEntry) (n : Node) (c d : Case)
     → givens_of (memory_of (leaf_place me p tree) n c) ≡ givens_of (memory_of (leaf_place me p tree) n d)
 unfolding memory_of
 same_givens me p tree n c d =
@@ -361,7 +361,7 @@ same_givens me p tree n c d =
 -- JOIN
 
 -- the view of a case after an effect that writes nothing
-quiet-after : (place : Place) (n : Node) (h : Heard) (e : Effect) (c : Case) → e.written ≡ []
+pub quiet-after : (place : Place) (n : Node) (h : Heard) (e : Effect) (c : Case) → e.written ≡ []
     → manager_view place (after n h e) c
     ≡ marked_branch (remembers place.me place.role (boot_of (kept n)) c (memory_of place n c) h) (mark_of (CaseBranch c) (kept n))
 unfolding manager_view

@@ -104,15 +104,15 @@ module _ (me : ProcessId) (tree : List TreeEntry) (n : Node) (x : Txn) where
       }
 
   -- from the view's standing to the lists
-  stands_as : (s : Standing) → (coordinator_view place n c).standing ≡ s → standing_with x.presumption rs c m ≡ s
+  pub stands_as : (s : Standing) → (coordinator_view place n c).standing ≡ s → standing_with x.presumption rs c m ≡ s
   unfolding coordinator_view
   stands_as s h = sym (view_standing (coordinator_standing rs c m) rs c m) ∙ h
 
-  seen_as : (s : Standing) → standing_with x.presumption rs c m ≡ s → coordinator_view place n c ≡ view_at s rs c m
+  pub seen_as : (s : Standing) → standing_with x.presumption rs c m ≡ s → coordinator_view place n c ≡ view_at s rs c m
   unfolding coordinator_view
   seen_as s h = ap (λ q. view_at q rs c m) h
 
-  elsewhere : (y : Txn) (r w : Memory) → same_txn x y ≡ false → (if same_case c (root_case y) then r else w) ≡ w
+  pub elsewhere : (y : Txn) (r w : Memory) → same_txn x y ≡ false → (if same_case c (root_case y) then r else w) ≡ w
   elsewhere y r w o = rw (apart_case x y o) refl
 
   -- the commit act
@@ -307,12 +307,12 @@ module _ (me : ProcessId) (tree : List TreeEntry) (n : Node) (x : Txn) where
 
   -- votes
 
-  vote_memory : (k : ℕ) (t : Ticket) (w : Vote) → root_remembers me boot c m (MessageInput k (vote_message w (child_case x t))) ≡ takes_vote m t w m.phase
+  pub vote_memory : (k : ℕ) (t : Ticket) (w : Vote) → root_remembers me boot c m (MessageInput k (vote_message w (child_case x t))) ≡ takes_vote m t w m.phase
   vote_memory k t VoteYes = rw (same_txn-refl x) refl
   vote_memory k t VoteNo = rw (same_txn-refl x) refl
   vote_memory k t VoteRead = rw (same_txn-refl x) refl
 
-  vote_elsewhere : (k : ℕ) (t : Ticket) (w : Vote) (y : Txn) → same_txn x y ≡ false
+  pub vote_elsewhere : (k : ℕ) (t : Ticket) (w : Vote) (y : Txn) → same_txn x y ≡ false
       → root_remembers me boot (root_case y) (memory_of place n (root_case y)) (MessageInput k (vote_message w (child_case x t))) ≡ memory_of place n (root_case y)
   vote_elsewhere k t VoteYes y o = rw o refl
   vote_elsewhere k t VoteNo y o = rw o refl
@@ -417,10 +417,10 @@ module _ (me : ProcessId) (tree : List TreeEntry) (n : Node) (x : Txn) where
 
   -- acknowledgements
 
-  ack_memory : (k : ℕ) (t : Ticket) (o : Outcome) → root_remembers me boot c m (MessageInput k (Ack (child_case x t) o)) ≡ takes_ack m t o m.phase
+  pub ack_memory : (k : ℕ) (t : Ticket) (o : Outcome) → root_remembers me boot c m (MessageInput k (Ack (child_case x t) o)) ≡ takes_ack m t o m.phase
   ack_memory k t o = rw (same_txn-refl x) refl
 
-  ack_elsewhere : (k : ℕ) (t : Ticket) (o : Outcome) (y : Txn) → same_txn x y ≡ false
+  pub ack_elsewhere : (k : ℕ) (t : Ticket) (o : Outcome) (y : Txn) → same_txn x y ≡ false
       → root_remembers me boot (root_case y) (memory_of place n (root_case y)) (MessageInput k (Ack (child_case x t) o)) ≡ memory_of place n (root_case y)
   ack_elsewhere k t o y q = rw q refl
 
