@@ -21,6 +21,8 @@ pub mod LeafReacts
 pub mod FlatTrees
 pub mod Moves
 pub mod Worlds
+pub mod Faults
+pub mod RootLeft
 pub mod RootWorld
 pub mod LeafWorld
 pub mod ChildCases
