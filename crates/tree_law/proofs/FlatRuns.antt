@@ -6,7 +6,6 @@ use Rattle.tree_model.specs.Outcomes.{Agreement, CommitRule}
 use Rattle.tree_law.specs.Flat.{IsFlat, AreFlatMoves}
 use Rattle.tree_law.proofs.Runs.{run_holds}
 use Rattle.tree_law.proofs.Agreements as clauses
-use Rattle.tree_law.proofs.RootLeft.{fails_left}
 
 pub agreement : (tree : List TreeEntry) (es : List Made) (w : World) → IsFlat tree → IsRun tree es w
     → AreFlatMoves es → Agreement tree w

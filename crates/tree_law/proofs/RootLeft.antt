@@ -1,5 +1,5 @@
 -- What an input leaves of the root, whether its device failed in it or not.
-use Rattle.std.proofs.Common.{◌≡◌, ◌∙◌, ap, sym, ℕ, Bool, true, false, ◌||◌, ◌⊎◌, inl, inr, Option, Some, None, List, [], ◌∷◌, ◌++◌, refl, arith}
+use Rattle.std.proofs.Common.{◌≡◌, ◌∙◌, ap, sym, ℕ, Bool, true, false, ◌||◌, ◌⊎◌, inl, inr, Option, Some, None, List, [], ◌∷◌, refl, arith}
 use Rattle.std.specs.List.{list_any}
 use Rattle.tree_model.specs.declared.names.Case.{Case}
 use Rattle.tree_model.specs.declared.names.ProcessId.{ProcessId}
@@ -11,62 +11,32 @@ use Rattle.tree_model.specs.declared.messages.Envelope.{Envelope}
 use Rattle.tree_model.specs.declared.records.Record.{Record}
 use Rattle.tree_model.specs.declared.events.Input.{Input}
 use Rattle.tree_model.specs.declared.events.Told.{Told}
-use Rattle.tree_model.specs.Names.{same_process, root_case, child_case, process_of}
+use Rattle.tree_model.specs.Names.{root_case, child_case}
 use Rattle.tree_model.specs.Records.{has, is_commit, is_abort}
-use Rattle.tree_model.specs.Nodes.{Place, Node, kept, Heard, Effect, told_first, after, fails_in}
-use Rattle.tree_model.specs.Memory.{Over, memory_of}
+use Rattle.tree_model.specs.Nodes.{Place, Node, Heard, Effect, told_first, after, fails_in}
 use Rattle.tree_model.specs.Outcomes.{has_accepted, has_heard_vote, is_consent, is_told_aborted}
-use Rattle.tree_law.proofs.CaseMoves.{CaseReading, CaseHolds, IsAbortedCase, is_begun}
+use Rattle.tree_law.proofs.CaseMoves.{IsAbortedCase, is_begun}
 use Rattle.tree_law.proofs.RootReading.{reading}
-use Rattle.tree_law.proofs.RootSteps.{AllHold, AllSound, IsSound, IsAborted}
+use Rattle.tree_law.proofs.RootSteps.{AllHold, AllSound, IsSound}
 use Rattle.tree_law.proofs.Consents.{Consents, RootReacts}
 use Rattle.tree_law.proofs.LeafSteps.{HasPromised}
+use Rattle.tree_law.proofs.Ends.{CaseEnds, ends, NeverCommits, IsLeft, AllLeft}
 use Rattle.tree_law.proofs.Worlds.{life_after, promise_after, dropped_after}
 use Rattle.tree_law.proofs.Faults.{failed_life, failed_durable, life_stays, durable_stays, promise_stays}
-
--- what holds of a case even where the root has failed
-pub record CaseEnds (r : CaseReading) : Type 0 where
-  pub committed_is_own : r.committed ≡ true → r.is_own ≡ true
-  pub committed_is_not_aborted : r.committed ≡ true → r.aborted ≡ false
-  pub committed_has_consents : r.committed ≡ true → r.took_part ≡ true → r.consented ≡ true
-
-pub ends : (r : CaseReading) → CaseHolds r → CaseEnds r
-ends r h = record {
-  committed_is_own = λ c. h.begun_is_own (h.committed_is_begun c);
-  committed_is_not_aborted = h.committed_is_not_aborted;
-  committed_has_consents = h.committed_has_consents;
-}
-
--- the root's transaction did not commit, and never will: it is over, or the root has failed
-pub record NeverCommits (place : Place) (n : Node) (x : Txn) : Type 0 where
-  pub is_own : same_process x.root place.me ≡ true
-  pub not_committed : has (is_commit (root_case x)) n.durable ≡ false
-  pub no_more : (n.failed ≡ true) ⊎ ((memory_of place n (root_case x)).phase ≡ Over)
-
--- what a message that the root sent says
-abbrev pub IsLeft : Place → Node → ProcessId → Message → Type 0
-IsLeft place n q (Join d) = Unit {0}
-IsLeft place n q (Work d i op) = Unit {0}
-IsLeft place n q (Prepare d k) = process_of d ≡ q
-IsLeft place n q (Commit d) = has (is_commit (root_case d.txn)) n.durable ≡ true
-IsLeft place n q (Abort d) = NeverCommits place n d.txn
-IsLeft place n q _ = ⊥
-
-abbrev pub AllLeft : Place → Node → List Envelope → Type 0
-AllLeft place n [] = Unit {0}
-AllLeft place n (l ∷ ls) = IsLeft place n l.to l.message × AllLeft place n ls
 
 -- the root was left so, and sent these
 pub record RootLeft (place : Place) (n k : Node) (ls : List Envelope) (i : Input) : Type 0 where
   pub cases : k.failed ≡ false → AllHold place k
   pub ended : (x : Txn) (t : Ticket) → CaseEnds (reading place k x t)
-  pub commits : (x : Txn) → has (is_commit (root_case x)) n.durable ≡ true → has (is_commit (root_case x)) k.durable ≡ true
+  pub commits : (x : Txn) → has (is_commit (root_case x)) n.durable ≡ true
+      → has (is_commit (root_case x)) k.durable ≡ true
   pub aborts : (x : Txn) → NeverCommits place n x → NeverCommits place k x
   pub promises : (c : Case) → HasPromised c n → HasPromised c k
   pub writes : (t : Record → Bool) → has t n.life ≡ true → has t k.life ≡ true
   pub consents : (x : Txn) (t : Ticket) → has_heard_vote k (root_case x) t is_consent ≡ true
       → (has_heard_vote n (root_case x) t is_consent ≡ true) ⊎ Consents (child_case x t) i
-  pub accepts : (x : Txn) (u t : Ticket) → has_accepted k (child_case x u) t ≡ true → has_accepted n (child_case x u) t ≡ true
+  pub accepts : (x : Txn) (u t : Ticket) → has_accepted k (child_case x u) t ≡ true
+      → has_accepted n (child_case x u) t ≡ true
   pub dropped : k.dropped ≡ n.dropped
   pub letters : AllLeft place k ls
 
@@ -84,7 +54,8 @@ told_fewer : (a : Bool) (q : Told → Bool) (o : Option Told) (ts : List Told)
 told_fewer a q None ts e = e
 told_fewer a q (Some t) ts e = less a (q t) (list_any q ts) e
 
-module _ (place : Place) (n : Node) (h : Heard) (e : Effect) (r : RootReacts place n h e) (up : n.failed ≡ false) (holds : AllHold place n) where
+module _ (place : Place) (n : Node) (h : Heard) (e : Effect) (r : RootReacts place n h e)
+    (up : n.failed ≡ false) (holds : AllHold place n) where
   abbrev any : Ticket
   any = record { child = place.me; boot = 0; number = 0 }
 
@@ -95,7 +66,8 @@ module _ (place : Place) (n : Node) (h : Heard) (e : Effect) (r : RootReacts pla
     | inr p ↦ record { is_over = p; not_committed = c.not_committed }
   ]
 
-  left_letter : (q : ProcessId) (m : Message) → IsSound place (after n h e) q m → IsLeft place (after n h e) q m
+  left_letter : (q : ProcessId) (m : Message) → IsSound place (after n h e) q m
+      → IsLeft place (after n h e) q m
   left_letter q (Join d) s = tt
   left_letter q (Work d i op) s = tt
   left_letter q (Prepare d k) s = s
@@ -139,7 +111,8 @@ module _ (place : Place) (n : Node) (h : Heard) (e : Effect) (r : RootReacts pla
     lost = fails_in n h e a f
 
     -- a Commit that came into the forced front would have come into it
-    committed_too : (x : Txn) → has (is_commit (root_case x)) lost.durable ≡ true → has (is_commit (root_case x)) (after n h e).durable ≡ true
+    committed_too : (x : Txn) → has (is_commit (root_case x)) lost.durable ≡ true
+        → has (is_commit (root_case x)) (after n h e).durable ≡ true
     committed_too x c = elim (failed_durable (is_commit (root_case x)) n h e a f c) [
       | inl old ↦ (r.step.cases x any).commits old
       | inr other ↦ elim other [
@@ -154,8 +127,11 @@ module _ (place : Place) (n : Node) (h : Heard) (e : Effect) (r : RootReacts pla
         record {
           committed_is_own = λ c. g.committed_is_own (committed_too x c);
           committed_is_not_aborted = λ c.
-              told_or (has (is_abort (root_case x)) lost.life) (has (is_abort (root_case x)) (after n h e).life) (list_any (is_told_aborted x) n.told)
-              (failed_life (is_abort (root_case x)) n h e a f) (told_fewer _ (is_told_aborted x) e.told n.told (g.committed_is_not_aborted (committed_too x c)));
+              told_or (has (is_abort (root_case x)) lost.life)
+              (has (is_abort (root_case x)) (after n h e).life) (list_any (is_told_aborted x) n.told)
+              (failed_life (is_abort (root_case x)) n h e a f)
+              (told_fewer _ (is_told_aborted x) e.told n.told
+              (g.committed_is_not_aborted (committed_too x c)));
           committed_has_consents = λ c. g.committed_has_consents (committed_too x c);
         }
 
@@ -166,7 +142,9 @@ module _ (place : Place) (n : Node) (h : Heard) (e : Effect) (r : RootReacts pla
       commits = λ x c. durable_stays (is_commit (root_case x)) n h e a f c;
       aborts = λ x c. record {
         is_own = c.is_own;
-        not_committed = not_both (has (is_commit (root_case x)) lost.durable) (has (is_commit (root_case x)) (after n h e).durable) true
+        not_committed =
+            not_both (has (is_commit (root_case x)) lost.durable)
+            (has (is_commit (root_case x)) (after n h e).durable) true
             (committed_too x) ((r.step.cases x any).aborts (over x c)).not_committed;
         no_more = inl refl;
       };
