@@ -19,7 +19,6 @@ use Rattle.tree_model.specs.Nodes.{Role, AtRoot, AtLeaf, role_of, Node, is_liste
 use Rattle.tree_model.specs.Outcomes.{Agreement, CommitRule, TakesPart, at_root, below, IsAcceptor, by_root, by_ticket, Ends, EndsIn, DiesUnprepared, root_ends, manager_ends, follows, outcome_of, is_commit_outcome, has_accepted, has_heard_vote, is_consent, sent, is_yes_message, is_told_aborted}
 use Rattle.tree_model.specs.World.{World}
 use Rattle.tree_law.specs.Flat.{is_flat_entry}
-use Rattle.tree_law.proofs.CaseMoves.{is_begun}
 use Rattle.tree_law.proofs.RootActs.{told_same}
 use Rattle.tree_law.proofs.LeafSteps.{HasPromised}
 use Rattle.tree_law.proofs.FlatTrees.{IsManager, role_in}
@@ -112,11 +111,10 @@ module _ (tree : List TreeEntry) (root : ProcessId) (flat : list_all (is_flat_en
   committed_here x s = ap (λ (z : ProcessId). has (is_commit (root_case x)) (w.at z).durable) s
 
   own_txn : (x : Txn) (t : Ticket) → IsCommitted root w x → x.root ≡ root
-  own_txn x t c = let f = holds.cases x t in same_is x.root root (f.begun_is_own (f.committed_is_begun c))
+  own_txn x t c = same_is x.root root ((holds.ended x t).committed_is_own c)
 
   aborted_txn : (x : Txn) (t : Ticket) → HasAborted tree root w x → x.root ≡ root
-  aborted_txn x t a = let f =
-      holds.cases x t in same_is x.root root (f.begun_is_own (ap is_begun a.is_over))
+  aborted_txn x t a = same_is x.root root a.is_own
 
   root_by : (x : Txn) (o : Outcome) → x.root ≡ root → root_ends (w.at root) x o ≡ true → o ≡ outcome_of w x
   root_by x CommittedOutcome s e = sym (outcome_is true w x (committed_here x s ∙ e))
@@ -127,7 +125,7 @@ module _ (tree : List TreeEntry) (root : ProcessId) (flat : list_all (is_flat_en
       sym (outcome_is false w x (committed_here x s
       ∙ no_abort (has (is_abort (root_case x)) (w.at root).life)
       (list_any (is_told_aborted x) (w.at root).told) _ _ e none
-      (holds.cases x t).committed_is_not_aborted))
+      (holds.ended x t).committed_is_not_aborted))
 
   opened_ends : (x : Txn) (o : Outcome) → w.at x.root ≡ opened_node → root_ends (w.at x.root) x o ≡ true
       → o ≡ outcome_of w x
@@ -156,7 +154,7 @@ module _ (tree : List TreeEntry) (root : ProcessId) (flat : list_all (is_flat_en
       → has_heard_vote (w.at x.root) (root_case x) t is_consent ≡ true
   consented x t c a =
       let s = root_accepted x t a in
-      let f = holds.cases x t in
+      let f = holds.ended x t in
       subst (λ (z : ProcessId). has_heard_vote (w.at z) (root_case x) t is_consent ≡ true) (sym s)
       (f.committed_has_consents (sym (committed_here x s) ∙ c)
       (subst (λ (z : ProcessId). has_accepted (w.at z) (root_case x) t ≡ true) s a))

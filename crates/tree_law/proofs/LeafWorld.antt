@@ -1,5 +1,5 @@
 -- A step of a manager keeps what holds of the world.
-use Rattle.std.proofs.Common.{◌≡◌, ◌∙◌, ap, sym, subst, true, inl, inr, List, [], ◌∷◌, ◌++◌}
+use Rattle.std.proofs.Common.{◌≡◌, ◌∙◌, ap, sym, subst, true, inl, inr, List, [], ◌∷◌, ◌++◌, false}
 use Rattle.tree_model.specs.declared.names.Case.{Case}
 use Rattle.tree_model.specs.declared.names.ProcessId.{ProcessId}
 use Rattle.tree_model.specs.declared.messages.Message.{Message}
@@ -10,14 +10,15 @@ use Rattle.tree_model.specs.declared.events.Input.TheVariants.{Act as ActInput, 
 use Rattle.tree_model.specs.declared.trees.TreeEntry.{TreeEntry}
 use Rattle.tree_model.specs.Names.{root_case}
 use Rattle.tree_model.specs.Records.{has, is_committed, is_rolled_back}
-use Rattle.tree_model.specs.Nodes.{Node, Heard, Effect, after, is_listed}
+use Rattle.tree_model.specs.Nodes.{Node, is_listed}
 use Rattle.tree_model.specs.Outcomes.{has_heard_vote, is_consent}
 use Rattle.tree_model.specs.World.{World, put_at}
-use Rattle.tree_law.proofs.LeafSteps.{HasPromised, OpenHavePromised, IsFair, AllFair, LeafStep}
+use Rattle.tree_law.proofs.LeafSteps.{HasPromised, OpenHavePromised, IsFair, AllFair}
 use Rattle.tree_law.proofs.LeafReacts.{IsFor}
+use Rattle.tree_law.proofs.LeafLeft.{LeafLeft}
 use Rattle.tree_law.proofs.FlatTrees.{IsManager}
 use Rattle.tree_law.proofs.RootWorld.{IsHeard, node_is, sent_more, apart_if}
-use Rattle.tree_law.proofs.Worlds.{WorldHolds, Grows, IsTrue, AllTrue, IsCommitted, HasAborted, all_append, all_stay, consent_stays, life_after, promise_after, at_own, at_other}
+use Rattle.tree_law.proofs.Worlds.{WorldHolds, Grows, IsTrue, AllTrue, IsCommitted, HasAborted, all_append, all_stay, consent_stays, at_own, at_other}
 
 -- a PREPARE that comes is for its process
 pub is_for : (tree : List TreeEntry) (root : ProcessId) (w : World) (q : ProcessId) (i : Input)
@@ -36,13 +37,10 @@ is_for tree root w q (MessageInput k (Abort d)) h = tt
 is_for tree root w q (MessageInput k (Ack d o)) h = tt
 
 module _ (tree : List TreeEntry) (root : ProcessId) (w : World) (holds : WorldHolds tree root w)
-    (q : ProcessId) (manager : IsManager root tree q) (h : Heard) (m : Message) (e : Effect)
-    (step : LeafStep q (w.at q) h m e) where
-  abbrev node : Node
-  node = after (w.at q) h e
-
+    (q : ProcessId) (manager : IsManager root tree q) (m : Message) (node : Node) (ls : List Envelope)
+    (step : LeafLeft q (w.at q) node m ls) where
   abbrev then : World
-  then = record { at = put_at q node w.at; net = w.net ++ e.letters }
+  then = record { at = put_at q node w.at; net = w.net ++ ls }
 
   root_stays : then.at root ≡ w.at root
   root_stays = at_other q root node w.at manager.elsewhere
@@ -52,10 +50,10 @@ module _ (tree : List TreeEntry) (root : ProcessId) (w : World) (holds : WorldHo
     commits = λ x c. rw root_stays c;
     aborts = λ x b. rw root_stays b;
     promises = λ r c p. node_is (λ n. HasPromised c n) q r node w
-        (λ s. promise_after c (w.at q) h e (subst (λ z. HasPromised c (w.at z)) (sym s) p)) (λ o. p);
+        (λ s. step.promises c (subst (λ z. HasPromised c (w.at z)) (sym s) p)) (λ o. p);
     writes = λ r t f. node_is (λ n. has t n.life ≡ true) q r node w
-        (λ s. life_after t (w.at q) h e (subst (λ z. has t (w.at z).life ≡ true) (sym s) f)) (λ o. f);
-    sends = λ t f. sent_more t w.net e.letters f;
+        (λ s. step.writes t (subst (λ z. has t (w.at z).life ≡ true) (sym s) f)) (λ o. f);
+    sends = λ t f. sent_more t w.net ls f;
   }
 
   fair_true : (r : ProcessId) (a : Message) → IsFair q node a → IsTrue tree root then r a
@@ -72,9 +70,9 @@ module _ (tree : List TreeEntry) (root : ProcessId) (w : World) (holds : WorldHo
   fair_true r (Abort d) f = absurd f
   fair_true r (Inquire d) f = f
 
-  all_fair_true : (ls : List Envelope) → AllFair q node ls → AllTrue tree root then ls
+  all_fair_true : (ms : List Envelope) → AllFair q node ms → AllTrue tree root then ms
   all_fair_true [] f = tt
-  all_fair_true (l ∷ ls) f = (fair_true l.to l.message f.0, all_fair_true ls f.1)
+  all_fair_true (l ∷ ms) f = (fair_true l.to l.message f.0, all_fair_true ms f.1)
 
   commit_heard : (c : Case) → IsTrue tree root w q m → m ≡ Commit c → IsCommitted root w c.txn
   commit_heard c t s = subst (λ (z : Message). IsTrue tree root w q z) s t
@@ -84,12 +82,14 @@ module _ (tree : List TreeEntry) (root : ProcessId) (w : World) (holds : WorldHo
 
   pub leaf_keeps : is_listed tree q ≡ true → IsTrue tree root w q m → WorldHolds tree root then
   leaf_keeps listed true' = record {
-    cases = λ x t. rw root_stays (holds.cases x t);
+    cases = λ u. rw root_stays (holds.cases (ap (λ (n : Node). n.failed) (sym root_stays) ∙ u));
+    ended = λ x t. rw root_stays (holds.ended x t);
     consents = λ x t f.
         consent_stays tree root w then leaf_grows x t
         (holds.consents x t (ap (λ (n : Node). has_heard_vote n (root_case x) t is_consent) (sym root_stays)
         ∙ f));
-    promises = λ r k. node_is OpenHavePromised q r node w (λ s. step.left_open) (λ o. holds.promises r k);
+    promises = λ r k. node_is (λ n. n.failed ≡ false → OpenHavePromised n) q r node w (λ s. step.left_open)
+        (λ o. holds.promises r k);
     commits = λ r c k f.
         leaf_grows.commits c.txn (node_is
         (λ n. has (is_committed c) n.life ≡ true → IsCommitted root w c.txn) q r node w
@@ -102,12 +102,12 @@ module _ (tree : List TreeEntry) (root : ProcessId) (w : World) (holds : WorldHo
         (λ s g. elim (step.rolled_back c g)
         [ inl old ↦ holds.aborts q c manager old | inr now ↦ abort_heard c true' now ])
         (λ o g. holds.aborts r c k g) f);
-    net = all_append tree root then w.net e.letters (all_stay tree root w then leaf_grows w.net holds.net)
-        (all_fair_true e.letters step.letters);
+    net = all_append tree root then w.net ls (all_stay tree root w then leaf_grows w.net holds.net)
+        (all_fair_true ls step.letters);
     own_children = λ x u t. rw root_stays (holds.own_children x u t);
     root_accepts = λ r o. node_is (λ n. n.accepted ≡ []) q r node w
-        (λ s. rw step.accepts_none
-        (subst (λ (z : ProcessId). (w.at z).accepted ≡ []) (sym s) (holds.root_accepts r o)))
+        (λ s. step.accepted ∙ subst (λ (z : ProcessId). (w.at z).accepted ≡ []) (sym s)
+        (holds.root_accepts r o))
         (λ d. holds.root_accepts r o);
     none_dropped = ap (λ (n : Node). n.dropped) root_stays ∙ holds.none_dropped;
     unlisted = λ r l. at_other q r node w.at (apart_if q r tree listed l) ∙ holds.unlisted r l;

@@ -20,7 +20,11 @@ pub mod LeafRows
 pub mod LeafReacts
 pub mod FlatTrees
 pub mod Moves
+pub mod Ends
 pub mod Worlds
+pub mod Faults
+pub mod RootLeft
+pub mod LeafLeft
 pub mod RootWorld
 pub mod LeafWorld
 pub mod ChildCases

@@ -1,34 +1,41 @@
 -- What a flat move makes of the world, and what stands in the net.
-use Rattle.std.proofs.Common.{◌≡◌, ◌∙◌, ap, sym, ℕ, zero, suc, Bool, true, false, ◌||◌, ◌&&◌, Option, Some, None, List, [], ◌∷◌, ◌++◌, refl, if◌then◌else◌, arith}
-use Rattle.std.specs.Prelude.{slice_get, is_none}
+use Rattle.std.proofs.Common.{◌≡◌, ◌∙◌, ap, sym, ℕ, zero, suc, Bool, true, false, ◌||◌, ◌⊎◌, inl, inr, Option, Some, None, List, [], ◌∷◌, ◌++◌, refl, if◌then◌else◌, arith}
+use Rattle.std.specs.Prelude.{slice_get}
 use Rattle.tree_model.specs.declared.names.ProcessId.{ProcessId}
 use Rattle.tree_model.specs.declared.messages.Message.{Message}
 use Rattle.tree_model.specs.declared.messages.Envelope.{Envelope}
 use Rattle.tree_model.specs.declared.events.Input.{Input}
+use Rattle.tree_model.specs.declared.events.Input.TheVariants.{Act as ActInput, Message as MessageInput}
+use Rattle.tree_model.specs.declared.events.StepError.TheVariants.{Failed, NoSuch}
 use Rattle.tree_model.specs.declared.events.Happening.{Happening}
 use Rattle.tree_model.specs.declared.events.Happening.TheVariants.{Input as Handles, Restart, Trim}
 use Rattle.tree_model.specs.declared.events.Fault.{Fault}
 use Rattle.tree_model.specs.declared.trees.TreeEntry.{TreeEntry}
-use Rattle.tree_model.specs.Nodes.{Place, place_of, is_listed, Node, Heard, Effect, after}
-use Rattle.tree_model.specs.Reactions.{Reacts, Does, Refused, reacts}
+use Rattle.tree_model.specs.Nodes.{Place, place_of, is_listed, Node, Heard, DataAnswer, Effect, after, fails_in}
+use Rattle.tree_model.specs.Reactions.{Reacts, Does, Refused, reacts, acts, hears, act_is_listed}
 use Rattle.tree_model.specs.Outcomes.{sent}
-use Rattle.tree_model.specs.World.{World, Move, Stepped, Refuses, Makes, node_makes, world_makes, world_stepped, put_at, input_makes, happening_makes}
-use Rattle.tree_law.specs.Flat.{is_flat_happening, is_flat_input, is_flat_move}
+use Rattle.tree_model.specs.World.{World, Move, Stepped, Refuses, Makes, node_makes, world_makes, world_stepped, put_at, input_makes, happening_makes, fault_effect}
+use Rattle.tree_law.specs.Flat.{is_flat_happening, is_flat_input}
+
+-- a process after an input, or after one in which its device failed; and what it sent
+abbrev pub IsLeft : Node → Heard → Effect → Node → List Envelope → Type 0
+IsLeft n h e k ls =
+    ((k ≡ after n h e) × (ls ≡ e.letters)) ⊎ ((a : ℕ) × (f : ℕ) × (k ≡ fails_in n h e a f) × (ls ≡ []))
 
 -- the process handled an input, and the world is as it leaves it
-pub record Handled (tree : List TreeEntry) (w : World) (m : Move) (e : Effect) (w' : World) : Type 0 where
+pub record Handled (tree : List TreeEntry) (w : World) (m : Move) (w' : World) : Type 0 where
   pub listed : is_listed tree m.step.process ≡ true
   pub input : Input
+  pub effect : Effect
+  pub node : Node
+  pub letters : List Envelope
   pub handles : m.step.happening ≡ Handles input
   pub flat : is_flat_input input ≡ true
   pub reaction : reacts (place_of tree m.step.process) (w.at m.step.process)
-      (record { input = input; data_answer = m.data_answer }) ≡ Does e
-  pub world : w' ≡ record {
-    at =
-        put_at m.step.process (after (w.at m.step.process)
-        (record { input = input; data_answer = m.data_answer }) e) w.at;
-    net = w.net ++ e.letters;
-  }
+      (record { input = input; data_answer = m.data_answer }) ≡ Does effect
+  pub left : IsLeft (w.at m.step.process) (record { input = input; data_answer = m.data_answer }) effect
+      node letters
+  pub world : w' ≡ record { at = put_at m.step.process node w.at; net = w.net ++ letters }
 
 pair_same : {A B : Type 0} (d : A × B) (p q : A × B) → Some p ≡ Some q → p ≡ q
 pair_same d p q h = cc
@@ -36,33 +43,48 @@ pair_same d p q h = cc
 makes_same : (e f : Effect) (n k : Node) → Makes e n ≡ Makes f k → (e ≡ f) × (n ≡ k)
 makes_same e f n k h = (cc, cc)
 
+-- an input at one process, its effect, and what it left
+record Inputted (n : Node) (h : Heard) (r : Reacts) (e : Effect) (k : Node) : Type 0 where
+  does : Effect
+  reaction : r ≡ Does does
+  left : IsLeft n h does k e.letters
+
 input_made : (n : Node) (h : Heard) (f : Option Fault) (r : Reacts) (e : Effect) (k : Node)
-    → is_none f ≡ true
-    → input_makes n h f r ≡ Makes e k → (r ≡ Does e) × (k ≡ after n h e)
-input_made n h None (Refused x) e k o made = absurd (cc)
-input_made n h None (Does g) e k o made =
+    → input_makes n h f r ≡ Makes e k → Inputted n h r e k
+input_made n h None (Refused x) e k made = absurd (cc)
+input_made n h (Some f) (Refused x) e k made = absurd (cc)
+input_made n h None (Does g) e k made =
     let both = makes_same g e (after n h g) k made in
-    (ap (λ (x : Effect). Does x) both.0, sym both.1 ∙ ap (λ (x : Effect). after n h x) both.0)
-input_made n h (Some f) r e k o made = absurd (cc)
+    record { does = g; reaction = refl; left = inl (sym both.1, ap (λ (x : Effect). x.letters) (sym both.0)) }
+input_made n h (Some f) (Does g) e k made =
+    let both = makes_same (fault_effect g f.appended) e (fails_in n h g f.appended f.forced) k made in
+    record {
+      does = g;
+      reaction = refl;
+      left = inr (f.appended, f.forced, sym both.1, ap (λ (x : Effect). x.letters) (sym both.0));
+    }
 
 -- a happening at one process
-record Happened (place : Place) (n : Node) (m : Move) (hp : Happening) (e : Effect) (k : Node) : Type 0
-  where
-    input : Input
-    handles : hp ≡ Handles input
-    flat : is_flat_input input ≡ true
-    reaction : reacts place n (record { input = input; data_answer = m.data_answer }) ≡ Does e
-    left : k ≡ after n (record { input = input; data_answer = m.data_answer }) e
+record Happened (place : Place) (n : Node) (m : Move) (hp : Happening) (e : Effect) (k : Node) : Type 0 where
+  input : Input
+  handles : hp ≡ Handles input
+  flat : is_flat_input input ≡ true
+  done : Inputted n (record { input = input; data_answer = m.data_answer })
+      (reacts place n (record { input = input; data_answer = m.data_answer })) e k
 
 happened : (place : Place) (n : Node) (m : Move) (hp : Happening) (e : Effect) (k : Node)
-    → is_none m.step.fault ≡ true → is_flat_happening hp ≡ true
-    → happening_makes place n m hp ≡ Makes e k → Happened place n m hp e k
-happened place n m (Handles i) e k o f made =
+    → is_flat_happening hp ≡ true → happening_makes place n m hp ≡ Makes e k → Happened place n m hp e k
+happened place n m (Handles i) e k f made =
     let h : Heard = record { input = i; data_answer = m.data_answer } in
-    let both = input_made n h m.step.fault (reacts place n h) e k o made in
-    record { input = i; handles = refl; flat = f; reaction = both.0; left = both.1 }
-happened place n m (Restart j) e k o f made = absurd (cc)
-happened place n m Trim e k o f made = absurd (cc)
+    record {
+      input = i;
+      handles = refl;
+      flat = f;
+      done =
+          input_made n h m.step.fault (reacts place n h) e k made;
+    }
+happened place n m (Restart j) e k f made = absurd (cc)
+happened place n m Trim e k f made = absurd (cc)
 
 stepped_at : (w : World) (q : ProcessId) (s : Stepped) (e : Effect) (w' : World)
     → world_stepped w q s ≡ Some (e, w')
@@ -76,40 +98,52 @@ stepped_at w q (Makes f n) e w' h =
     ap (λ (p : Effect × World). p.1) same in (
       n,
       ap (λ x. Makes x n) fe,
-      sym we
-          ∙ ap (λ (x : Effect). record { at = put_at q n w.at; net = w.net ++ x.letters }) fe,
+      sym we ∙ ap (λ (x : Effect). record { at = put_at q n w.at; net = w.net ++ x.letters }) fe,
     )
-
-split : (a b : Bool) → (a && b) ≡ true → (a ≡ true) × (b ≡ true)
-split a b e = grind arith
 
 handled_if : (tree : List TreeEntry) (w : World) (m : Move) (e : Effect) (w' : World) (b : Bool)
     → is_listed tree m.step.process ≡ b
-    → is_flat_move (record { move = m; effect = e }) ≡ true
+    → is_flat_happening m.step.happening ≡ true
     → (if b then world_stepped w m.step.process
     (node_makes (place_of tree m.step.process) (w.at m.step.process) m) else None) ≡ Some (e, w')
-    → Handled tree w m e w'
+    → Handled tree w m w'
 unfolding node_makes
 handled_if tree w m e w' true l f h =
     let q = m.step.process in
     let at = stepped_at w q (node_makes (place_of tree q) (w.at q) m) e w' h in
-    let both = split (is_none m.step.fault) (is_flat_happening m.step.happening) f in
-    let hp = happened (place_of tree q) (w.at q) m m.step.happening e at.0 both.0 both.1 at.1 in
+    let hp = happened (place_of tree q) (w.at q) m m.step.happening e at.0 f at.1 in
     record {
       listed = l;
       input = hp.input;
+      effect = hp.done.does;
+      node = at.0;
+      letters = e.letters;
       handles = hp.handles;
       flat = hp.flat;
-      reaction = hp.reaction;
-      world = at.2 ∙ ap (λ (n : Node). record { at = put_at q n w.at; net = w.net ++ e.letters }) hp.left;
+      reaction = hp.done.reaction;
+      left = hp.done.left;
+      world = at.2;
     }
 handled_if tree w m e w' false l f h = absurd (cc)
 
 pub handled : (tree : List TreeEntry) (w : World) (m : Move) (e : Effect) (w' : World)
-    → is_flat_move (record { move = m; effect = e }) ≡ true → world_makes tree w m ≡ Some (e, w')
-    → Handled tree w m e w'
+    → is_flat_happening m.step.happening ≡ true → world_makes tree w m ≡ Some (e, w') → Handled tree w m w'
 unfolding world_makes
 handled tree w m e w' f h = handled_if tree w m e w' (is_listed tree m.step.process) refl f h
+
+-- a process that reacts is up
+up_by : (b f : Bool) (r : Reacts) (e : Effect)
+    → (if b then (if f then Refused Failed else r) else Refused NoSuch) ≡ Does e → f ≡ false
+up_by true false r e made = refl
+up_by true true r e made = absurd (cc)
+up_by false f r e made = absurd (cc)
+
+pub is_up : (place : Place) (n : Node) (i : Input) (a : DataAnswer) (e : Effect)
+    → reacts place n (record { input = i; data_answer = a }) ≡ Does e → n.failed ≡ false
+unfolding reacts
+is_up place n (ActInput b) a e made =
+    up_by (act_is_listed place.tree (ActInput b)) n.failed (acts place.role place n b) e made
+is_up place n (MessageInput k m) a e made = up_by true n.failed (Does (hears place.role place n a m)) e made
 
 -- a message that stands in the net was sent
 right : (a b : Bool) → b ≡ true → (a || b) ≡ true

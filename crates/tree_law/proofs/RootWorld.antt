@@ -12,17 +12,18 @@ use Rattle.tree_model.specs.declared.events.Input.TheVariants.{Act as ActInput, 
 use Rattle.tree_model.specs.declared.trees.TreeEntry.{TreeEntry}
 use Rattle.tree_model.specs.Names.{same_process, same_case, root_case, child_case, process_of}
 use Rattle.tree_model.specs.NameLaws.{same_process_tells, same_case-refl}
-use Rattle.tree_model.specs.Records.{has, is_commit, is_committed, is_rolled_back}
-use Rattle.tree_model.specs.Nodes.{Node, Heard, DataAnswer, Effect, after, is_listed}
+use Rattle.tree_model.specs.Records.{has, is_committed, is_rolled_back}
+use Rattle.tree_model.specs.Nodes.{Node, is_listed}
 use Rattle.tree_model.specs.Outcomes.{sent, has_accepted, has_heard_vote, is_consent, is_read_message}
 use Rattle.tree_model.specs.Views.{root_place}
 use Rattle.tree_model.specs.World.{World, put_at, InputStands}
 use Rattle.tree_law.proofs.Lists.{sent-append}
-use Rattle.tree_law.proofs.RootSteps.{IsAborted, IsSound, AllSound}
-use Rattle.tree_law.proofs.Consents.{RootReacts, Consents, AsksNothing}
+use Rattle.tree_law.proofs.Consents.{Consents, AsksNothing}
 use Rattle.tree_law.proofs.LeafSteps.{HasPromised}
 use Rattle.tree_law.proofs.Moves.{sent_at}
-use Rattle.tree_law.proofs.Worlds.{WorldHolds, Grows, IsTrue, AllTrue, IsCommitted, HasAborted, HasConsented, all_append, all_stay, consent_stays, true_at, life_after, promise_after, dropped_after, at_own, at_other}
+use Rattle.tree_law.proofs.Ends.{IsLeft, AllLeft}
+use Rattle.tree_law.proofs.RootLeft.{RootLeft}
+use Rattle.tree_law.proofs.Worlds.{WorldHolds, Grows, IsTrue, AllTrue, HasConsented, all_append, all_stay, consent_stays, true_at, at_own, at_other}
 
 other_way : (q r : ProcessId) → same_process q r ≡ false → same_process r q ≡ false
 other_way q r e = grind (arith, same_process_tells)
@@ -98,73 +99,53 @@ asks_nothing tree root w q (MessageInput k (Abort d)) h = tt
 asks_nothing tree root w q (MessageInput k (Ack d o)) h = tt
 
 module _ (tree : List TreeEntry) (root : ProcessId) (w : World) (holds : WorldHolds tree root w)
-    (i : Input) (a : DataAnswer) (e : Effect) where
-  abbrev heard : Heard
-  heard = record { input = i; data_answer = a }
-
-  abbrev node : Node
-  node = after (w.at root) heard e
-
+    (i : Input) (k : Node) (ls : List Envelope) where
   abbrev then : World
-  then = record { at = put_at root node w.at; net = w.net ++ e.letters }
+  then = record { at = put_at root k w.at; net = w.net ++ ls }
 
-  module _ (r : RootReacts (root_place root tree) (w.at root) heard e) where
-    any : Ticket
-    any = record { child = root; boot = 0; number = 0 }
-
-    commit_stays : (x : Txn) → IsCommitted root w x → has (is_commit (root_case x)) node.durable ≡ true
-    commit_stays x c = (r.step.cases x any).commits c
-
-    abort_stays : (x : Txn) → HasAborted tree root w x → IsAborted (root_place root tree) node x
-    abort_stays x b =
-        let c = (r.step.cases x any).aborts
-        (record { is_over = b.is_over; not_committed = b.not_committed }) in
-        record { is_over = c.is_over; not_committed = c.not_committed }
-
+  module _ (r : RootLeft (root_place root tree) (w.at root) k ls i) where
     root_grows : Grows tree root w then
     root_grows = record {
-      commits = λ x c. rw (at_own root node w.at) (commit_stays x c);
-      aborts = λ x b. rw (at_own root node w.at) (abort_stays x b);
-      promises = λ q c p. node_is (λ n. HasPromised c n) root q node w
-          (λ s. promise_after c (w.at root) heard e (subst (λ z. HasPromised c (w.at z)) (sym s) p))
-          (λ o. p);
-      writes = λ q t f. node_is (λ n. has t n.life ≡ true) root q node w
-          (λ s. life_after t (w.at root) heard e (subst (λ z. has t (w.at z).life ≡ true) (sym s) f))
-          (λ o. f);
-      sends = λ t f. sent_more t w.net e.letters f;
+      commits = λ x c. rw (at_own root k w.at) (r.commits x c);
+      aborts = λ x b. rw (at_own root k w.at) (r.aborts x b);
+      promises = λ q c p. node_is (λ n. HasPromised c n) root q k w
+          (λ s. r.promises c (subst (λ z. HasPromised c (w.at z)) (sym s) p)) (λ o. p);
+      writes = λ q t f. node_is (λ n. has t n.life ≡ true) root q k w
+          (λ s. r.writes t (subst (λ z. has t (w.at z).life ≡ true) (sym s) f)) (λ o. f);
+      sends = λ t f. sent_more t w.net ls f;
     }
 
-    sound_true : (q : ProcessId) (m : Message) → IsSound (root_place root tree) node q m
+    left_true : (q : ProcessId) (m : Message) → IsLeft (root_place root tree) k q m
         → IsTrue tree root then q m
-    sound_true q (Join d) s = tt
-    sound_true q (Work d j op) s = tt
-    sound_true q (Prepare d k) s = s
-    sound_true q (Commit d) s = rw (at_own root node w.at) s
-    sound_true q (Abort d) s = rw (at_own root node w.at) s
-    sound_true q (Joined d t) s = tt
-    sound_true q (Yes d) s = absurd s
-    sound_true q (No d) s = tt
-    sound_true q (Read d) s = tt
-    sound_true q (Ack d o) s = tt
-    sound_true q (Inquire d) s = s
+    left_true q (Join d) s = tt
+    left_true q (Work d j op) s = tt
+    left_true q (Prepare d j) s = s
+    left_true q (Commit d) s = rw (at_own root k w.at) s
+    left_true q (Abort d) s = rw (at_own root k w.at) s
+    left_true q (Joined d t) s = tt
+    left_true q (Yes d) s = absurd s
+    left_true q (No d) s = tt
+    left_true q (Read d) s = tt
+    left_true q (Ack d o) s = tt
+    left_true q (Inquire d) s = s
 
-    all_sound_true : (ls : List Envelope) → AllSound (root_place root tree) node ls
-        → AllTrue tree root then ls
-    all_sound_true [] s = tt
-    all_sound_true (l ∷ ls) s = (sound_true l.to l.message s.0, all_sound_true ls s.1)
+    all_left_true : (ms : List Envelope) → AllLeft (root_place root tree) k ms → AllTrue tree root then ms
+    all_left_true [] s = tt
+    all_left_true (l ∷ ms) s = (left_true l.to l.message s.0, all_left_true ms s.1)
 
     still : (q : ProcessId) → same_process root q ≡ false → then.at q ≡ w.at q
-    still q o = at_other root q node w.at o
+    still q o = at_other root q k w.at o
 
     -- the root's own step
     pub root_keeps : is_listed tree root ≡ true → IsHeard tree root w root i → InputStands w.net root i
         → WorldHolds tree root then
     root_keeps listed true' stands = record {
-      cases = λ x t. rw (at_own root node w.at) (r.step.cases x t).holds;
+      cases = λ u. rw (at_own root k w.at)
+          (r.cases (ap (λ (n : Node). n.failed) (sym (at_own root k w.at)) ∙ u));
+      ended = λ x t. rw (at_own root k w.at) (r.ended x t);
       consents = λ x t f.
-          let g : has_heard_vote node (root_case x) t is_consent ≡ true =
-          ap (λ (n : Node). has_heard_vote n (root_case x) t is_consent) (sym (at_own root node w.at))
-          ∙ f in
+          let g : has_heard_vote k (root_case x) t is_consent ≡ true =
+          ap (λ (n : Node). has_heard_vote n (root_case x) t is_consent) (sym (at_own root k w.at)) ∙ f in
           consent_stays tree root w then root_grows x t (elim (r.consents x t g) [
             | inl old ↦ holds.consents x t old
             | inr said ↦ consent_said tree root w root x t i true' stands said
@@ -178,12 +159,12 @@ module _ (tree : List TreeEntry) (root : ProcessId) (w : World) (holds : WorldHo
           root_grows.aborts c.txn (holds.aborts q c m
           (ap (λ (n : Node). has (is_rolled_back c) n.life)
           (sym (still q (other_way q root m.elsewhere))) ∙ f));
-      net = all_append tree root then w.net e.letters (all_stay tree root w then root_grows w.net holds.net)
-          (all_sound_true e.letters r.step.letters);
-      own_children = λ x u t. rw (at_own root node w.at)
-          (not_now (has_accepted node (child_case x u) t) (has_accepted (w.at root) (child_case x u) t)
+      net = all_append tree root then w.net ls (all_stay tree root w then root_grows w.net holds.net)
+          (all_left_true ls r.letters);
+      own_children = λ x u t. rw (at_own root k w.at)
+          (not_now (has_accepted k (child_case x u) t) (has_accepted (w.at root) (child_case x u) t)
           (r.accepts x u t) (holds.own_children x u t));
       root_accepts = λ q o. rw (still q (other_way q root o)) (holds.root_accepts q o);
-      none_dropped = rw (at_own root node w.at) (dropped_after (w.at root) heard e ∙ holds.none_dropped);
+      none_dropped = rw (at_own root k w.at) (r.dropped ∙ holds.none_dropped);
       unlisted = λ q l. rw (still q (apart_if root q tree listed l)) (holds.unlisted q l);
     }

@@ -11,7 +11,7 @@ use Rattle.tree_model.specs.declared.events.Input.TheVariants.{Act as ActInput, 
 use Rattle.tree_model.specs.declared.events.Happening.{Happening}
 use Rattle.tree_model.specs.declared.trees.TreeEntry.{TreeEntry}
 use Rattle.tree_model.specs.Records.{has}
-use Rattle.tree_model.specs.Nodes.{Role, place_of, Heard, Effect, after, is_listed, opened_node}
+use Rattle.tree_model.specs.Nodes.{Role, place_of, Heard, Effect, is_listed, opened_node, Place, Node}
 use Rattle.tree_model.specs.Memory.{memory_of}
 use Rattle.tree_model.specs.Standings.{mark_of}
 use Rattle.tree_model.specs.Reactions.{Does, reacts}
@@ -23,8 +23,17 @@ use Rattle.tree_law.proofs.CaseMoves.{CaseHolds}
 use Rattle.tree_law.proofs.RootReading.{reading}
 use Rattle.tree_law.proofs.RootReacts.{root_reacts}
 use Rattle.tree_law.proofs.LeafReacts.{LeafDoes, leaf_reacts}
+use Rattle.tree_law.proofs.LeafSteps.{LeafStep}
+use Rattle.tree_law.proofs.LeafLeft.{LeafLeft}
+use Rattle.tree_law.proofs.LeafLeft as leaf
+use Rattle.tree_law.proofs.RootSteps.{AllHold}
+use Rattle.tree_law.proofs.Consents.{RootReacts}
+use Rattle.tree_law.proofs.RootLeft.{RootLeft, after_left, fails_left}
+use Rattle.tree_law.proofs.Ends.{ends}
+use Rattle.tree_model.specs.declared.messages.Message.{Message}
+use Rattle.tree_model.specs.declared.messages.Envelope.{Envelope}
 use Rattle.tree_law.proofs.FlatTrees.{IsManager, role_in, root_is_top}
-use Rattle.tree_law.proofs.Moves.{Handled, handled}
+use Rattle.tree_law.proofs.Moves.{IsLeft, Handled, handled, is_up}
 use Rattle.tree_law.proofs.Worlds.{WorldHolds}
 use Rattle.tree_law.proofs.RootWorld.{IsHeard, heard_true, asks_nothing, root_keeps}
 use Rattle.tree_law.proofs.LeafWorld.{is_for, leaf_keeps}
@@ -44,9 +53,10 @@ opened_open c = refl
 opened_holds : (tree : List TreeEntry) (root : ProcessId) → WorldHolds tree root opened_world
 unfolding has
 opened_holds tree root = record {
-  cases = opened_case root tree;
+  cases = λ u. opened_case root tree;
+  ended = λ x t. ends (reading (root_place root tree) opened_node x t) (opened_case root tree x t);
   consents = λ x t e. absurd (cc);
-  promises = λ q m c o. absurd (let f : false ≡ true = sym (opened_open c) ∙ o in cc);
+  promises = λ q m u c o. absurd (let f : false ≡ true = sym (opened_open c) ∙ o in cc);
   commits = λ q c m e. absurd (cc);
   aborts = λ q c m e. absurd (cc);
   net = tt;
@@ -58,15 +68,28 @@ opened_holds tree root = record {
 
 -- A step.
 
+-- what was left of the root, and of a manager
+root_left : (place : Place) (n : Node) (h : Heard) (e : Effect) (k : Node) (ls : List Envelope)
+    → IsLeft n h e k ls
+    → RootReacts place n h e → n.failed ≡ false → AllHold place n → RootLeft place n k ls h.input
+root_left place n h e k ls (inl done) r up holds = rw (done.0, done.1) (after_left place n h e r up holds)
+root_left place n h e k ls (inr lost) r up holds =
+    rw (lost.2, lost.3) (fails_left place n h e r up holds lost.0 lost.1)
+
+leaf_left : (q : ProcessId) (n : Node) (h : Heard) (m : Message) (e : Effect) (k : Node) (ls : List Envelope)
+    → IsLeft n h e k ls → LeafStep q n h m e → LeafLeft q n k m ls
+leaf_left q n h m e k ls (inl done) s = rw (done.0, done.1) (leaf.after_left q n h m e s)
+leaf_left q n h m e k ls (inr lost) s = rw (lost.2, lost.3) (leaf.fails_left q n h m e s lost.0 lost.1)
+
 module _ (tree : List TreeEntry) (root : ProcessId) (flat : list_all (is_flat_entry root) tree ≡ true)
-    (w : World) (holds : WorldHolds tree root w) (m : Move) (e : Effect) (w' : World)
-    (h : Handled tree w m e w')
+    (w : World) (holds : WorldHolds tree root w) (m : Move) (w' : World)
+    (h : Handled tree w m w')
     (stands : Stands w.net m.step.process m.step.happening) where
   abbrev heard : Heard
   heard = record { input = h.input; data_answer = m.data_answer }
 
   abbrev then : ProcessId → World
-  then q = record { at = put_at q (after (w.at q) heard e) w.at; net = w.net ++ e.letters }
+  then q = record { at = put_at q h.node w.at; net = w.net ++ h.letters }
 
   stood : (q : ProcessId) → m.step.process ≡ q → InputStands w.net q h.input
   stood q same =
@@ -77,36 +100,49 @@ module _ (tree : List TreeEntry) (root : ProcessId) (flat : list_all (is_flat_en
   root_move same =
       let s : InputStands w.net root h.input = stood root same in
       let t : IsHeard tree root w root h.input = heard_true tree root w root h.input holds s in
-      let at_root : reacts (place_of tree root) (w.at root) heard ≡ Does e =
-      subst (λ (z : ProcessId). reacts (place_of tree z) (w.at z) heard ≡ Does e) same h.reaction in
-      let made : reacts (root_place root tree) (w.at root) heard ≡ Does e =
-      subst (λ (r : Role). reacts (record { me = root; role = r; tree = tree }) (w.at root) heard ≡ Does e)
+      let at_root : reacts (place_of tree root) (w.at root) heard ≡ Does h.effect =
+      subst (λ (z : ProcessId). reacts (place_of tree z) (w.at z) heard ≡ Does h.effect) same h.reaction in
+      let made : reacts (root_place root tree) (w.at root) heard ≡ Does h.effect =
+      subst (λ (r : Role). reacts (record { me = root; role = r; tree = tree }) (w.at root) heard ≡ Does
+      h.effect)
       (root_is_top root tree flat) at_root in
-      let r = root_reacts root tree (w.at root) holds.cases m.data_answer h.input e h.flat
+      let up : (w.at root).failed ≡ false =
+      is_up (root_place root tree) (w.at root) h.input m.data_answer h.effect made in
+      let r = root_reacts root tree (w.at root) (holds.cases up) m.data_answer h.input h.effect h.flat
       (asks_nothing tree root w root h.input t) made in
+      let left : IsLeft (w.at root) heard h.effect h.node h.letters =
+      subst (λ (z : ProcessId). IsLeft (w.at z) heard h.effect h.node h.letters) same h.left in
       let listed : is_listed tree root ≡ true =
       subst (λ (z : ProcessId). is_listed tree z ≡ true) same h.listed in
       let kept : WorldHolds tree root (then root) =
-      root_keeps tree root w holds h.input m.data_answer e r listed t s in
+      root_keeps tree root w holds h.input h.node h.letters
+      (root_left (root_place root tree) (w.at root) heard h.effect h.node h.letters left r up
+      (holds.cases up)) listed t s in
       subst (WorldHolds tree root) (sym h.world)
       (subst (λ (z : ProcessId). WorldHolds tree root (then z)) (sym same) kept)
 
-  leaf_does : (q : ProcessId) → IsManager root tree q → is_listed tree q ≡ true → (i : Input)
+  leaf_does : (q : ProcessId) → IsManager root tree q → is_listed tree q ≡ true
+      → IsLeft (w.at q) heard h.effect h.node h.letters → (i : Input)
       → IsHeard tree root w q i
-      → LeafDoes q (w.at q) heard e i → WorldHolds tree root (then q)
-  leaf_does q k l (ActInput a) t d = absurd d
-  leaf_does q k l (MessageInput j message) t d = leaf_keeps tree root w holds q k heard message e d l t
+      → LeafDoes q (w.at q) heard h.effect i → WorldHolds tree root (then q)
+  leaf_does q k l left (ActInput a) t d = absurd d
+  leaf_does q k l left (MessageInput j message) t d =
+      leaf_keeps tree root w holds q k message h.node h.letters
+      (leaf_left q (w.at q) heard message h.effect h.node h.letters left d) l t
 
   leaf_move : IsManager root tree m.step.process → WorldHolds tree root w'
   leaf_move k =
       let q = m.step.process in
       let t : IsHeard tree root w q h.input = heard_true tree root w q h.input holds (stood q refl) in
-      let made : reacts (leaf_place q root tree) (w.at q) heard ≡ Does e =
-      subst (λ (r : Role). reacts (record { me = q; role = r; tree = tree }) (w.at q) heard ≡ Does e) k.role
+      let made : reacts (leaf_place q root tree) (w.at q) heard ≡ Does h.effect =
+      subst (λ (r : Role). reacts (record { me = q; role = r; tree = tree })
+      (w.at q) heard ≡ Does h.effect) k.role
       h.reaction in
-      let d = leaf_reacts q root tree (w.at q) (holds.promises q k) m.data_answer h.input e h.flat
+      let up : (w.at q).failed ≡ false =
+      is_up (leaf_place q root tree) (w.at q) h.input m.data_answer h.effect made in
+      let d = leaf_reacts q root tree (w.at q) (holds.promises q k up) m.data_answer h.input h.effect h.flat
       (is_for tree root w q h.input t) made in
-      subst (WorldHolds tree root) (sym h.world) (leaf_does q k h.listed h.input t d)
+      subst (WorldHolds tree root) (sym h.world) (leaf_does q k h.listed h.left h.input t d)
 
   pub step_keeps : WorldHolds tree root w'
   step_keeps = elim (role_in root tree m.step.process flat) [
@@ -124,5 +160,5 @@ pub run_holds : (tree : List TreeEntry) (root : ProcessId) → list_all (is_flat
 run_holds tree root flat _ _ opens moves = opened_holds tree root
 run_holds tree root flat _ _ (makes es w m e w' run stands step) moves =
     let both = split (is_flat_move (record { move = m; effect = e })) (list_all is_flat_move es) moves in
-    step_keeps tree root flat w (run_holds tree root flat es w run both.1) m e w'
+    step_keeps tree root flat w (run_holds tree root flat es w run both.1) m w'
     (handled tree w m e w' both.0 step) stands

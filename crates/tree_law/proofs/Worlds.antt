@@ -18,7 +18,9 @@ use Rattle.tree_model.specs.Outcomes.{sent, has_accepted, has_heard_vote, is_con
 use Rattle.tree_model.specs.Views.{root_place}
 use Rattle.tree_model.specs.World.{World, put_at}
 use Rattle.tree_law.proofs.Lists.{has-append}
-use Rattle.tree_law.proofs.RootSteps.{AllHold, IsAborted}
+use Rattle.tree_law.proofs.RootReading.{reading}
+use Rattle.tree_law.proofs.RootSteps.{AllHold}
+use Rattle.tree_law.proofs.Ends.{CaseEnds, NeverCommits}
 use Rattle.tree_law.proofs.LeafSteps.{HasPromised, OpenHavePromised}
 use Rattle.tree_law.proofs.FlatTrees.{IsManager}
 
@@ -26,9 +28,9 @@ use Rattle.tree_law.proofs.FlatTrees.{IsManager}
 abbrev pub IsCommitted : ProcessId → World → Txn → Type 0
 IsCommitted root w x = has (is_commit (root_case x)) (w.at root).durable ≡ true
 
--- the root's case is over without a commit
+-- the root's transaction did not commit, and never will
 abbrev pub HasAborted : List TreeEntry → ProcessId → World → Txn → Type 0
-HasAborted tree root w x = IsAborted (root_place root tree) (w.at root) x
+HasAborted tree root w x = NeverCommits (root_place root tree) (w.at root) x
 
 -- what a message that was sent to a process means from then on
 abbrev pub IsTrue : List TreeEntry → ProcessId → World → ProcessId → Message → Type 0
@@ -62,10 +64,11 @@ HasConsented w x t = (has (is_prepared (child_case x t)) (w.at t.child).life ≡
     ⊎ (sent (is_read_message (child_case x t)) w.net ≡ true)
 
 pub record WorldHolds (tree : List TreeEntry) (root : ProcessId) (w : World) : Type 0 where
-  pub cases : AllHold (root_place root tree) (w.at root)
+  pub cases : (w.at root).failed ≡ false → AllHold (root_place root tree) (w.at root)
+  pub ended : (x : Txn) (t : Ticket) → CaseEnds (reading (root_place root tree) (w.at root) x t)
   pub consents : (x : Txn) (t : Ticket) → has_heard_vote (w.at root) (root_case x) t is_consent ≡ true
       → HasConsented w x t
-  pub promises : (q : ProcessId) → IsManager root tree q → OpenHavePromised (w.at q)
+  pub promises : (q : ProcessId) → IsManager root tree q → (w.at q).failed ≡ false → OpenHavePromised (w.at q)
   pub commits : (q : ProcessId) (c : Case) → IsManager root tree q
       → has (is_committed c) (w.at q).life ≡ true → IsCommitted root w c.txn
   pub aborts : (q : ProcessId) (c : Case) → IsManager root tree q

@@ -1,5 +1,5 @@
--- Flat trees, and the moves of runs in which no process fails or restarts.
-use Rattle.std.specs.Prelude.{◌≡◌, Bool, true, false, not, ◌&&◌, Option, Some, None, is_none, List}
+-- Flat trees, and the moves of runs in which no process restarts.
+use Rattle.std.specs.Prelude.{◌≡◌, Bool, true, false, not, ◌&&◌, Option, Some, None, List}
 use Rattle.std.specs.List.{list_all}
 use Rattle.tree_model.specs.declared.names.ProcessId.{ProcessId}
 use Rattle.tree_model.specs.declared.names.Kind.{Kind}
@@ -46,9 +46,9 @@ abbrev pub is_flat_happening : Happening → Bool
 is_flat_happening (Handles i) = is_flat_input i
 is_flat_happening _ = false
 
--- the move handles such an input, and no device fails in it
+-- the move handles such an input; its device may fail in it
 abbrev pub is_flat_move : Made → Bool
-is_flat_move e = is_none e.move.step.fault && is_flat_happening e.move.step.happening
+is_flat_move e = is_flat_happening e.move.step.happening
 
 -- each move is such a one
 abbrev pub AreFlatMoves : List Made → Type 0
