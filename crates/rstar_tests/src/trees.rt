@@ -1,0 +1,359 @@
+//! Tree scripts, what is written for each, and how it ends.
+
+use rstar_engine::{Failure, Status, run_tree};
+use std::io;
+use std::io::{Read, Write};
+use std::test::Fail;
+
+/// A script's name, the script, what is written, and how the run ends.
+type Row = (&'static str, &'static str, &'static str, Status);
+
+const ROWS: [Row; 25] = [
+    (
+        "flat_pa_commit",
+        "[[process]]\nid = 1\nkind = \"coordinator\"\n[[process]]\nid = 2\nkind = \"manager\"\n\
+         parent = 1\n[[process]]\nid = 3\nkind = \"manager\"\nparent = 1\n---\nbegin pa\n\
+         join a1.1 2\njoin a1.1 3\nsettle\nwork a1.1 2 put x 1\nwork a1.1 3 put y 2\nsettle\n\
+         commit a1.1\nsettle\n",
+        "log 1 Opened 1 forced\nlog 2 Opened 1 forced\nlog 3 Opened 1 forced\nbegin a1.1\n\
+         1 1->2 JOIN a1.1\n2 1->3 JOIN a1.1\n3 2->1 JOINED a1.1 2.1.1\n4 3->1 JOINED a1.1 3.1.1\n\
+         5 1->2 WORK a1.1@2.1.1 1 put x 1\n6 1->3 WORK a1.1@3.1.1 1 put y 2\n\
+         7 1->2 PREPARE a1.1@2.1.1 1\n8 1->3 PREPARE a1.1@3.1.1 1\n\
+         log 2 Prepared a1.1@2.1.1 forced\n9 2->1 YES a1.1@2.1.1\n\
+         log 3 Prepared a1.1@3.1.1 forced\n10 3->1 YES a1.1@3.1.1\nlog 1 Commit a1.1 forced\n\
+         told a1.1 committed\n11 1->2 COMMIT a1.1@2.1.1\n12 1->3 COMMIT a1.1@3.1.1\n\
+         log 2 Committed a1.1@2.1.1 forced\n13 2->1 ACK a1.1@2.1.1 commit\n\
+         log 3 Committed a1.1@3.1.1 forced\n14 3->1 ACK a1.1@3.1.1 commit\nlog 1 End a1.1 plain\n\
+         end\n",
+        Status::Ended,
+    ),
+    (
+        "flat_pa_commit_crlf",
+        "[[process]]\r\nid = 1\r\nkind = \"coordinator\"\r\n[[process]]\r\nid = 2\r\n\
+         kind = \"manager\"\r\nparent = 1\r\n[[process]]\r\nid = 3\r\nkind = \"manager\"\r\n\
+         parent = 1\r\n---\r\n# a note\r\n\r\nbegin pa\r\njoin a1.1 2\r\njoin a1.1 3\r\nsettle\r\n\
+         work a1.1 2 put x 1\r\nwork a1.1 3 put y 2\r\nsettle\r\ncommit a1.1\r\nsettle",
+        "log 1 Opened 1 forced\nlog 2 Opened 1 forced\nlog 3 Opened 1 forced\nbegin a1.1\n\
+         1 1->2 JOIN a1.1\n2 1->3 JOIN a1.1\n3 2->1 JOINED a1.1 2.1.1\n4 3->1 JOINED a1.1 3.1.1\n\
+         5 1->2 WORK a1.1@2.1.1 1 put x 1\n6 1->3 WORK a1.1@3.1.1 1 put y 2\n\
+         7 1->2 PREPARE a1.1@2.1.1 1\n8 1->3 PREPARE a1.1@3.1.1 1\n\
+         log 2 Prepared a1.1@2.1.1 forced\n9 2->1 YES a1.1@2.1.1\n\
+         log 3 Prepared a1.1@3.1.1 forced\n10 3->1 YES a1.1@3.1.1\nlog 1 Commit a1.1 forced\n\
+         told a1.1 committed\n11 1->2 COMMIT a1.1@2.1.1\n12 1->3 COMMIT a1.1@3.1.1\n\
+         log 2 Committed a1.1@2.1.1 forced\n13 2->1 ACK a1.1@2.1.1 commit\n\
+         log 3 Committed a1.1@3.1.1 forced\n14 3->1 ACK a1.1@3.1.1 commit\nlog 1 End a1.1 plain\n\
+         end\n",
+        Status::Ended,
+    ),
+    (
+        "forgotten_ticket_votes_no",
+        "[[process]]\nid = 1\nkind = \"coordinator\"\n[[process]]\nid = 2\nkind = \"manager\"\n\
+         parent = 1\n[[process]]\nid = 3\nkind = \"manager\"\nparent = 1\n---\nbegin pa\n\
+         join a1.1 2\njoin a1.1 3\nsettle\nwork a1.1 2 put x 1\nwork a1.1 3 put y 2\nsettle\n\
+         commit a1.1\nsettle\ndeliver 5\ndeliver 7\ndeliver 15\n",
+        "log 1 Opened 1 forced\nlog 2 Opened 1 forced\nlog 3 Opened 1 forced\nbegin a1.1\n\
+         1 1->2 JOIN a1.1\n2 1->3 JOIN a1.1\n3 2->1 JOINED a1.1 2.1.1\n4 3->1 JOINED a1.1 3.1.1\n\
+         5 1->2 WORK a1.1@2.1.1 1 put x 1\n6 1->3 WORK a1.1@3.1.1 1 put y 2\n\
+         7 1->2 PREPARE a1.1@2.1.1 1\n8 1->3 PREPARE a1.1@3.1.1 1\n\
+         log 2 Prepared a1.1@2.1.1 forced\n9 2->1 YES a1.1@2.1.1\n\
+         log 3 Prepared a1.1@3.1.1 forced\n10 3->1 YES a1.1@3.1.1\nlog 1 Commit a1.1 forced\n\
+         told a1.1 committed\n11 1->2 COMMIT a1.1@2.1.1\n12 1->3 COMMIT a1.1@3.1.1\n\
+         log 2 Committed a1.1@2.1.1 forced\n13 2->1 ACK a1.1@2.1.1 commit\n\
+         log 3 Committed a1.1@3.1.1 forced\n14 3->1 ACK a1.1@3.1.1 commit\nlog 1 End a1.1 plain\n\
+         15 2->1 NO a1.1@2.1.1\nend\n",
+        Status::Ended,
+    ),
+    (
+        "readonly_no_participant",
+        "[[process]]\nid = 1\nkind = \"coordinator\"\n[[process]]\nid = 2\nkind = \"manager\"\n\
+         parent = 1\n[[process]]\nid = 3\nkind = \"manager\"\nparent = 1\n---\nbegin pa\n\
+         commit a1.1\n",
+        "log 1 Opened 1 forced\nlog 2 Opened 1 forced\nlog 3 Opened 1 forced\nbegin a1.1\n\
+         told a1.1 readonly\nend\n",
+        Status::Ended,
+    ),
+    (
+        "commit_again_after_end",
+        "[[process]]\nid = 1\nkind = \"coordinator\"\n[[process]]\nid = 2\nkind = \"manager\"\n\
+         parent = 1\n[[process]]\nid = 3\nkind = \"manager\"\nparent = 1\n---\nbegin pa\n\
+         join a1.1 2\njoin a1.1 3\nsettle\nwork a1.1 2 put x 1\nwork a1.1 3 put y 2\nsettle\n\
+         commit a1.1\nsettle\ncommit a1.1\n",
+        "log 1 Opened 1 forced\nlog 2 Opened 1 forced\nlog 3 Opened 1 forced\nbegin a1.1\n\
+         1 1->2 JOIN a1.1\n2 1->3 JOIN a1.1\n3 2->1 JOINED a1.1 2.1.1\n4 3->1 JOINED a1.1 3.1.1\n\
+         5 1->2 WORK a1.1@2.1.1 1 put x 1\n6 1->3 WORK a1.1@3.1.1 1 put y 2\n\
+         7 1->2 PREPARE a1.1@2.1.1 1\n8 1->3 PREPARE a1.1@3.1.1 1\n\
+         log 2 Prepared a1.1@2.1.1 forced\n9 2->1 YES a1.1@2.1.1\n\
+         log 3 Prepared a1.1@3.1.1 forced\n10 3->1 YES a1.1@3.1.1\nlog 1 Commit a1.1 forced\n\
+         told a1.1 committed\n11 1->2 COMMIT a1.1@2.1.1\n12 1->3 COMMIT a1.1@3.1.1\n\
+         log 2 Committed a1.1@2.1.1 forced\n13 2->1 ACK a1.1@2.1.1 commit\n\
+         log 3 Committed a1.1@3.1.1 forced\n14 3->1 ACK a1.1@3.1.1 commit\nlog 1 End a1.1 plain\n\
+         refused 10 3\n",
+        Status::Stopped,
+    ),
+    (
+        "commit_again_before_votes",
+        "[[process]]\nid = 1\nkind = \"coordinator\"\n[[process]]\nid = 2\nkind = \"manager\"\n\
+         parent = 1\n[[process]]\nid = 3\nkind = \"manager\"\nparent = 1\n---\nbegin pa\n\
+         join a1.1 2\njoin a1.1 3\nsettle\nwork a1.1 2 put x 1\nwork a1.1 3 put y 2\nsettle\n\
+         commit a1.1\ncommit a1.1\n",
+        "log 1 Opened 1 forced\nlog 2 Opened 1 forced\nlog 3 Opened 1 forced\nbegin a1.1\n\
+         1 1->2 JOIN a1.1\n2 1->3 JOIN a1.1\n3 2->1 JOINED a1.1 2.1.1\n4 3->1 JOINED a1.1 3.1.1\n\
+         5 1->2 WORK a1.1@2.1.1 1 put x 1\n6 1->3 WORK a1.1@3.1.1 1 put y 2\n\
+         7 1->2 PREPARE a1.1@2.1.1 1\n8 1->3 PREPARE a1.1@3.1.1 1\nrefused 9 5\n",
+        Status::Stopped,
+    ),
+    (
+        "join_unknown_process",
+        "[[process]]\nid = 1\nkind = \"coordinator\"\n[[process]]\nid = 2\nkind = \"manager\"\n\
+         parent = 1\n[[process]]\nid = 3\nkind = \"manager\"\nparent = 1\n---\nbegin pa\n\
+         join a1.1 4\n",
+        "log 1 Opened 1 forced\nlog 2 Opened 1 forced\nlog 3 Opened 1 forced\nbegin a1.1\n\
+         refused 2 9\n",
+        Status::Stopped,
+    ),
+    (
+        "join_root_as_child",
+        "[[process]]\nid = 1\nkind = \"coordinator\"\n[[process]]\nid = 2\nkind = \"manager\"\n\
+         parent = 1\n[[process]]\nid = 3\nkind = \"manager\"\nparent = 1\n---\nbegin pa\n\
+         join a1.1 1\n",
+        "log 1 Opened 1 forced\nlog 2 Opened 1 forced\nlog 3 Opened 1 forced\nbegin a1.1\n\
+         refused 2 4\n",
+        Status::Stopped,
+    ),
+    (
+        "work_without_accepted_child",
+        "[[process]]\nid = 1\nkind = \"coordinator\"\n[[process]]\nid = 2\nkind = \"manager\"\n\
+         parent = 1\n[[process]]\nid = 3\nkind = \"manager\"\nparent = 1\n---\nbegin pa\n\
+         work a1.1 2 put x 1\n",
+        "log 1 Opened 1 forced\nlog 2 Opened 1 forced\nlog 3 Opened 1 forced\nbegin a1.1\n\
+         refused 2 4\n",
+        Status::Stopped,
+    ),
+    (
+        "no_bytes_at_all",
+        "",
+        "error 1\n",
+        Status::Refused,
+    ),
+    (
+        "late_no_vote_pa",
+        "[[process]]\nid = 1\nkind = \"coordinator\"\n[[process]]\nid = 2\nkind = \"manager\"\n\
+         parent = 1\n[[process]]\nid = 3\nkind = \"manager\"\nparent = 1\n---\nbegin pa\n\
+         join a1.1 2\njoin a1.1 3\nsettle\nwork a1.1 2 put x 1\nwork a1.1 3 put y 2\ndeliver 5\n\
+         commit a1.1\ndeliver 7\ndeliver 8\ndeliver 9\ndeliver 10\ndeliver 11\n",
+        "log 1 Opened 1 forced\nlog 2 Opened 1 forced\nlog 3 Opened 1 forced\nbegin a1.1\n\
+         1 1->2 JOIN a1.1\n2 1->3 JOIN a1.1\n3 2->1 JOINED a1.1 2.1.1\n4 3->1 JOINED a1.1 3.1.1\n\
+         5 1->2 WORK a1.1@2.1.1 1 put x 1\n6 1->3 WORK a1.1@3.1.1 1 put y 2\n\
+         7 1->2 PREPARE a1.1@2.1.1 1\n8 1->3 PREPARE a1.1@3.1.1 1\n\
+         log 2 Prepared a1.1@2.1.1 forced\n9 2->1 YES a1.1@2.1.1\n10 3->1 NO a1.1@3.1.1\n\
+         log 1 Abort a1.1 plain\ntold a1.1 aborted\n11 1->2 ABORT a1.1@2.1.1\n\
+         log 2 RolledBack a1.1@2.1.1 plain\nend\n",
+        Status::Ended,
+    ),
+    (
+        "empty_document",
+        "---\n",
+        "error 2 1\n",
+        Status::Refused,
+    ),
+    (
+        "no_rule",
+        "[[process]]\nid = 1\nkind = \"coordinator\"\n",
+        "error 1\n",
+        Status::Refused,
+    ),
+    (
+        "seventeen_processes",
+        "[[process]]\nid = 1\nkind = \"coordinator\"\n[[process]]\nid = 2\nkind = \"manager\"\n\
+         parent = 1\n[[process]]\nid = 3\nkind = \"manager\"\nparent = 1\n[[process]]\nid = 4\n\
+         kind = \"manager\"\nparent = 1\n[[process]]\nid = 5\nkind = \"manager\"\nparent = 1\n\
+         [[process]]\nid = 6\nkind = \"manager\"\nparent = 1\n[[process]]\nid = 7\n\
+         kind = \"manager\"\nparent = 1\n[[process]]\nid = 8\nkind = \"manager\"\nparent = 1\n\
+         [[process]]\nid = 9\nkind = \"manager\"\nparent = 1\n[[process]]\nid = 10\n\
+         kind = \"manager\"\nparent = 1\n[[process]]\nid = 11\nkind = \"manager\"\nparent = 1\n\
+         [[process]]\nid = 12\nkind = \"manager\"\nparent = 1\n[[process]]\nid = 13\n\
+         kind = \"manager\"\nparent = 1\n[[process]]\nid = 14\nkind = \"manager\"\nparent = 1\n\
+         [[process]]\nid = 15\nkind = \"manager\"\nparent = 1\n[[process]]\nid = 16\n\
+         kind = \"manager\"\nparent = 1\n[[process]]\nid = 17\nkind = \"manager\"\nparent = 1\n\
+         ---\n",
+        "error 2 2\n",
+        Status::Refused,
+    ),
+    (
+        "listed_twice",
+        "[[process]]\nid = 1\nkind = \"coordinator\"\n[[process]]\nid = 2\nkind = \"manager\"\n\
+         parent = 1\n[[process]]\nid = 2\nkind = \"manager\"\nparent = 1\n---\n",
+        "error 2 4\n",
+        Status::Refused,
+    ),
+    (
+        "cycle",
+        "[[process]]\nid = 1\nkind = \"coordinator\"\n[[process]]\nid = 2\nkind = \"manager\"\n\
+         parent = 3\n[[process]]\nid = 3\nkind = \"manager\"\nparent = 2\n---\n",
+        "error 2 5\n",
+        Status::Refused,
+    ),
+    (
+        "manager_with_child",
+        "[[process]]\nid = 1\nkind = \"coordinator\"\n[[process]]\nid = 2\nkind = \"manager\"\n\
+         parent = 1\n[[process]]\nid = 3\nkind = \"manager\"\nparent = 2\n---\n",
+        "error 2 6\n",
+        Status::Refused,
+    ),
+    (
+        "unlisted_parent",
+        "[[process]]\nid = 1\nkind = \"coordinator\"\n[[process]]\nid = 2\nkind = \"manager\"\n\
+         parent = 9\n---\n",
+        "error 2 7\n",
+        Status::Refused,
+    ),
+    (
+        "manager_on_top",
+        "[[process]]\nid = 1\nkind = \"manager\"\n---\n",
+        "error 2 8\n",
+        Status::Refused,
+    ),
+    (
+        "coordinator_below_the_root",
+        "[[process]]\nid = 1\nkind = \"coordinator\"\n[[process]]\nid = 2\nkind = \"coordinator\"\n\
+         parent = 1\n---\n",
+        "error 1\n",
+        Status::Refused,
+    ),
+    (
+        "presumed_commit_is_a_fault_of_its_line",
+        "[[process]]\nid = 1\nkind = \"coordinator\"\n---\nbegin pc\n",
+        "error 3 5\n",
+        Status::Refused,
+    ),
+    (
+        "presumed_commit_is_of_a_later_stage",
+        "[[process]]\nid = 1\nkind = \"coordinator\"\n[[process]]\nid = 2\nkind = \"manager\"\n\
+         parent = 1\n[[process]]\nid = 3\nkind = \"manager\"\nparent = 1\n---\nbegin pa\nbegin pc\n\
+         nonsense\n",
+        "error 3 14\n",
+        Status::Refused,
+    ),
+    (
+        "root_alone",
+        "[[process]]\nid = 1\nkind = \"coordinator\"\n---\nbegin pa\ncommit a1.1\n",
+        "log 1 Opened 1 forced\nbegin a1.1\ntold a1.1 readonly\nend\n",
+        Status::Ended,
+    ),
+    (
+        "abort_of_an_active_transaction",
+        "[[process]]\nid = 1\nkind = \"coordinator\"\n[[process]]\nid = 2\nkind = \"manager\"\n\
+         parent = 1\n[[process]]\nid = 3\nkind = \"manager\"\nparent = 1\n---\nbegin pa\n\
+         join a1.1 2\nsettle\nabort a1.1\nsettle\ncommit a1.1\n",
+        "log 1 Opened 1 forced\nlog 2 Opened 1 forced\nlog 3 Opened 1 forced\nbegin a1.1\n\
+         1 1->2 JOIN a1.1\n2 2->1 JOINED a1.1 2.1.1\ntold a1.1 aborted\n3 1->2 ABORT a1.1@2.1.1\n\
+         refused 6 3\n",
+        Status::Stopped,
+    ),
+    (
+        "deliver_of_no_message",
+        "[[process]]\nid = 1\nkind = \"coordinator\"\n[[process]]\nid = 2\nkind = \"manager\"\n\
+         parent = 1\n[[process]]\nid = 3\nkind = \"manager\"\nparent = 1\n---\ndeliver 1\n",
+        "log 1 Opened 1 forced\nlog 2 Opened 1 forced\nlog 3 Opened 1 forced\nrefused 1 9\n",
+        Status::Stopped,
+    ),
+];
+
+#[test]
+fn rows(rt: HostRuntime) {
+    for (name, script, text, status) in ROWS {
+        let mut out = Vec::new(rt.alloc());
+        let mut input = script.as_bytes();
+        let ended = run_tree(rt.alloc(), &mut input, &mut out);
+        assert!(rt; ended == Ok(status), "{name}");
+        assert!(rt; out.as_slice() == text.as_bytes(), "{name}");
+    }
+}
+
+/// Whether a text ends so.
+fn ends_in(text: &[u8], end: &[u8]) -> bool {
+    text.ends_with(end)
+}
+
+/// The first row cut at every byte: it is refused, or runs to its end.
+#[test]
+fn every_front_of_a_script(rt: HostRuntime) {
+    let (_, script, _, _) = ROWS[0];
+    let script = script.as_bytes();
+    for cut in 0..script.len() {
+        let mut out = Vec::new(rt.alloc());
+        let mut input = &script[..cut];
+        let ended = run_tree(rt.alloc(), &mut input, &mut out);
+        match ended {
+            Ok(Status::Ended) => assert!(rt; ends_in(&out, b"end\n"), "{cut}"),
+            Ok(Status::Refused) => assert!(rt; out.starts_with(b"error "), "{cut}"),
+            _ => assert!(rt; false, "{cut}"),
+        }
+    }
+}
+
+/// More event lines than a script may have, and just as many.
+#[test]
+fn too_many_event_lines(rt: HostRuntime) -> Result<(), Fail> {
+    let head = b"[[process]]\nid = 1\nkind = \"coordinator\"\n---\n";
+    for (lines, status) in [(100_000u32, Status::Ended), (100_001, Status::Refused)] {
+        let mut script = Vec::from_slice(rt.alloc(), head)?;
+        for _ in 0..lines {
+            script.extend_from_slice(b"settle\n")?;
+        }
+        let mut out = Vec::new(rt.alloc());
+        let mut input = script.as_slice();
+        assert!(rt; run_tree(rt.alloc(), &mut input, &mut out) == Ok(status));
+        let text = if status == Status::Refused {
+            b"error 5\n".as_slice()
+        } else {
+            b"log 1 Opened 1 forced\nend\n".as_slice()
+        };
+        assert!(rt; out.as_slice() == text);
+    }
+    Ok(())
+}
+
+/// A reader that fails.
+#[derive(Drop)]
+struct Fails;
+
+impl Read for Fails {
+    fn read(&mut self, _buf: &mut [u8]) -> io::Result<usize> {
+        Err(io::Error::from(io::ErrorKind::Other))
+    }
+}
+
+/// A writer that fails, or takes nothing.
+#[derive(Drop)]
+struct Full {
+    fails: bool,
+}
+
+impl Write for Full {
+    fn write(&mut self, _buf: &[u8]) -> io::Result<usize> {
+        if self.fails {
+            Err(io::Error::from(io::ErrorKind::Other))
+        } else {
+            Ok(0)
+        }
+    }
+
+    fn flush(&mut self) -> io::Result<()> {
+        Ok(())
+    }
+}
+
+#[test]
+fn failures(rt: HostRuntime) -> Result<(), Fail> {
+    let mut out = Vec::new(rt.alloc());
+    assert!(rt; run_tree(rt.alloc(), &mut Fails, &mut out) == Err(Failure::Read));
+    assert_eq!(rt; out.len(), 0);
+    for fails in [false, true] {
+        let (_, script, _, _) = ROWS[0];
+        let mut input = script.as_bytes();
+        let ended = run_tree(rt.alloc(), &mut input, &mut Full { fails });
+        assert!(rt; ended == Err(Failure::Write));
+    }
+    Ok(())
+}
