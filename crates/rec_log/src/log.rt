@@ -23,8 +23,8 @@ impl Model for RecLog {
     ghost Value = { LogState };
 
     ghost view = { λ l. record {
-        kept = record { forced = take l.forced l.records.items; loose = drop l.forced l.records.items };
-        room = vec_capacity l.records - length l.records.items;
+      kept = record { forced = take l.forced l.records.items; loose = drop l.forced l.records.items };
+      room = vec_capacity l.records - length l.records.items;
     } };
 
     ghost invariant = { λ l. l.forced ≤ length l.records.items };

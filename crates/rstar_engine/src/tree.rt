@@ -4,8 +4,8 @@ ghost use Rattle.std.specs.Prelude.{◌≡◌, ◌++◌, IfOk, IfErr, OnOk};
 ghost use Rattle.std.specs.Io.KnownBytes.{Appends, Keeps};
 
 use crate::streams::{Failure, read_all, write_all};
-use flat_world::FlatWorld;
 use crate::xa::Status;
+use flat_world::FlatWorld;
 use link_script::{ScriptError, ScriptFault, Stage, push_entry, read};
 use std::alloc::{AllocError, Global};
 use std::io::{Read, Write};

@@ -129,12 +129,7 @@ const ROWS: [Row; 25] = [
          refused 2 4\n",
         Status::Stopped,
     ),
-    (
-        "no_bytes_at_all",
-        "",
-        "error 1\n",
-        Status::Refused,
-    ),
+    ("no_bytes_at_all", "", "error 1\n", Status::Refused),
     (
         "late_no_vote_pa",
         "[[process]]\nid = 1\nkind = \"coordinator\"\n[[process]]\nid = 2\nkind = \"manager\"\n\
@@ -150,12 +145,7 @@ const ROWS: [Row; 25] = [
          log 2 RolledBack a1.1@2.1.1 plain\nend\n",
         Status::Ended,
     ),
-    (
-        "empty_document",
-        "---\n",
-        "error 2 1\n",
-        Status::Refused,
-    ),
+    ("empty_document", "---\n", "error 2 1\n", Status::Refused),
     (
         "no_rule",
         "[[process]]\nid = 1\nkind = \"coordinator\"\n",
