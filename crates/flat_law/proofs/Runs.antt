@@ -1,5 +1,5 @@
 -- A run of a flat tree is a run of the model.
-use Rattle.std.proofs.Common.{◌≡◌, sym, subst, ◌&&◌, ℕ, zero, suc, Bool, true, inl, inr, Option, Some, None, List, [], ◌∷◌, ◌++◌, append_assoc, take, refl}
+use Rattle.std.proofs.Common.{◌≡◌, sym, subst, ℕ, zero, suc, inl, inr, Option, Some, None, List, [], ◌∷◌, ◌++◌, append_assoc, take, refl}
 use Rattle.std.specs.List.{list_all}
 use Rattle.std.proofs.lemmas.List.{append-nil}
 use Rattle.tree_model.specs.declared.names.ProcessId.{ProcessId}

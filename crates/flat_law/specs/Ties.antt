@@ -11,14 +11,11 @@ use Rattle.tree_model.specs.declared.records.Branch.TheVariants.{Case as CaseBra
 use Rattle.tree_model.specs.declared.records.Record.{Record}
 use Rattle.tree_model.specs.declared.messages.Envelope.{Envelope}
 use Rattle.tree_model.specs.declared.events.Act.{Act}
-use Rattle.tree_model.specs.declared.events.Act.TheVariants.{Begin, Join, Work, Commit, Abort}
 use Rattle.tree_model.specs.declared.events.Input.TheVariants.{Act as ActInput}
 use Rattle.tree_model.specs.declared.events.Happening.TheVariants.{Input as Handles}
 use Rattle.tree_model.specs.declared.events.StepError.{StepError}
 use Rattle.tree_model.specs.declared.events.StepError.TheVariants.{NoSuch}
-use Rattle.tree_model.specs.declared.events.Event.{Event}
 use Rattle.tree_model.specs.Plays.{process_of_act, move_of}
-use Rattle.tree_model.specs.declared.events.Event.TheVariants.{Act as ActOf, Deliver, Settle, Restart, Trim}
 use Rattle.tree_model.specs.declared.trees.TreeEntry.{TreeEntry}
 use Rattle.tree_model.specs.Names.{same_process, root_case, child_case}
 use Rattle.tree_model.specs.Records.{has, boot_of, is_end, is_commit, is_abort, is_prepare, is_collecting}
@@ -30,7 +27,7 @@ use Rattle.tree_model.specs.Trees.{IsTree}
 use Rattle.tree_model.specs.Views.{root_place, leaf_place}
 use Rattle.tree_model.specs.World.{Move, Stepped, Refuses, Makes, node_makes, World, Made, IsRun, Continues, journal_of}
 use Rattle.root_core.specs.Roots.{RootState}
-use Rattle.tree_law.specs.Flat.{is_flat_entry, is_flat_act, AreFlatMoves}
+use Rattle.tree_law.specs.Flat.{is_flat_entry, AreFlatMoves}
 use Rattle.flat_law.specs.Leaves.{LeafState}
 use Rattle.flat_law.specs.FlatWorlds.{FlatState}
 

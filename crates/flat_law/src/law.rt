@@ -3,8 +3,11 @@
 ghost use Rattle.flat_law.specs.FlatWorlds.{Applies, FlatState, IsLost, IsOpened, Leads, LeadsUntil, RefusesAct};
 ghost use Rattle.flat_law.specs.FlatWorlds.{Stops};
 ghost use Rattle.flat_law.specs.Ties.{Follows, GoesOn, IsFlatTree, IsForNobody, IsModelled, RefusesSo};
+ghost use Rattle.flat_law.specs.Ties.{RootFollows};
+ghost use Rattle.root_core.specs.Roots.{RootState, Same};
 ghost use Rattle.tree_law.specs.Flat.{is_flat_act};
 ghost use Rattle.std.specs.Prelude.{◌≡◌, ℕ, true, List, []};
+ghost use Rattle.tree_model.specs.Nodes.{Node};
 ghost use Rattle.tree_model.specs.Plays.{sent_as};
 ghost use Rattle.tree_model.specs.World.{Made, World, opened_world};
 ghost use Rattle.tree_model.specs.declared.events.Act.{Act};
@@ -48,11 +51,14 @@ pub fn every_run_is_a_run_of_the_model()
 {}
 
 /// Where a flat state stands for a run: an act of the application that it refuses the model refuses by the same error,
-/// whatever the data answer; and a message that it cannot deliver was not sent, or is for no process of the tree.
+/// whatever the data answer; a message that it cannot deliver was not sent, or is for no process of the tree; and a
+/// root in which nothing is otherwise stands for the same process.
 pub fn refusals()
     ensures acts { (me : ProcessId) (tree : List TreeEntry) (es : List Made) (w : World) (s : FlatState) (a : Act)
         (e : StepError) → Follows me tree es w s → is_flat_act a ≡ true → RefusesAct s a e
         → RefusesSo me tree w a e }
     ensures deliveries { (me : ProcessId) (tree : List TreeEntry) (es : List Made) (w : World) (s : FlatState)
         (k : ℕ) → Follows me tree es w s → IsLost s (sent_as s.net k) → IsForNobody tree (sent_as w.net k) }
+    ensures unchanged { (me : ProcessId) (tree : List TreeEntry) (n : Node) (r r' : RootState)
+        → RootFollows me tree n r → Same r r' → RootFollows me tree n r' }
 {}
