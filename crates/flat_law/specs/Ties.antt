@@ -64,8 +64,8 @@ abbrev pub only_collecting : Recorded
 only_collecting =
     record { ended = false; committed = false; aborted = false; prepared = false; collecting = true }
 
--- What stands of a case that is over: no promise; under Presumed Abort no record of a collection, and where there
--- is one, also the record that closed it.
+-- What stands of a case that is over: no promise; under Presumed Abort no record of a collection, and
+-- where there is one, also the record that closed it.
 pub record IsPast (p : Presumption) (f : Recorded) : Type 0 where
   pub unpromised : f.prepared ≡ false
   pub uncollected : p ≡ PresumeAbort → f.collecting ≡ false
@@ -148,8 +148,8 @@ pub record GoesOn (me : ProcessId) (tree : List TreeEntry) (es : List Made) (w :
   pub follows : Follows me tree (later ++ es) world s
   pub are_flat : AreFlatMoves later
 
--- A flat state stands for a run of the model, in which no two processes have ended one transaction differently, and
--- commit was decided only where every participant consented.
+-- A flat state stands for a run of the model, in which no two processes have ended one transaction
+-- differently, and commit was decided only where every participant consented.
 pub record IsModelled (me : ProcessId) (tree : List TreeEntry) (s : FlatState) : Type 0 where
   pub moves : List Made
   pub world : World

@@ -1,6 +1,7 @@
 //! The laws that tie a flat tree that runs to the model.
 
-ghost use Rattle.flat_law.specs.FlatWorlds.{Applies, FlatState, IsLost, IsOpened, Leads, LeadsUntil, RefusesAct};
+ghost use Rattle.flat_law.specs.FlatWorlds.{Applies, FlatState, IsLost, IsOpened};
+ghost use Rattle.flat_law.specs.FlatWorlds.{Leads, LeadsUntil, RefusesAct};
 ghost use Rattle.flat_law.specs.FlatWorlds.{Stops};
 ghost use Rattle.flat_law.specs.Ties.{Follows, GoesOn, IsFlatTree, IsForNobody, IsModelled, RefusesSo};
 ghost use Rattle.flat_law.specs.Ties.{RootFollows};
@@ -22,8 +23,8 @@ pub fn opened()
         → IsOpened s me tree → Follows me tree [] opened_world s }
 {}
 
-/// Where a flat state stands for a run, what an event makes of it, or a refused event leaves, stands for a run that
-/// goes on.
+/// Where a flat state stands for a run, what an event makes of it, or a refused event leaves, stands for
+/// a run that goes on.
 pub fn steps()
     ensures applies { (me : ProcessId) (tree : List TreeEntry) (es : List Made) (w : World) (s s' : FlatState)
         (event : Event) → Follows me tree es w s → Applies s event s'
@@ -34,13 +35,15 @@ pub fn steps()
     ensures leads { (me : ProcessId) (tree : List TreeEntry) (es : List Made) (w : World) (s s' : FlatState)
         (events : List Event) → Follows me tree es w s → Leads s events s'
         → GoesOn me tree es w s' }
-    ensures leads_until { (me : ProcessId) (tree : List TreeEntry) (es : List Made) (w : World) (s s' : FlatState)
+    ensures leads_until { (me : ProcessId) (tree : List TreeEntry) (es : List Made) (w : World)
+        (s s' : FlatState)
         (events : List Event) (n : ℕ) (e : StepError) → Follows me tree es w s → LeadsUntil s events n e s'
         → GoesOn me tree es w s' }
 {}
 
-/// Every run of a flat tree from its opening on, also one that ends in a refusal, is a run of the model: no two
-/// processes have ended one transaction differently, and commit was decided only where every participant consented.
+/// Every run of a flat tree from its opening on, also one that ends in a refusal, is a run of the model:
+/// no two processes have ended one transaction differently, and commit was decided only where every
+/// participant consented.
 pub fn every_run_is_a_run_of_the_model()
     ensures leads { (me : ProcessId) (tree : List TreeEntry) (s s' : FlatState) (events : List Event)
         → IsFlatTree me tree → IsOpened s me tree → Leads s events s'
@@ -50,11 +53,12 @@ pub fn every_run_is_a_run_of_the_model()
         → IsModelled me tree s' }
 {}
 
-/// Where a flat state stands for a run: an act of the application that it refuses the model refuses by the same error,
-/// whatever the data answer; a message that it cannot deliver was not sent, or is for no process of the tree; and a
-/// root in which nothing is otherwise stands for the same process.
+/// Where a flat state stands for a run: an act of the application that it refuses the model refuses by
+/// the same error, whatever the data answer; a message that it cannot deliver was not sent, or is for no
+/// process of the tree; and a root in which nothing is otherwise stands for the same process.
 pub fn refusals()
-    ensures acts { (me : ProcessId) (tree : List TreeEntry) (es : List Made) (w : World) (s : FlatState) (a : Act)
+    ensures acts { (me : ProcessId) (tree : List TreeEntry) (es : List Made) (w : World) (s : FlatState)
+        (a : Act)
         (e : StepError) → Follows me tree es w s → is_flat_act a ≡ true → RefusesAct s a e
         → RefusesSo me tree w a e }
     ensures deliveries { (me : ProcessId) (tree : List TreeEntry) (es : List Made) (w : World) (s : FlatState)
