@@ -1,5 +1,5 @@
 -- A transaction that the root begins is the model's, and so is each of its acts.
-use Rattle.std.proofs.Common.{◌≡◌, ◌∙◌, ap, sym, subst, ◌+◌, ℕ, false, inl, inr, Option, Some, None, [], refl, arith}
+use Rattle.std.proofs.Common.{true, ◌≡◌, ◌∙◌, ap, sym, subst, ◌+◌, ℕ, false, inl, inr, Option, Some, None, [], refl, arith}
 use Rattle.std.proofs.lemmas.List.{append-nil}
 use Rattle.tree_model.specs.declared.names.Case.{Case}
 use Rattle.tree_model.specs.declared.names.ProcessId.{ProcessId}
@@ -28,6 +28,7 @@ use Rattle.tree_model.proofs.RootViewLaws.{apart_case}
 use Rattle.rec_log.specs.Logs.{writes}
 use Rattle.root_core.specs.Roots.{RootState, Makes, Opens, act_turn, acts, of_root, join_turn, work_turn, live_turn}
 use Rattle.root_core.specs.Roots as root
+use Rattle.tree_law.specs.Flat.{is_flat_act}
 use Rattle.flat_law.specs.Ties.{recorded_of, none_recorded, StandsIn, RootFollows}
 use Rattle.flat_law.proofs.Logs.{Keeps, after_keeps, after_runs, after_boots, same_boot, quiet_keeps}
 use Rattle.flat_law.proofs.RootMemory.{begun-after, not_begun_is_idle}
@@ -180,5 +181,22 @@ module _ (r r' : RootState) (n : Node) (reaction : Reaction) (f : RootFollows r.
       absurd (never_live c.ticket NotInDoubt (r.view_of c.txn).standing
       (made_listed r r' (Decide c o) reaction made).1)
   root_acts (Forget c) made =
+      absurd (never_live c.ticket NothingToForget (r.view_of c.txn).standing
+      (made_listed r r' (Forget c) reaction made).1)
+
+  -- each act that a root makes is flat
+  pub flat_made : (a : Act) → Makes r r' (act_turn r a) reaction → is_flat_act a ≡ true
+  flat_made (Begin p) made = refl
+  flat_made (JoinAct c q) made = refl
+  flat_made (WorkAct c q op) made = refl
+  flat_made (CommitAct x) made = refl
+  flat_made (AbortAct x) made = refl
+  flat_made (Ask c) made =
+      absurd (never_live c.ticket NotInDoubt (r.view_of c.txn).standing
+      (made_listed r r' (Ask c) reaction made).1)
+  flat_made (Decide c o) made =
+      absurd (never_live c.ticket NotInDoubt (r.view_of c.txn).standing
+      (made_listed r r' (Decide c o) reaction made).1)
+  flat_made (Forget c) made =
       absurd (never_live c.ticket NothingToForget (r.view_of c.txn).standing
       (made_listed r r' (Forget c) reaction made).1)

@@ -21,9 +21,10 @@ use Rattle.tree_model.specs.CoordinatorRows.{active_join, active_work}
 use Rattle.tree_model.specs.Reactions.{Reacts, Refused, Does, reacts, row_effect, sends_only, names_listed, coordinator_acts, join_by, work_by, work_for, commit_by, abort_by, seat_of}
 use Rattle.tree_model.specs.Views.{root_place, hears_act, begin_effect}
 use Rattle.tree_model.proofs.StandingLaws.{view_standing}
-use Rattle.root_core.specs.Roots.{RootState, Turn, Refuses, Begins, Takes, Answers, Ignores, act_turn, acts}
+use Rattle.root_core.specs.Roots.{Same, RootState, Turn, Refuses, Begins, Takes, Answers, Ignores, act_turn, acts}
 use Rattle.root_core.specs.Roots as root
-use Rattle.flat_law.specs.Ties.{RootFollows, is_application_act}
+use Rattle.tree_law.specs.Flat.{is_flat_act}
+use Rattle.flat_law.specs.Ties.{RootFollows}
 use Rattle.flat_law.proofs.RootMemory.{ticketed_is_idle}
 use Rattle.flat_law.proofs.RootPhases.{standing_from, idle_heard}
 
@@ -129,7 +130,7 @@ module _ (r : RootState) (n : Node) (f : RootFollows r.me r.tree n r) where
       (ticketed_is_unknown x t)
 
   -- what the root refuses, the model does
-  refused_as : (a : Act) (e : StepError) → is_application_act a ≡ true → acts r a ≡ Refuses e
+  refused_as : (a : Act) (e : StepError) → is_flat_act a ≡ true → acts r a ≡ Refuses e
       → coordinator_acts place None n a ≡ Refused e
   refused_as (Begin p) e h refused = absurd (cc)
   refused_as (JoinAct c q) e h refused = join_acts c.txn c.ticket q ∙ ap reacts_of refused
@@ -150,7 +151,7 @@ module _ (r : RootState) (n : Node) (f : RootFollows r.me r.tree n r) where
   refused_if true p q e h k = h k
   refused_if false p q e h k = ap reacts_of k
 
-  root_refuses : (a : Act) (d : DataAnswer) (e : StepError) → is_application_act a ≡ true
+  root_refuses : (a : Act) (d : DataAnswer) (e : StepError) → is_flat_act a ≡ true
       → act_turn r a ≡ Refuses e
       → reacts place n (hears_act a d) ≡ Refused e
   unfolding reacts
@@ -162,7 +163,7 @@ module _ (r : RootState) (n : Node) (f : RootFollows r.me r.tree n r) where
 
 pub refuses_at_root : (me : ProcessId) (tree : List TreeEntry) (n : Node) (r : RootState) (a : Act)
     (d : DataAnswer) (e : StepError) → RootFollows me tree n r
-    → is_application_act a ≡ true → act_turn r a ≡ Refuses e
+    → is_flat_act a ≡ true → act_turn r a ≡ Refuses e
     → reacts (root_place me tree) n (hears_act a d) ≡ Refused e
 refuses_at_root me tree n r a d e f h refused =
     let own : RootFollows r.me r.tree n r =
@@ -171,3 +172,20 @@ refuses_at_root me tree n r a d e f h refused =
     subst (λ p. reacts (root_place p tree) n (hears_act a d) ≡ Refused e) f.is_named
     (subst (λ t. reacts (root_place r.me t) n (hears_act a d) ≡ Refused e) f.has_tree
     (root_refuses r n own a d e h refused))
+
+-- a root in which nothing is otherwise
+pub unchanged : (me : ProcessId) (tree : List TreeEntry) (n : Node) (r r' : RootState)
+    → RootFollows me tree n r
+    → Same r r' → RootFollows me tree n r'
+unchanged me tree n r r' f same =
+    record {
+      is_named = same.remains.me ∙ f.is_named;
+      has_tree = same.remains.tree ∙ f.has_tree;
+      forced = f.forced ∙ ap (λ k. k.forced) (sym same.log);
+      loose = f.loose ∙ ap (λ k. k.loose) (sym same.log);
+      boot = f.boot ∙ sym same.remains.boot;
+      runs = f.runs;
+      begun = λ c. f.begun c ∙ sym same.begun;
+      views = λ x. f.views x ∙ sym (same.views x);
+      sound = f.sound;
+    }

@@ -1,5 +1,5 @@
 -- A run of a flat tree is a run of the model.
-use Rattle.std.proofs.Common.{◌≡◌, sym, subst, ◌&&◌, ℕ, zero, suc, Bool, true, inl, inr, Option, Some, None, List, [], ◌∷◌, ◌++◌, append_assoc, take, refl}
+use Rattle.std.proofs.Common.{◌≡◌, sym, subst, ℕ, zero, suc, inl, inr, Option, Some, None, List, [], ◌∷◌, ◌++◌, append_assoc, take, refl}
 use Rattle.std.specs.List.{list_all}
 use Rattle.std.proofs.lemmas.List.{append-nil}
 use Rattle.tree_model.specs.declared.names.ProcessId.{ProcessId}
@@ -12,7 +12,7 @@ use Rattle.tree_model.specs.World.{World, Made, Continues, stays, goes_on}
 use Rattle.tree_law.proofs.FlatRuns.{agreement, commit_rule}
 use Rattle.tree_law.specs.Flat.{IsFlat, is_flat_move, AreFlatMoves}
 use Rattle.flat_law.specs.FlatWorlds.{FlatState, least_open, settles_by, Settles, Applies, stops_by, SettleStops, Stops, Leads, LeadsUntil}
-use Rattle.flat_law.specs.Ties.{IsFlatTree, Follows, GoesOn, IsModelled, is_flat_event}
+use Rattle.flat_law.specs.Ties.{IsFlatTree, Follows, GoesOn, IsModelled}
 use Rattle.flat_law.proofs.Trees.{both}
 use Rattle.flat_law.proofs.WorldSteps.{delivery_goes_on, act_goes_on}
 
@@ -32,22 +32,21 @@ all_append first (e ∷ es) h k =
     rw (p.0, all_append first es h p.1) refl
 
 pub waits : (me : ProcessId) (tree : List TreeEntry) (es : List Made) (w : World) (s s' : FlatState)
-    (flat : Bool) → Follows me tree es w s → s' ≡ s
-    → GoesOn me tree es w s' flat
-waits me tree es w s s' flat f same =
+    → Follows me tree es w s → s' ≡ s → GoesOn me tree es w s'
+waits me tree es w s s' f same =
     record {
       later = [];
       world = w;
       leads = stays;
       follows = subst (λ x. Follows me tree es w x) (sym same) f;
-      are_flat = λ h. refl;
+      are_flat = refl;
     }
 
 pub then_on : (me : ProcessId) (tree : List TreeEntry) (es : List Made) (w : World) (s s' : FlatState)
-    (a b : Bool) → GoesOn me tree es w s a
-    → ((es' : List Made) (w' : World) → Follows me tree es' w' s → GoesOn me tree es' w' s' b)
-    → GoesOn me tree es w s' (a && b)
-then_on me tree es w s s' a b first next =
+    → GoesOn me tree es w s
+    → ((es' : List Made) (w' : World) → Follows me tree es' w' s → GoesOn me tree es' w' s')
+    → GoesOn me tree es w s'
+then_on me tree es w s s' first next =
     let second = next (first.later ++ es) first.world first.follows in
     record {
       later = second.later ++ first.later;
@@ -55,20 +54,7 @@ then_on me tree es w s s' a b first next =
       leads = continues_on tree w first.world first.later first.leads second.later second.world second.leads;
       follows = subst (λ xs. Follows me tree xs second.world s')
           (sym (append_assoc second.later first.later es)) second.follows;
-      are_flat = λ h. let p = both a b h in
-          all_append first.later second.later (first.are_flat p.0) (second.are_flat p.1);
-    }
-
-pub weaker : (me : ProcessId) (tree : List TreeEntry) (es : List Made) (w : World) (s : FlatState)
-    (a b : Bool) → (b ≡ true → a ≡ true)
-    → GoesOn me tree es w s a → GoesOn me tree es w s b
-weaker me tree es w s a b h g =
-    record {
-      later = g.later;
-      world = g.world;
-      leads = g.leads;
-      follows = g.follows;
-      are_flat = λ e. g.are_flat (h e);
+      are_flat = all_append first.later second.later first.are_flat second.are_flat;
     }
 
 -- Settling.
@@ -76,17 +62,17 @@ weaker me tree es w s a b h g =
 settle_step : (n : ℕ) (me : ProcessId) (tree : List TreeEntry) (s s' : FlatState) (o : Option ℕ)
     (es : List Made) (w : World)
     → ((mid : FlatState) (es' : List Made) (w' : World) → Follows me tree es' w' mid → Settles n mid s'
-    → GoesOn me tree es' w' s' true)
-    → Follows me tree es w s → settles_by s s' (λ mid. Settles n mid s') o → GoesOn me tree es w s' true
-settle_step n me tree s s' None es w again f made = waits me tree es w s s' true f made
+    → GoesOn me tree es' w' s')
+    → Follows me tree es w s → settles_by s s' (λ mid. Settles n mid s') o → GoesOn me tree es w s'
+settle_step n me tree s s' None es w again f made = waits me tree es w s s' f made
 settle_step n me tree s s' (Some k) es w again f made =
-    then_on me tree es w made.0 s' true true (delivery_goes_on me tree es w s made.0 k f made.1)
+    then_on me tree es w made.0 s' (delivery_goes_on me tree es w s made.0 k f made.1)
     (λ es' w' g. again made.0 es' w' g made.2)
 
 pub settles_on : (n : ℕ) (me : ProcessId) (tree : List TreeEntry) (s s' : FlatState) (es : List Made)
     (w : World) → Follows me tree es w s
-    → Settles n s s' → GoesOn me tree es w s' true
-settles_on zero me tree s s' es w f made = waits me tree es w s s' true f made
+    → Settles n s s' → GoesOn me tree es w s'
+settles_on zero me tree s s' es w f made = waits me tree es w s s' f made
 settles_on (suc n) me tree s s' es w f made =
     settle_step n me tree s s' (least_open 1 s.delivered) es w
     (λ mid es' w' g. settles_on n me tree mid s' es' w' g) f made
@@ -95,18 +81,18 @@ settles_on (suc n) me tree s s' es w f made =
 stop_step : (n : ℕ) (me : ProcessId) (tree : List TreeEntry) (s s' : FlatState) (o : Option ℕ)
     (es : List Made) (w : World)
     → ((mid : FlatState) (es' : List Made) (w' : World) → Follows me tree es' w' mid
-    → SettleStops n mid s' → GoesOn me tree es' w' s' true)
-    → Follows me tree es w s → stops_by s s' (λ mid. SettleStops n mid s') o → GoesOn me tree es w s' true
+    → SettleStops n mid s' → GoesOn me tree es' w' s')
+    → Follows me tree es w s → stops_by s s' (λ mid. SettleStops n mid s') o → GoesOn me tree es w s'
 stop_step n me tree s s' None es w again f made = absurd made
 stop_step n me tree s s' (Some k) es w again f made = elim made [
-  | inl h ↦ waits me tree es w s s' true f h.0
-  | inr h ↦ then_on me tree es w h.0 s' true true (delivery_goes_on me tree es w s h.0 k f h.1)
+  | inl h ↦ waits me tree es w s s' f h.0
+  | inr h ↦ then_on me tree es w h.0 s' (delivery_goes_on me tree es w s h.0 k f h.1)
       (λ es' w' g. again h.0 es' w' g h.2)
 ]
 
 pub stops_on : (n : ℕ) (me : ProcessId) (tree : List TreeEntry) (s s' : FlatState) (es : List Made)
     (w : World) → Follows me tree es w s
-    → SettleStops n s s' → GoesOn me tree es w s' true
+    → SettleStops n s s' → GoesOn me tree es w s'
 stops_on zero me tree s s' es w f made = absurd made
 stops_on (suc n) me tree s s' es w f made =
     stop_step n me tree s s' (least_open 1 s.delivered) es w
@@ -115,8 +101,7 @@ stops_on (suc n) me tree s s' es w f made =
 -- Events.
 
 pub applied_on : (me : ProcessId) (tree : List TreeEntry) (es : List Made) (w : World) (s s' : FlatState)
-    (event : Event) → Follows me tree es w s
-    → Applies s event s' → GoesOn me tree es w s' (is_flat_event event)
+    (event : Event) → Follows me tree es w s → Applies s event s' → GoesOn me tree es w s'
 applied_on me tree es w s s' (ActOf a) f made =
     act_goes_on me tree es w s s' (process_of_act s.root.me a) a s.delivered f made
 applied_on me tree es w s s' (Deliver k) f made = delivery_goes_on me tree es w s s' k f made
@@ -125,55 +110,31 @@ applied_on me tree es w s s' (Restart q k) f made = absurd made
 applied_on me tree es w s s' (Trim q) f made = absurd made
 
 pub stopped_on : (me : ProcessId) (tree : List TreeEntry) (es : List Made) (w : World) (s s' : FlatState)
-    (event : Event) (e : StepError) → Follows me tree es w s
-    → Stops s event e s' → GoesOn me tree es w s' true
-stopped_on me tree es w s s' (ActOf a) e f made = waits me tree es w s s' true f made.0
-stopped_on me tree es w s s' (Deliver k) e f made = waits me tree es w s s' true f made.0
+    (event : Event) (e : StepError) → Follows me tree es w s → Stops s event e s' → GoesOn me tree es w s'
+stopped_on me tree es w s s' (ActOf a) e f made = waits me tree es w s s' f made.0
+stopped_on me tree es w s s' (Deliver k) e f made = waits me tree es w s s' f made.0
 stopped_on me tree es w s s' Settle e f made = stops_on 10000 me tree s s' es w f made.1
 stopped_on me tree es w s s' (Restart q k) e f made = absurd made
 stopped_on me tree es w s s' (Trim q) e f made = absurd made
 
 pub leads_on : (me : ProcessId) (tree : List TreeEntry) (es : List Made) (w : World) (s s' : FlatState)
-    (events : List Event) → Follows me tree es w s
-    → Leads s events s' → GoesOn me tree es w s' (list_all is_flat_event events)
-leads_on me tree es w s s' [] f made = waits me tree es w s s' true f made
+    (events : List Event) → Follows me tree es w s → Leads s events s' → GoesOn me tree es w s'
+leads_on me tree es w s s' [] f made = waits me tree es w s s' f made
 leads_on me tree es w s s' (e ∷ events) f made =
-    then_on me tree es w made.0 s' (is_flat_event e) (list_all is_flat_event events)
-    (applied_on me tree es w s made.0 e f made.1)
+    then_on me tree es w made.0 s' (applied_on me tree es w s made.0 e f made.1)
     (λ es' w' g. leads_on me tree es' w' made.0 s' events g made.2)
-
-all_taken : (n : ℕ) (events : List Event) → list_all is_flat_event events ≡ true
-    → list_all is_flat_event (take n events) ≡ true
-all_taken n [] h = taken_none n
-  where
-    taken_none : (k : ℕ) → list_all is_flat_event (take k []) ≡ true
-    taken_none zero = refl
-    taken_none (suc k) = refl
-all_taken zero (e ∷ events) h = refl
-all_taken (suc n) (e ∷ events) h =
-    let p = both (is_flat_event e) (list_all is_flat_event events) h in
-    rw (p.0, all_taken n events p.1) refl
-
-and_true : (b : Bool) → b ≡ true → (b && true) ≡ true
-and_true b h = rw h refl
 
 pub leads_until_on : (me : ProcessId) (tree : List TreeEntry) (es : List Made) (w : World)
     (s s' : FlatState) (events : List Event) (n : ℕ) (e : StepError)
-    → Follows me tree es w s → LeadsUntil s events n e s'
-    → GoesOn me tree es w s' (list_all is_flat_event events)
+    → Follows me tree es w s → LeadsUntil s events n e s' → GoesOn me tree es w s'
 leads_until_on me tree es w s s' events n e f made =
-    let all = list_all is_flat_event (take n events) in
-    weaker me tree es w s' (all && true) (list_all is_flat_event events)
-    (λ h. and_true all (all_taken n events h))
-    (then_on me tree es w made.before s' all true
-    (leads_on me tree es w s made.before (take n events) f made.made)
-    (λ es' w' g. stopped_on me tree es' w' made.before s' made.event e g made.refused))
+    then_on me tree es w made.before s' (leads_on me tree es w s made.before (take n events) f made.made)
+    (λ es' w' g. stopped_on me tree es' w' made.before s' made.event e g made.refused)
 
 -- from the opened tree on
-pub modelled : (me : ProcessId) (tree : List TreeEntry) (w : World) (s : FlatState) (flat : Bool)
-    → IsFlatTree me tree → GoesOn me tree [] w s flat
-    → IsModelled me tree s flat
-modelled me tree w s flat t g =
+pub modelled : (me : ProcessId) (tree : List TreeEntry) (w : World) (s : FlatState) → IsFlatTree me tree
+    → GoesOn me tree [] w s → IsModelled me tree s
+modelled me tree w s t g =
     let f : Follows me tree g.later g.world s =
     subst (λ es. Follows me tree es g.world s) (append-nil g.later) g.follows in
     let is_flat : IsFlat tree = record { root = me; entries = t.entries } in
@@ -182,6 +143,6 @@ modelled me tree w s flat t g =
       world = g.world;
       follows = f;
       are_flat = g.are_flat;
-      agreement = λ h. agreement tree g.later g.world is_flat f.is_run (g.are_flat h);
-      commit_rule = λ h. commit_rule tree g.later g.world is_flat f.is_run (g.are_flat h);
+      agreement = agreement tree g.later g.world is_flat f.is_run g.are_flat;
+      commit_rule = commit_rule tree g.later g.world is_flat f.is_run g.are_flat;
     }

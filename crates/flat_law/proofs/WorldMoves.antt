@@ -64,9 +64,9 @@ pub gone_on : (me : ProcessId) (tree : List TreeEntry) (es : List Made) (w : Wor
     (q : ProcessId) (i : Input) (a : DataAnswer) (e : Effect) (place : Place)
     → is_listed tree q ≡ true → place_of tree q ≡ place → reacts place (w.at q) (heard_by i a) ≡ Does e
     → InputStands w.net q i
-    → GoesOnBy me tree es w s q i a e
-    → GoesOn me tree es w s (is_flat_input i)
-gone_on me tree es w s q i a e place listed at does stands follows =
+    → is_flat_input i ≡ true → GoesOnBy me tree es w s q i a e
+    → GoesOn me tree es w s
+gone_on me tree es w s q i a e place listed at does stands flat follows =
     let m = move_for q i a in
     let w' = world_after w q (after (w.at q) (heard_by i a) e) e in
     record {
@@ -74,7 +74,7 @@ gone_on me tree es w s q i a e place listed at does stands follows =
       world = w';
       leads = goes_on [] w m e w' stays stands (made_at tree w q i a place e listed at does);
       follows = follows;
-      are_flat = λ h. flat_one (is_flat_input i) h;
+      are_flat = flat_one (is_flat_input i) flat;
     }
 
 -- the journal and the net grow by the step

@@ -24,21 +24,24 @@ use Rattle.flat_law.proofs.Trees.{is_one}
 use Rattle.flat_law.proofs.LeafRows.{LeafStep}
 use Rattle.flat_law.proofs.LeafJoins.{leaf_step}
 use Rattle.flat_law.proofs.RootSteps.{heard, no_data, RootStep}
-use Rattle.flat_law.proofs.RootBegins.{root_acts}
+use Rattle.flat_law.proofs.RootBegins.{root_acts, flat_made}
 use Rattle.flat_law.proofs.RootReplies.{root_hears}
 use Rattle.flat_law.proofs.WorldMoves.{move_for, heard_by, world_after, made_at, put_here, put_there, gone_on, shown_by, sent_by, apart}
 
 -- The root steps.
 
+own_root : (me : ProcessId) (tree : List TreeEntry) (n : Node) (r : RootState) → RootFollows me tree n r
+    → RootFollows r.me r.tree n r
+own_root me tree n r f =
+    subst (λ t. RootFollows r.me t n r) (sym f.has_tree)
+    (subst (λ p. RootFollows p tree n r) (sym f.is_named) f)
+
 root_steps : (me : ProcessId) (tree : List TreeEntry) (n : Node) (r r' : RootState) (i : Input)
     (reaction : Reaction) → RootFollows me tree n r
     → (RootFollows r.me r.tree n r → RootStep r.me r.tree n i r' reaction) → RootStep me tree n i r' reaction
 root_steps me tree n r r' i reaction f step =
-    let own : RootFollows r.me r.tree n r =
-    subst (λ t. RootFollows r.me t n r) (sym f.has_tree)
-    (subst (λ p. RootFollows p tree n r) (sym f.is_named) f) in
     subst (λ p. RootStep p tree n i r' reaction) f.is_named
-    (subst (λ t. RootStep r.me t n i r' reaction) f.has_tree (step own))
+    (subst (λ t. RootStep r.me t n i r' reaction) f.has_tree (step (own_root me tree n r f)))
 
 same_leaf : (me : ProcessId) (tree : List TreeEntry) (w w' : World) (q : ProcessId) (l : LeafState)
     → w'.at q ≡ w.at q → IsLeafOf me tree w q l → IsLeafOf me tree w' q l
@@ -54,11 +57,11 @@ root_goes_on : (me : ProcessId) (tree : List TreeEntry) (es : List Made) (w : Wo
     → ((q : ProcessId) → s'.leaf_at q ≡ s.leaf_at q)
     → s'.net ≡ s.net ++ reaction.letters → s'.entries ≡ s.entries ++ entry_at me i reaction ∷ []
     → RootStep me tree (w.at me) i s'.root reaction
-    → GoesOn me tree es w s' (is_flat_input i)
-root_goes_on me tree es w s s' i marked reaction f stands leaves net entries step =
+    → is_flat_input i ≡ true → GoesOn me tree es w s'
+root_goes_on me tree es w s s' i marked reaction f stands leaves net entries step flat =
     let e = step.effect in
     let n = after (w.at me) (heard i) e in
-    gone_on me tree es w s' me i no_data e (root_place me tree) f.root_is_listed f.place step.does stands
+    gone_on me tree es w s' me i no_data e (root_place me tree) f.root_is_listed f.place step.does stands flat
     (record {
       is_run = makes es w (move_for me i no_data) e (world_after w me n e) f.is_run stands
           (made_at tree w me i no_data (root_place me tree) e f.root_is_listed f.place step.does);
@@ -83,7 +86,7 @@ leaf_goes_on : (me : ProcessId) (tree : List TreeEntry) (es : List Made) (w : Wo
     → LeafTakes s s' q l message reaction
     → s'.net ≡ s.net ++ reaction.letters
     → s'.entries ≡ s.entries ++ entry_at q (MessageInput k message) reaction ∷ []
-    → GoesOn me tree es w s' true
+    → GoesOn me tree es w s'
 leaf_goes_on me tree es w s s' q k message reaction l f stands o takes net entries =
     let here = f.leaves q l o takes.stood in
     let listed : is_listed tree q ≡ true = sym (f.listed q o) ∙ ap is_some takes.stood in
@@ -94,7 +97,7 @@ leaf_goes_on me tree es w s s' q k message reaction l f stands o takes net entri
     let a = step.answer in
     let n = after (w.at q) (heard_by i a) e in
     let w' = world_after w q n e in
-    gone_on me tree es w s' q i a e (leaf_place q me tree) listed here.place step.does stands
+    gone_on me tree es w s' q i a e (leaf_place q me tree) listed here.place step.does stands refl
     (record {
       is_run = makes es w (move_for q i a) e w' f.is_run stands
           (made_at tree w q i a (leaf_place q me tree) e listed here.place step.does);
@@ -131,23 +134,11 @@ stands_for_me : (me q : ProcessId) (net : List Envelope) (i : Input) → q ≡ m
     → InputStands net me i
 stands_for_me me q net i h stands = subst (λ p. InputStands net p i) h stands
 
-act_steps : (me : ProcessId) (tree : List TreeEntry) (es : List Made) (w : World) (s s' : FlatState)
-    (q : ProcessId) (a : Act) (marked : List Bool)
-    → Follows me tree es w s → Steps s s' q (ActInput a) marked
-    → GoesOn me tree es w s' (is_flat_input (ActInput a))
-act_steps me tree es w s s' q a marked f made =
-    let is : q ≡ me = is_one q s.root.me made.handled.0 ∙ f.root.is_named in
-    let takes = made.handled.1 in
-    root_goes_on me tree es w s s' (ActInput a) marked made.reaction f tt takes.leaves made.net
-    (made.entries ∙ ap (λ p. s.entries ++ entry_at p (ActInput a) made.reaction ∷ []) is)
-    (root_steps me tree (w.at me) s.root s'.root (ActInput a) made.reaction f.root
-    (λ own. root_acts s.root s'.root (w.at me) made.reaction own a takes.root))
-
 message_steps : (me : ProcessId) (tree : List TreeEntry) (es : List Made) (w : World) (s s' : FlatState)
     (q : ProcessId) (k : ℕ) (message : Message) (marked : List Bool) (b : Bool)
     → Follows me tree es w s → same_process q s.root.me ≡ b → InputStands w.net q (MessageInput k message)
     → Steps s s' q (MessageInput k message) marked
-    → GoesOn me tree es w s' true
+    → GoesOn me tree es w s'
 message_steps me tree es w s s' q k message marked true f at stands made =
     let is : q ≡ me = is_one q s.root.me at ∙ f.root.is_named in
     let takes = made.handled.at_root at in
@@ -155,7 +146,7 @@ message_steps me tree es w s s' q k message marked true f at stands made =
     (stands_for_me me q w.net (MessageInput k message) is stands) takes.leaves made.net
     (made.entries ∙ ap (λ p. s.entries ++ entry_at p (MessageInput k message) made.reaction ∷ []) is)
     (root_steps me tree (w.at me) s.root s'.root (MessageInput k message) made.reaction f.root
-    (λ own. root_hears s.root s'.root (w.at me) made.reaction own k message takes.root))
+    (λ own. root_hears s.root s'.root (w.at me) made.reaction own k message takes.root)) refl
 message_steps me tree es w s s' q k message marked false f at stands made =
     let takes = made.handled.at_leaf at in
     leaf_goes_on me tree es w s s' q k message made.reaction takes.0 f stands
@@ -171,7 +162,7 @@ sent_stands net (suc j) letter h =
 
 pub delivery_goes_on : (me : ProcessId) (tree : List TreeEntry) (es : List Made) (w : World)
     (s s' : FlatState) (k : ℕ) → Follows me tree es w s
-    → Delivers s s' k → GoesOn me tree es w s' true
+    → Delivers s s' k → GoesOn me tree es w s'
 delivery_goes_on me tree es w s s' k f made =
     let letter = made.letter in
     let stands : IsSent w.net letter.to k letter.message =
@@ -182,5 +173,12 @@ delivery_goes_on me tree es w s s' k f made =
 pub act_goes_on : (me : ProcessId) (tree : List TreeEntry) (es : List Made) (w : World) (s s' : FlatState)
     (q : ProcessId) (a : Act) (marked : List Bool)
     → Follows me tree es w s → Steps s s' q (ActInput a) marked
-    → GoesOn me tree es w s' (is_flat_input (ActInput a))
-act_goes_on me tree es w s s' q a marked f made = act_steps me tree es w s s' q a marked f made
+    → GoesOn me tree es w s'
+act_goes_on me tree es w s s' q a marked f made =
+    let is : q ≡ me = is_one q s.root.me made.handled.0 ∙ f.root.is_named in
+    let takes = made.handled.1 in
+    root_goes_on me tree es w s s' (ActInput a) marked made.reaction f tt takes.leaves made.net
+    (made.entries ∙ ap (λ p. s.entries ++ entry_at p (ActInput a) made.reaction ∷ []) is)
+    (root_steps me tree (w.at me) s.root s'.root (ActInput a) made.reaction f.root
+    (λ own. root_acts s.root s'.root (w.at me) made.reaction own a takes.root))
+    (flat_made s.root s'.root (w.at me) made.reaction (own_root me tree (w.at me) s.root f.root) a takes.root)

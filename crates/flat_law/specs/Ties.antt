@@ -11,14 +11,11 @@ use Rattle.tree_model.specs.declared.records.Branch.TheVariants.{Case as CaseBra
 use Rattle.tree_model.specs.declared.records.Record.{Record}
 use Rattle.tree_model.specs.declared.messages.Envelope.{Envelope}
 use Rattle.tree_model.specs.declared.events.Act.{Act}
-use Rattle.tree_model.specs.declared.events.Act.TheVariants.{Begin, Join, Work, Commit, Abort}
 use Rattle.tree_model.specs.declared.events.Input.TheVariants.{Act as ActInput}
 use Rattle.tree_model.specs.declared.events.Happening.TheVariants.{Input as Handles}
 use Rattle.tree_model.specs.declared.events.StepError.{StepError}
 use Rattle.tree_model.specs.declared.events.StepError.TheVariants.{NoSuch}
-use Rattle.tree_model.specs.declared.events.Event.{Event}
 use Rattle.tree_model.specs.Plays.{process_of_act, move_of}
-use Rattle.tree_model.specs.declared.events.Event.TheVariants.{Act as ActOf, Deliver, Settle, Restart, Trim}
 use Rattle.tree_model.specs.declared.trees.TreeEntry.{TreeEntry}
 use Rattle.tree_model.specs.Names.{same_process, root_case, child_case}
 use Rattle.tree_model.specs.Records.{has, boot_of, is_end, is_commit, is_abort, is_prepare, is_collecting}
@@ -30,7 +27,7 @@ use Rattle.tree_model.specs.Trees.{IsTree}
 use Rattle.tree_model.specs.Views.{root_place, leaf_place}
 use Rattle.tree_model.specs.World.{Move, Stepped, Refuses, Makes, node_makes, World, Made, IsRun, Continues, journal_of}
 use Rattle.root_core.specs.Roots.{RootState}
-use Rattle.tree_law.specs.Flat.{is_flat_entry, is_flat_act, AreFlatMoves}
+use Rattle.tree_law.specs.Flat.{is_flat_entry, AreFlatMoves}
 use Rattle.flat_law.specs.Leaves.{LeafState}
 use Rattle.flat_law.specs.FlatWorlds.{FlatState}
 
@@ -67,8 +64,8 @@ abbrev pub only_collecting : Recorded
 only_collecting =
     record { ended = false; committed = false; aborted = false; prepared = false; collecting = true }
 
--- What stands of a case that is over: no promise; under Presumed Abort no record of a collection, and where there
--- is one, also the record that closed it.
+-- What stands of a case that is over: no promise; under Presumed Abort no record of a collection, and
+-- where there is one, also the record that closed it.
 pub record IsPast (p : Presumption) (f : Recorded) : Type 0 where
   pub unpromised : f.prepared ≡ false
   pub uncollected : p ≡ PresumeAbort → f.collecting ≡ false
@@ -142,44 +139,26 @@ pub record Follows (me : ProcessId) (tree : List TreeEntry) (es : List Made) (w 
   pub leaves : (q : ProcessId) (l : LeafState) → same_process q me ≡ false → s.leaf_at q ≡ Some l
       → IsLeafOf me tree w q l
 
--- the run goes on by later moves, the newest first, to a world that a flat state stands for; where the test holds,
--- each of them is flat
-pub record GoesOn (me : ProcessId) (tree : List TreeEntry) (es : List Made) (w : World) (s : FlatState)
-    (flat : Bool) : Type 0 where
+-- the run goes on by later moves, the newest first, to a world that a flat state stands for
+pub record GoesOn (me : ProcessId) (tree : List TreeEntry) (es : List Made) (w : World)
+    (s : FlatState) : Type 0 where
   pub later : List Made
   pub world : World
   pub leads : Continues tree w later world
   pub follows : Follows me tree (later ++ es) world s
-  pub are_flat : flat ≡ true → AreFlatMoves later
+  pub are_flat : AreFlatMoves later
 
--- A flat state stands for a run of the model. Where the test holds, each of its moves is flat; and then no two
--- processes have ended one transaction differently, and commit was decided only where every participant consented.
-pub record IsModelled (me : ProcessId) (tree : List TreeEntry) (s : FlatState) (flat : Bool) : Type 0 where
+-- A flat state stands for a run of the model, in which no two processes have ended one transaction
+-- differently, and commit was decided only where every participant consented.
+pub record IsModelled (me : ProcessId) (tree : List TreeEntry) (s : FlatState) : Type 0 where
   pub moves : List Made
   pub world : World
   pub follows : Follows me tree moves world s
-  pub are_flat : flat ≡ true → AreFlatMoves moves
-  pub agreement : flat ≡ true → Agreement tree world
-  pub commit_rule : flat ≡ true → CommitRule tree world
-
--- an event that makes flat moves alone
-abbrev pub is_flat_event : Event → Bool
-is_flat_event (ActOf a) = is_flat_act a
-is_flat_event (Deliver k) = true
-is_flat_event Settle = true
-is_flat_event (Restart q k) = false
-is_flat_event (Trim q) = false
+  pub are_flat : AreFlatMoves moves
+  pub agreement : Agreement tree world
+  pub commit_rule : CommitRule tree world
 
 -- Refusals.
-
--- an act of the application
-abbrev pub is_application_act : Act → Bool
-is_application_act (Begin p) = true
-is_application_act (Join c q) = true
-is_application_act (Work c q op) = true
-is_application_act (Commit x) = true
-is_application_act (Abort x) = true
-is_application_act _ = false
 
 abbrev pub refusal_in : Stepped → Option StepError
 refusal_in (Refuses e) = Some e

@@ -1,7 +1,5 @@
 use Rattle.std.proofs.Common.{[]}
-use Rattle.std.specs.List.{list_all}
 use Rattle.tree_model.specs.World.{opened_world}
-use Rattle.flat_law.specs.Ties.{is_flat_event}
 use Rattle.flat_law.proofs.Openings.{opened_follows}
 use Rattle.flat_law.proofs.Runs.{leads_on, leads_until_on, modelled}
 use Rattle.flat_law.proofs.law.every_run_is_a_run_of_the_model.Goals as goal
@@ -10,10 +8,9 @@ pub returns : goal.returns
 returns c =
     record {
       leads = λ me tree s s' events flat h made.
-          modelled me tree opened_world s' (list_all is_flat_event events) flat
+          modelled me tree opened_world s' flat
           (leads_on me tree [] opened_world s s' events (opened_follows me tree s flat h) made);
       leads_until = λ me tree s s' events n e flat h made.
-          modelled me tree opened_world s' (list_all is_flat_event events) flat
-          (leads_until_on me tree [] opened_world s s' events n e (opened_follows me tree s flat h)
-          made);
+          modelled me tree opened_world s' flat
+          (leads_until_on me tree [] opened_world s s' events n e (opened_follows me tree s flat h) made);
     }
