@@ -9,7 +9,7 @@ use Rattle.tree_model.specs.declared.messages.Message.TheVariants.{Prepare, Yes,
 use Rattle.tree_model.specs.declared.messages.Envelope.{Envelope}
 use Rattle.tree_model.specs.declared.records.Branch.TheVariants.{Case as CaseBranch}
 use Rattle.tree_model.specs.declared.records.Record.{Record}
-use Rattle.tree_model.specs.declared.records.Record.TheVariants.{Prepared as PreparedRecord, Committed as CommittedRecord, RolledBack as RolledBackRecord, Told as ToldRecord}
+use Rattle.tree_model.specs.declared.records.Record.TheVariants.{Prepared as PreparedRecord, Committed as CommittedRecord, RolledBack as RolledBackRecord, Told as ToldRecord, HeurCommit as HeurCommitRecord, HeurRollback as HeurRollbackRecord, Forgot as ForgotRecord}
 use Rattle.tree_model.specs.declared.records.Write.{Write}
 use Rattle.tree_model.specs.declared.standings.Standing.{Standing}
 use Rattle.tree_model.specs.declared.standings.Standing.TheVariants.{Unknown, Active, Collecting, Prepared, Committing, Aborting, Heuristic}
@@ -20,7 +20,7 @@ use Rattle.tree_model.specs.Nodes.{Node, kept, Heard, Holding, ReadsOnly, Holds,
 use Rattle.tree_model.specs.Memory.{Memory, Phase, Idle, Open, Asked, Over}
 use Rattle.tree_model.specs.Standings.{ManagerView, unknown_branch, standing_branch, Mark, Unmarked, Promised, Decided, ToldOf, Finished, mark_of, marked_branch, heard_branch}
 use Rattle.tree_model.specs.Restarts.{is_open}
-use Rattle.tree_model.specs.ManagerRows.{Leaf, on_work, on_prepare, on_commit, on_abort, active_prepare_holding, replies, unmoved, is_acknowledged, acknowledgement, heuristic_outcome}
+use Rattle.tree_model.specs.ManagerRows.{Leaf, on_work, on_prepare, on_commit, on_abort, active_prepare_holding, replies, unmoved, is_acknowledged, acknowledgement, heuristic_outcome, prepared_decide, heuristic_forget}
 use Rattle.tree_model.specs.Reactions.{leaf_effect}
 use Rattle.tree_law.proofs.Lists.{has-cons}
 use Rattle.tree_law.proofs.RootReading.{sends}
@@ -42,6 +42,17 @@ opened_by false k j e f = absurd (let g : true ≡ false = sym e ∙ f in cc)
 module _ (q p : ProcessId) (n : Node) (opens : OpenHavePromised n) (h : Heard) (d : Case) where
   abbrev leaf : Leaf
   leaf = record { me = q; parent = p; own = d }
+
+  -- a record that leaves its branch open opens no other one
+  was_open : (c : Case) (j : Mark) → is_open (mark_of (CaseBranch d) (kept n)) ≡ true
+      → is_open (if same_branch (CaseBranch d) (CaseBranch c) then j else mark_of (CaseBranch c) (kept n))
+      ≡ true
+      → is_open (mark_of (CaseBranch c) (kept n)) ≡ false → ⊥
+  was_open c j was now old =
+      let same : d ≡ c = told_same d c (sym (branch_case d c)
+      ∙ opened_by (same_branch (CaseBranch d) (CaseBranch c)) _ j now old) in
+      let f : true ≡ false =
+      sym was ∙ (ap (λ (z : Case). is_open (mark_of (CaseBranch z) (kept n))) same ∙ old) in cc
 
   module _ (m : Message) where
     -- an answer to the parent
@@ -202,6 +213,20 @@ module _ (q p : ProcessId) (n : Node) (opens : OpenHavePromised n) (h : Heard) (
   aborted mm (ToldOf o) e =
       decided (Abort d) AbortedOutcome (standing_branch Heuristic (Some o)) (Some o) (ap is_open e)
   aborted mm Finished e = acknowledges (Abort d) AbortedOutcome
+
+  -- An operator's acts.
+
+  pub decides : (m : Message) (o : Outcome) → is_open (mark_of (CaseBranch d) (kept n)) ≡ true
+      → LeafStep q n h m (leaf_effect (prepared_decide leaf o))
+  decides m CommittedOutcome was = leaf_writes q n opens h m (HeurCommitRecord (CaseBranch d)) true []
+      (λ c now old. absurd (was_open c Decided was now old)) (λ c e. absurd (cc)) (λ c e. absurd (cc)) tt
+  decides m AbortedOutcome was = leaf_writes q n opens h m (HeurRollbackRecord (CaseBranch d)) true []
+      (λ c now old. absurd (was_open c Decided was now old)) (λ c e. absurd (cc)) (λ c e. absurd (cc)) tt
+
+  pub forgets : (m : Message) → LeafStep q n h m (leaf_effect (heuristic_forget leaf))
+  forgets m = leaf_writes q n opens h m (ForgotRecord (CaseBranch d)) true []
+      (λ c now old. absurd (finished (same_branch (CaseBranch d) (CaseBranch c)) _ now old))
+      (λ c e. absurd (cc)) (λ c e. absurd (cc)) tt
 
   -- WORK
 

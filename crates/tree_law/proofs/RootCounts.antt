@@ -42,11 +42,6 @@ quiet_or : (c : Case) (b : Bool) (v : CoordinatorView) (r : Row) → r.counts �
 quiet_or c true v r e = refl
 quiet_or c false v r e = rw e refl
 
-row_or : (c : Case) (b : Bool) (v : CoordinatorView) (r : Row) → r.counts ≡ []
-    → CountsNone (row_effect c (if b then r else quiet v))
-row_or c true v r e = rw e refl
-row_or c false v r e = refl
-
 commit_counts : (s : Seat) (c : Case) (v : CoordinatorView) (b : Bool) (p : Presumption)
     → CountsNone (row_effect c (if b then active_commit_alone s else active_commit_with s v p))
 commit_counts s c v true p = refl

@@ -1,5 +1,7 @@
 -- Every input of the root keeps what holds of its cases, and a consent that is counted was said.
 use Rattle.std.proofs.Common.{◌≡◌, subst, ℕ, Bool, true, false, ◌&&◌, ◌⊎◌, inl, inr, Option, Some, None, List, [], ◌∷◌, refl, if◌then◌else◌}
+use Rattle.tree_model.specs.declared.standings.Standing.{Standing}
+use Rattle.tree_model.specs.declared.events.StepError.{StepError}
 use Rattle.tree_model.specs.declared.names.Case.{Case}
 use Rattle.tree_model.specs.declared.names.ProcessId.{ProcessId}
 use Rattle.tree_model.specs.declared.names.Ticket.{Ticket}
@@ -8,19 +10,19 @@ use Rattle.tree_model.specs.declared.names.Outcome.{Outcome}
 use Rattle.tree_model.specs.declared.messages.Message.{Message}
 use Rattle.tree_model.specs.declared.messages.Message.TheVariants.{Join, Joined, Work, Prepare, Yes, No, Read, Commit, Abort, Ack, Inquire}
 use Rattle.tree_model.specs.declared.standings.Vote.TheVariants.{Yes as VoteYes, No as VoteNo, Read as VoteRead}
-use Rattle.tree_model.specs.declared.standings.Standing.TheVariants.{Active}
+use Rattle.tree_model.specs.declared.standings.Standing.TheVariants.{Active, Unknown, Collecting, Prepared, Committing, Aborting, Heuristic}
 use Rattle.tree_model.specs.declared.events.Act.{Act}
 use Rattle.tree_model.specs.declared.events.Act.TheVariants.{Begin, Join as JoinAct, Work as WorkAct, Commit as CommitAct, Abort as AbortAct, Ask, Decide, Forget}
 use Rattle.tree_model.specs.declared.events.Input.{Input}
 use Rattle.tree_model.specs.declared.events.Input.TheVariants.{Act as ActInput, Message as MessageInput}
-use Rattle.tree_model.specs.declared.events.StepError.TheVariants.{Failed, NoSuch}
+use Rattle.tree_model.specs.declared.events.StepError.TheVariants.{Failed, NoSuch, NotInDoubt, NothingToForget}
 use Rattle.tree_model.specs.declared.trees.TreeEntry.{TreeEntry}
 use Rattle.tree_model.specs.Names.{same_txn, same_ticket, same_case, root_case, child_case}
 use Rattle.tree_model.specs.Nodes.{Place, Node, kept, Heard, DataAnswer, Effect, after, no_effect}
 use Rattle.tree_model.specs.Memory.{Memory, memory_of, of_ticket}
 use Rattle.tree_model.specs.Standings.{coordinator_view, coordinator_standing, case_of_child}
 use Rattle.tree_model.specs.CoordinatorRows.{on_joined}
-use Rattle.tree_model.specs.Reactions.{Reacts, Does, Refused, reacts, act_is_listed, row_effect, vote_for, ack_for, hears_from_child, coordinator_acts}
+use Rattle.tree_model.specs.Reactions.{Reacts, Does, Refused, reacts, act_is_listed, row_effect, vote_for, ack_for, hears_from_child, coordinator_acts, live_by}
 use Rattle.tree_model.specs.Outcomes.{has_accepted}
 use Rattle.tree_model.specs.Views.{root_place, root_seat, hears_act, hears_message, next_begun, begin_effect}
 use Rattle.tree_law.specs.Flat.{is_flat_act, is_flat_input}
@@ -38,6 +40,16 @@ use Rattle.tree_law.proofs.ChildCases.{never_active}
 use Rattle.tree_law.proofs.RootAccepts.{commit_takes_none, abort_takes_none, ack_for_takes_none, vote_for_takes_none, joined_accepts}
 use Rattle.tree_law.proofs.RootCounts.{join_sends, work_sends, commit_none, abort_none, joined_none, ack_for_none, vote_for_counts}
 use Rattle.tree_law.proofs.Consents.{IsNoQuestion, AsksNothing, RootReacts, accepted_none, counted_none, none_reacts, is_first, first_of_two, vote_said}
+
+-- the root has nothing for an operator to decide
+never_live : (x : StepError) (st : Standing) (e : Effect) → live_by x st ≡ Does e → ⊥
+never_live x Unknown e h = cc
+never_live x Active e h = cc
+never_live x Collecting e h = cc
+never_live x Prepared e h = cc
+never_live x Committing e h = cc
+never_live x Aborting e h = cc
+never_live x Heuristic e h = cc
 
 module _ (me : ProcessId) (tree : List TreeEntry) (n : Node) (holds : AllHold (root_place me tree) n)
     (a : DataAnswer) where
@@ -81,8 +93,8 @@ module _ (me : ProcessId) (tree : List TreeEntry) (n : Node) (holds : AllHold (r
       (abort_none (root_seat me (root_case y)) v v.standing e made)
       (abort_takes_none (root_seat me (root_case y)) v v.standing e made)
   by_act (Ask c) e f made = absurd (cc)
-  by_act (Decide c o) e f made = absurd (cc)
-  by_act (Forget c) e f made = absurd (cc)
+  by_act (Decide c o) e f made = absurd (never_live NotInDoubt (coordinator_view here n c).standing e made)
+  by_act (Forget c) e f made = absurd (never_live NothingToForget (coordinator_view here n c).standing e made)
 
   -- Messages.
 

@@ -22,7 +22,7 @@ use Rattle.tree_law.specs.Flat.{is_flat_entry, is_flat_move, AreFlatMoves}
 use Rattle.tree_law.proofs.CaseMoves.{CaseHolds}
 use Rattle.tree_law.proofs.RootReading.{reading}
 use Rattle.tree_law.proofs.RootReacts.{root_reacts}
-use Rattle.tree_law.proofs.LeafReacts.{LeafDoes, leaf_reacts}
+use Rattle.tree_law.proofs.LeafReacts.{LeafDoes, leaf_reacts, silence}
 use Rattle.tree_law.proofs.LeafSteps.{LeafStep}
 use Rattle.tree_law.proofs.LeafLeft.{LeafLeft}
 use Rattle.tree_law.proofs.LeafLeft as leaf
@@ -125,7 +125,9 @@ module _ (tree : List TreeEntry) (root : ProcessId) (flat : list_all (is_flat_en
       → IsLeft (w.at q) heard h.effect h.node h.letters → (i : Input)
       → IsHeard tree root w q i
       → LeafDoes q (w.at q) heard h.effect i → WorldHolds tree root (then q)
-  leaf_does q k l left (ActInput a) t d = absurd d
+  leaf_does q k l left (ActInput a) t d =
+      leaf_keeps tree root w holds q k (silence d.0) h.node h.letters
+      (leaf_left q (w.at q) heard (silence d.0) h.effect h.node h.letters left d.1) l tt
   leaf_does q k l left (MessageInput j message) t d =
       leaf_keeps tree root w holds q k message h.node h.letters
       (leaf_left q (w.at q) heard message h.effect h.node h.letters left d) l t

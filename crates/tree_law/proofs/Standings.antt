@@ -1,14 +1,13 @@
 -- What a standing says of the phase and the records of a case, and what these say of the standing.
-use Rattle.std.proofs.Common.{◌⊎◌, inl, inr, ◌≡◌, Bool, true, false, ◌||◌, List, refl}
+use Rattle.std.proofs.Common.{◌⊎◌, inl, inr, ◌≡◌, Bool, true, false, ◌||◌, refl}
 use Rattle.tree_model.specs.declared.names.Case.{Case}
 use Rattle.tree_model.specs.declared.names.Presumption.{Presumption}
 use Rattle.tree_model.specs.declared.names.Presumption.TheVariants.{PresumeAbort, PresumeCommit}
 use Rattle.tree_model.specs.Names.{same_presumption}
-use Rattle.tree_model.specs.declared.records.Record.{Record}
 use Rattle.tree_model.specs.declared.standings.Standing.{Standing}
-use Rattle.tree_model.specs.declared.standings.Standing.TheVariants.{Unknown, Active, Collecting, Prepared, Committing, Aborting, Heuristic}
+use Rattle.tree_model.specs.declared.standings.Standing.TheVariants.{Active, Collecting, Committing, Aborting}
 use Rattle.tree_model.specs.Nodes.{Place, Node, kept}
-use Rattle.tree_model.specs.Memory.{Memory, Phase, Idle, Open, Asked, Over, memory_of}
+use Rattle.tree_model.specs.Memory.{Phase, Idle, Open, Asked, Over, memory_of}
 use Rattle.tree_model.specs.Standings.{coordinator_view, coordinator_standing, standing_by, phase_standing, view_at}
 
 phase_open : (p : Presumption) (ph : Phase) → phase_standing p ph ≡ Active → ph ≡ Open
@@ -106,16 +105,6 @@ unrecorded false false true P K N s e k = absurd (cc)
 unrecorded false false false true K N s e k = absurd (cc)
 unrecorded false false false false true N s e k = absurd (cc)
 unrecorded false false false false false N s e k = refl
-
-pub view_standing : (s : Standing) (rs : List Record) (c : Case) (m : Memory)
-    → (view_at s rs c m).standing ≡ s
-view_standing Unknown rs c m = refl
-view_standing Active rs c m = refl
-view_standing Collecting rs c m = refl
-view_standing Prepared rs c m = refl
-view_standing Committing rs c m = refl
-view_standing Aborting rs c m = refl
-view_standing Heuristic rs c m = refl
 
 -- the view is read off the records and what is remembered
 pub viewed : (place : Place) (n : Node) (c : Case)

@@ -158,9 +158,6 @@ promise_after c n h e p =
           life_after (is_prepared c) n h e p.was_written;
     }
 
-pub accepted_after : (n : Node) (h : Heard) (e : Effect) → (after n h e).accepted ≡ e.accepts ++ n.accepted
-accepted_after n h e = refl
-
 dropped_if : (b : Bool) (n k j : Node) → k.dropped ≡ n.dropped → j.dropped ≡ n.dropped
     → (if b then k else j).dropped ≡ n.dropped
 dropped_if true n k j e f = e

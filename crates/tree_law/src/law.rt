@@ -6,9 +6,9 @@ ghost use Rattle.tree_model.specs.Outcomes.{Agreement, CommitRule};
 ghost use Rattle.tree_model.specs.World.{IsRun, Made, World};
 ghost use Rattle.tree_model.specs.declared.trees.TreeEntry.{TreeEntry};
 
-/// After every run of a flat tree, under either presumption, in which devices may fail but no process
-/// restarts and none asks for an outcome: no two processes end one transaction differently, and commit is
-/// decided only where every participant consented.
+/// After every run of a flat tree, under either presumption, in which devices may fail and operators decide,
+/// but no process restarts, trims its log or asks for an outcome: no two processes end one transaction
+/// differently, and commit is decided only where every participant consented.
 pub fn flat_runs_agree()
     ensures agreement { (tree : List TreeEntry) (es : List Made) (w : World) → IsFlat tree → IsRun tree es w
         → AreFlatMoves es → Agreement tree w }
