@@ -21,7 +21,7 @@ use Rattle.tree_model.specs.Views.{root_place, leaf_place, hears_act}
 use Rattle.tree_model.specs.World.{World, Made, node_makes, input_makes}
 use Rattle.flat_law.specs.Leaves.{LeafState, childless, act_refusal}
 use Rattle.flat_law.specs.FlatWorlds.{FlatState, RefusesAct, leaf_refusal, IsLost}
-use Rattle.tree_law.specs.Flat.{is_flat_act}
+use Rattle.flat_law.specs.Ties.{is_application_act}
 use Rattle.flat_law.specs.Ties.{LeafFollows, Follows, refusal_in, model_refusal, RefusesSo, IsForNobody}
 use Rattle.flat_law.proofs.Trees.{is_one, same_process-refl}
 use Rattle.flat_law.proofs.RootRefusals.{refuses_at_root}
@@ -44,7 +44,7 @@ module _ (me p : ProcessId) (tree : List TreeEntry) (n : Node) (l : LeafState)
   childless_as c = ap (λ (v : ManagerView). childless_by v.standing) (f.views c)
       ∙ childless_same (l.view_of c).standing
 
-  leaf_refused_as : (a : Act) → is_flat_act a ≡ true → same_process (process_of_act p a) p ≡ false
+  leaf_refused_as : (a : Act) → is_application_act a ≡ true → same_process (process_of_act p a) p ≡ false
       → manager_acts (leaf_place me p tree) p n a ≡ Refused (act_refusal l a)
   leaf_refused_as (Begin q) h o = let no : true ≡ false = sym (same_process-refl p) ∙ o in absurd (cc)
   leaf_refused_as (JoinAct c q) h o = childless_as c
@@ -60,7 +60,7 @@ module _ (me p : ProcessId) (tree : List TreeEntry) (n : Node) (l : LeafState)
   leaf_refused_if true a q h = h
   leaf_refused_if false a q h = refl
 
-  leaf_refuses : (a : Act) (d : DataAnswer) → is_flat_act a ≡ true
+  leaf_refuses : (a : Act) (d : DataAnswer) → is_application_act a ≡ true
       → same_process (process_of_act p a) p ≡ false
       → reacts (leaf_place me p tree) n (hears_act a d) ≡ Refused
       (leaf_refusal (names_listed tree a) (Some l) a)
@@ -98,7 +98,7 @@ module _ (me : ProcessId) (tree : List TreeEntry) (es : List Made) (w : World) (
   -- at a process that is not the root
   refused_below : (q : ProcessId) (a : Act) (d : DataAnswer) (o : Option LeafState)
       → same_process q me ≡ false → q ≡ process_of_act me a → s.leaf_at q ≡ o
-      → is_flat_act a ≡ true
+      → is_application_act a ≡ true
       → model_refusal tree w (move_of q (Handles (ActInput a)) d) ≡ Some
       (leaf_refusal (names_listed tree a) o a)
   refused_below q a d (Some l) away is stood h =
@@ -110,7 +110,7 @@ module _ (me : ProcessId) (tree : List TreeEntry) (es : List Made) (w : World) (
       ∙ ap Some (sym (none_refusal (names_listed tree a) a))
 
   refused_act : (a : Act) (e : StepError) (d : DataAnswer) (b : Bool)
-      → same_process (process_of_act s.root.me a) s.root.me ≡ b → is_flat_act a ≡ true
+      → same_process (process_of_act s.root.me a) s.root.me ≡ b → is_application_act a ≡ true
       → RefusesAct s a e
       → model_refusal tree w (move_of (process_of_act s.root.me a) (Handles (ActInput a)) d) ≡ Some e
   refused_act a e d true at h refused =
@@ -126,7 +126,7 @@ module _ (me : ProcessId) (tree : List TreeEntry) (es : List Made) (w : World) (
       ∙ ap Some (ap (λ t. leaf_refusal (names_listed t a) (s.leaf_at q) a) (sym f.root.has_tree)
       ∙ sym (refused.at_leaf at))
 
-  pub acts_refused : (a : Act) (e : StepError) → is_flat_act a ≡ true → RefusesAct s a e
+  pub acts_refused : (a : Act) (e : StepError) → is_application_act a ≡ true → RefusesAct s a e
       → RefusesSo me tree w a e
   acts_refused a e h refused d =
       subst (λ p. model_refusal tree w (move_of (process_of_act p a) (Handles (ActInput a)) d) ≡ Some e)

@@ -23,7 +23,7 @@ use Rattle.tree_model.specs.Views.{root_place, hears_act, begin_effect}
 use Rattle.tree_model.proofs.StandingLaws.{view_standing}
 use Rattle.root_core.specs.Roots.{Same, RootState, Turn, Refuses, Begins, Takes, Answers, Ignores, act_turn, acts}
 use Rattle.root_core.specs.Roots as root
-use Rattle.tree_law.specs.Flat.{is_flat_act}
+use Rattle.flat_law.specs.Ties.{is_application_act}
 use Rattle.flat_law.specs.Ties.{RootFollows}
 use Rattle.flat_law.proofs.RootMemory.{ticketed_is_idle}
 use Rattle.flat_law.proofs.RootPhases.{standing_from, idle_heard}
@@ -130,7 +130,7 @@ module _ (r : RootState) (n : Node) (f : RootFollows r.me r.tree n r) where
       (ticketed_is_unknown x t)
 
   -- what the root refuses, the model does
-  refused_as : (a : Act) (e : StepError) → is_flat_act a ≡ true → acts r a ≡ Refuses e
+  refused_as : (a : Act) (e : StepError) → is_application_act a ≡ true → acts r a ≡ Refuses e
       → coordinator_acts place None n a ≡ Refused e
   refused_as (Begin p) e h refused = absurd (cc)
   refused_as (JoinAct c q) e h refused = join_acts c.txn c.ticket q ∙ ap reacts_of refused
@@ -151,7 +151,7 @@ module _ (r : RootState) (n : Node) (f : RootFollows r.me r.tree n r) where
   refused_if true p q e h k = h k
   refused_if false p q e h k = ap reacts_of k
 
-  root_refuses : (a : Act) (d : DataAnswer) (e : StepError) → is_flat_act a ≡ true
+  root_refuses : (a : Act) (d : DataAnswer) (e : StepError) → is_application_act a ≡ true
       → act_turn r a ≡ Refuses e
       → reacts place n (hears_act a d) ≡ Refused e
   unfolding reacts
@@ -163,7 +163,7 @@ module _ (r : RootState) (n : Node) (f : RootFollows r.me r.tree n r) where
 
 pub refuses_at_root : (me : ProcessId) (tree : List TreeEntry) (n : Node) (r : RootState) (a : Act)
     (d : DataAnswer) (e : StepError) → RootFollows me tree n r
-    → is_flat_act a ≡ true → act_turn r a ≡ Refuses e
+    → is_application_act a ≡ true → act_turn r a ≡ Refuses e
     → reacts (root_place me tree) n (hears_act a d) ≡ Refused e
 refuses_at_root me tree n r a d e f h refused =
     let own : RootFollows r.me r.tree n r =

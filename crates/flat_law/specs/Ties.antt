@@ -11,6 +11,7 @@ use Rattle.tree_model.specs.declared.records.Branch.TheVariants.{Case as CaseBra
 use Rattle.tree_model.specs.declared.records.Record.{Record}
 use Rattle.tree_model.specs.declared.messages.Envelope.{Envelope}
 use Rattle.tree_model.specs.declared.events.Act.{Act}
+use Rattle.tree_model.specs.declared.events.Act.TheVariants.{Begin, Join, Work, Commit, Abort}
 use Rattle.tree_model.specs.declared.events.Input.TheVariants.{Act as ActInput}
 use Rattle.tree_model.specs.declared.events.Happening.TheVariants.{Input as Handles}
 use Rattle.tree_model.specs.declared.events.StepError.{StepError}
@@ -159,6 +160,15 @@ pub record IsModelled (me : ProcessId) (tree : List TreeEntry) (s : FlatState) :
   pub commit_rule : CommitRule tree world
 
 -- Refusals.
+
+-- an act of the application
+abbrev pub is_application_act : Act → Bool
+is_application_act (Begin p) = true
+is_application_act (Join c q) = true
+is_application_act (Work c q op) = true
+is_application_act (Commit x) = true
+is_application_act (Abort x) = true
+is_application_act _ = false
 
 abbrev pub refusal_in : Stepped → Option StepError
 refusal_in (Refuses e) = Some e

@@ -3,10 +3,9 @@
 ghost use Rattle.flat_law.specs.FlatWorlds.{Applies, FlatState, IsLost, IsOpened};
 ghost use Rattle.flat_law.specs.FlatWorlds.{Leads, LeadsUntil, RefusesAct};
 ghost use Rattle.flat_law.specs.FlatWorlds.{Stops};
-ghost use Rattle.flat_law.specs.Ties.{Follows, GoesOn, IsFlatTree, IsForNobody, IsModelled, RefusesSo};
+ghost use Rattle.flat_law.specs.Ties.{Follows, GoesOn, IsFlatTree, IsForNobody, IsModelled, RefusesSo, is_application_act};
 ghost use Rattle.flat_law.specs.Ties.{RootFollows};
 ghost use Rattle.root_core.specs.Roots.{RootState, Same};
-ghost use Rattle.tree_law.specs.Flat.{is_flat_act};
 ghost use Rattle.std.specs.Prelude.{◌≡◌, ℕ, true, List, []};
 ghost use Rattle.tree_model.specs.Nodes.{Node};
 ghost use Rattle.tree_model.specs.Plays.{sent_as};
@@ -59,7 +58,7 @@ pub fn every_run_is_a_run_of_the_model()
 pub fn refusals()
     ensures acts { (me : ProcessId) (tree : List TreeEntry) (es : List Made) (w : World) (s : FlatState)
         (a : Act)
-        (e : StepError) → Follows me tree es w s → is_flat_act a ≡ true → RefusesAct s a e
+        (e : StepError) → Follows me tree es w s → is_application_act a ≡ true → RefusesAct s a e
         → RefusesSo me tree w a e }
     ensures deliveries { (me : ProcessId) (tree : List TreeEntry) (es : List Made) (w : World) (s : FlatState)
         (k : ℕ) → Follows me tree es w s → IsLost s (sent_as s.net k) → IsForNobody tree (sent_as w.net k) }
