@@ -1,1 +1,4 @@
+pub mod Keys
+pub mod LiveWorks
 pub mod Tickets
+pub mod WritePlaces
