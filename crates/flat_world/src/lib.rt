@@ -2,6 +2,7 @@
 #![tactic(auto)]
 
 mod leaf;
+mod marks;
 mod world;
 
 pub use world::FlatWorld;

@@ -1,9 +1,19 @@
 //! A flat tree that runs: a root and plain leaves, the messages, and the journal.
 
-ghost use Rattle.std.specs.Prelude.{◌≡◌, ◌+◌, ◌<◌, ◌^◌, IfErr, IfOk, IfSome, length};
+ghost use Rattle.std.specs.Prelude.{◌≡◌, ◌≢◌, ◌⊎◌, ◌+◌, ◌<◌, ◌≤◌, ◌^◌, ◌++◌, true, false, None, Some, IfErr, IfOk, IfSome, IfNone, OnOk, OnErr, length, slice_get};
 ghost use Rattle.std.specs.Vec.{vec_len};
+ghost use Rattle.std.specs.Option.{option_copied};
+ghost use Rattle.tree_model.specs.declared.names.ProcessId.{ProcessId as AnyProcess};
+ghost use Rattle.tree_model.specs.Names.{same_process};
+ghost use Rattle.tree_model.specs.Nodes.{is_listed};
+ghost use Rattle.tree_model.specs.Plays.{process_of_act, sent_as};
+ghost use Rattle.tree_model.specs.Reactions.{names_listed};
+ghost use Rattle.flat_law.specs.Leaves as leaf_law;
+ghost use Rattle.flat_law.specs.FlatWorlds.{Applies, Delivers, Hears, IsLost, IsOpened, Leads, LeadsUntil, Settles, SettleStops, Steps, entry_at, leaf_refusal, undelivered};
+ghost use Rattle.flat_world.specs.Worlds.{Enters, IsStopped, leaf_in, state};
 
 use crate::leaf::Leaf;
+use crate::marks::Marks;
 use indexmap::IndexMap;
 use root_core::Root;
 use std::alloc::{AllocError, Global};
@@ -25,9 +35,7 @@ pub struct FlatWorld {
     root: Root,
     leaves: IndexMap<ProcessId, Leaf>,
     net: Vec<Envelope>,
-    delivered: Vec<bool>,
-    /// All messages before this place are delivered.
-    settled: usize,
+    delivered: Marks,
     entries: Vec<Entry>,
 }
 
@@ -71,8 +79,7 @@ impl FlatWorld {
             root: Root::open(alloc, me, tree)?,
             leaves,
             net: Vec::new(alloc),
-            delivered: Vec::new(alloc),
-            settled: 0,
+            delivered: Marks::new(alloc),
             entries: Vec::new(alloc),
         })
     }
@@ -106,7 +113,10 @@ impl FlatWorld {
 
     /// Makes an event. Memory: the event may be made in part, and the world is to be let go. Any other error refuses the
     /// event, and nothing has changed, but for what a settle had delivered.
-    pub fn apply(&mut self, event: &Event) -> Result<(), StepError> {
+    pub fn apply(&mut self, event: &Event) -> Result<(), StepError>
+        ensures ok { OnOk result (Applies (state self.old) event.now (state self.new)) }
+        ensures err { IfErr result (λ e. IsStopped (state self.old) event.now e (state self.new)) }
+    {
         match event {
             Event::Act(act) => self.act(act),
             Event::Deliver(number) => self.deliver(*number),
@@ -117,7 +127,10 @@ impl FlatWorld {
 
     /// Makes these events, in order, up to the first that is refused: then how many were made, and why the next was not.
     pub fn run(&mut self, events: &[Event]) -> Result<(), (usize, StepError)>
-        ensures { IfErr result (λ refusal. refusal.0 < length events.now) }
+        ensures ok { OnOk result (Leads (state self.old) events.now (state self.new)) }
+        ensures err { IfErr result (λ refusal. (refusal.1 ≡ StepError.Memory)
+            ⊎ LeadsUntil (state self.old) events.now refusal.0 refusal.1 (state self.new)) }
+        ensures within { IfErr result (λ refusal. refusal.0 < length events.now) }
     {
         for (made, event) in events.iter().enumerate() {
             if let Err(refusal) = self.apply(event) {
@@ -128,7 +141,10 @@ impl FlatWorld {
     }
 
     /// What an application asks.
-    fn act(&mut self, act: &Act) -> Result<(), StepError> {
+    fn act(&mut self, act: &Act) -> Result<(), StepError>
+        ensures ok { OnOk result (Applies (state self.old) (Event.Act act.now) (state self.new)) }
+        ensures err { IfErr result (λ e. IsStopped (state self.old) (Event.Act act.now) e (state self.new)) }
+    {
         let process = process_of(self.root.me(), act);
         if process != self.root.me() {
             return Err(self.leaf_refusal(process, act));
@@ -137,7 +153,6 @@ impl FlatWorld {
             return Err(StepError::Memory);
         }
         let input = Input::Act(copied_act(self.alloc, act)?);
-        self.entries.reserve(1)?;
         let reaction = self.root.act(act)?;
         Ok(self.enter(process, input, reaction)?)
     }
@@ -155,16 +170,16 @@ impl FlatWorld {
     }
 
     /// Delivers the message with this number.
-    fn deliver(&mut self, number: u64) -> Result<(), StepError> {
+    fn deliver(&mut self, number: u64) -> Result<(), StepError>
+        ensures ok { OnOk result (Delivers (state self.old) (state self.new) number) }
+        ensures err { IfErr result (λ e. IsStopped (state self.old) (Event.Deliver number) e (state self.new)) }
+    {
         let Some(place) = place_of(number, self.net.len()) else {
             return Err(StepError::NoSuch);
         };
         let (to, message) = self.letter(place)?;
-        self.entries.reserve(1)?;
         let reaction = self.hear(to, &message)?;
-        if let Some(mark) = self.delivered.get_mut(place) {
-            *mark = true;
-        }
+        self.delivered.mark(place);
         Ok(self.enter(to, Input::Message(number, message), reaction)?)
     }
 
@@ -210,29 +225,17 @@ impl FlatWorld {
     }
 
     /// Delivers the least numbered message that was not delivered, again and again, at most 10,000 times.
-    fn settle(&mut self) -> Result<(), StepError> {
+    fn settle(&mut self) -> Result<(), StepError>
+        ensures ok { OnOk result (Settles 10000 (state self.old) (state self.new)) }
+        ensures err { IfErr result (λ e. IsStopped (state self.old) Event.Settle e (state self.new)) }
+    {
         for _ in 0..SETTLE_LIMIT {
-            let Some(place) = self.least_open() else {
+            let Some(place) = self.delivered.least_open() else {
                 return Ok(());
             };
             self.deliver(place as u64 + 1)?;
         }
         Ok(())
-    }
-
-    /// The place of the first message that was not delivered.
-    fn least_open(&mut self) -> Option<usize>
-        ensures { IfSome result (λ place. place + 1 < 2 ^ 64) }
-    {
-        let sent = self.delivered.len();
-        for place in self.settled..sent {
-            if !self.delivered[place] {
-                self.settled = place;
-                return Some(place);
-            }
-        }
-        self.settled = sent;
-        None
     }
 }
 

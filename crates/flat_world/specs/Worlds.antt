@@ -1,0 +1,42 @@
+-- What the code of a flat world keeps, as the definitions see it.
+use Rattle.std.specs.Prelude.{◌≡◌, ◌⊎◌, ℕ, Bool, true, Option, Some, None, List, [], ◌∷◌, ◌++◌, option_map}
+use Rattle.std.specs.Map.{lookup}
+use Rattle.tree_model.specs.declared.names.ProcessId.{ProcessId}
+use Rattle.tree_model.specs.declared.events.Act.{Act}
+use Rattle.tree_model.specs.declared.events.Event.{Event}
+use Rattle.tree_model.specs.declared.events.Input.{Input}
+use Rattle.tree_model.specs.declared.events.Reaction.{Reaction}
+use Rattle.tree_model.specs.declared.events.StepError.{StepError}
+use Rattle.tree_model.specs.declared.events.StepError.TheVariants.{Memory}
+use Rattle.tree_model.specs.contracts.names.ProcessIdPartialEq.TheImpl as processes
+use Rattle.root_core.specs.States as root
+use Rattle.flat_law.specs.Leaves.{LeafState}
+use Rattle.flat_law.specs.FlatWorlds.{FlatState, Stops, entry_at, undelivered}
+use Rattle.flat_world.specs.declared.leaf.Leaf.{Leaf}
+use Rattle.flat_world.specs.declared.world.FlatWorld.{FlatWorld}
+use Rattle.flat_world.specs.Leaving as leaf
+
+-- the leaf of a process
+abbrev pub leaf_in : List (ProcessId × Leaf) → ProcessId → Option LeafState
+leaf_in leaves q = option_map leaf.state (lookup (processes.ghosts.eq q) leaves)
+
+abbrev pub state : FlatWorld → FlatState
+state w = record {
+  root = root.state w.root;
+  leaf_at = leaf_in w.leaves.entries;
+  net = w.net.items;
+  delivered = w.delivered;
+  entries = w.entries.items;
+}
+
+-- a step is entered: its messages are sent, and the journal has one entry more
+pub record Enters (old new : FlatState) (q : ProcessId) (input : Input) (reaction : Reaction) : Type 0 where
+  pub root : new.root ≡ old.root
+  pub leaves : (p : ProcessId) → new.leaf_at p ≡ old.leaf_at p
+  pub net : new.net ≡ old.net ++ reaction.letters
+  pub delivered : new.delivered ≡ old.delivered ++ undelivered reaction.letters
+  pub entries : new.entries ≡ old.entries ++ entry_at q input reaction ∷ []
+
+-- an event was refused, or memory was
+abbrev pub IsStopped : FlatState → Event → StepError → FlatState → Type 0
+IsStopped old event e new = (e ≡ Memory) ⊎ Stops old event e new

@@ -1,0 +1,71 @@
+//! Which messages were delivered.
+
+ghost use Rattle.std.specs.Prelude.{◌≡◌, ◌+◌, ◌<◌, ◌^◌, ◌++◌, ◌∷◌, [], Bool, true, false, OnOk, OnErr, IfSome, IfNone, None, Some, length, slice_set};
+ghost use Rattle.flat_law.specs.FlatWorlds.{least_open as least_open_in};
+
+use std::alloc::{AllocError, Global};
+use std::marker::Model;
+
+/// A mark for each message in order of sending: whether it was delivered. Contracts see the list of marks.
+#[derive(Drop)]
+pub(crate) struct Marks {
+    marks: Vec<bool>,
+    /// All messages before this place are delivered.
+    settled: usize,
+}
+
+impl Model for Marks {
+    ghost use Rattle.std.specs.Prelude.{List, Bool, true, ◌≡◌, ◌≤◌, length, replicate, take};
+
+    ghost Value = { List Bool };
+
+    ghost view = { λ m. m.marks.items };
+
+    ghost invariant = { λ m. (m.settled ≤ length m.marks.items) × (take m.settled m.marks.items ≡ replicate m.settled true) };
+}
+
+impl Marks {
+    /// No marks. It takes no memory.
+    pub(crate) fn new(alloc: Global) -> Marks
+        ensures { result ≡ [] }
+    {
+        Marks {
+            marks: Vec::new(alloc),
+            settled: 0,
+        }
+    }
+
+    /// One message more, which was not delivered.
+    pub(crate) fn push(&mut self) -> Result<(), AllocError>
+        ensures ok { OnOk result (self.new ≡ self.old ++ false ∷ []) }
+        ensures err { OnErr result (self.new ≡ self.old) }
+    {
+        self.marks.push(false)?;
+        Ok(())
+    }
+
+    /// The message at this place is delivered.
+    pub(crate) fn mark(&mut self, place: usize)
+        requires { place < length self.old }
+        ensures { self.new ≡ slice_set self.old place true }
+    {
+        self.marks[place] = true;
+    }
+
+    /// The place of the first message that was not delivered. What is delivered at the front is not gone through again.
+    pub(crate) fn least_open(&mut self) -> Option<usize>
+        ensures marks { self.new ≡ self.old }
+        ensures found { IfSome result (λ place. (place < length self.old) × (least_open_in 1 self.old ≡ Some (place + 1))) }
+        ensures none { IfNone result (least_open_in 1 self.old ≡ None) }
+    {
+        let sent = self.marks.len();
+        for place in self.settled..sent {
+            if !self.marks[place] {
+                self.settled = place;
+                return Some(place);
+            }
+        }
+        self.settled = sent;
+        None
+    }
+}
