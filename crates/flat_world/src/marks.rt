@@ -44,18 +44,19 @@ impl Marks {
         Ok(())
     }
 
-    /// The message at this place is delivered.
+    /// The message at this place is delivered, if there is one.
     pub(crate) fn mark(&mut self, place: usize)
-        requires { place < length self.old }
         ensures { self.new ≡ slice_set self.old place true }
     {
-        self.marks[place] = true;
+        if place < self.marks.len() {
+            self.marks[place] = true;
+        }
     }
 
     /// The place of the first message that was not delivered. What is delivered at the front is not gone through again.
     pub(crate) fn least_open(&mut self) -> Option<usize>
         ensures marks { self.new ≡ self.old }
-        ensures found { IfSome result (λ place. (place < length self.old) × (least_open_in 1 self.old ≡ Some (place + 1))) }
+        ensures found { IfSome result (λ place. (place + 1 < 2 ^ 64) × (least_open_in 1 self.old ≡ Some (place + 1))) }
         ensures none { IfNone result (least_open_in 1 self.old ≡ None) }
     {
         let sent = self.marks.len();
