@@ -1,4 +1,8 @@
+pub mod Entering
+pub mod Hearing
 pub mod Keys
 pub mod LiveWorks
+pub mod OpenPlaces
+pub mod Processes
 pub mod Tickets
 pub mod WritePlaces

@@ -40,3 +40,9 @@ pub record Enters (old new : FlatState) (q : ProcessId) (input : Input) (reactio
 -- an event was refused, or memory was
 abbrev pub IsStopped : FlatState → Event → StepError → FlatState → Type 0
 IsStopped old event e new = (e ≡ Memory) ⊎ Stops old event e new
+
+-- the messages, their marks and the journal stay
+pub record IsQuietElsewhere (old new : FlatState) : Type 0 where
+  pub net : new.net ≡ old.net
+  pub delivered : new.delivered ≡ old.delivered
+  pub entries : new.entries ≡ old.entries
