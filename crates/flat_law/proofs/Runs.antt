@@ -114,8 +114,8 @@ pub stopped_on : (me : ProcessId) (tree : List TreeEntry) (es : List Made) (w : 
 stopped_on me tree es w s s' (ActOf a) e f made = waits me tree es w s s' f made.0
 stopped_on me tree es w s s' (Deliver k) e f made = waits me tree es w s s' f made.0
 stopped_on me tree es w s s' Settle e f made = stops_on 10000 me tree s s' es w f made.1
-stopped_on me tree es w s s' (Restart q k) e f made = absurd made
-stopped_on me tree es w s s' (Trim q) e f made = absurd made
+stopped_on me tree es w s s' (Restart q k) e f made = waits me tree es w s s' f made.0
+stopped_on me tree es w s s' (Trim q) e f made = waits me tree es w s s' f made.0
 
 pub leads_on : (me : ProcessId) (tree : List TreeEntry) (es : List Made) (w : World) (s s' : FlatState)
     (events : List Event) → Follows me tree es w s → Leads s events s' → GoesOn me tree es w s'

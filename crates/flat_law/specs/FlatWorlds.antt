@@ -142,8 +142,8 @@ abbrev pub Stops : FlatState → Event → StepError → FlatState → Type 0
 Stops old (ActOf a) e new = (new ≡ old) × RefusesAct old a e
 Stops old (Deliver k) e new = (new ≡ old) × (e ≡ NoSuch) × IsLost old (sent_as old.net k)
 Stops old Settle e new = (e ≡ NoSuch) × SettleStops 10000 old new
-Stops old (Restart q k) e new = ⊥
-Stops old (Trim q) e new = ⊥
+Stops old (Restart q k) e new = (new ≡ old) × (e ≡ NoSuch)
+Stops old (Trim q) e new = (new ≡ old) × (e ≡ NoSuch)
 
 -- Runs.
 

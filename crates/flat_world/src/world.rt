@@ -1,18 +1,17 @@
 //! A flat tree that runs: a root and plain leaves, the messages, and the journal.
 
-ghost use Rattle.std.specs.Prelude.{◌≡◌, ◌≢◌, ◌⊎◌, ◌+◌, ◌<◌, ◌≤◌, ◌^◌, ◌++◌, true, false, None, Some, IfErr, IfOk, IfSome, IfNone, OnOk, OnErr, IsNone, is_some, length, slice_get};
+ghost use Rattle.std.specs.Prelude.{◌≡◌, ◌≢◌, ◌⊎◌, ◌+◌, ◌<◌, ◌≤◌, ◌^◌, ◌++◌, true, false, None, Some, IfErr, IfOk, IfSome, IfNone, OnOk, OnErr, IsNone, IsSomeAnd, length, slice_get};
 ghost use Rattle.std.specs.Vec.{vec_len};
 ghost use Rattle.std.specs.Option.{option_copied};
 ghost use Rattle.tree_model.specs.declared.names.ProcessId.{ProcessId as AnyProcess};
 ghost use Rattle.tree_model.specs.Names.{same_process};
-ghost use Rattle.tree_model.specs.Nodes.{is_listed};
 ghost use Rattle.tree_model.specs.Plays.{process_of_act, sent_as};
 ghost use Rattle.tree_model.specs.Reactions.{names_listed as names_listed_in};
 ghost use Rattle.flat_law.specs.Leaves as leaf_law;
 ghost use Rattle.flat_law.specs.FlatWorlds.{Applies, Delivers, Hears, IsLost, IsOpened, Leads, LeadsUntil, Settles, SettleStops, Steps, entry_at, leaf_refusal, undelivered};
 ghost use Rattle.tree_model.specs.declared.messages.Envelope.{Envelope as AnyEnvelope};
 ghost use Rattle.flat_world.specs.Leaving.{state as leaf_state};
-ghost use Rattle.flat_world.specs.Worlds.{Enters, IsQuietElsewhere, IsStopped, leaf_in, state};
+ghost use Rattle.flat_world.specs.Worlds.{AreLeaves, Enters, IsQuietElsewhere, IsStopped, leaf_in, state};
 
 use crate::leaf::Leaf;
 use crate::marks::Marks;
@@ -21,7 +20,7 @@ use root_core::Root;
 use std::alloc::{AllocError, Global};
 use tree_model::{
     Act, Entry, Envelope, Event, Happening, Input, Message, ProcessId, Reaction, Record, Step,
-    StepError, Tree,
+    StepError, Tree, TreeEntry,
 };
 
 /// No process gives more numbers than this in a boot.
@@ -41,19 +40,35 @@ pub struct FlatWorld {
     entries: Vec<Entry>,
 }
 
+/// A leaf of the root opens.
+#[tactic(auto, using(crate::proofs::Processes::process_equality))]
+fn open_leaf(
+    alloc: Global,
+    id: ProcessId,
+    me: ProcessId,
+    leaves: &mut IndexMap<ProcessId, Leaf>,
+) -> Result<(), AllocError>
+    ensures own { OnOk result (IsSomeAnd (leaf_in leaves.new.entries id) (λ l. leaf_law.IsOpened l id me)) }
+    ensures others { OnOk result ((q : AnyProcess) → same_process id q ≡ false → leaf_in leaves.new.entries q ≡ leaf_in leaves.old.entries q) }
+{
+    let leaf = Leaf::open(alloc, id, me)?;
+    leaves.reserve(1)?;
+    let _ = leaves.insert(id, leaf).unwrap();
+    Ok(())
+}
+
 /// The leaves of a tree: its processes but the root.
 fn leaves_of(
     alloc: Global,
     me: ProcessId,
-    tree: &Tree,
+    entries: &[TreeEntry],
 ) -> Result<IndexMap<ProcessId, Leaf>, AllocError>
-    ensures opened { IfOk result (λ leaves. (q : AnyProcess) → IfSome (leaf_in leaves.entries q) (λ l. leaf_law.IsOpened l q me)) }
-    ensures listed { IfOk result (λ leaves. (q : AnyProcess) → same_process q me ≡ false → is_some (leaf_in leaves.entries q) ≡ is_listed tree.now q) }
+    ensures { IfOk result (λ leaves. AreLeaves me entries.now leaves.entries) }
 {
     let mut leaves = IndexMap::new(alloc);
-    for entry in tree.entries() {
+    for entry in entries {
         if entry.id != me {
-            let _ = leaves.insert(entry.id, Leaf::open(alloc, entry.id, me)?)?;
+            open_leaf(alloc, entry.id, me, &mut leaves)?;
         }
     }
     Ok(leaves)
@@ -82,7 +97,7 @@ impl FlatWorld {
     pub fn new(alloc: Global, me: ProcessId, tree: Tree) -> Result<FlatWorld, AllocError>
         ensures { IfOk result (λ w. IsOpened (state w) me tree) }
     {
-        let leaves = leaves_of(alloc, me, &tree)?;
+        let leaves = leaves_of(alloc, me, tree.entries())?;
         Ok(FlatWorld {
             alloc,
             root: Root::open(alloc, me, tree)?,
