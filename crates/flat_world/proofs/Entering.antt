@@ -26,14 +26,17 @@ pub hears_on : (old mid new : FlatState) (q : ProcessId) (m : Message) (r : Reac
 hears_on old mid new q m r h root leaves =
     record {
       at_root = λ yes. let t = h.at_root yes in record { root = rw root t.root; leaves = λ p. leaves p ∙ t.leaves p };
-      at_leaf = λ no. let t = h.at_leaf no in (t.0, record {
-        stood = t.1.stood;
-        behind = t.1.behind;
-        stands = leaves q ∙ t.1.stands;
-        made = t.1.made;
-        others = λ p apart. leaves p ∙ t.1.others p apart;
-        root = root ∙ t.1.root;
-      });
+      at_leaf = λ no. let t = h.at_leaf no in (
+        t.0,
+        record {
+          stood = t.1.stood;
+          behind = t.1.behind;
+          stands = leaves q ∙ t.1.stands;
+          made = t.1.made;
+          others = λ p apart. leaves p ∙ t.1.others p apart;
+          root = root ∙ t.1.root;
+        },
+      );
     }
 
 -- an act of the root is entered
@@ -101,7 +104,10 @@ pub refused_at_root : (r s : RootState) (leaves : ProcessId → Option LeafState
     → IsStopped (flat s leaves net delivered entries) (ActOf a) e (flat r leaves net delivered entries)
 refused_at_root r s leaves net delivered entries a e here (inl memory) = inl memory.0
 refused_at_root r s leaves net delivered entries a e here (inr refused) =
-    inr (ap (λ t. flat t leaves net delivered entries) refused.1, record {
-      at_root = λ _. refused.0;
-      at_leaf = λ no. absurd (let wrong : true ≡ false = sym here ∙ no in cc);
-    })
+    inr (
+      ap (λ t. flat t leaves net delivered entries) refused.1,
+      record {
+        at_root = λ _. refused.0;
+        at_leaf = λ no. absurd (let wrong : true ≡ false = sym here ∙ no in cc);
+      },
+    )

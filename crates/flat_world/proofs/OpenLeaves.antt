@@ -48,10 +48,10 @@ none me = record { opened = λ q l stands. absurd (cc); listed = λ q apart. ref
 pub passes : (me : ProcessId) (es : List TreeEntry) (i : ℕ) (e : TreeEntry) (leaves : List (ProcessId × Leaf)) → i < length es
     → e ≡ get_or es i e → same_process e.id me ≡ true → AreLeaves me (take i es) leaves → AreLeaves me (take (i + 1) es) leaves
 passes me es i e leaves lt is root h = rw (take_more es i e lt, ← is) (record {
-    opened = h.opened;
-    listed = λ q apart. h.listed q apart ∙ sym (listed_more (take i es) e q
-        ∙ or_false (is_listed (take i es) q) (same_process e.id q) (apart_from e.id q me root apart));
-  })
+  opened = h.opened;
+  listed = λ q apart. h.listed q apart ∙ sym (listed_more (take i es) e q
+      ∙ or_false (is_listed (take i es) q) (same_process e.id q) (apart_from e.id q me root apart));
+})
 
 -- a leaf more
 pub opens_more : (me : ProcessId) (es : List TreeEntry) (i : ℕ) (e : TreeEntry) (old new : List (ProcessId × Leaf)) → i < length es
@@ -59,9 +59,9 @@ pub opens_more : (me : ProcessId) (es : List TreeEntry) (i : ℕ) (e : TreeEntry
     → ((q : ProcessId) → same_process e.id q ≡ false → leaf_in new q ≡ leaf_in old q)
     → AreLeaves me (take i es) old → AreLeaves me (take (i + 1) es) new
 opens_more me es i e old new lt is own others h = rw (take_more es i e lt, ← is) (record {
-    opened = λ q l stands. opened_by q l stands (same_process_tells e.id q);
-    listed = λ q apart. listed_by q apart (same_process_tells e.id q) ∙ sym (listed_more (take i es) e q);
-  })
+  opened = λ q l stands. opened_by q l stands (same_process_tells e.id q);
+  listed = λ q apart. listed_by q apart (same_process_tells e.id q) ∙ sym (listed_more (take i es) e q);
+})
   where
     opened_by : (q : ProcessId) (l : LeafState) → leaf_in new q ≡ Some l
         → ((same_process e.id q ≡ true) × (e.id ≡ q)) ⊎ ((same_process e.id q ≡ false) × (e.id ≢ q)) → IsOpened l q me
@@ -69,6 +69,7 @@ opens_more me es i e old new lt is own others h = rw (take_more es i e lt, ← i
         let mine : IsSomeAnd (leaf_in new q) (λ l. IsOpened l q me) = subst (λ p. IsSomeAnd (leaf_in new p) (λ l. IsOpened l p me)) here.1 own in
         let it : IsSomeAnd (Some l) (λ l. IsOpened l q me) = rw stands at mine in it
     opened_by q l stands (inr there) = h.opened q l (sym (others q there.0) ∙ stands)
+
     listed_by : (q : ProcessId) → same_process q me ≡ false
         → ((same_process e.id q ≡ true) × (e.id ≡ q)) ⊎ ((same_process e.id q ≡ false) × (e.id ≢ q))
         → is_some (leaf_in new q) ≡ (is_listed (take i es) q || same_process e.id q)

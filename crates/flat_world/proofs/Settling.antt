@@ -66,9 +66,12 @@ pub settling_stops : (limit i : ℕ) (first now new : FlatState) (k : ℕ) (e : 
     → IsStopped now (Deliver k) e new → (e ≡ Memory) ⊎ ((e ≡ NoSuch) × SettleStops limit first new)
 settling_stops limit i first now new k e in_limit s is (inl h) = inl h
 settling_stops limit i first now new k e in_limit s is (inr h) =
-    inr (h.1, subst (λ w. SettleStops limit first w) (sym h.0)
-    (stops_here limit (limit - (i + 1)) first now k
-    (subst (λ n. Settling limit n first now) (left_after limit i in_limit) s) is h.2))
+    inr (
+      h.1,
+      subst (λ w. SettleStops limit first w) (sym h.0)
+          (stops_here limit (limit - (i + 1)) first now k
+          (subst (λ n. Settling limit n first now) (left_after limit i in_limit) s) is h.2),
+    )
 
 -- an error that is passed on
 pub passed_on : (r : Result (Unit {0}) StepError) (e : StepError) (P : StepError → Type 0)

@@ -15,7 +15,10 @@ use Rattle.flat_law.specs.Leaves as leaf_law
 use Rattle.tree_model.specs.declared.trees.TreeEntry.{TreeEntry}
 use Rattle.tree_model.specs.Names.{same_process}
 use Rattle.tree_model.specs.Nodes.{is_listed}
-use Rattle.flat_law.specs.FlatWorlds.{FlatState, Stops, entry_at, undelivered}
+use Rattle.tree_model.specs.World.{Made, World}
+use Rattle.tree_model.specs.Outcomes.{Agreement, CommitRule}
+use Rattle.flat_law.specs.Ties.{Follows, GoesOn, IsFlatTree, IsModelled}
+use Rattle.flat_law.specs.FlatWorlds.{FlatState, IsOpened, Stops, entry_at, undelivered}
 use Rattle.flat_world.specs.declared.leaf.Leaf.{Leaf}
 use Rattle.flat_world.specs.declared.world.FlatWorld.{FlatWorld}
 use Rattle.flat_world.specs.Leaving as leaf
@@ -55,3 +58,23 @@ pub record IsQuietElsewhere (old new : FlatState) : Type 0 where
 pub record AreLeaves (me : ProcessId) (tree : List TreeEntry) (leaves : List (ProcessId × Leaf)) : Type 0 where
   pub opened : (q : ProcessId) (l : LeafState) → leaf_in leaves q ≡ Some l → leaf_law.IsOpened l q me
   pub listed : (q : ProcessId) → same_process q me ≡ false → is_some (leaf_in leaves q) ≡ is_listed tree q
+
+-- Where a flat state stands for a run of the model, the new one stands for one that goes on from it.
+abbrev pub RunsOn : FlatState → FlatState → Type 0
+RunsOn old new = (me : ProcessId) (tree : List TreeEntry) (es : List Made) (w : World)
+    → Follows me tree es w old → GoesOn me tree es w new
+
+-- Where the old state is a flat tree as it opens, the new one stands for a run of the model, with agreement and the
+-- commit rule.
+abbrev pub IsModelledFrom : FlatState → FlatState → Type 0
+IsModelledFrom old new = (me : ProcessId) (tree : List TreeEntry) → IsFlatTree me tree → IsOpened old me tree → IsModelled me tree new
+
+-- then no two processes have ended one transaction differently, in a run that the new state stands for
+abbrev pub AgreesFrom : FlatState → FlatState → Type 0
+AgreesFrom old new = (me : ProcessId) (tree : List TreeEntry) → IsFlatTree me tree → IsOpened old me tree
+    → (es : List Made) × (w : World) × Follows me tree es w new × Agreement tree w
+
+-- and commit was decided only where every participant consented
+abbrev pub ConsentsFrom : FlatState → FlatState → Type 0
+ConsentsFrom old new = (me : ProcessId) (tree : List TreeEntry) → IsFlatTree me tree → IsOpened old me tree
+    → (es : List Made) × (w : World) × Follows me tree es w new × CommitRule tree w

@@ -278,7 +278,11 @@ impl Leaf {
         let forced = is_acknowledged(case.txn.presumption, outcome);
         let mut reaction = self.acknowledged(case, outcome)?;
         reaction.written = shown_outcome(self.alloc, case, outcome, forced)?;
-        write_down(&mut self.log, outcome_record(self.me, self.parent, case, outcome), forced);
+        write_down(
+            &mut self.log,
+            outcome_record(self.me, self.parent, case, outcome),
+            forced,
+        );
         close_in(&case, &mut self.live);
         Ok(reaction)
     }
@@ -407,11 +411,7 @@ fn retire(case: &Case, active: &mut Vec<(Case, Ticket)>)
 
 /// A branch is joined.
 #[tactic(auto, using(tree_model::proofs::Equality::case_equality))]
-fn open_in(
-    alloc: Global,
-    case: Case,
-    live: &mut IndexMap<Case, Live>,
-) -> Result<(), AllocError>
+fn open_in(alloc: Global, case: Case, live: &mut IndexMap<Case, Live>) -> Result<(), AllocError>
     ensures own { OnOk result (view_in live.new.entries case ≡ open_branch) }
     ensures own_writes { OnOk result (writes_in live.new.entries case ≡ []) }
     ensures others { OnOk result ((c : AnyCase) → same_case case c ≡ false → view_in live.new.entries c ≡ view_in live.old.entries c) }

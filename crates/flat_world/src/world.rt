@@ -11,7 +11,7 @@ ghost use Rattle.flat_law.specs.Leaves as leaf_law;
 ghost use Rattle.flat_law.specs.FlatWorlds.{Applies, Delivers, Hears, IsLost, IsOpened, Leads, LeadsUntil, Settles, SettleStops, Steps, entry_at, leaf_refusal, undelivered};
 ghost use Rattle.tree_model.specs.declared.messages.Envelope.{Envelope as AnyEnvelope};
 ghost use Rattle.flat_world.specs.Leaving.{state as leaf_state};
-ghost use Rattle.flat_world.specs.Worlds.{AreLeaves, Enters, IsQuietElsewhere, IsStopped, leaf_in, state};
+ghost use Rattle.flat_world.specs.Worlds.{AgreesFrom, AreLeaves, ConsentsFrom, Enters, IsModelledFrom, RunsOn, IsQuietElsewhere, IsStopped, leaf_in, state};
 
 use crate::leaf::Leaf;
 use crate::marks::Marks;
@@ -146,6 +146,15 @@ impl FlatWorld {
     pub fn apply(&mut self, event: &Event) -> Result<(), StepError>
         ensures ok { OnOk result (Applies (state self.old) event.now (state self.new)) }
         ensures err { IfErr result (λ e. IsStopped (state self.old) event.now e (state self.new)) }
+        ensures goes_on { OnOk result (RunsOn (state self.old) (state self.new)) }
+        ensures stopped_goes_on { IfErr result (λ e. (e ≡ StepError.Memory) ⊎ RunsOn (state self.old) (state self.new)) }
+    {
+        self.make(event)
+    }
+
+    fn make(&mut self, event: &Event) -> Result<(), StepError>
+        ensures ok { OnOk result (Applies (state self.old) event.now (state self.new)) }
+        ensures err { IfErr result (λ e. IsStopped (state self.old) event.now e (state self.new)) }
     {
         match event {
             Event::Act(act) => self.act(act),
@@ -156,14 +165,30 @@ impl FlatWorld {
     }
 
     /// Makes these events, in order, up to the first that is refused: then how many were made, and why the next was not.
+    ///
+    /// Whatever the events, what a flat tree has come to from its opening on is a run of the model: no two processes have
+    /// ended one transaction differently, and commit was decided only where every participant consented.
     pub fn run(&mut self, events: &[Event]) -> Result<(), (usize, StepError)>
+        ensures ok { OnOk result (Leads (state self.old) events.now (state self.new)) }
+        ensures err { IfErr result (λ refusal. (refusal.1 ≡ StepError.Memory)
+            ⊎ LeadsUntil (state self.old) events.now refusal.0 refusal.1 (state self.new)) }
+        ensures within { IfErr result (λ refusal. refusal.0 < length events.now) }
+        ensures modelled { OnOk result (IsModelledFrom (state self.old) (state self.new)) }
+        ensures stopped_modelled { IfErr result (λ refusal. (refusal.1 ≡ StepError.Memory) ⊎ IsModelledFrom (state self.old) (state self.new)) }
+        ensures agreement { OnOk result (AgreesFrom (state self.old) (state self.new)) }
+        ensures commit_rule { OnOk result (ConsentsFrom (state self.old) (state self.new)) }
+    {
+        self.make_all(events)
+    }
+
+    fn make_all(&mut self, events: &[Event]) -> Result<(), (usize, StepError)>
         ensures ok { OnOk result (Leads (state self.old) events.now (state self.new)) }
         ensures err { IfErr result (λ refusal. (refusal.1 ≡ StepError.Memory)
             ⊎ LeadsUntil (state self.old) events.now refusal.0 refusal.1 (state self.new)) }
         ensures within { IfErr result (λ refusal. refusal.0 < length events.now) }
     {
         for (made, event) in events.iter().enumerate() {
-            if let Err(refusal) = self.apply(event) {
+            if let Err(refusal) = self.make(event) {
                 return Err((made, refusal));
             }
         }

@@ -1,14 +1,14 @@
-use Rattle.flat_world.specs.Worlds.{state}
-use Rattle.flat_world.proofs.Running.{run_goes_on, run_ends}
+use Rattle.flat_world.proofs.Modelled.{runs_modelled, runs_agree, runs_consent, stopped_modelled}
 use Rattle.flat_world.proofs.world.FlatWorld.run.Goals as goal
 
-pub loop-made-preserved : goal.loop-made-preserved
-loop-made-preserved c =
-    run_goes_on (state c.args.self.now) (state c.loop-made.self) (state c.apply.new.self) c.args.events.now
-    c.loop-made.made c.index-events-made.result c.loop-made-test.true c.index-events-made.is
-    c.loop-made.invariant c.in_default.ensures.ok
+pub returns-clause-modelled : goal.returns-clause-modelled
+returns-clause-modelled c = runs_modelled _ _ c.args.events.now _ c.make_all.ensures.ok
 
-pub returns-clause-ok : goal.returns-clause-ok
-returns-clause-ok c =
-    run_ends (state c.args.self.now) (state c.loop-made.self) c.args.events.now c.loop-made.made
-    c.loop-made-test.false c.loop-made.invariant
+pub returns-clause-stopped_modelled : goal.returns-clause-stopped_modelled
+returns-clause-stopped_modelled c = stopped_modelled _ _ c.args.events.now _ c.make_all.ensures.err
+
+pub returns-clause-agreement : goal.returns-clause-agreement
+returns-clause-agreement c = runs_agree _ _ c.args.events.now _ c.make_all.ensures.ok
+
+pub returns-clause-commit_rule : goal.returns-clause-commit_rule
+returns-clause-commit_rule c = runs_consent _ _ c.args.events.now _ c.make_all.ensures.ok
