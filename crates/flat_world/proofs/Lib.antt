@@ -1,5 +1,10 @@
+pub mod Entering
+pub mod Hearing
 pub mod Keys
 pub mod LiveWorks
+pub mod OpenLeaves
+pub mod OpenPlaces
+pub mod Processes
 pub mod Running
 pub mod Settling
 pub mod Tickets

@@ -1,5 +1,5 @@
 -- What the code of a flat world keeps, as the definitions see it.
-use Rattle.std.specs.Prelude.{◌≡◌, ◌⊎◌, ℕ, Bool, true, Option, Some, None, List, [], ◌∷◌, ◌++◌, option_map}
+use Rattle.std.specs.Prelude.{◌≡◌, ◌⊎◌, ℕ, Bool, true, Option, Some, None, false, List, [], ◌∷◌, ◌++◌, is_some, option_map}
 use Rattle.std.specs.Map.{lookup}
 use Rattle.tree_model.specs.declared.names.ProcessId.{ProcessId}
 use Rattle.tree_model.specs.declared.events.Act.{Act}
@@ -11,6 +11,10 @@ use Rattle.tree_model.specs.declared.events.StepError.TheVariants.{Memory}
 use Rattle.tree_model.specs.contracts.names.ProcessIdPartialEq.TheImpl as processes
 use Rattle.root_core.specs.States as root
 use Rattle.flat_law.specs.Leaves.{LeafState}
+use Rattle.flat_law.specs.Leaves as leaf_law
+use Rattle.tree_model.specs.declared.trees.TreeEntry.{TreeEntry}
+use Rattle.tree_model.specs.Names.{same_process}
+use Rattle.tree_model.specs.Nodes.{is_listed}
 use Rattle.flat_law.specs.FlatWorlds.{FlatState, Stops, entry_at, undelivered}
 use Rattle.flat_world.specs.declared.leaf.Leaf.{Leaf}
 use Rattle.flat_world.specs.declared.world.FlatWorld.{FlatWorld}
@@ -40,3 +44,14 @@ pub record Enters (old new : FlatState) (q : ProcessId) (input : Input) (reactio
 -- an event was refused, or memory was
 abbrev pub IsStopped : FlatState → Event → StepError → FlatState → Type 0
 IsStopped old event e new = (e ≡ Memory) ⊎ Stops old event e new
+
+-- the messages, their marks and the journal stay
+pub record IsQuietElsewhere (old new : FlatState) : Type 0 where
+  pub net : new.net ≡ old.net
+  pub delivered : new.delivered ≡ old.delivered
+  pub entries : new.entries ≡ old.entries
+
+-- the leaves of these processes but the root, each as it opens
+pub record AreLeaves (me : ProcessId) (tree : List TreeEntry) (leaves : List (ProcessId × Leaf)) : Type 0 where
+  pub opened : (q : ProcessId) (l : LeafState) → leaf_in leaves q ≡ Some l → leaf_law.IsOpened l q me
+  pub listed : (q : ProcessId) → same_process q me ≡ false → is_some (leaf_in leaves q) ≡ is_listed tree q

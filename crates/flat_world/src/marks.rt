@@ -1,6 +1,6 @@
 //! Which messages were delivered.
 
-ghost use Rattle.std.specs.Prelude.{◌≡◌, ◌+◌, ◌<◌, ◌^◌, ◌++◌, ◌∷◌, [], Bool, true, false, OnOk, OnErr, IfSome, IfNone, None, Some, length, slice_set};
+ghost use Rattle.std.specs.Prelude.{◌≡◌, ◌+◌, ◌<◌, ◌^◌, ◌++◌, ◌∷◌, [], Bool, true, false, OnOk, OnErr, IfSome, IfNone, None, Some, length, slice_set, take, replicate, ◌≤◌};
 ghost use Rattle.flat_law.specs.FlatWorlds.{least_open as least_open_in};
 
 use std::alloc::{AllocError, Global};
@@ -59,14 +59,30 @@ impl Marks {
         ensures found { IfSome result (λ place. (place + 1 < 2 ^ 64) × (least_open_in 1 self.old ≡ Some (place + 1))) }
         ensures none { IfNone result (least_open_in 1 self.old ≡ None) }
     {
-        let sent = self.marks.len();
-        for place in self.settled..sent {
-            if !self.marks[place] {
+        match first_open(&self.marks, self.settled) {
+            Some(place) => {
                 self.settled = place;
-                return Some(place);
+                Some(place)
+            }
+            None => {
+                self.settled = self.marks.len();
+                None
             }
         }
-        self.settled = sent;
-        None
     }
+}
+
+/// The place of the first mark that is not set, where those before the start are set.
+fn first_open(marks: &[bool], start: usize) -> Option<usize>
+    requires range { start ≤ length marks.now }
+    requires front { take start marks.now ≡ replicate start true }
+    ensures found { IfSome result (λ p. (p < length marks.now) × (take p marks.now ≡ replicate p true) × (least_open_in 1 marks.now ≡ Some (p + 1))) }
+    ensures none { IfNone result ((take (length marks.now) marks.now ≡ replicate (length marks.now) true) × (least_open_in 1 marks.now ≡ None)) }
+{
+    for place in start..marks.len() {
+        if !marks[place] {
+            return Some(place);
+        }
+    }
+    None
 }

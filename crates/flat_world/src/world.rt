@@ -1,16 +1,17 @@
 //! A flat tree that runs: a root and plain leaves, the messages, and the journal.
 
-ghost use Rattle.std.specs.Prelude.{◌≡◌, ◌≢◌, ◌⊎◌, ◌+◌, ◌<◌, ◌≤◌, ◌^◌, ◌++◌, true, false, None, Some, IfErr, IfOk, IfSome, IfNone, OnOk, OnErr, length, slice_get};
+ghost use Rattle.std.specs.Prelude.{◌≡◌, ◌≢◌, ◌⊎◌, ◌+◌, ◌<◌, ◌≤◌, ◌^◌, ◌++◌, true, false, None, Some, IfErr, IfOk, IfSome, IfNone, OnOk, OnErr, IsNone, IsSomeAnd, length, slice_get};
 ghost use Rattle.std.specs.Vec.{vec_len};
 ghost use Rattle.std.specs.Option.{option_copied};
 ghost use Rattle.tree_model.specs.declared.names.ProcessId.{ProcessId as AnyProcess};
 ghost use Rattle.tree_model.specs.Names.{same_process};
-ghost use Rattle.tree_model.specs.Nodes.{is_listed};
 ghost use Rattle.tree_model.specs.Plays.{process_of_act, sent_as};
-ghost use Rattle.tree_model.specs.Reactions.{names_listed};
+ghost use Rattle.tree_model.specs.Reactions.{names_listed as names_listed_in};
 ghost use Rattle.flat_law.specs.Leaves as leaf_law;
 ghost use Rattle.flat_law.specs.FlatWorlds.{Applies, Delivers, Hears, IsLost, IsOpened, Leads, LeadsUntil, Settles, SettleStops, Steps, entry_at, leaf_refusal, undelivered};
-ghost use Rattle.flat_world.specs.Worlds.{Enters, IsStopped, leaf_in, state};
+ghost use Rattle.tree_model.specs.declared.messages.Envelope.{Envelope as AnyEnvelope};
+ghost use Rattle.flat_world.specs.Leaving.{state as leaf_state};
+ghost use Rattle.flat_world.specs.Worlds.{AreLeaves, Enters, IsQuietElsewhere, IsStopped, leaf_in, state};
 
 use crate::leaf::Leaf;
 use crate::marks::Marks;
@@ -19,7 +20,7 @@ use root_core::Root;
 use std::alloc::{AllocError, Global};
 use tree_model::{
     Act, Entry, Envelope, Event, Happening, Input, Message, ProcessId, Reaction, Record, Step,
-    StepError, Tree,
+    StepError, Tree, TreeEntry,
 };
 
 /// No process gives more numbers than this in a boot.
@@ -39,23 +40,44 @@ pub struct FlatWorld {
     entries: Vec<Entry>,
 }
 
+/// A leaf of the root opens.
+#[tactic(auto, using(crate::proofs::Processes::process_equality))]
+fn open_leaf(
+    alloc: Global,
+    id: ProcessId,
+    me: ProcessId,
+    leaves: &mut IndexMap<ProcessId, Leaf>,
+) -> Result<(), AllocError>
+    ensures own { OnOk result (IsSomeAnd (leaf_in leaves.new.entries id) (λ l. leaf_law.IsOpened l id me)) }
+    ensures others { OnOk result ((q : AnyProcess) → same_process id q ≡ false → leaf_in leaves.new.entries q ≡ leaf_in leaves.old.entries q) }
+{
+    let leaf = Leaf::open(alloc, id, me)?;
+    leaves.reserve(1)?;
+    let _ = leaves.insert(id, leaf).unwrap();
+    Ok(())
+}
+
 /// The leaves of a tree: its processes but the root.
 fn leaves_of(
     alloc: Global,
     me: ProcessId,
-    tree: &Tree,
-) -> Result<IndexMap<ProcessId, Leaf>, AllocError> {
+    entries: &[TreeEntry],
+) -> Result<IndexMap<ProcessId, Leaf>, AllocError>
+    ensures { IfOk result (λ leaves. AreLeaves me entries.now leaves.entries) }
+{
     let mut leaves = IndexMap::new(alloc);
-    for entry in tree.entries() {
+    for entry in entries {
         if entry.id != me {
-            let _ = leaves.insert(entry.id, Leaf::open(alloc, entry.id, me)?)?;
+            open_leaf(alloc, entry.id, me, &mut leaves)?;
         }
     }
     Ok(leaves)
 }
 
 /// The process of an act: its case's ticket's child, or the root.
-fn process_of(me: ProcessId, act: &Act) -> ProcessId {
+fn process_of(me: ProcessId, act: &Act) -> ProcessId
+    ensures { result ≡ process_of_act me act.now }
+{
     match act {
         Act::Begin(_) => me,
         Act::Join(case, _)
@@ -72,8 +94,10 @@ fn process_of(me: ProcessId, act: &Act) -> ProcessId {
 
 impl FlatWorld {
     /// A tree whose processes have opened empty logs; `me` is its root.
-    pub fn new(alloc: Global, me: ProcessId, tree: Tree) -> Result<FlatWorld, AllocError> {
-        let leaves = leaves_of(alloc, me, &tree)?;
+    pub fn new(alloc: Global, me: ProcessId, tree: Tree) -> Result<FlatWorld, AllocError>
+        ensures { IfOk result (λ w. IsOpened (state w) me tree) }
+    {
+        let leaves = leaves_of(alloc, me, tree.entries())?;
         Ok(FlatWorld {
             alloc,
             root: Root::open(alloc, me, tree)?,
@@ -85,17 +109,23 @@ impl FlatWorld {
     }
 
     /// The steps that were made, each with its reaction.
-    pub fn trace(&self) -> &[Entry] {
+    pub fn trace(&self) -> &[Entry]
+        ensures { result.now ≡ (state self.now).entries }
+    {
         &self.entries
     }
 
     /// The tree.
-    pub fn tree(&self) -> &Tree {
+    pub fn tree(&self) -> &Tree
+        ensures { result.now ≡ (state self.now).root.tree }
+    {
         self.root.tree()
     }
 
     /// Every message that was ever sent; the first has number 1.
-    pub fn sent(&self) -> &[Envelope] {
+    pub fn sent(&self) -> &[Envelope]
+        ensures { result.now ≡ (state self.now).net }
+    {
         &self.net
     }
 
@@ -153,19 +183,22 @@ impl FlatWorld {
             return Err(StepError::Memory);
         }
         let input = Input::Act(copied_act(self.alloc, act)?);
-        let reaction = self.root.act(act)?;
-        Ok(self.enter(process, input, reaction)?)
+        match self.root.act(act) {
+            Ok(reaction) => Ok(self.enter(process, input, reaction)?),
+            Err(refusal) => Err(refusal),
+        }
     }
 
     /// Why a process that is not the root refuses an act.
-    fn leaf_refusal(&self, process: ProcessId, act: &Act) -> StepError {
-        let is_listed = match act {
-            Act::Join(_, child) | Act::Work(_, child, _) => self.root.tree().is_listed(*child),
-            _ => true,
-        };
+    fn leaf_refusal(&self, process: ProcessId, act: &Act) -> StepError
+        ensures { result ≡ leaf_refusal (names_listed_in (state self.now).root.tree act.now) ((state self.now).leaf_at process) act.now }
+    {
+        if !names_listed(self.root.tree(), act) {
+            return StepError::NoSuch;
+        }
         match self.leaves.get(&process) {
-            Some(leaf) if is_listed => leaf.refusal(act),
-            _ => StepError::NoSuch,
+            None => StepError::NoSuch,
+            Some(leaf) => leaf.refusal(act),
         }
     }
 
@@ -186,13 +219,18 @@ impl FlatWorld {
     /// The receiver and the text of a message, made anew.
     fn letter(&self, place: usize) -> Result<(ProcessId, Message), AllocError>
         requires { place < vec_len self.now.net }
+        ensures { IfOk result (λ r. (letter : AnyEnvelope) × (slice_get self.now.net.items place ≡ Some letter) × (r.0 ≡ letter.to) × (r.1 ≡ letter.message)) }
     {
         let letter = &self.net[place];
         Ok((letter.to, letter.message.copied(self.alloc)?))
     }
 
     /// A process handles a message.
-    fn hear(&mut self, to: ProcessId, message: &Message) -> Result<Reaction, StepError> {
+    fn hear(&mut self, to: ProcessId, message: &Message) -> Result<Reaction, StepError>
+        ensures ok { IfOk result (λ reaction. Hears (state self.old) (state self.new) to message.now reaction × IsQuietElsewhere (state self.old) (state self.new)) }
+        ensures err { IfErr result (λ e. (e ≡ StepError.Memory) ⊎ ((e ≡ StepError.NoSuch) × (state self.new ≡ state self.old)
+            × (same_process to (state self.old).root.me ≡ false) × IsNone ((state self.old).leaf_at to))) }
+    {
         if to == self.root.me() {
             return Ok(self.root.hear(message)?);
         }
@@ -208,11 +246,11 @@ impl FlatWorld {
         process: ProcessId,
         input: Input,
         reaction: Reaction,
-    ) -> Result<(), AllocError> {
-        for letter in reaction.letters.as_slice() {
-            self.net.push(letter.copied(self.alloc)?)?;
-            self.delivered.push(false)?;
-        }
+    ) -> Result<(), AllocError>
+        ensures { OnOk result (Enters (state self.old) (state self.new) process input reaction) }
+    {
+        send(self.alloc, reaction.letters.as_slice(), &mut self.net)?;
+        note(reaction.letters.as_slice(), &mut self.delivered)?;
         self.entries.push(Entry {
             step: Step {
                 process,
@@ -239,8 +277,41 @@ impl FlatWorld {
     }
 }
 
+/// These messages are sent.
+fn send(alloc: Global, letters: &[Envelope], net: &mut Vec<Envelope>) -> Result<(), AllocError>
+    ensures { OnOk result (net.new.items ≡ net.old.items ++ letters.now) }
+{
+    for letter in letters {
+        net.push(letter.copied(alloc)?)?;
+    }
+    Ok(())
+}
+
+/// A mark for each of these messages: none is delivered yet.
+fn note(letters: &[Envelope], delivered: &mut Marks) -> Result<(), AllocError>
+    ensures { OnOk result (delivered.new ≡ delivered.old ++ undelivered letters.now) }
+{
+    for _letter in letters {
+        delivered.push()?;
+    }
+    Ok(())
+}
+
+/// Whether the processes that an act names are listed.
+fn names_listed(tree: &Tree, act: &Act) -> bool
+    ensures { result ≡ names_listed_in tree.now act.now }
+{
+    match act {
+        Act::Join(_, child) | Act::Work(_, child, _) => tree.is_listed(*child),
+        _ => true,
+    }
+}
+
 /// A leaf handles a message.
-fn hear_at(leaf: &mut Leaf, message: &Message) -> Result<Reaction, StepError> {
+fn hear_at(leaf: &mut Leaf, message: &Message) -> Result<Reaction, StepError>
+    ensures ok { IfOk result (λ reaction. leaf_law.Makes (leaf_state leaf.old) (leaf_state leaf.new) (leaf_law.message_turn (leaf_state leaf.old) message.now) reaction) }
+    ensures err { IfErr result (λ e. e ≡ StepError.Memory) }
+{
     if leaf.given() >= MOST_NUMBERS {
         return Err(StepError::Memory);
     }
@@ -249,7 +320,8 @@ fn hear_at(leaf: &mut Leaf, message: &Message) -> Result<Reaction, StepError> {
 
 /// The place of the message with this number, among so many.
 fn place_of(number: u64, sent: usize) -> Option<usize>
-    ensures { IfSome result (λ place. place < sent) }
+    ensures found { IfSome result (λ place. (place < sent) × (number ≡ place + 1)) }
+    ensures none { IfNone result ((number ≡ 0) ⊎ (sent < number)) }
 {
     if number == 0 || number > sent as u64 {
         None
