@@ -1,5 +1,6 @@
 -- How far a run has come.
-use Rattle.std.proofs.Common.{◌≡◌, ◌∙◌, sym, ap, subst, refl, ℕ, ◌+◌, ◌<◌, ◌≤◌, List, [], ◌∷◌, ◌++◌, take, length, get_or}
+use Rattle.std.proofs.Common.{◌≡◌, ◌∙◌, sym, ap, subst, refl, ℕ, ◌+◌, ◌<◌, ◌≤◌, List, [], ◌∷◌, ◌++◌, take}
+use Rattle.std.proofs.Common.{length, get_or}
 use Rattle.std.proofs.lemmas.List.{take_more, take_all}
 use Rattle.tree_model.specs.declared.events.Event.{Event}
 use Rattle.flat_law.specs.FlatWorlds.{FlatState, Applies, Leads}

@@ -1,10 +1,12 @@
 -- How far a settle has come: what a settle of the rest makes, the whole makes.
-use Rattle.std.proofs.Common.{◌≡◌, ◌⊎◌, sym, ap, subst, refl, ℕ, zero, suc, ◌+◌, ◌-◌, ◌<◌, ◌≤◌, Bool, List, inl, inr, Some, None, Result, Ok, Err, IsErrAnd, IfErr, arith}
+use Rattle.std.proofs.Common.{◌≡◌, ◌⊎◌, sym, ap, subst, refl, ℕ, zero, suc, ◌+◌, ◌-◌, ◌<◌, ◌≤◌, Bool, List}
+use Rattle.std.proofs.Common.{inl, inr, Some, None, Result, Ok, Err, IsErrAnd, IfErr, arith}
 use Rattle.tree_model.specs.declared.events.Event.TheVariants.{Deliver}
 use Rattle.tree_model.specs.declared.events.StepError.{StepError}
 use Rattle.tree_model.specs.declared.events.StepError.TheVariants.{Memory, NoSuch}
 use Rattle.tree_model.specs.Plays.{sent_as}
-use Rattle.flat_law.specs.FlatWorlds.{FlatState, Delivers, least_open, settles_by, Settles, stops_by, SettleStops, IsLost}
+use Rattle.flat_law.specs.FlatWorlds.{FlatState, Delivers, least_open, settles_by, Settles}
+use Rattle.flat_law.specs.FlatWorlds.{stops_by, SettleStops, IsLost}
 use Rattle.flat_world.specs.Worlds.{IsStopped}
 
 -- of so many deliveries so many are left
