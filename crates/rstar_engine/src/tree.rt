@@ -95,8 +95,10 @@ fn trace(alloc: Global, tree: Tree, events: &[Event]) -> Result<(Vec<u8>, Status
             out.extend_from_slice(b"end\n")?;
             Ok((out, Status::Ended))
         }
-        Err((_, StepError::Memory)) => Err(Failure::Memory),
         Err((made, refusal)) => {
+            if refusal == StepError::Memory {
+                return Err(Failure::Memory);
+            }
             push_entries(&mut out, world.trace())?;
             push_refused(alloc, &mut out, made as u64 + 1, refusal.number())?;
             Ok((out, Status::Stopped))
@@ -142,8 +144,14 @@ fn push_opened(alloc: Global, out: &mut Vec<u8>, entries: &[TreeEntry]) -> Resul
 fn push_opening(alloc: Global, out: &mut Vec<u8>, process: u32) -> Result<(), AllocError>
     ensures { OnOk result (out.new.items ≡ out.old.items ++ opening_text process) }
 {
-    let line = format!(in alloc; "log {process} Opened 1 forced\n")?;
+    let line = opening_line(alloc, u64::from(process))?;
     out.extend_from_slice(line.as_bytes())
+}
+
+fn opening_line(alloc: Global, process: u64) -> Result<String, AllocError>
+    ensures { IfOk result (λ line. string_bytes line ≡ opening_text process) }
+{
+    format!(in alloc; "log {process} Opened 1 forced\n")
 }
 
 /// The lines of a run's steps. A run of 2^64 messages is taken for want of memory.
