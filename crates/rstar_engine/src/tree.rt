@@ -1,7 +1,13 @@
 //! The engine of tree scripts.
 
-ghost use Rattle.std.specs.Prelude.{◌≡◌, ◌++◌, IfOk, IfErr, OnOk};
+ghost use Rattle.std.specs.Prelude.{◌≡◌, ◌++◌, ℕ, List, IfOk, IfErr, OnOk, find, string_bytes};
+ghost use Rattle.std.specs.Option.{option_copied};
+ghost use Rattle.tree_model.specs.Trees.{is_top};
 ghost use Rattle.std.specs.Io.KnownBytes.{Appends, Keeps};
+ghost use Rattle.link_script.specs.Trace.{entries_text};
+ghost use Rattle.link_script.specs.Inputs.{root_of};
+ghost use Rattle.rstar_engine.specs.Runs.{IsInput};
+ghost use Rattle.rstar_engine.specs.Trees.{IsTreeReport, RunsOver, fault_text, opened_text, opening_text, refused_text};
 
 use crate::streams::{Failure, read_all, write_all};
 use crate::xa::Status;
@@ -18,6 +24,9 @@ pub fn run_tree<R: Read, W: Write>(
     reader: &mut R,
     writer: &mut W,
 ) -> Result<Status, Failure>
+    ensures written { IfOk result (λ status. (input : List ℕ) × (text : List ℕ)
+        × IsInput (R.remaining reader.old) input × IsTreeReport status input text
+        × Appends (W.contents writer.old) (W.contents writer.new) text) }
     ensures unread { IfErr result (λ e. e ≡ Failure.Read → Keeps (W.contents writer.old) (W.contents writer.new)) }
     ensures memory { IfErr result (λ e. e ≡ Failure.Memory → Keeps (W.contents writer.old) (W.contents writer.new)) }
 {
@@ -30,23 +39,35 @@ pub fn run_tree<R: Read, W: Write>(
 }
 
 /// The answer to an input.
-fn report(alloc: Global, input: &[u8]) -> Result<(Vec<u8>, Status), Failure> {
+fn report(alloc: Global, input: &[u8]) -> Result<(Vec<u8>, Status), Failure>
+    ensures report { IfOk result (λ r. IsTreeReport r.1 input.now r.0.items) }
+    ensures memory { IfErr result (λ e. e ≡ Failure.Memory) }
+{
     match read(alloc, Stage::Flat, input) {
         Ok((tree, events)) => trace(alloc, tree, &events),
-        Err(ScriptError::Fault(fault)) => {
-            let text = refusal(alloc, fault)?;
-            Ok((bytes_of(alloc, &text)?, Status::Refused))
-        }
+        Err(ScriptError::Fault(fault)) => Ok((refusal(alloc, fault)?, Status::Refused)),
         Err(ScriptError::Memory) => Err(Failure::Memory),
     }
 }
 
-fn bytes_of(alloc: Global, text: &String) -> Result<Vec<u8>, AllocError> {
-    Vec::from_slice(alloc, text.as_bytes())
+/// The bytes of a line.
+fn bytes_of(alloc: Global, line: &String) -> Result<Vec<u8>, AllocError>
+    ensures { IfOk result (λ v. v.items ≡ string_bytes line.now) }
+{
+    Vec::from_slice(alloc, line.as_bytes())
 }
 
 /// The line of a refused script.
-fn refusal(alloc: Global, fault: ScriptFault) -> Result<String, AllocError> {
+fn refusal(alloc: Global, fault: ScriptFault) -> Result<Vec<u8>, AllocError>
+    ensures { IfOk result (λ v. v.items ≡ fault_text fault) }
+{
+    let line = refusal_line(alloc, fault)?;
+    bytes_of(alloc, &line)
+}
+
+fn refusal_line(alloc: Global, fault: ScriptFault) -> Result<String, AllocError>
+    ensures { IfOk result (λ line. string_bytes line ≡ fault_text fault) }
+{
     match fault {
         ScriptFault::TreeText => String::from_str(alloc, "error 1\n"),
         ScriptFault::Tree(cause) => {
@@ -60,54 +81,90 @@ fn refusal(alloc: Global, fault: ScriptFault) -> Result<String, AllocError> {
 }
 
 /// The trace of a run of these events.
-fn trace(alloc: Global, tree: Tree, events: &[Event]) -> Result<(Vec<u8>, Status), Failure> {
+fn trace(alloc: Global, tree: Tree, events: &[Event]) -> Result<(Vec<u8>, Status), Failure>
+    ensures trace { IfOk result (λ r. RunsOver tree events.now r.1 r.0.items) }
+    ensures memory { IfErr result (λ e. e ≡ Failure.Memory) }
+{
     let mut out = Vec::new(alloc);
     push_opened(alloc, &mut out, tree.entries())?;
     let me = top_of(tree.entries());
     let mut world = FlatWorld::new(alloc, me, tree)?;
-    let ran = world.run(events);
-    push_entries(&mut out, world.trace())?;
-    match ran {
+    match world.run(events) {
         Ok(()) => {
+            push_entries(&mut out, world.trace())?;
             out.extend_from_slice(b"end\n")?;
             Ok((out, Status::Ended))
         }
-        Err((_, StepError::Memory)) => Err(Failure::Memory),
         Err((made, refusal)) => {
-            let number = refusal.number();
-            let event = made as u64 + 1;
-            let line = format!(in alloc; "refused {event} {number}\n")?;
-            out.extend_from_slice(line.as_bytes())?;
+            if refusal == StepError::Memory {
+                return Err(Failure::Memory);
+            }
+            push_entries(&mut out, world.trace())?;
+            push_refused(alloc, &mut out, made as u64 + 1, refusal.number())?;
             Ok((out, Status::Stopped))
         }
     }
 }
 
+/// The last line of a run that was refused an event.
+fn push_refused(alloc: Global, out: &mut Vec<u8>, event: u64, refusal: u8) -> Result<(), AllocError>
+    ensures { OnOk result (out.new.items ≡ out.old.items ++ refused_text event refusal) }
+{
+    let line = format!(in alloc; "refused {event} {refusal}\n")?;
+    out.extend_from_slice(line.as_bytes())
+}
+
+fn first_top(entries: &[TreeEntry]) -> Option<&TreeEntry>
+    ensures { option_copied result ≡ find is_top entries.now }
+{
+    entries.iter().find(|entry| entry.parent.is_none())
+}
+
 /// The process of a tree that has no parent.
-fn top_of(entries: &[TreeEntry]) -> ProcessId {
-    match entries.iter().find(|entry| entry.parent.is_none()) {
+#[tactic(auto, unfolding(link_script::specs::Inputs::root_of))]
+fn top_of(entries: &[TreeEntry]) -> ProcessId
+    ensures { result ≡ root_of entries.now }
+{
+    match first_top(entries) {
         None => ProcessId(0),
         Some(entry) => entry.id,
     }
 }
 
 /// The lines of the processes' opening.
-fn push_opened(alloc: Global, out: &mut Vec<u8>, entries: &[TreeEntry]) -> Result<(), AllocError> {
+fn push_opened(alloc: Global, out: &mut Vec<u8>, entries: &[TreeEntry]) -> Result<(), AllocError>
+    ensures { OnOk result (out.new.items ≡ out.old.items ++ opened_text entries.now) }
+{
     for entry in entries {
-        let process = entry.id.0;
-        let line = format!(in alloc; "log {process} Opened 1 forced\n")?;
-        out.extend_from_slice(line.as_bytes())?;
+        push_opening(alloc, out, entry.id.0)?;
     }
     Ok(())
 }
 
-/// The lines of a run's steps.
-fn push_entries(out: &mut Vec<u8>, entries: &[Entry]) -> Result<(), AllocError> {
+fn push_opening(alloc: Global, out: &mut Vec<u8>, process: u32) -> Result<(), AllocError>
+    ensures { OnOk result (out.new.items ≡ out.old.items ++ opening_text process) }
+{
+    let line = opening_line(alloc, u64::from(process))?;
+    out.extend_from_slice(line.as_bytes())
+}
+
+fn opening_line(alloc: Global, process: u64) -> Result<String, AllocError>
+    ensures { IfOk result (λ line. string_bytes line ≡ opening_text process) }
+{
+    let mut line = format!(in alloc; "log {process} ")?;
+    line.push_str("Opened 1 forced\n")?;
+    Ok(line)
+}
+
+/// The lines of a run's steps. A run of 2^64 messages is taken for want of memory.
+fn push_entries(out: &mut Vec<u8>, entries: &[Entry]) -> Result<(), Failure>
+    ensures text { OnOk result (out.new.items ≡ out.old.items ++ entries_text 0 entries.now) }
+    ensures memory { IfErr result (λ e. e ≡ Failure.Memory) }
+{
     let mut sent: u64 = 0;
     for entry in entries {
-        let more = entry.reaction.letters.len() as u64;
-        let Some(next) = sent.checked_add(more) else {
-            return Ok(());
+        let Some(next) = sent.checked_add(entry.reaction.letters.len() as u64) else {
+            return Err(Failure::Memory);
         };
         push_entry(out, sent, entry)?;
         sent = next;
