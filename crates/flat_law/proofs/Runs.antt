@@ -1,18 +1,18 @@
 -- A run of a flat tree is a run of the model.
 use Rattle.std.proofs.Common.{◌≡◌, sym, subst, ℕ, zero, suc, inl, inr, Option, Some, None, List, [], ◌∷◌, ◌++◌, append_assoc, take, refl}
 use Rattle.std.specs.List.{list_all}
-use Rattle.std.proofs.lemmas.List.{append-nil}
 use Rattle.tree_model.specs.declared.names.ProcessId.{ProcessId}
 use Rattle.tree_model.specs.declared.events.Event.{Event}
 use Rattle.tree_model.specs.declared.events.Event.TheVariants.{Act as ActOf, Deliver, Settle, Restart, Trim}
 use Rattle.tree_model.specs.declared.events.StepError.{StepError}
 use Rattle.tree_model.specs.declared.trees.TreeEntry.{TreeEntry}
 use Rattle.tree_model.specs.Plays.{process_of_act}
-use Rattle.tree_model.specs.World.{World, Made, Continues, stays, goes_on}
+use Rattle.tree_model.specs.World.{World, Made, Continues, stays, goes_on, opened_world}
 use Rattle.tree_law.proofs.FlatRuns.{agreement, commit_rule}
 use Rattle.tree_law.specs.Flat.{IsFlat, is_flat_move, AreFlatMoves}
-use Rattle.flat_law.specs.FlatWorlds.{FlatState, least_open, settles_by, Settles, Applies, stops_by, SettleStops, Stops, Leads, LeadsUntil}
+use Rattle.flat_law.specs.FlatWorlds.{FlatState, IsOpened, least_open, settles_by, Settles, Applies, stops_by, SettleStops, Stops, Leads, LeadsUntil}
 use Rattle.flat_law.specs.Ties.{IsFlatTree, Follows, GoesOn, IsModelled}
+use Rattle.flat_law.proofs.Openings.{opened_follows}
 use Rattle.flat_law.proofs.Trees.{both}
 use Rattle.flat_law.proofs.WorldSteps.{delivery_goes_on, act_goes_on}
 
@@ -131,18 +131,29 @@ leads_until_on me tree es w s s' events n e f made =
     then_on me tree es w made.before s' (leads_on me tree es w s made.before (take n events) f made.made)
     (λ es' w' g. stopped_on me tree es' w' made.before s' made.event e g made.refused)
 
+-- a run of flat moves that goes on
+pub modelled_on : (me : ProcessId) (tree : List TreeEntry) (es : List Made) (w : World) (s : FlatState)
+    → IsFlatTree me tree → AreFlatMoves es → GoesOn me tree es w s → IsModelled me tree s
+modelled_on me tree es w s t flat g =
+    let is_flat : IsFlat tree = record { root = me; entries = t.entries } in
+    let are_flat : AreFlatMoves (g.later ++ es) = all_append es g.later flat g.are_flat in
+    record {
+      moves = g.later ++ es;
+      world = g.world;
+      follows = g.follows;
+      are_flat = are_flat;
+      agreement = agreement tree (g.later ++ es) g.world is_flat g.follows.is_run are_flat;
+      commit_rule = commit_rule tree (g.later ++ es) g.world is_flat g.follows.is_run are_flat;
+    }
+
 -- from the opened tree on
 pub modelled : (me : ProcessId) (tree : List TreeEntry) (w : World) (s : FlatState) → IsFlatTree me tree
     → GoesOn me tree [] w s → IsModelled me tree s
-modelled me tree w s t g =
-    let f : Follows me tree g.later g.world s =
-    subst (λ es. Follows me tree es g.world s) (append-nil g.later) g.follows in
-    let is_flat : IsFlat tree = record { root = me; entries = t.entries } in
-    record {
-      moves = g.later;
-      world = g.world;
-      follows = f;
-      are_flat = g.are_flat;
-      agreement = agreement tree g.later g.world is_flat f.is_run g.are_flat;
-      commit_rule = commit_rule tree g.later g.world is_flat f.is_run g.are_flat;
-    }
+modelled me tree w s t g = modelled_on me tree [] w s t refl g
+
+-- a tree that has opened
+pub opened_modelled : (me : ProcessId) (tree : List TreeEntry) (s : FlatState) → IsFlatTree me tree
+    → IsOpened s me tree → IsModelled me tree s
+opened_modelled me tree s t opened =
+    let f = opened_follows me tree s t opened in
+    modelled me tree opened_world s t (waits me tree [] opened_world s s f refl)

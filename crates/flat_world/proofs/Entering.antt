@@ -1,5 +1,5 @@
 -- A step that was entered, and an act that was refused.
-use Rattle.std.proofs.Common.{◌≡◌, ◌∙◌, sym, ap, ℕ, ◌+◌, Bool, true, false, Option, Some, List, [], ◌∷◌, ◌++◌, refl, ◌⊎◌, inl, inr}
+use Rattle.std.proofs.Common.{◌≡◌, ◌∙◌, sym, ap, ℕ, ◌+◌, Bool, true, false, Option, Some, List, [], ◌∷◌, ◌++◌, inl, inr}
 use Rattle.std.specs.Prelude.{slice_get, slice_set}
 use Rattle.tree_model.specs.declared.names.ProcessId.{ProcessId}
 use Rattle.tree_model.specs.declared.messages.Message.{Message}
@@ -12,11 +12,11 @@ use Rattle.tree_model.specs.declared.events.Reaction.{Reaction}
 use Rattle.tree_model.specs.declared.events.StepError.{StepError}
 use Rattle.tree_model.specs.Names.{same_process}
 use Rattle.tree_model.specs.Reactions.{names_listed}
-use Rattle.tree_model.specs.Plays.{process_of_act, sent_as}
+use Rattle.tree_model.specs.Plays.{process_of_act}
 use Rattle.root_core.specs.Roots.{RootState, Refused, act_turn}
 use Rattle.root_core.specs.Roots as root
 use Rattle.flat_law.specs.Leaves.{LeafState}
-use Rattle.flat_law.specs.FlatWorlds.{FlatState, Hears, Steps, Delivers, RefusesAct, leaf_refusal, marks, undelivered, entry_at}
+use Rattle.flat_law.specs.FlatWorlds.{FlatState, Hears, Steps, Delivers, RefusesAct, leaf_refusal, undelivered, entry_at}
 use Rattle.flat_world.specs.Worlds.{Enters, IsQuietElsewhere, IsStopped}
 use Rattle.flat_world.proofs.Hearing.{sent_at, marked_at}
 

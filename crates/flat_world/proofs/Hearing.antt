@@ -1,11 +1,8 @@
 -- A message that a process heard, and an input that was entered.
-use Rattle.std.proofs.Common.{◌≡◌, ◌∙◌, sym, ap, ℕ, zero, suc, ◌+◌, ◌<◌, true, false, Option, Some, None, List, ◌++◌, Result, Ok, Err, IfOk, refl, arith}
+use Rattle.std.proofs.Common.{◌≡◌, ◌∙◌, sym, ℕ, suc, ◌+◌, true, false, Some, List, Result, Ok, Err, IfOk, refl, arith}
 use Rattle.tree_model.specs.declared.names.ProcessId.{ProcessId}
 use Rattle.tree_model.specs.declared.messages.Message.{Message}
 use Rattle.tree_model.specs.declared.messages.Envelope.{Envelope}
-use Rattle.tree_model.specs.declared.events.Input.{Input}
-use Rattle.tree_model.specs.declared.events.Input.TheVariants.{Act as ActInput, Message as MessageInput}
-use Rattle.tree_model.specs.declared.events.Act.{Act}
 use Rattle.tree_model.specs.declared.events.Reaction.{Reaction}
 use Rattle.tree_model.specs.Names.{same_process}
 use Rattle.tree_model.specs.Plays.{sent_as}
@@ -14,8 +11,8 @@ use Rattle.root_core.specs.Roots.{act_turn}
 use Rattle.root_core.specs.Roots as root
 use Rattle.flat_law.specs.Leaves.{LeafState}
 use Rattle.flat_law.specs.Leaves as leaf
-use Rattle.flat_law.specs.FlatWorlds.{FlatState, Hears, Handled, Steps, Delivers, marks, undelivered, entry_at}
-use Rattle.flat_world.specs.Worlds.{Enters, IsQuietElsewhere}
+use Rattle.flat_law.specs.FlatWorlds.{FlatState, Hears, marks}
+use Rattle.flat_world.specs.Worlds.{IsQuietElsewhere}
 
 pub at_root : (old new : FlatState) (q : ProcessId) (m : Message) (reaction : Reaction) → same_process q old.root.me ≡ true
     → root.Makes old.root new.root (root.message_turn old.root m) reaction

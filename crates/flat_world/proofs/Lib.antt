@@ -2,6 +2,7 @@ pub mod Entering
 pub mod Hearing
 pub mod Keys
 pub mod LiveWorks
+pub mod Logs
 pub mod Modelled
 pub mod OpenLeaves
 pub mod OpenPlaces

@@ -1,8 +1,7 @@
 -- A work that came to a branch among the live ones.
-use Rattle.std.proofs.Common.{◌≡◌, ◌∙◌, false, List, Result, Ok, Err, OnOk, OnErr}
+use Rattle.std.proofs.Common.{◌≡◌, ◌∙◌, false, List, Result, Ok, Err, OnOk}
 use Rattle.tree_model.specs.declared.names.Case.{Case}
 use Rattle.tree_model.specs.declared.messages.Op.{Op}
-use Rattle.tree_model.specs.declared.records.Write.{Write}
 use Rattle.tree_model.specs.Names.{same_case}
 use Rattle.std.specs.Prelude.{ℕ}
 use Rattle.flat_world.specs.declared.leaf.Live.{Live}

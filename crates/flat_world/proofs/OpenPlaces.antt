@@ -1,5 +1,5 @@
 -- The first mark that is not set.
-use Rattle.std.proofs.Common.{◌≡◌, ◌∙◌, ℕ, zero, suc, ◌+◌, ◌<◌, ◌≤◌, Bool, true, false, Option, Some, None, List, [], ◌∷◌, length, get_or, take, replicate, refl, ap, arith}
+use Rattle.std.proofs.Common.{◌≡◌, ℕ, zero, suc, ◌+◌, ◌<◌, Bool, true, false, Some, None, List, [], ◌∷◌, length, get_or, take, replicate, refl, arith}
 use Rattle.flat_law.specs.FlatWorlds.{least_open}
 
 -- the first of a list that begins with set marks is set

@@ -3,16 +3,11 @@ use Rattle.std.specs.Prelude.{◌≡◌, ℕ, Bool, true, false, Option, Some, N
 use Rattle.std.specs.Map.{lookup}
 use Rattle.tree_model.specs.declared.names.Case.{Case}
 use Rattle.tree_model.specs.declared.names.ProcessId.{ProcessId}
-use Rattle.tree_model.specs.declared.names.Outcome.{Outcome}
-use Rattle.tree_model.specs.declared.names.Outcome.TheVariants.{Committed, Aborted}
 use Rattle.tree_model.specs.declared.messages.Message.{Message}
 use Rattle.tree_model.specs.declared.messages.Op.{Op}
 use Rattle.tree_model.specs.declared.records.Write.{Write}
 use Rattle.tree_model.specs.declared.records.Branch.TheVariants.{Case as CaseBranch}
-use Rattle.tree_model.specs.declared.records.Record.{Record}
-use Rattle.tree_model.specs.declared.records.Record.TheVariants.{Prepared as PreparedRecord, Committed as CommittedRecord, RolledBack}
-use Rattle.tree_model.specs.declared.records.RecordKind.{RecordKind}
-use Rattle.tree_model.specs.declared.records.RecordKind.TheVariants.{Committed as CommittedKind, RolledBack as RolledBackKind}
+use Rattle.tree_model.specs.declared.records.Record.TheVariants.{Prepared as PreparedRecord}
 use Rattle.tree_model.specs.declared.events.Reaction.{Reaction}
 use Rattle.tree_model.specs.declared.standings.Standing.TheVariants.{Active as ActiveStanding, Prepared}
 use Rattle.tree_model.specs.Standings.{ManagerView, standing_branch, unknown_branch}

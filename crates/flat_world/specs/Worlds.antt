@@ -1,14 +1,15 @@
 -- What the code of a flat world keeps, as the definitions see it.
-use Rattle.std.specs.Prelude.{◌≡◌, ◌⊎◌, ℕ, Bool, true, Option, Some, None, false, List, [], ◌∷◌, ◌++◌, is_some, option_map}
+use Rattle.std.specs.Prelude.{◌≡◌, ◌⊎◌, Option, Some, None, false, List, [], ◌∷◌, ◌++◌, is_some, option_map, map}
 use Rattle.std.specs.Map.{lookup}
 use Rattle.tree_model.specs.declared.names.ProcessId.{ProcessId}
-use Rattle.tree_model.specs.declared.events.Act.{Act}
 use Rattle.tree_model.specs.declared.events.Event.{Event}
 use Rattle.tree_model.specs.declared.events.Input.{Input}
 use Rattle.tree_model.specs.declared.events.Reaction.{Reaction}
 use Rattle.tree_model.specs.declared.events.StepError.{StepError}
 use Rattle.tree_model.specs.declared.events.StepError.TheVariants.{Memory}
 use Rattle.tree_model.specs.contracts.names.ProcessIdPartialEq.TheImpl as processes
+use Rattle.tree_model.specs.declared.records.Record.{Record}
+use Rattle.rec_log.specs.Logs.{records_of}
 use Rattle.root_core.specs.States as root
 use Rattle.flat_law.specs.Leaves.{LeafState}
 use Rattle.flat_law.specs.Leaves as leaf_law
@@ -18,7 +19,7 @@ use Rattle.tree_model.specs.Nodes.{is_listed}
 use Rattle.tree_model.specs.World.{Made, World}
 use Rattle.tree_model.specs.Outcomes.{Agreement, CommitRule}
 use Rattle.flat_law.specs.Ties.{Follows, GoesOn, IsFlatTree, IsModelled}
-use Rattle.flat_law.specs.FlatWorlds.{FlatState, IsOpened, Stops, entry_at, undelivered}
+use Rattle.flat_law.specs.FlatWorlds.{FlatState, Stops, entry_at, undelivered}
 use Rattle.flat_world.specs.declared.leaf.Leaf.{Leaf}
 use Rattle.flat_world.specs.declared.world.FlatWorld.{FlatWorld}
 use Rattle.flat_world.specs.Leaving as leaf
@@ -35,6 +36,15 @@ state w = record {
   delivered = w.delivered;
   entries = w.entries.items;
 }
+
+-- the records of a process: those of the leaf that it is, or the root's
+abbrev pub log_by : FlatState → Option LeafState → List Record
+log_by w None = records_of w.root.log
+log_by w (Some l) = records_of l.log
+
+-- the records of these processes
+abbrev pub logs_at : FlatState → List TreeEntry → List (List Record)
+logs_at w tree = map (λ e. log_by w (w.leaf_at e.id)) tree
 
 -- a step is entered: its messages are sent, and the journal has one entry more
 pub record Enters (old new : FlatState) (q : ProcessId) (input : Input) (reaction : Reaction) : Type 0 where
@@ -64,17 +74,17 @@ abbrev pub RunsOn : FlatState → FlatState → Type 0
 RunsOn old new = (me : ProcessId) (tree : List TreeEntry) (es : List Made) (w : World)
     → Follows me tree es w old → GoesOn me tree es w new
 
--- Where the old state is a flat tree as it opens, the new one stands for a run of the model, with agreement and the
--- commit rule.
+-- Where the old state of a flat tree stands for a run of the model, the new one stands for such a run too, with agreement
+-- and the commit rule.
 abbrev pub IsModelledFrom : FlatState → FlatState → Type 0
-IsModelledFrom old new = (me : ProcessId) (tree : List TreeEntry) → IsFlatTree me tree → IsOpened old me tree → IsModelled me tree new
+IsModelledFrom old new = (me : ProcessId) (tree : List TreeEntry) → IsFlatTree me tree → IsModelled me tree old → IsModelled me tree new
 
 -- then no two processes have ended one transaction differently, in a run that the new state stands for
 abbrev pub AgreesFrom : FlatState → FlatState → Type 0
-AgreesFrom old new = (me : ProcessId) (tree : List TreeEntry) → IsFlatTree me tree → IsOpened old me tree
+AgreesFrom old new = (me : ProcessId) (tree : List TreeEntry) → IsFlatTree me tree → IsModelled me tree old
     → (es : List Made) × (w : World) × Follows me tree es w new × Agreement tree w
 
 -- and commit was decided only where every participant consented
 abbrev pub ConsentsFrom : FlatState → FlatState → Type 0
-ConsentsFrom old new = (me : ProcessId) (tree : List TreeEntry) → IsFlatTree me tree → IsOpened old me tree
+ConsentsFrom old new = (me : ProcessId) (tree : List TreeEntry) → IsFlatTree me tree → IsModelled me tree old
     → (es : List Made) × (w : World) × Follows me tree es w new × CommitRule tree w

@@ -1,6 +1,6 @@
 //! A flat tree that runs: a root and plain leaves, the messages, and the journal.
 
-ghost use Rattle.std.specs.Prelude.{◌≡◌, ◌≢◌, ◌⊎◌, ◌+◌, ◌<◌, ◌≤◌, ◌^◌, ◌++◌, true, false, None, Some, IfErr, IfOk, IfSome, IfNone, OnOk, OnErr, IsNone, IsSomeAnd, length, slice_get};
+ghost use Rattle.std.specs.Prelude.{◌≡◌, ◌≢◌, ◌⊎◌, ◌+◌, ◌<◌, ◌≤◌, ◌^◌, ◌++◌, true, false, None, Some, IfErr, IfOk, IfSome, IfNone, OnOk, OnErr, IsNone, IsSomeAnd, length, map, slice_get};
 ghost use Rattle.std.specs.Vec.{vec_len};
 ghost use Rattle.std.specs.Option.{option_copied};
 ghost use Rattle.tree_model.specs.declared.names.ProcessId.{ProcessId as AnyProcess};
@@ -11,7 +11,8 @@ ghost use Rattle.flat_law.specs.Leaves as leaf_law;
 ghost use Rattle.flat_law.specs.FlatWorlds.{Applies, Delivers, Hears, IsLost, IsOpened, Leads, LeadsUntil, Settles, SettleStops, Steps, entry_at, leaf_refusal, undelivered};
 ghost use Rattle.tree_model.specs.declared.messages.Envelope.{Envelope as AnyEnvelope};
 ghost use Rattle.flat_world.specs.Leaving.{state as leaf_state};
-ghost use Rattle.flat_world.specs.Worlds.{AgreesFrom, AreLeaves, ConsentsFrom, Enters, IsModelledFrom, RunsOn, IsQuietElsewhere, IsStopped, leaf_in, state};
+ghost use Rattle.flat_law.specs.Ties.{IsFlatTree, IsModelled};
+ghost use Rattle.flat_world.specs.Worlds.{AgreesFrom, AreLeaves, ConsentsFrom, Enters, IsModelledFrom, RunsOn, IsQuietElsewhere, IsStopped, leaf_in, log_by, logs_at, state};
 
 use crate::leaf::Leaf;
 use crate::marks::Marks;
@@ -95,7 +96,8 @@ fn process_of(me: ProcessId, act: &Act) -> ProcessId
 impl FlatWorld {
     /// A tree whose processes have opened empty logs; `me` is its root.
     pub fn new(alloc: Global, me: ProcessId, tree: Tree) -> Result<FlatWorld, AllocError>
-        ensures { IfOk result (λ w. IsOpened (state w) me tree) }
+        ensures opened { IfOk result (λ w. IsOpened (state w) me tree) }
+        ensures modelled { IfOk result (λ w. IsFlatTree me tree → IsModelled me tree (state w)) }
     {
         let leaves = leaves_of(alloc, me, tree.entries())?;
         Ok(FlatWorld {
@@ -130,15 +132,24 @@ impl FlatWorld {
     }
 
     /// The records of each process's log, in the order of the tree.
-    pub fn logs(&self) -> Result<Vec<Vec<Record>>, AllocError> {
+    pub fn logs(&self) -> Result<Vec<Vec<Record>>, AllocError>
+        ensures { IfOk result (λ logs. map (λ log. log.items) logs.items ≡ (let w = state self.now in logs_at w w.root.tree)) }
+    {
         let mut logs = Vec::new(self.alloc);
         for entry in self.root.tree().entries() {
-            match self.leaves.get(&entry.id) {
-                None => logs.push(self.root.records()?)?,
-                Some(leaf) => logs.push(leaf.records()?)?,
-            }
+            logs.push(self.log(&entry.id)?)?;
         }
         Ok(logs)
+    }
+
+    /// The records of a process's log.
+    fn log(&self, process: &ProcessId) -> Result<Vec<Record>, AllocError>
+        ensures { IfOk result (λ log. log.items ≡ log_by (state self.now) ((state self.now).leaf_at process.now)) }
+    {
+        match self.leaves.get(process) {
+            None => self.root.records(),
+            Some(leaf) => leaf.records(),
+        }
     }
 
     /// Makes an event. Memory: the event may be made in part, and the world is to be let go. Any other error refuses the
@@ -148,6 +159,9 @@ impl FlatWorld {
         ensures err { IfErr result (λ e. IsStopped (state self.old) event.now e (state self.new)) }
         ensures goes_on { OnOk result (RunsOn (state self.old) (state self.new)) }
         ensures stopped_goes_on { IfErr result (λ e. (e ≡ StepError.Memory) ⊎ RunsOn (state self.old) (state self.new)) }
+        ensures modelled { OnOk result (IsModelledFrom (state self.old) (state self.new)) }
+        ensures agreement { OnOk result (AgreesFrom (state self.old) (state self.new)) }
+        ensures commit_rule { OnOk result (ConsentsFrom (state self.old) (state self.new)) }
     {
         self.make(event)
     }

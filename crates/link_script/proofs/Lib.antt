@@ -6,3 +6,4 @@ pub mod Asked
 pub mod Misses
 pub mod NameLaws
 pub mod LineLaws
+pub mod Placed

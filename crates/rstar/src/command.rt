@@ -5,7 +5,7 @@ use std::alloc::Global;
 
 /// What a command line asks for.
 #[derive(Clone, Copy, Debug, PartialEq, Eq)]
-pub enum Request {
+pub(crate) enum Request {
     /// The events of a tree script.
     Tree,
     /// The calls of an XA script.
@@ -14,7 +14,7 @@ pub enum Request {
 
 /// What was read of a command line.
 #[derive(Clone, Copy, Debug, PartialEq, Eq)]
-pub enum Asked {
+pub(crate) enum Asked {
     Request(Request),
     Memory,
 }
@@ -29,7 +29,7 @@ fn grammar<'a>(alloc: Global) -> Result<Command<'a>, Error> {
 }
 
 /// What these words ask for, the program's name first.
-pub fn read_words<'a>(alloc: Global, words: &'a [String]) -> Result<Asked, Error> {
+pub(crate) fn read_words<'a>(alloc: Global, words: &'a [String]) -> Result<Asked, Error> {
     let matches = grammar(alloc)?.try_get_matches_from(words)?;
     match matches.subcommand() {
         Some((name, _)) => Ok(Asked::Request(if name == "tree" {

@@ -1,6 +1,6 @@
 //! Reads all there is, and writes a text and nothing else.
 
-ghost use Rattle.std.specs.Prelude.{◌≡◌, OnOk, IfOk, IfErr, IfSome};
+ghost use Rattle.std.specs.Prelude.{◌≡◌, ◌≢◌, OnOk, IfOk, IfErr, IfSome};
 ghost use Rattle.std.specs.Io.KnownBytes.{Appends, Keeps};
 ghost use Rattle.rstar_engine.specs.Streams.{WritesFront};
 
@@ -49,7 +49,8 @@ const READ_LIMIT: u32 = 1 << 30;
 
 /// Reads all there is.
 pub(crate) fn read_all<R: Read>(alloc: Global, reader: &mut R) -> Result<Vec<u8>, Failure>
-    ensures { IfOk result (λ v. IfSome (R.remaining reader.old) (λ input. v.items ≡ input)) }
+    ensures all { IfOk result (λ v. IfSome (R.remaining reader.old) (λ input. v.items ≡ input)) }
+    ensures err { IfErr result (λ e. e ≢ Failure.Write) }
 {
     let mut bytes = Vec::new(alloc);
     let mut buffer = [0u8; 4096];

@@ -7,7 +7,13 @@ ghost use Rattle.std.specs.Io.KnownBytes.{Appends, Keeps};
 ghost use Rattle.link_script.specs.Trace.{entries_text};
 ghost use Rattle.link_script.specs.Inputs.{root_of};
 ghost use Rattle.rstar_engine.specs.Runs.{IsInput};
-ghost use Rattle.rstar_engine.specs.Trees.{IsTreeReport, RunsOver, fault_text, opened_text, opening_text, refused_text};
+ghost use Rattle.tree_model.specs.Outcomes.{Agreement, CommitRule};
+ghost use Rattle.flat_law.specs.FlatWorlds.{IsOpened};
+ghost use Rattle.flat_law.specs.Ties.{IsFlatTree, IsModelled};
+ghost use Rattle.flat_world.specs.Worlds.{state};
+ghost use Rattle.rstar_engine.specs.declared.xa.Status.{Status as AnyStatus};
+ghost use Rattle.rstar_engine.specs.Streams.{WritesFront};
+ghost use Rattle.rstar_engine.specs.Trees.{IsNumbered, IsTreeReport, Plays, TellsWhere, ending, fault_text, last_line, opened_text, opening_text, refused_text, trace_of};
 
 use crate::streams::{Failure, read_all, write_all};
 use crate::xa::Status;
@@ -17,8 +23,15 @@ use std::alloc::{AllocError, Global};
 use std::io::{Read, Write};
 use tree_model::{Entry, Event, ProcessId, StepError, Tree, TreeEntry};
 
+/// How many events were made, and why the next was refused; or none was.
+type Refusal = Option<(usize, StepError)>;
+
 /// Reads a tree script, makes its events, and writes the trace; or one line that says why the script is refused. A refused
 /// event ends the trace by its number and why it was refused.
+///
+/// The trace is that of a run of the model, in which no two processes end one transaction differently, and commit is
+/// decided only where every participant voted yes or read-only (R*). After a failed read, or where memory is refused,
+/// nothing was written; after a failed write, a beginning of the text.
 pub fn run_tree<R: Read, W: Write>(
     alloc: Global,
     reader: &mut R,
@@ -27,6 +40,15 @@ pub fn run_tree<R: Read, W: Write>(
     ensures written { IfOk result (λ status. (input : List ℕ) × (text : List ℕ)
         × IsInput (R.remaining reader.old) input × IsTreeReport status input text
         × Appends (W.contents writer.old) (W.contents writer.new) text) }
+    ensures agreement { IfOk result (λ status. (input : List ℕ) × (text : List ℕ)
+        × IsInput (R.remaining reader.old) input × TellsWhere Agreement status input text
+        × Appends (W.contents writer.old) (W.contents writer.new) text) }
+    ensures commit_rule { IfOk result (λ status. (input : List ℕ) × (text : List ℕ)
+        × IsInput (R.remaining reader.old) input × TellsWhere CommitRule status input text
+        × Appends (W.contents writer.old) (W.contents writer.new) text) }
+    ensures cut { IfErr result (λ e. e ≡ Failure.Write → (input : List ℕ) × (text : List ℕ) × (status : AnyStatus)
+        × IsInput (R.remaining reader.old) input × IsTreeReport status input text
+        × WritesFront (W.contents writer.old) (W.contents writer.new) text) }
     ensures unread { IfErr result (λ e. e ≡ Failure.Read → Keeps (W.contents writer.old) (W.contents writer.new)) }
     ensures memory { IfErr result (λ e. e ≡ Failure.Memory → Keeps (W.contents writer.old) (W.contents writer.new)) }
 {
@@ -44,7 +66,10 @@ fn report(alloc: Global, input: &[u8]) -> Result<(Vec<u8>, Status), Failure>
     ensures memory { IfErr result (λ e. e ≡ Failure.Memory) }
 {
     match read(alloc, Stage::Flat, input) {
-        Ok((tree, events)) => trace(alloc, tree, &events),
+        Ok((tree, events)) => {
+            let (world, refusal) = play(alloc, tree, &events)?;
+            trace(alloc, &world, refusal)
+        }
         Err(ScriptError::Fault(fault)) => Ok((refusal(alloc, fault)?, Status::Refused)),
         Err(ScriptError::Memory) => Err(Failure::Memory),
     }
@@ -80,26 +105,50 @@ fn refusal_line(alloc: Global, fault: ScriptFault) -> Result<String, AllocError>
     }
 }
 
-/// The trace of a run of these events.
-fn trace(alloc: Global, tree: Tree, events: &[Event]) -> Result<(Vec<u8>, Status), Failure>
-    ensures trace { IfOk result (λ r. RunsOver tree events.now r.1 r.0.items) }
+/// Opens the tree.
+fn opened(alloc: Global, tree: Tree) -> Result<FlatWorld, AllocError>
+    ensures opened { IfOk result (λ world. IsOpened (state world) (root_of tree) tree) }
+    ensures modelled { IfOk result (λ world. IsFlatTree (root_of tree) tree → IsModelled (root_of tree) tree (state world)) }
+{
+    let me = top_of(tree.entries());
+    FlatWorld::new(alloc, me, tree)
+}
+
+/// Runs these events on the tree: what it comes to, and how many events were made and why the next was refused.
+fn play(alloc: Global, tree: Tree, events: &[Event]) -> Result<(FlatWorld, Refusal), Failure>
+    requires { IsFlatTree (root_of tree) tree }
+    ensures plays { IfOk result (λ r. Plays tree events.now r.1 (state r.0)) }
+    ensures numbered { IfOk result (λ r. IsNumbered r.1) }
+    ensures memory { IfErr result (λ e. e ≡ Failure.Memory) }
+{
+    let mut world = opened(alloc, tree)?;
+    match world.run(events) {
+        Ok(()) => Ok((world, None)),
+        Err(refused) => {
+            if refused.1 == StepError::Memory {
+                return Err(Failure::Memory);
+            }
+            Ok((world, Some(refused)))
+        }
+    }
+}
+
+/// The trace of what the tree has come to, and how its run ended.
+fn trace(alloc: Global, world: &FlatWorld, refusal: Refusal) -> Result<(Vec<u8>, Status), Failure>
+    requires { IsNumbered refusal }
+    ensures text { IfOk result (λ r. r.0.items ≡ (let w = state world.now in trace_of w.root.tree w ++ last_line refusal)) }
+    ensures status { IfOk result (λ r. r.1 ≡ ending refusal) }
     ensures memory { IfErr result (λ e. e ≡ Failure.Memory) }
 {
     let mut out = Vec::new(alloc);
-    push_opened(alloc, &mut out, tree.entries())?;
-    let me = top_of(tree.entries());
-    let mut world = FlatWorld::new(alloc, me, tree)?;
-    match world.run(events) {
-        Ok(()) => {
-            push_entries(&mut out, world.trace())?;
+    push_opened(alloc, &mut out, world.tree().entries())?;
+    push_entries(&mut out, world.trace())?;
+    match refusal {
+        None => {
             out.extend_from_slice(b"end\n")?;
             Ok((out, Status::Ended))
         }
-        Err((made, refusal)) => {
-            if refusal == StepError::Memory {
-                return Err(Failure::Memory);
-            }
-            push_entries(&mut out, world.trace())?;
+        Some((made, refusal)) => {
             push_refused(alloc, &mut out, made as u64 + 1, refusal.number())?;
             Ok((out, Status::Stopped))
         }

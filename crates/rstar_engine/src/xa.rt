@@ -3,6 +3,8 @@
 ghost use Rattle.std.specs.Prelude.{◌≡◌, ◌++◌, ℕ, List, Ok, OnOk, IfOk, IfErr, string_bytes};
 ghost use Rattle.std.specs.Io.KnownBytes.{Appends, Keeps};
 ghost use Rattle.rstar_engine.specs.Manager.{map_ok};
+ghost use Rattle.rstar_engine.specs.Streams.{WritesFront};
+ghost use Rattle.rstar_engine.specs.declared.xa.Status.{Status as AnyStatus};
 ghost use Rattle.rstar_engine.specs.Runs.{Makes, Reports, IsReport, IsInput, answer_text, refusal_text, status_number};
 
 use crate::manager::Manager;
@@ -38,7 +40,8 @@ impl Status {
 }
 
 /// Reads an XA script, makes its calls on a manager without data, and writes their answers; or one line
-/// that says why the script is refused.
+/// that says why the script is refused. After a failed read, or where memory is refused, nothing was written; after a
+/// failed write, a beginning of the text.
 pub fn run_xa<R: Read, W: Write>(
     alloc: Global,
     reader: &mut R,
@@ -47,6 +50,9 @@ pub fn run_xa<R: Read, W: Write>(
     ensures written { IfOk result (λ status. (input : List ℕ) × (text : List ℕ)
         × IsInput (R.remaining reader.old) input × IsReport status input text
         × Appends (W.contents writer.old) (W.contents writer.new) text) }
+    ensures cut { IfErr result (λ e. e ≡ Failure.Write → (input : List ℕ) × (text : List ℕ) × (status : AnyStatus)
+        × IsInput (R.remaining reader.old) input × IsReport status input text
+        × WritesFront (W.contents writer.old) (W.contents writer.new) text) }
     ensures unread { IfErr result (λ e. e ≡ Failure.Read → Keeps (W.contents writer.old) (W.contents writer.new)) }
     ensures memory { IfErr result (λ e. e ≡ Failure.Memory → Keeps (W.contents writer.old) (W.contents writer.new)) }
 {

@@ -282,6 +282,19 @@ fn every_front_of_a_script(rt: HostRuntime) {
     }
 }
 
+/// Bytes that are no UTF-8 behind a script that would run.
+#[test]
+fn not_utf8(rt: HostRuntime) -> Result<(), Fail> {
+    let (_, script, _, _) = ROWS[0];
+    let mut bytes = Vec::from_slice(rt.alloc(), script.as_bytes())?;
+    bytes.push(0xff)?;
+    let mut out = Vec::new(rt.alloc());
+    let mut input = bytes.as_slice();
+    assert!(rt; run_tree(rt.alloc(), &mut input, &mut out) == Ok(Status::Refused));
+    assert!(rt; out.as_slice() == b"error 4\n".as_slice());
+    Ok(())
+}
+
 /// More event lines than a script may have, and just as many.
 #[test]
 fn too_many_event_lines(rt: HostRuntime) -> Result<(), Fail> {

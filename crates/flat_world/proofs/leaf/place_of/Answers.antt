@@ -1,4 +1,4 @@
-use Rattle.std.proofs.Common.{rules, ◌∙◌, sym, ap, arith}
+use Rattle.std.proofs.Common.{◌∙◌, sym, ap}
 use Rattle.tree_model.specs.Records.{same_bytes}
 use Rattle.flat_world.proofs.WritePlaces.{goes_on, takes}
 use Rattle.flat_world.proofs.leaf.place_of.Goals as goal

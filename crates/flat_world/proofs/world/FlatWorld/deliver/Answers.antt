@@ -1,4 +1,4 @@
-use Rattle.std.proofs.Common.{rules, refl}
+use Rattle.std.proofs.Common.{refl}
 use Rattle.flat_world.proofs.Entering.{delivers}
 use Rattle.flat_world.proofs.world.FlatWorld.deliver.Goals as goal
 
