@@ -16,6 +16,8 @@ use Rattle.tree_model.specs.declared.standings.Vote.{Vote}
 use Rattle.tree_model.specs.declared.standings.Vote.TheVariants.{Yes as VoteYes, No as VoteNo, Read as VoteRead}
 use Rattle.tree_model.specs.declared.events.Act.{Act}
 use Rattle.tree_model.specs.declared.events.Act.TheVariants.{Begin, Join, Work, Commit, Abort, Ask, Decide, Forget}
+use Rattle.tree_model.specs.declared.events.Input.{Input}
+use Rattle.tree_model.specs.declared.events.Input.TheVariants.{Act as ActInput, Message as MessageInput}
 use Rattle.tree_model.specs.declared.events.Reaction.{Reaction}
 use Rattle.tree_model.specs.declared.events.StepError.{StepError}
 use Rattle.tree_model.specs.declared.events.StepError.TheVariants.{Memory, UnknownTxn, NotAChild, Closed, NotInDoubt, NothingToForget, NoSuch}
@@ -142,6 +144,11 @@ message_turn r (Read d) = of_child d.ticket (vote_turn r d.txn VoteRead)
 message_turn r (Ack d o) = of_child d.ticket (ack_turn r d.txn o)
 message_turn r (Inquire d) = of_child d.ticket (inquiry_turn r d.txn)
 message_turn r _ = Ignores
+
+-- an input: an act, or a message with its number
+abbrev pub input_turn : RootState → Input → Turn
+input_turn r (ActInput a) = act_turn r a
+input_turn r (MessageInput k message) = message_turn r message
 
 -- What a turn makes of the root.
 

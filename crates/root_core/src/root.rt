@@ -9,7 +9,7 @@ ghost use Rattle.tree_model.specs.CoordinatorRows.{post, tells_outcome};
 ghost use Rattle.tree_model.specs.Reactions.{sends_only};
 ghost use Rattle.tree_model.specs.Standings.{unknown_view};
 ghost use Rattle.rec_log.specs.Logs.{opened_log, records_of, writes};
-ghost use Rattle.root_core.specs.Roots.{IsOpened, Makes, Refused, Refuses, Same, Takes, ack_turn, act_turn, acts, inquiry_turn, joined_turn, live_turn, message_turn, of_root, open_view, seat_of, vote_turn, work_for};
+ghost use Rattle.root_core.specs.Roots.{IsOpened, Makes, Refused, Refuses, Same, Takes, ack_turn, act_turn, acts, input_turn, inquiry_turn, joined_turn, live_turn, message_turn, of_root, open_view, seat_of, vote_turn, work_for};
 ghost use Rattle.tree_model.specs.declared.names.Txn.{Txn as AnyTxn};
 ghost use Rattle.root_core.specs.Asking.{asked_row};
 ghost use Rattle.root_core.specs.Rows.{DoesIn, IsLive, seat as seat_meant, view_in, written_of};
@@ -24,7 +24,7 @@ use indexmap::IndexMap;
 use rec_log::RecLog;
 use std::alloc::{AllocError, Global};
 use tree_model::{
-    Act, Case, Message, Op, Outcome, Presumption, ProcessId, Reaction, Record, Standing, StepError,
+    Act, Case, Input, Message, Op, Outcome, Presumption, ProcessId, Reaction, Record, Standing, StepError,
     Ticket, Tree, Txn, Vote,
 };
 
@@ -405,6 +405,18 @@ impl Root {
                 },
             ) => self.inquire(*txn, *ticket),
             _ => Ok(self.quiet()),
+        }
+    }
+
+    /// Handles an input: an act as `act`, a message as `hear`. A refusal changes nothing.
+    pub fn step(&mut self, input: &Input) -> Result<Reaction, StepError>
+        requires { (state self.old).begun + 1 < 2 ^ 63 }
+        ensures ok { IfOk result (λ reaction. Makes (state self.old) (state self.new) (input_turn (state self.old) input.now) reaction) }
+        ensures err { IfErr result (λ e. Refused (state self.old) (state self.new) (input_turn (state self.old) input.now) e) }
+    {
+        match input {
+            Input::Act(act) => self.act(act),
+            Input::Message(_, message) => Ok(self.hear(message)?),
         }
     }
 }
