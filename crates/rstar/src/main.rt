@@ -1,13 +1,50 @@
 //! The program `rstar`: the command line, and standard input and output of the engines.
 #![tactic(auto)]
 
-mod command;
-
 use clap::error::ErrorKind;
-use command::{Asked, Request, read_words};
+use clap::{Command, Error};
 use rstar_engine::{Failure, run_tree, run_xa};
+use std::alloc::Global;
 use std::io;
 use std::process::ExitCode;
+
+/// What a command line asks for.
+#[derive(Clone, Copy, Debug, PartialEq, Eq)]
+enum Request {
+    /// The events of a tree script.
+    Tree,
+    /// The calls of an XA script.
+    Xa,
+}
+
+/// What was read of a command line.
+#[derive(Clone, Copy, Debug, PartialEq, Eq)]
+enum Asked {
+    Request(Request),
+    Memory,
+}
+
+/// The words after the program's name.
+fn grammar<'a>(alloc: Global) -> Result<Command<'a>, Error> {
+    let command = Command::new(alloc, "rstar")
+        .subcommand_required(true)
+        .subcommand(Command::new(alloc, "tree"))?
+        .subcommand(Command::new(alloc, "xa"))?;
+    Ok(command)
+}
+
+/// What these words ask for, the program's name first.
+fn read_words<'a>(alloc: Global, words: &'a [String]) -> Result<Asked, Error> {
+    let matches = grammar(alloc)?.try_get_matches_from(words)?;
+    match matches.subcommand() {
+        Some((name, _)) => Ok(Asked::Request(if name == "tree" {
+            Request::Tree
+        } else {
+            Request::Xa
+        })),
+        None => Ok(Asked::Memory),
+    }
+}
 
 /// Runs what was asked, and answers the exit status.
 fn perform(rt: &HostRuntime, request: Request) -> u8 {
