@@ -17,7 +17,8 @@ use Rattle.root_core.specs.Roots.{RootState, Refused, act_turn}
 use Rattle.root_core.specs.Roots as root
 use Rattle.flat_law.specs.Leaves.{LeafState}
 use Rattle.flat_law.specs.FlatWorlds.{FlatState, Hears, Steps, Delivers, RefusesAct, leaf_refusal, undelivered, entry_at}
-use Rattle.flat_world.specs.Worlds.{Enters, IsQuietElsewhere, IsStopped}
+use Rattle.flat_world.specs.Worlds.{Enters, IsStopped}
+use Rattle.flat_world.proofs.Hearing.{IsQuietElsewhere}
 use Rattle.flat_world.proofs.Hearing.{sent_at, marked_at}
 
 -- what was heard stays heard where root and leaves stay
@@ -97,12 +98,23 @@ abbrev pub flat : RootState → (ProcessId → Option LeafState) → List Envelo
 flat r leaves net delivered entries =
     record { root = r; leaf_at = leaves; net = net; delivered = delivered; entries = entries }
 
+-- each leaf is the same
+pub same_leaves : (o : Option LeafState) → SameLeaf o o
+same_leaves None = tt
+same_leaves (Some l) = same_leaf l
+
+same_root : (r s : RootState) (leaves : ProcessId → Option LeafState) (net : List Envelope) (delivered : List Bool)
+    (entries : List Entry) → root.Same s r → Same (flat s leaves net delivered entries) (flat r leaves net delivered entries)
+same_root r s leaves net delivered entries same =
+    record { root = same; leaves = λ q. same_leaves (leaves q); net = refl; delivered = refl; entries = refl }
+
 -- an act that the root refused is refused
 pub refused_at_root : (r s : RootState) (leaves : ProcessId → Option LeafState) (net : List Envelope) (delivered : List Bool)
     (entries : List Entry) (a : Act) (e : StepError) → same_process (process_of_act s.me a) s.me ≡ true
     → Refused s r (act_turn s a) e
     → IsStopped (flat s leaves net delivered entries) (ActOf a) e (flat r leaves net delivered entries)
-refused_at_root r s leaves net delivered entries a e here (inl memory) = inl memory.0
+refused_at_root r s leaves net delivered entries a e here (inl memory) =
+    inl (memory.0, same_root r s leaves net delivered entries memory.1)
 refused_at_root r s leaves net delivered entries a e here (inr refused) =
     inr (
       ap (λ t. flat t leaves net delivered entries) refused.1,

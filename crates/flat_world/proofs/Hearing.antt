@@ -12,7 +12,12 @@ use Rattle.root_core.specs.Roots as root
 use Rattle.flat_law.specs.Leaves.{LeafState}
 use Rattle.flat_law.specs.Leaves as leaf
 use Rattle.flat_law.specs.FlatWorlds.{FlatState, Hears, marks}
-use Rattle.flat_world.specs.Worlds.{IsQuietElsewhere}
+
+-- the messages, their marks and the journal stay
+pub record IsQuietElsewhere (old new : FlatState) : Type 0 where
+  pub net : new.net ≡ old.net
+  pub delivered : new.delivered ≡ old.delivered
+  pub entries : new.entries ≡ old.entries
 
 pub at_root : (old new : FlatState) (q : ProcessId) (m : Message) (reaction : Reaction) → same_process q old.root.me ≡ true
     → root.Makes old.root new.root (root.message_turn old.root m) reaction
