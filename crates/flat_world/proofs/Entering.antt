@@ -1,5 +1,5 @@
 -- A step that was entered, and an act that was refused.
-use Rattle.std.proofs.Common.{◌≡◌, ◌∙◌, sym, ap, subst, ℕ, ◌+◌, Bool, true, false, Option, None, Some, IsNone, List, [], ◌∷◌, ◌++◌, inl, inr, refl, zero, suc, ◌<◌, ◌⊎◌, length, arith}
+use Rattle.std.proofs.Common.{◌≡◌, ◌∙◌, sym, ap, subst, ℕ, ◌+◌, Bool, true, false, Option, Some, IsNone, List, [], ◌∷◌, ◌++◌, inl, inr, refl, zero, suc, ◌<◌, ◌⊎◌, length, arith}
 use Rattle.std.proofs.lemmas.Option.{slice_get_past}
 use Rattle.std.specs.Prelude.{slice_get, slice_set}
 use Rattle.tree_model.specs.declared.names.ProcessId.{ProcessId}
@@ -7,7 +7,6 @@ use Rattle.tree_model.specs.declared.messages.Message.{Message}
 use Rattle.tree_model.specs.declared.messages.Envelope.{Envelope}
 use Rattle.tree_model.specs.declared.events.Entry.{Entry}
 use Rattle.tree_model.specs.declared.events.Input.TheVariants.{Act as ActInput, Message as MessageInput}
-use Rattle.tree_model.specs.declared.events.Event.{Event}
 use Rattle.tree_model.specs.declared.events.Event.TheVariants.{Act as ActOf, Deliver}
 use Rattle.tree_model.specs.declared.events.StepError.TheVariants.{Memory, NoSuch}
 use Rattle.tree_model.specs.declared.events.Act.{Act}
@@ -19,7 +18,7 @@ use Rattle.tree_model.specs.Plays.{process_of_act, sent_as}
 use Rattle.root_core.specs.Roots.{RootState, Refused, act_turn}
 use Rattle.root_core.specs.Roots as root
 use Rattle.flat_law.specs.Leaves.{LeafState}
-use Rattle.flat_law.specs.FlatWorlds.{BreaksOff, FlatState, Hears, IsLost, Same, Steps, Delivers, RefusesAct, leaf_refusal, undelivered, entry_at}
+use Rattle.flat_law.specs.FlatWorlds.{FlatState, Hears, IsLost, Same, Steps, Delivers, RefusesAct, leaf_refusal, undelivered, entry_at}
 use Rattle.flat_world.specs.Worlds.{Enters, IsStopped}
 use Rattle.flat_world.proofs.Hearing.{IsQuietElsewhere}
 use Rattle.flat_world.proofs.Hearing.{same_as_it_is, sent_at, marked_at}
@@ -136,10 +135,12 @@ refused_at_root r s leaves net delivered entries a e here (inr refused) =
 
 -- From before the room was made.
 
--- an event was refused for memory, and nothing changed
-pub short : (old new : FlatState) (e : StepError) (event : Event) → new ≡ old → e ≡ Memory
-    → (Same old new → BreaksOff old event new) → IsStopped old event e new
-short old new e event is memory left = inl (memory, left (same_as_before old new is))
+-- an act, and a delivery, that was refused for memory behind the room
+pub short_act : (old new : FlatState) (a : Act) → new ≡ old → IsStopped old (ActOf a) Memory new
+short_act old new a is = inl (refl, same_as_before old new is)
+
+pub short_delivery : (old new : FlatState) (k : ℕ) → new ≡ old → IsStopped old (Deliver k) Memory new
+short_delivery old new k is = inl (refl, same_as_before old new is)
 
 -- an act that the root refused
 pub refused_behind : (old before : FlatState) (r : RootState) (a : Act) (e : StepError) → before ≡ old

@@ -1,5 +1,5 @@
 -- What a journal shows of its messages.
-use Rattle.std.proofs.Common.{◌≡◌, ap, refl, ℕ, zero, suc, ◌-◌, Bool, true, false, Option, Some, List, [], ◌∷◌, ◌++◌, length, map, replicate, arith}
+use Rattle.std.proofs.Common.{◌≡◌, ap, refl, suc, ◌-◌, Bool, false, Option, Some, List, [], ◌∷◌, ◌++◌, length, replicate, arith}
 use Rattle.std.specs.Prelude.{slice_get}
 use Rattle.tree_model.specs.declared.messages.Envelope.{Envelope}
 use Rattle.tree_model.specs.declared.events.Entry.{Entry}

@@ -1,8 +1,8 @@
 -- What a flat world has come to is a run of the model.
-use Rattle.std.proofs.Common.{◌≡◌, ℕ, List, Result, Ok, Err, OnOk, IfErr, ◌⊎◌, inl, inr}
+use Rattle.std.proofs.Common.{ℕ, List, Result, Ok, Err, OnOk, IfErr, inl, inr}
 use Rattle.tree_model.specs.declared.events.Event.{Event}
 use Rattle.tree_model.specs.declared.events.StepError.{StepError}
-use Rattle.flat_law.specs.FlatWorlds.{FlatState, Applies, Leads, LeadsUntil}
+use Rattle.flat_law.specs.FlatWorlds.{FlatState, Applies, Leads}
 use Rattle.flat_law.proofs.Runs.{applied_on, stopped_on, broken_off_on, leads_on, leads_until_on, broken_off_within_on, modelled_on}
 use Rattle.flat_world.specs.Worlds.{AgreesFrom, AreStopped, ConsentsFrom, IsModelledFrom, IsStopped, RunsOn}
 

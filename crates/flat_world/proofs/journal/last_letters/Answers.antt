@@ -1,4 +1,4 @@
-use Rattle.std.proofs.Common.{rules, ◌∙◌, sym}
+use Rattle.std.proofs.Common.{rules}
 use Rattle.flat_world.proofs.Journals.{of_last}
 use Rattle.flat_world.proofs.journal.last_letters.Goals as goal
 

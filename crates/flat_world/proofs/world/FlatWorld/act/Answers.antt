@@ -3,7 +3,7 @@ use Rattle.tree_model.specs.declared.events.Event.TheVariants.{Act as ActOf}
 use Rattle.tree_model.specs.declared.events.StepError.TheVariants.{Memory}
 use Rattle.flat_world.specs.Worlds.{IsStopped, state}
 use Rattle.flat_world.proofs.Processes.{process_equality}
-use Rattle.flat_world.proofs.Entering.{acted_behind, refused_behind, refused_below, short}
+use Rattle.flat_world.proofs.Entering.{acted_behind, refused_behind, refused_below, short_act}
 use Rattle.flat_world.proofs.Settling.{passed_on}
 use Rattle.flat_world.proofs.world.FlatWorld.act.Goals as goal
 
@@ -15,7 +15,7 @@ returns-in_err-make_room-clause-err c =
     let old = state c.args.self.now in
     let new = state c.make_room.new.self in
     passed_on c.from_residual.result Memory (λ e. IsStopped old (ActOf c.args.act.now) e new) c.from_residual.ensures.1
-    (short old new Memory (ActOf c.args.act.now) c.make_room.ensures.stays refl (λ same. same))
+    (short_act old new c.args.act.now c.make_room.ensures.stays)
 
 pub returns-in_err-copied_act-clause-err : goal.returns-in_err-copied_act-clause-err
 returns-in_err-copied_act-clause-err c =
@@ -23,7 +23,7 @@ returns-in_err-copied_act-clause-err c =
     let new = state c.make_room.new.self in
     passed_on c.from_residual-in_err-copied_act.result Memory (λ e. IsStopped old (ActOf c.args.act.now) e new)
     c.from_residual-in_err-copied_act.ensures.1
-    (short old new Memory (ActOf c.args.act.now) c.make_room.ensures.stays refl (λ same. same))
+    (short_act old new c.args.act.now c.make_room.ensures.stays)
 
 pub returns-in-Err-clause-err : goal.returns-in-Err-clause-err
 returns-in-Err-clause-err c =

@@ -5,7 +5,7 @@ use Rattle.flat_law.specs.FlatWorlds.{Delivers, IsLost}
 use Rattle.tree_model.specs.Plays.{sent_as}
 use Rattle.flat_world.specs.Journals.{JournalState}
 use Rattle.flat_world.specs.Worlds.{IsStopped, state}
-use Rattle.flat_world.proofs.Entering.{delivers, no_letter, short, unheard}
+use Rattle.flat_world.proofs.Entering.{delivers, no_letter, short_delivery, unheard}
 use Rattle.flat_world.proofs.Hearing.{IsQuietElsewhere}
 use Rattle.flat_world.proofs.Settling.{passed_on}
 use Rattle.flat_world.proofs.world.FlatWorld.deliver.Goals as goal
@@ -31,7 +31,7 @@ returns-in_err-make_room-clause-err c =
     let old = state c.args.self.now in
     let new = state c.make_room.new.self in
     passed_on c.from_residual.result Memory (λ e. IsStopped old (Deliver c.args.number) e new) c.from_residual.ensures.1
-    (short old new Memory (Deliver c.args.number) c.make_room.ensures.stays refl (λ same. same))
+    (short_delivery old new c.args.number c.make_room.ensures.stays)
 
 pub returns-in_default-clause-err : goal.returns-in_default-clause-err
 returns-in_default-clause-err c =
@@ -50,7 +50,7 @@ returns-in_err-to-clause-err c =
     let new = state c.make_room.new.self in
     passed_on c.from_residual-in_err-to.result Memory (λ e. IsStopped old (Deliver c.args.number) e new)
     c.from_residual-in_err-to.ensures.1
-    (short old new Memory (Deliver c.args.number) c.make_room.ensures.stays refl (λ same. same))
+    (short_delivery old new c.args.number c.make_room.ensures.stays)
 
 pub returns-in_err-reaction-clause-err : goal.returns-in_err-reaction-clause-err
 returns-in_err-reaction-clause-err c =

@@ -1,7 +1,7 @@
-use Rattle.std.proofs.Common.{◌+◌, ◌-◌, ◌∙◌, subst, sym, ap, refl, inl}
+use Rattle.std.proofs.Common.{◌+◌, ◌-◌, subst, refl, inl}
 use Rattle.tree_model.specs.declared.events.Event.TheVariants.{Deliver, Settle}
 use Rattle.tree_model.specs.declared.events.StepError.TheVariants.{Memory}
-use Rattle.flat_law.specs.FlatWorlds.{Delivers, Settles}
+use Rattle.flat_law.specs.FlatWorlds.{Delivers}
 use Rattle.flat_world.specs.Worlds.{IsStopped, state}
 use Rattle.flat_world.proofs.Settling.{settling_starts, settling_goes_on, settling_stops, settles_one_more, breaks_off}
 use Rattle.flat_world.proofs.Entering.{same_as_before}
@@ -18,8 +18,7 @@ loop-preserved c =
     let new = state c.deliver.new.self in
     let k = c.in-Some.place + 1 in
     let found = rw c.in-Some.is at c.in_ok-place.ensures.found in
-    let delivers = subst (λ w. Delivers w new k) c.least_open.ensures.stays c.in_ok-deliver.ensures.ok in
-    (
+    let delivers = subst (λ w. Delivers w new k) c.least_open.ensures.stays c.in_ok-deliver.ensures.ok in (
       settling_goes_on 10000 c.loop.counter first now new k c.loop-test.true c.loop.invariant.0 found.1 delivers,
       settles_one_more c.loop.counter first now new k c.loop.invariant.1 found.1 delivers,
     )
@@ -47,8 +46,11 @@ returns-in_err-place-clause-err c =
     let now = state c.loop.self in
     let new = state c.least_open.new.self in
     passed_on c.from_residual.result Memory (λ e. IsStopped first Settle e new) c.from_residual.ensures.1
-    (inl (refl, breaks_off 10000 c.loop.counter first now new c.loop-test.true c.loop.invariant.1
-    (same_as_before now new c.least_open.ensures.stays)))
+    (inl (
+      refl,
+      breaks_off 10000 c.loop.counter first now new c.loop-test.true c.loop.invariant.1
+          (same_as_before now new c.least_open.ensures.stays),
+    ))
 
 pub returns-clause-ok : goal.returns-clause-ok
 returns-clause-ok c =
