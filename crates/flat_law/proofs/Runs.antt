@@ -1,5 +1,5 @@
 -- A run of a flat tree is a run of the model.
-use Rattle.std.proofs.Common.{◌≡◌, sym, subst, ℕ, zero, suc, inl, inr, Option, Some, None, List, [], ◌∷◌, ◌++◌, append_assoc, take, refl}
+use Rattle.std.proofs.Common.{◌≡◌, ◌∙◌, ap, sym, subst, is_some, ℕ, zero, suc, inl, inr, Option, Some, None, List, [], ◌∷◌, ◌++◌, append_assoc, take, refl}
 use Rattle.std.specs.List.{list_all}
 use Rattle.tree_model.specs.declared.names.ProcessId.{ProcessId}
 use Rattle.tree_model.specs.declared.events.Event.{Event}
@@ -11,8 +11,13 @@ use Rattle.tree_model.specs.World.{World, Made, Continues, stays, goes_on, opene
 use Rattle.tree_law.proofs.FlatRuns.{agreement, commit_rule}
 use Rattle.tree_law.specs.Flat.{IsFlat, is_flat_move, AreFlatMoves}
 use Rattle.flat_law.specs.FlatWorlds.{FlatState, IsOpened, least_open, settles_by, Settles, Applies, stops_by, SettleStops, Stops, Leads, LeadsUntil}
-use Rattle.flat_law.specs.Ties.{IsFlatTree, Follows, GoesOn, IsModelled}
+use Rattle.flat_law.specs.FlatWorlds.{BreaksOff, BreaksOffWithin, SameLeaf}
+use Rattle.flat_law.specs.FlatWorlds.{Same as SameWorld}
+use Rattle.flat_law.specs.Leaves.{LeafState, Same}
+use Rattle.rec_log.specs.Logs.{Kept}
+use Rattle.flat_law.specs.Ties.{IsFlatTree, IsLeafOf, Follows, GoesOn, IsModelled}
 use Rattle.flat_law.proofs.Openings.{opened_follows}
+use Rattle.flat_law.proofs.RootRefusals.{unchanged}
 use Rattle.flat_law.proofs.Trees.{both}
 use Rattle.flat_law.proofs.WorldSteps.{delivery_goes_on, act_goes_on}
 
@@ -130,6 +135,81 @@ pub leads_until_on : (me : ProcessId) (tree : List TreeEntry) (es : List Made) (
 leads_until_on me tree es w s s' events n e f made =
     then_on me tree es w made.before s' (leads_on me tree es w s made.before (take n events) f made.made)
     (λ es' w' g. stopped_on me tree es' w' made.before s' made.event e g made.refused)
+
+-- Refusals for memory.
+
+-- a leaf in which nothing is otherwise stands for the same process
+same_leaf : (me q : ProcessId) (tree : List TreeEntry) (w : World) (l m : LeafState)
+    → IsLeafOf me tree w q l → Same l m → IsLeafOf me tree w q m
+same_leaf me q tree w l m f same =
+    let g = f.follows in
+    record {
+      place = f.place;
+      follows = record {
+        is_named = same.remains.me ∙ g.is_named;
+        is_below = same.remains.parent ∙ g.is_below;
+        forced = g.forced ∙ ap (λ (k : Kept). k.forced) (sym same.log);
+        loose = g.loose ∙ ap (λ (k : Kept). k.loose) (sym same.log);
+        boot = g.boot ∙ sym same.remains.boot;
+        runs = g.runs;
+        given = λ c. g.given c ∙ sym same.given;
+        active = λ c. g.active c ∙ sym same.active;
+        views = λ c. g.views c ∙ sym (same.views c);
+        sound = rw same.given g.sound;
+      };
+    }
+
+both_are : (o o' : Option LeafState) → SameLeaf o o' → is_some o' ≡ is_some o
+both_are None None same = refl
+both_are (Some l) (Some m) same = refl
+both_are None (Some m) same = absurd same
+both_are (Some l) None same = absurd same
+
+before_it : (o o' : Option LeafState) (m : LeafState) → SameLeaf o o' → o' ≡ Some m
+    → (l : LeafState) × (o ≡ Some l) × Same l m
+before_it (Some l) (Some k) m same is = (l, refl, subst (λ x. Same l x) (let is_it : k ≡ m = cc in is_it) same)
+before_it None None m same is = absurd (cc)
+before_it None (Some k) m same is = absurd same
+before_it (Some l) None m same is = absurd same
+
+-- a flat state in which nothing is otherwise stands for the same run
+pub same_follows : (me : ProcessId) (tree : List TreeEntry) (es : List Made) (w : World) (s s' : FlatState)
+    → Follows me tree es w s → SameWorld s s' → Follows me tree es w s'
+same_follows me tree es w s s' f same =
+    record {
+      is_run = f.is_run;
+      shown = f.shown ∙ sym same.entries;
+      net = same.net ∙ f.net;
+      root_is_listed = f.root_is_listed;
+      place = f.place;
+      root = unchanged me tree (w.at me) s.root s'.root f.root same.root;
+      listed = λ q away. both_are (s.leaf_at q) (s'.leaf_at q) (same.leaves q) ∙ f.listed q away;
+      leaves = λ q m away stands.
+          let b = before_it (s.leaf_at q) (s'.leaf_at q) m (same.leaves q) stands in
+          same_leaf me q tree w b.0 m (f.leaves q b.0 away b.1) b.2;
+    }
+
+stays_on : (me : ProcessId) (tree : List TreeEntry) (es : List Made) (w : World) (s s' : FlatState)
+    → Follows me tree es w s → SameWorld s s' → GoesOn me tree es w s'
+stays_on me tree es w s s' f same =
+    waits me tree es w s' s' (same_follows me tree es w s s' f same) refl
+
+pub broken_off_on : (me : ProcessId) (tree : List TreeEntry) (es : List Made) (w : World) (s s' : FlatState)
+    (event : Event) → Follows me tree es w s → BreaksOff s event s' → GoesOn me tree es w s'
+broken_off_on me tree es w s s' (ActOf a) f same = stays_on me tree es w s s' f same
+broken_off_on me tree es w s s' (Deliver k) f same = stays_on me tree es w s s' f same
+broken_off_on me tree es w s s' Settle f made =
+    then_on me tree es w made.before s' (settles_on made.count me tree s made.before es w f made.made)
+    (λ es' w' g. stays_on me tree es' w' made.before s' g made.same)
+broken_off_on me tree es w s s' (Restart q k) f made = absurd made
+broken_off_on me tree es w s s' (Trim q) f made = absurd made
+
+pub broken_off_within_on : (me : ProcessId) (tree : List TreeEntry) (es : List Made) (w : World)
+    (s s' : FlatState) (events : List Event) (n : ℕ)
+    → Follows me tree es w s → BreaksOffWithin s events n s' → GoesOn me tree es w s'
+broken_off_within_on me tree es w s s' events n f made =
+    then_on me tree es w made.before s' (leads_on me tree es w s made.before (take n events) f made.made)
+    (λ es' w' g. broken_off_on me tree es' w' made.before s' made.event g made.refused)
 
 -- a run of flat moves that goes on
 pub modelled_on : (me : ProcessId) (tree : List TreeEntry) (es : List Made) (w : World) (s : FlatState)

@@ -1,5 +1,5 @@
 -- A flat tree that runs: a root and plain leaves, the messages ever sent, and the journal. What each event makes of it.
-use Rattle.std.specs.Prelude.{◌≡◌, ◌⊎◌, ◌+◌, ℕ, zero, suc, Bool, true, false, Option, Some, None, IsNone, is_some, List, [], ◌∷◌, ◌++◌, slice_get, slice_set, map, take}
+use Rattle.std.specs.Prelude.{◌≡◌, ◌⊎◌, ◌+◌, ◌<◌, ℕ, zero, suc, Bool, true, false, Option, Some, None, IsNone, is_some, List, [], ◌∷◌, ◌++◌, slice_get, slice_set, map, take}
 use Rattle.tree_model.specs.declared.names.ProcessId.{ProcessId}
 use Rattle.tree_model.specs.declared.messages.Message.{Message}
 use Rattle.tree_model.specs.declared.messages.Envelope.{Envelope}
@@ -145,6 +145,38 @@ Stops old Settle e new = (e ≡ NoSuch) × SettleStops 10000 old new
 Stops old (Restart q k) e new = (new ≡ old) × (e ≡ NoSuch)
 Stops old (Trim q) e new = (new ≡ old) × (e ≡ NoSuch)
 
+-- Refusals for memory.
+
+-- at each process the same leaf, in which nothing is otherwise
+abbrev pub SameLeaf : Option LeafState → Option LeafState → Type 0
+SameLeaf None None = Unit {0}
+SameLeaf (Some l) (Some m) = leaf.Same l m
+SameLeaf _ _ = ⊥
+
+-- nothing is otherwise
+pub record Same (old new : FlatState) : Type 0 where
+  pub root : root.Same old.root new.root
+  pub leaves : (q : ProcessId) → SameLeaf (old.leaf_at q) (new.leaf_at q)
+  pub net : new.net ≡ old.net
+  pub delivered : new.delivered ≡ old.delivered
+  pub entries : new.entries ≡ old.entries
+
+-- a settle was refused for memory: so many deliveries stand, and behind them nothing is otherwise
+pub record SettleBreaksOff (limit : ℕ) (old new : FlatState) : Type 0 where
+  pub count : ℕ
+  pub within : count < limit
+  pub before : FlatState
+  pub made : Settles count old before
+  pub same : Same before new
+
+-- an event was refused for memory, and left this
+abbrev pub BreaksOff : FlatState → Event → FlatState → Type 0
+BreaksOff old (ActOf a) new = Same old new
+BreaksOff old (Deliver k) new = Same old new
+BreaksOff old Settle new = SettleBreaksOff 10000 old new
+BreaksOff old (Restart q k) new = ⊥
+BreaksOff old (Trim q) new = ⊥
+
 -- Runs.
 
 -- the events were made, one after another
@@ -159,6 +191,14 @@ pub record LeadsUntil (old : FlatState) (events : List Event) (n : ℕ) (e : Ste
   pub before : FlatState
   pub made : Leads old (take n events) before
   pub refused : Stops before event e new
+
+-- so many events were made, and the next was refused for memory
+pub record BreaksOffWithin (old : FlatState) (events : List Event) (n : ℕ) (new : FlatState) : Type 0 where
+  pub event : Event
+  pub next : slice_get events n ≡ Some event
+  pub before : FlatState
+  pub made : Leads old (take n events) before
+  pub refused : BreaksOff before event new
 
 -- every process has opened an empty log
 pub record IsOpened (w : FlatState) (me : ProcessId) (tree : List TreeEntry) : Type 0 where

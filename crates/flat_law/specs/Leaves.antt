@@ -133,6 +133,15 @@ Makes old new (Issues d t) reaction =
 Makes old new (Takes d row ws active) reaction = Moves old new d row ws active × (reaction ≡ reaction_of (leaf_effect row))
 Makes old new Ignores reaction = (new ≡ old) × (reaction ≡ reaction_of no_effect)
 
+-- nothing is otherwise
+pub record Same (old new : LeafState) : Type 0 where
+  pub log : new.log ≡ old.log
+  pub views : (c : Case) → new.view_of c ≡ old.view_of c
+  pub writes : (c : Case) → new.writes_of c ≡ old.writes_of c
+  pub active : new.active ≡ old.active
+  pub given : new.given ≡ old.given
+  pub remains : Remains old new
+
 -- a leaf as it opens an empty log: its boot is 1, and it gave no ticket
 pub record IsOpened (l : LeafState) (me parent : ProcessId) : Type 0 where
   pub is_named : l.me ≡ me

@@ -2,7 +2,7 @@
 
 ghost use Rattle.flat_law.specs.FlatWorlds.{Applies, FlatState, IsLost, IsOpened};
 ghost use Rattle.flat_law.specs.FlatWorlds.{Leads, LeadsUntil, RefusesAct};
-ghost use Rattle.flat_law.specs.FlatWorlds.{Stops};
+ghost use Rattle.flat_law.specs.FlatWorlds.{BreaksOff, BreaksOffWithin, Stops};
 ghost use Rattle.flat_law.specs.Ties.{Follows, GoesOn, IsFlatTree, IsForNobody, IsModelled, RefusesSo, is_application_act};
 ghost use Rattle.flat_law.specs.Ties.{RootFollows};
 ghost use Rattle.root_core.specs.Roots.{RootState, Same};
@@ -22,8 +22,8 @@ pub fn opened()
         → IsOpened s me tree → Follows me tree [] opened_world s }
 {}
 
-/// Where a flat state stands for a run, what an event makes of it, or a refused event leaves, stands for
-/// a run that goes on.
+/// Where a flat state stands for a run, what an event makes of it, or a refused event leaves, also one that was
+/// refused for memory, stands for a run that goes on.
 pub fn steps()
     ensures applies { (me : ProcessId) (tree : List TreeEntry) (es : List Made) (w : World) (s s' : FlatState)
         (event : Event) → Follows me tree es w s → Applies s event s'
@@ -31,12 +31,19 @@ pub fn steps()
     ensures stops { (me : ProcessId) (tree : List TreeEntry) (es : List Made) (w : World) (s s' : FlatState)
         (event : Event) (e : StepError) → Follows me tree es w s → Stops s event e s'
         → GoesOn me tree es w s' }
+    ensures breaks_off { (me : ProcessId) (tree : List TreeEntry) (es : List Made) (w : World) (s s' : FlatState)
+        (event : Event) → Follows me tree es w s → BreaksOff s event s'
+        → GoesOn me tree es w s' }
     ensures leads { (me : ProcessId) (tree : List TreeEntry) (es : List Made) (w : World) (s s' : FlatState)
         (events : List Event) → Follows me tree es w s → Leads s events s'
         → GoesOn me tree es w s' }
     ensures leads_until { (me : ProcessId) (tree : List TreeEntry) (es : List Made) (w : World)
         (s s' : FlatState)
         (events : List Event) (n : ℕ) (e : StepError) → Follows me tree es w s → LeadsUntil s events n e s'
+        → GoesOn me tree es w s' }
+    ensures breaks_off_within { (me : ProcessId) (tree : List TreeEntry) (es : List Made) (w : World)
+        (s s' : FlatState)
+        (events : List Event) (n : ℕ) → Follows me tree es w s → BreaksOffWithin s events n s'
         → GoesOn me tree es w s' }
 {}
 
@@ -49,6 +56,9 @@ pub fn every_run_is_a_run_of_the_model()
         → IsModelled me tree s' }
     ensures leads_until { (me : ProcessId) (tree : List TreeEntry) (s s' : FlatState) (events : List Event)
         (n : ℕ) (e : StepError) → IsFlatTree me tree → IsOpened s me tree → LeadsUntil s events n e s'
+        → IsModelled me tree s' }
+    ensures breaks_off_within { (me : ProcessId) (tree : List TreeEntry) (s s' : FlatState) (events : List Event)
+        (n : ℕ) → IsFlatTree me tree → IsOpened s me tree → BreaksOffWithin s events n s'
         → IsModelled me tree s' }
 {}
 

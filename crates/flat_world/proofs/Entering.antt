@@ -1,24 +1,27 @@
 -- A step that was entered, and an act that was refused.
-use Rattle.std.proofs.Common.{◌≡◌, ◌∙◌, sym, ap, ℕ, ◌+◌, Bool, true, false, Option, Some, List, [], ◌∷◌, ◌++◌, inl, inr}
+use Rattle.std.proofs.Common.{◌≡◌, ◌∙◌, sym, ap, subst, ℕ, ◌+◌, Bool, true, false, Option, Some, IsNone, List, [], ◌∷◌, ◌++◌, inl, inr, refl, zero, suc, ◌<◌, ◌⊎◌, length, arith}
+use Rattle.std.proofs.lemmas.Option.{slice_get_past}
 use Rattle.std.specs.Prelude.{slice_get, slice_set}
 use Rattle.tree_model.specs.declared.names.ProcessId.{ProcessId}
 use Rattle.tree_model.specs.declared.messages.Message.{Message}
 use Rattle.tree_model.specs.declared.messages.Envelope.{Envelope}
 use Rattle.tree_model.specs.declared.events.Entry.{Entry}
 use Rattle.tree_model.specs.declared.events.Input.TheVariants.{Act as ActInput, Message as MessageInput}
-use Rattle.tree_model.specs.declared.events.Event.TheVariants.{Act as ActOf}
+use Rattle.tree_model.specs.declared.events.Event.TheVariants.{Act as ActOf, Deliver}
+use Rattle.tree_model.specs.declared.events.StepError.TheVariants.{Memory, NoSuch}
 use Rattle.tree_model.specs.declared.events.Act.{Act}
 use Rattle.tree_model.specs.declared.events.Reaction.{Reaction}
 use Rattle.tree_model.specs.declared.events.StepError.{StepError}
 use Rattle.tree_model.specs.Names.{same_process}
 use Rattle.tree_model.specs.Reactions.{names_listed}
-use Rattle.tree_model.specs.Plays.{process_of_act}
+use Rattle.tree_model.specs.Plays.{process_of_act, sent_as}
 use Rattle.root_core.specs.Roots.{RootState, Refused, act_turn}
 use Rattle.root_core.specs.Roots as root
 use Rattle.flat_law.specs.Leaves.{LeafState}
-use Rattle.flat_law.specs.FlatWorlds.{FlatState, Hears, Steps, Delivers, RefusesAct, leaf_refusal, undelivered, entry_at}
-use Rattle.flat_world.specs.Worlds.{Enters, IsQuietElsewhere, IsStopped}
-use Rattle.flat_world.proofs.Hearing.{sent_at, marked_at}
+use Rattle.flat_law.specs.FlatWorlds.{FlatState, Hears, IsLost, Same, Steps, Delivers, RefusesAct, leaf_refusal, undelivered, entry_at}
+use Rattle.flat_world.specs.Worlds.{Enters, IsStopped}
+use Rattle.flat_world.proofs.Hearing.{IsQuietElsewhere}
+use Rattle.flat_world.proofs.Hearing.{same_as_it_is, sent_at, marked_at}
 
 -- what was heard stays heard where root and leaves stay
 pub hears_on : (old mid new : FlatState) (q : ProcessId) (m : Message) (r : Reaction) → Hears old mid q m r
@@ -97,12 +100,30 @@ abbrev pub flat : RootState → (ProcessId → Option LeafState) → List Envelo
 flat r leaves net delivered entries =
     record { root = r; leaf_at = leaves; net = net; delivered = delivered; entries = entries }
 
+-- where nothing is otherwise in the root, nothing is
+pub same_root : (r s : RootState) (leaves : ProcessId → Option LeafState) (net : List Envelope) (delivered : List Bool)
+    (entries : List Entry) → root.Same s r → Same (flat s leaves net delivered entries) (flat r leaves net delivered entries)
+same_root r s leaves net delivered entries same =
+    record { root = same; leaves = λ q. same_as_it_is (leaves q); net = refl; delivered = refl; entries = refl }
+
+-- where a state is as it was, nothing is otherwise
+pub same_as_before : (old new : FlatState) → new ≡ old → Same old new
+same_as_before old new is =
+    subst (λ w. Same old w) (sym is)
+    (same_root old.root old.root old.leaf_at old.net old.delivered old.entries (record {
+      log = refl;
+      views = λ x. refl;
+      begun = refl;
+      remains = record { me = refl; tree = refl; boot = refl };
+    }))
+
 -- an act that the root refused is refused
 pub refused_at_root : (r s : RootState) (leaves : ProcessId → Option LeafState) (net : List Envelope) (delivered : List Bool)
     (entries : List Entry) (a : Act) (e : StepError) → same_process (process_of_act s.me a) s.me ≡ true
     → Refused s r (act_turn s a) e
     → IsStopped (flat s leaves net delivered entries) (ActOf a) e (flat r leaves net delivered entries)
-refused_at_root r s leaves net delivered entries a e here (inl memory) = inl memory.0
+refused_at_root r s leaves net delivered entries a e here (inl memory) =
+    inl (memory.0, same_root r s leaves net delivered entries memory.1)
 refused_at_root r s leaves net delivered entries a e here (inr refused) =
     inr (
       ap (λ t. flat t leaves net delivered entries) refused.1,
@@ -111,3 +132,61 @@ refused_at_root r s leaves net delivered entries a e here (inr refused) =
         at_leaf = λ no. absurd (let wrong : true ≡ false = sym here ∙ no in cc);
       },
     )
+
+-- From before the room was made.
+
+-- an act, and a delivery, that was refused for memory behind the room
+pub short_act : (old new : FlatState) (a : Act) → new ≡ old → IsStopped old (ActOf a) Memory new
+short_act old new a is = inl (refl, same_as_before old new is)
+
+pub short_delivery : (old new : FlatState) (k : ℕ) → new ≡ old → IsStopped old (Deliver k) Memory new
+short_delivery old new k is = inl (refl, same_as_before old new is)
+
+-- an act that the root refused
+pub refused_behind : (old before : FlatState) (r : RootState) (a : Act) (e : StepError) → before ≡ old
+    → same_process (process_of_act old.root.me a) old.root.me ≡ true → Refused before.root r (act_turn before.root a) e
+    → IsStopped old (ActOf a) e (flat r before.leaf_at before.net before.delivered before.entries)
+refused_behind old before r a e is here refused =
+    subst (λ w. IsStopped old (ActOf a) e (flat r w.leaf_at w.net w.delivered w.entries)) (sym is)
+    (refused_at_root r old.root old.leaf_at old.net old.delivered old.entries a e here
+    (subst (λ w. Refused w.root r (act_turn w.root a) e) is refused))
+
+-- an act that is entered
+pub acted_behind : (old before mid new : FlatState) (p : ProcessId) (a b : Act) (r : Reaction) → before ≡ old
+    → p ≡ process_of_act old.root.me a → b ≡ a → same_process (process_of_act old.root.me a) old.root.me ≡ true
+    → root.Makes before.root mid.root (act_turn before.root a) r
+    → ((q : ProcessId) → mid.leaf_at q ≡ before.leaf_at q) → IsQuietElsewhere before mid
+    → Enters mid new p (ActInput b) r → Steps old new (process_of_act old.root.me a) (ActInput a) old.delivered
+acted_behind old before mid new p a b r is process act here made leaves quiet entered =
+    acted_as old mid new (process_of_act old.root.me a) p a b r process act here
+    (subst (λ w. root.Makes w.root mid.root (act_turn w.root a) r) is made)
+    (λ q. leaves q ∙ ap (λ (w : FlatState). w.leaf_at q) is)
+    (record {
+      net = quiet.net ∙ ap (λ (w : FlatState). w.net) is;
+      delivered = quiet.delivered ∙ ap (λ (w : FlatState). w.delivered) is;
+      entries = quiet.entries ∙ ap (λ (w : FlatState). w.entries) is;
+    })
+    entered
+
+-- a number that no message has
+pub no_letter : (w : FlatState) (k n : ℕ) → n ≡ length w.net → (k ≡ 0) ⊎ (n < k) → IsLost w (sent_as w.net k)
+no_letter w zero n is h = tt
+no_letter w (suc k) n is (inl h) = absurd (omega (arith, h))
+no_letter w (suc k) n is (inr h) =
+    subst (λ o. IsLost w o) (sym (slice_get_past w.net k (omega (arith, is, h)))) tt
+
+-- a message that its process did not handle
+pub unheard : (old before new : FlatState) (k place : ℕ) (letter : Envelope) (to : ProcessId) (e : StepError) → before ≡ old
+    → k ≡ place + 1 → slice_get before.net place ≡ Some letter → to ≡ letter.to
+    → ((e ≡ Memory) × Same before new) ⊎ ((e ≡ NoSuch) × (new ≡ before) × (same_process to before.root.me ≡ false)
+    × IsNone (before.leaf_at to)) → IsStopped old (Deliver k) e new
+unheard old before new k place letter to e is number sent to_is (inl h) =
+    subst (λ w. IsStopped w (Deliver k) e new) is (inl h)
+unheard old before new k place letter to e is number sent to_is (inr h) =
+    subst (λ w. IsStopped w (Deliver k) e new) is
+    (inr (
+      h.1,
+      h.0,
+      subst (λ o. IsLost before o) (sym (sent_at before.net k place number ∙ sent))
+          (subst (λ q. (same_process q before.root.me ≡ false) × IsNone (before.leaf_at q)) to_is (h.2, h.3)),
+    ))

@@ -1,18 +1,24 @@
 -- A message that a process heard, and an input that was entered.
-use Rattle.std.proofs.Common.{◌≡◌, ◌∙◌, sym, ℕ, suc, ◌+◌, true, false, Some, List, Result, Ok, Err, IfOk, refl, arith}
+use Rattle.std.proofs.Common.{◌≡◌, ◌∙◌, sym, subst, ℕ, suc, ◌+◌, true, false, Option, None, Some, List, Result, Ok, Err, IfOk, refl, arith}
 use Rattle.tree_model.specs.declared.names.ProcessId.{ProcessId}
 use Rattle.tree_model.specs.declared.messages.Message.{Message}
 use Rattle.tree_model.specs.declared.messages.Envelope.{Envelope}
 use Rattle.tree_model.specs.declared.events.Reaction.{Reaction}
 use Rattle.tree_model.specs.Names.{same_process}
+use Rattle.tree_model.specs.NameLaws.{same_process_tells}
 use Rattle.tree_model.specs.Plays.{sent_as}
 use Rattle.std.specs.Prelude.{slice_get, Bool}
 use Rattle.root_core.specs.Roots.{act_turn}
 use Rattle.root_core.specs.Roots as root
 use Rattle.flat_law.specs.Leaves.{LeafState}
 use Rattle.flat_law.specs.Leaves as leaf
-use Rattle.flat_law.specs.FlatWorlds.{FlatState, Hears, marks}
-use Rattle.flat_world.specs.Worlds.{IsQuietElsewhere}
+use Rattle.flat_law.specs.FlatWorlds.{FlatState, Hears, SameLeaf, marks}
+
+-- the messages, their marks and the journal stay
+pub record IsQuietElsewhere (old new : FlatState) : Type 0 where
+  pub net : new.net ≡ old.net
+  pub delivered : new.delivered ≡ old.delivered
+  pub entries : new.entries ≡ old.entries
 
 pub at_root : (old new : FlatState) (q : ProcessId) (m : Message) (reaction : Reaction) → same_process q old.root.me ≡ true
     → root.Makes old.root new.root (root.message_turn old.root m) reaction
@@ -34,16 +40,43 @@ at_leaf old new q m reaction before behind here stood stands made others root =
       at_leaf = λ _. (before, record { stood = stood; behind = behind; stands = stands; made = made; others = others; root = root });
     }
 
+-- each leaf is the same as it is
+pub same_as_it_is : (o : Option LeafState) → SameLeaf o o
+same_as_it_is None = tt
+same_as_it_is (Some l) = record {
+  log = refl;
+  views = λ c. refl;
+  writes = λ c. refl;
+  active = refl;
+  given = refl;
+  remains = record { me = refl; parent = refl; boot = refl };
+}
+
 -- a leaf made a turn
 pub heard : {E : Type 0} (old new : FlatState) (q : ProcessId) (m : Message) (made : Result Reaction E) (before behind : LeafState)
     → same_process q old.root.me ≡ false → old.leaf_at q ≡ Some before → new.leaf_at q ≡ Some behind
     → ((p : ProcessId) → same_process q p ≡ false → new.leaf_at p ≡ old.leaf_at p)
-    → new.root ≡ old.root → IsQuietElsewhere old new
+    → new.root ≡ old.root
     → IfOk made (λ r. leaf.Makes before behind (leaf.message_turn before m) r)
-    → IfOk made (λ r. Hears old new q m r × IsQuietElsewhere old new)
-heard old new q m (Ok r) before behind here stood stands others root quiet done =
-    (at_leaf old new q m r before behind here stood stands done others root, quiet)
-heard old new q m (Err e) before behind here stood stands others root quiet done = done
+    → IfOk made (λ r. Hears old new q m r)
+heard old new q m (Ok r) before behind here stood stands others root done =
+    at_leaf old new q m r before behind here stood stands done others root
+heard old new q m (Err e) before behind here stood stands others root done = done
+
+-- Refusals for memory.
+
+one_process : (q p : ProcessId) → same_process q p ≡ true → q ≡ p
+one_process q p h = grind (arith, same_process_tells)
+
+-- where nothing is otherwise in a leaf, each leaf is the same
+pub same_leaves : (old new : ProcessId → Option LeafState) (q : ProcessId) (before behind : LeafState)
+    → old q ≡ Some before → new q ≡ Some behind → ((p : ProcessId) → same_process q p ≡ false → new p ≡ old p)
+    → leaf.Same before behind → (p : ProcessId) → SameLeaf (old p) (new p)
+same_leaves old new q before behind stood stands others same p = at (same_process q p) refl
+  where
+    at : (b : Bool) → same_process q p ≡ b → SameLeaf (old p) (new p)
+    at true here = subst (λ x. SameLeaf (old x) (new x)) (one_process q p here) (rw (stood, stands) same)
+    at false away = rw (others p away) (same_as_it_is (old p))
 
 -- the number of a place
 pub sent_at : (net : List Envelope) (k place : ℕ) → k ≡ place + 1 → sent_as net k ≡ slice_get net place

@@ -1,5 +1,6 @@
 pub mod Entering
 pub mod Hearing
+pub mod Journals
 pub mod Keys
 pub mod LiveWorks
 pub mod Logs

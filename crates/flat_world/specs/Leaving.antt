@@ -62,15 +62,6 @@ state l = record {
   writes_of = writes_in l.live.entries;
 }
 
--- nothing is otherwise
-pub record Same (old new : LeafState) : Type 0 where
-  pub log : new.log ≡ old.log
-  pub views : (c : Case) → new.view_of c ≡ old.view_of c
-  pub writes : (c : Case) → new.writes_of c ≡ old.writes_of c
-  pub active : new.active ≡ old.active
-  pub given : new.given ≡ old.given
-  pub remains : leaf.Remains old new
-
 -- A reaction that is one message to the parent.
 abbrev pub IsReply : ProcessId → ProcessId → Message → Reaction → Type 0
 IsReply me parent message reaction = reaction ≡ reaction_of (sends_only (post me parent message ∷ []))

@@ -1,5 +1,5 @@
 -- What the code of a flat world keeps, as the definitions see it.
-use Rattle.std.specs.Prelude.{◌≡◌, ◌⊎◌, Option, Some, None, false, List, [], ◌∷◌, ◌++◌, is_some, option_map, map}
+use Rattle.std.specs.Prelude.{◌≡◌, ◌⊎◌, ℕ, Option, Some, None, false, List, [], ◌∷◌, ◌++◌, is_some, option_map, map}
 use Rattle.std.specs.Map.{lookup}
 use Rattle.tree_model.specs.declared.names.ProcessId.{ProcessId}
 use Rattle.tree_model.specs.declared.events.Event.{Event}
@@ -19,7 +19,7 @@ use Rattle.tree_model.specs.Nodes.{is_listed}
 use Rattle.tree_model.specs.World.{Made, World}
 use Rattle.tree_model.specs.Outcomes.{Agreement, CommitRule}
 use Rattle.flat_law.specs.Ties.{Follows, GoesOn, IsFlatTree, IsModelled}
-use Rattle.flat_law.specs.FlatWorlds.{FlatState, Stops, entry_at, undelivered}
+use Rattle.flat_law.specs.FlatWorlds.{BreaksOff, BreaksOffWithin, FlatState, LeadsUntil, Stops, entry_at, undelivered}
 use Rattle.flat_world.specs.declared.leaf.Leaf.{Leaf}
 use Rattle.flat_world.specs.declared.world.FlatWorld.{FlatWorld}
 use Rattle.flat_world.specs.Leaving as leaf
@@ -32,9 +32,9 @@ abbrev pub state : FlatWorld → FlatState
 state w = record {
   root = root.state w.root;
   leaf_at = leaf_in w.leaves.entries;
-  net = w.net.items;
-  delivered = w.delivered;
-  entries = w.entries.items;
+  net = w.journal.net;
+  delivered = w.journal.delivered;
+  entries = w.journal.entries;
 }
 
 -- the records of a process: those of the leaf that it is, or the root's
@@ -54,15 +54,13 @@ pub record Enters (old new : FlatState) (q : ProcessId) (input : Input) (reactio
   pub delivered : new.delivered ≡ old.delivered ++ undelivered reaction.letters
   pub entries : new.entries ≡ old.entries ++ entry_at q input reaction ∷ []
 
--- an event was refused, or memory was
+-- an event was refused, for memory or otherwise
 abbrev pub IsStopped : FlatState → Event → StepError → FlatState → Type 0
-IsStopped old event e new = (e ≡ Memory) ⊎ Stops old event e new
+IsStopped old event e new = ((e ≡ Memory) × BreaksOff old event new) ⊎ Stops old event e new
 
--- the messages, their marks and the journal stay
-pub record IsQuietElsewhere (old new : FlatState) : Type 0 where
-  pub net : new.net ≡ old.net
-  pub delivered : new.delivered ≡ old.delivered
-  pub entries : new.entries ≡ old.entries
+-- so many events were made, and the next was refused, for memory or otherwise
+abbrev pub AreStopped : FlatState → List Event → ℕ → StepError → FlatState → Type 0
+AreStopped old events n e new = ((e ≡ Memory) × BreaksOffWithin old events n new) ⊎ LeadsUntil old events n e new
 
 -- the leaves of these processes but the root, each as it opens
 pub record AreLeaves (me : ProcessId) (tree : List TreeEntry) (leaves : List (ProcessId × Leaf)) : Type 0 where

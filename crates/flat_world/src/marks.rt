@@ -35,13 +35,13 @@ impl Marks {
         }
     }
 
-    /// One message more, which was not delivered.
-    pub(crate) fn push(&mut self) -> Result<(), AllocError>
-        ensures ok { OnOk result (self.new ≡ self.old ++ false ∷ []) }
+    /// So many messages more, none of which was delivered. A refusal for memory changes nothing.
+    pub(crate) fn extend(&mut self, more: usize) -> Result<(), AllocError>
+        ensures ok { OnOk result (self.new ≡ self.old ++ replicate more false) }
         ensures err { OnErr result (self.new ≡ self.old) }
     {
-        self.marks.push(false)?;
-        Ok(())
+        self.marks.reserve(more)?;
+        self.marks.resize(self.marks.len() + more, false)
     }
 
     /// The message at this place is delivered, if there is one.

@@ -1,21 +1,21 @@
 //! A flat tree that runs: a root and plain leaves, the messages, and the journal.
 
 ghost use Rattle.std.specs.Prelude.{◌≡◌, ◌≢◌, ◌⊎◌, ◌+◌, ◌<◌, ◌≤◌, ◌^◌, ◌++◌, true, false, None, Some, IfErr, IfOk, IfSome, IfNone, OnOk, OnErr, IsNone, IsSomeAnd, length, map, slice_get};
-ghost use Rattle.std.specs.Vec.{vec_len};
 ghost use Rattle.std.specs.Option.{option_copied};
 ghost use Rattle.tree_model.specs.declared.names.ProcessId.{ProcessId as AnyProcess};
 ghost use Rattle.tree_model.specs.Names.{same_process};
 ghost use Rattle.tree_model.specs.Plays.{process_of_act, sent_as};
 ghost use Rattle.tree_model.specs.Reactions.{names_listed as names_listed_in};
 ghost use Rattle.flat_law.specs.Leaves as leaf_law;
-ghost use Rattle.flat_law.specs.FlatWorlds.{Applies, Delivers, Hears, IsLost, IsOpened, Leads, LeadsUntil, Settles, SettleStops, Steps, entry_at, leaf_refusal, undelivered};
+ghost use Rattle.flat_law.specs.FlatWorlds.{Applies, Delivers, Hears, IsLost, IsOpened, Leads, Same, Settles, SettleStops, Steps, entry_at, leaf_refusal, least_open as least_open_in};
 ghost use Rattle.tree_model.specs.declared.messages.Envelope.{Envelope as AnyEnvelope};
 ghost use Rattle.flat_world.specs.Leaving.{state as leaf_state};
 ghost use Rattle.flat_law.specs.Ties.{IsFlatTree, IsModelled};
-ghost use Rattle.flat_world.specs.Worlds.{AgreesFrom, AreLeaves, ConsentsFrom, Enters, IsModelledFrom, RunsOn, IsQuietElsewhere, IsStopped, leaf_in, log_by, logs_at, state};
+ghost use Rattle.flat_world.specs.Journals.{IsReady};
+ghost use Rattle.flat_world.specs.Worlds.{AgreesFrom, AreLeaves, AreStopped, ConsentsFrom, Enters, IsModelledFrom, RunsOn, IsStopped, leaf_in, log_by, logs_at, state};
 
+use crate::journal::Journal;
 use crate::leaf::Leaf;
-use crate::marks::Marks;
 use indexmap::IndexMap;
 use root_core::Root;
 use std::alloc::{AllocError, Global};
@@ -36,9 +36,7 @@ pub struct FlatWorld {
     alloc: Global,
     root: Root,
     leaves: IndexMap<ProcessId, Leaf>,
-    net: Vec<Envelope>,
-    delivered: Marks,
-    entries: Vec<Entry>,
+    journal: Journal,
 }
 
 /// A leaf of the root opens.
@@ -104,9 +102,7 @@ impl FlatWorld {
             alloc,
             root: Root::open(alloc, me, tree)?,
             leaves,
-            net: Vec::new(alloc),
-            delivered: Marks::new(alloc),
-            entries: Vec::new(alloc),
+            journal: Journal::new(alloc),
         })
     }
 
@@ -114,7 +110,7 @@ impl FlatWorld {
     pub fn trace(&self) -> &[Entry]
         ensures { result.now ≡ (state self.now).entries }
     {
-        &self.entries
+        self.journal.entries()
     }
 
     /// The tree.
@@ -124,11 +120,11 @@ impl FlatWorld {
         self.root.tree()
     }
 
-    /// Every message that was ever sent; the first has number 1.
-    pub fn sent(&self) -> &[Envelope]
-        ensures { result.now ≡ (state self.now).net }
+    /// Every message that was ever sent, as a list made anew; the first has number 1.
+    pub fn sent(&self) -> Result<Vec<Envelope>, AllocError>
+        ensures { IfOk result (λ sent. sent.items ≡ (state self.now).net) }
     {
-        &self.net
+        self.journal.sent()
     }
 
     /// The records of each process's log, in the order of the tree.
@@ -152,16 +148,16 @@ impl FlatWorld {
         }
     }
 
-    /// Makes an event. Memory: the event may be made in part, and the world is to be let go. Any other error refuses the
-    /// event, and nothing has changed, but for what a settle had delivered.
+    /// Makes an event. An error refuses it, and nothing has changed, but for what a settle had delivered.
+    ///
+    /// However it ends, what a flat tree has come to from its opening on is a run of the model.
     pub fn apply(&mut self, event: &Event) -> Result<(), StepError>
         ensures ok { OnOk result (Applies (state self.old) event.now (state self.new)) }
         ensures err { IfErr result (λ e. IsStopped (state self.old) event.now e (state self.new)) }
-        ensures goes_on { OnOk result (RunsOn (state self.old) (state self.new)) }
-        ensures stopped_goes_on { IfErr result (λ e. (e ≡ StepError.Memory) ⊎ RunsOn (state self.old) (state self.new)) }
-        ensures modelled { OnOk result (IsModelledFrom (state self.old) (state self.new)) }
-        ensures agreement { OnOk result (AgreesFrom (state self.old) (state self.new)) }
-        ensures commit_rule { OnOk result (ConsentsFrom (state self.old) (state self.new)) }
+        ensures goes_on { RunsOn (state self.old) (state self.new) }
+        ensures modelled { IsModelledFrom (state self.old) (state self.new) }
+        ensures agreement { AgreesFrom (state self.old) (state self.new) }
+        ensures commit_rule { ConsentsFrom (state self.old) (state self.new) }
     {
         self.make(event)
     }
@@ -184,21 +180,18 @@ impl FlatWorld {
     /// ended one transaction differently, and commit was decided only where every participant consented.
     pub fn run(&mut self, events: &[Event]) -> Result<(), (usize, StepError)>
         ensures ok { OnOk result (Leads (state self.old) events.now (state self.new)) }
-        ensures err { IfErr result (λ refusal. (refusal.1 ≡ StepError.Memory)
-            ⊎ LeadsUntil (state self.old) events.now refusal.0 refusal.1 (state self.new)) }
+        ensures err { IfErr result (λ refusal. AreStopped (state self.old) events.now refusal.0 refusal.1 (state self.new)) }
         ensures within { IfErr result (λ refusal. refusal.0 < length events.now) }
-        ensures modelled { OnOk result (IsModelledFrom (state self.old) (state self.new)) }
-        ensures stopped_modelled { IfErr result (λ refusal. (refusal.1 ≡ StepError.Memory) ⊎ IsModelledFrom (state self.old) (state self.new)) }
-        ensures agreement { OnOk result (AgreesFrom (state self.old) (state self.new)) }
-        ensures commit_rule { OnOk result (ConsentsFrom (state self.old) (state self.new)) }
+        ensures modelled { IsModelledFrom (state self.old) (state self.new) }
+        ensures agreement { AgreesFrom (state self.old) (state self.new) }
+        ensures commit_rule { ConsentsFrom (state self.old) (state self.new) }
     {
         self.make_all(events)
     }
 
     fn make_all(&mut self, events: &[Event]) -> Result<(), (usize, StepError)>
         ensures ok { OnOk result (Leads (state self.old) events.now (state self.new)) }
-        ensures err { IfErr result (λ refusal. (refusal.1 ≡ StepError.Memory)
-            ⊎ LeadsUntil (state self.old) events.now refusal.0 refusal.1 (state self.new)) }
+        ensures err { IfErr result (λ refusal. AreStopped (state self.old) events.now refusal.0 refusal.1 (state self.new)) }
         ensures within { IfErr result (λ refusal. refusal.0 < length events.now) }
     {
         for (made, event) in events.iter().enumerate() {
@@ -221,9 +214,13 @@ impl FlatWorld {
         if self.root.begun() >= MOST_NUMBERS {
             return Err(StepError::Memory);
         }
+        self.make_room()?;
         let input = Input::Act(copied_act(self.alloc, act)?);
         match self.root.act(act) {
-            Ok(reaction) => Ok(self.enter(process, input, reaction)?),
+            Ok(reaction) => {
+                self.enter(process, input, reaction);
+                Ok(())
+            }
             Err(refusal) => Err(refusal),
         }
     }
@@ -246,28 +243,40 @@ impl FlatWorld {
         ensures ok { OnOk result (Delivers (state self.old) (state self.new) number) }
         ensures err { IfErr result (λ e. IsStopped (state self.old) (Event.Deliver number) e (state self.new)) }
     {
-        let Some(place) = place_of(number, self.net.len()) else {
+        self.make_room()?;
+        let Some(place) = place_of(number, self.journal.letters().len()) else {
             return Err(StepError::NoSuch);
         };
         let (to, message) = self.letter(place)?;
         let reaction = self.hear(to, &message)?;
-        self.delivered.mark(place);
-        Ok(self.enter(to, Input::Message(number, message), reaction)?)
+        self.journal.mark(place);
+        self.enter(to, Input::Message(number, message), reaction);
+        Ok(())
+    }
+
+    /// Room for one step more, so that it is entered without a growth.
+    fn make_room(&mut self) -> Result<(), AllocError>
+        ensures stays { state self.new ≡ state self.old }
+        ensures ready { OnOk result (IsReady self.new.journal) }
+    {
+        self.journal.make_room()
     }
 
     /// The receiver and the text of a message, made anew.
     fn letter(&self, place: usize) -> Result<(ProcessId, Message), AllocError>
-        requires { place < vec_len self.now.net }
-        ensures { IfOk result (λ r. (letter : AnyEnvelope) × (slice_get self.now.net.items place ≡ Some letter) × (r.0 ≡ letter.to) × (r.1 ≡ letter.message)) }
+        requires posted { self.now.journal.is_posted ≡ true }
+        requires sent { place < length self.now.journal.net }
+        ensures { IfOk result (λ r. (letter : AnyEnvelope) × (slice_get self.now.journal.net place ≡ Some letter) × (r.0 ≡ letter.to) × (r.1 ≡ letter.message)) }
     {
-        let letter = &self.net[place];
+        let letter = &self.journal.letters()[place];
         Ok((letter.to, letter.message.copied(self.alloc)?))
     }
 
     /// A process handles a message.
     fn hear(&mut self, to: ProcessId, message: &Message) -> Result<Reaction, StepError>
-        ensures ok { IfOk result (λ reaction. Hears (state self.old) (state self.new) to message.now reaction × IsQuietElsewhere (state self.old) (state self.new)) }
-        ensures err { IfErr result (λ e. (e ≡ StepError.Memory) ⊎ ((e ≡ StepError.NoSuch) × (state self.new ≡ state self.old)
+        ensures ok { IfOk result (λ reaction. Hears (state self.old) (state self.new) to message.now reaction) }
+        ensures journal { self.new.journal ≡ self.old.journal }
+        ensures err { IfErr result (λ e. ((e ≡ StepError.Memory) × Same (state self.old) (state self.new)) ⊎ ((e ≡ StepError.NoSuch) × (state self.new ≡ state self.old)
             × (same_process to (state self.old).root.me ≡ false) × IsNone ((state self.old).leaf_at to))) }
     {
         if to == self.root.me() {
@@ -280,25 +289,18 @@ impl FlatWorld {
     }
 
     /// The step is entered, and its messages are sent.
-    fn enter(
-        &mut self,
-        process: ProcessId,
-        input: Input,
-        reaction: Reaction,
-    ) -> Result<(), AllocError>
-        ensures { OnOk result (Enters (state self.old) (state self.new) process input reaction) }
+    fn enter(&mut self, process: ProcessId, input: Input, reaction: Reaction)
+        requires { IsReady self.old.journal }
+        ensures { Enters (state self.old) (state self.new) process input reaction }
     {
-        send(self.alloc, reaction.letters.as_slice(), &mut self.net)?;
-        note(reaction.letters.as_slice(), &mut self.delivered)?;
-        self.entries.push(Entry {
+        self.journal.enter(Entry {
             step: Step {
                 process,
                 happening: Happening::Input(input),
                 fault: None,
             },
             reaction,
-        })?;
-        Ok(())
+        });
     }
 
     /// Delivers the least numbered message that was not delivered, again and again, at most 10,000 times.
@@ -307,33 +309,22 @@ impl FlatWorld {
         ensures err { IfErr result (λ e. IsStopped (state self.old) Event.Settle e (state self.new)) }
     {
         for _ in 0..SETTLE_LIMIT {
-            let Some(place) = self.delivered.least_open() else {
+            let Some(place) = self.least_open()? else {
                 return Ok(());
             };
             self.deliver(place as u64 + 1)?;
         }
         Ok(())
     }
-}
 
-/// These messages are sent.
-fn send(alloc: Global, letters: &[Envelope], net: &mut Vec<Envelope>) -> Result<(), AllocError>
-    ensures { OnOk result (net.new.items ≡ net.old.items ++ letters.now) }
-{
-    for letter in letters {
-        net.push(letter.copied(alloc)?)?;
+    /// The place of the first message that was not delivered.
+    fn least_open(&mut self) -> Result<Option<usize>, AllocError>
+        ensures stays { state self.new ≡ state self.old }
+        ensures found { IfOk result (λ first. IfSome first (λ place. (place + 1 < 2 ^ 64) × (least_open_in 1 (state self.old).delivered ≡ Some (place + 1)))) }
+        ensures none { IfOk result (λ first. IfNone first (least_open_in 1 (state self.old).delivered ≡ None)) }
+    {
+        self.journal.least_open()
     }
-    Ok(())
-}
-
-/// A mark for each of these messages: none is delivered yet.
-fn note(letters: &[Envelope], delivered: &mut Marks) -> Result<(), AllocError>
-    ensures { OnOk result (delivered.new ≡ delivered.old ++ undelivered letters.now) }
-{
-    for _letter in letters {
-        delivered.push()?;
-    }
-    Ok(())
 }
 
 /// Whether the processes that an act names are listed.
@@ -349,7 +340,7 @@ fn names_listed(tree: &Tree, act: &Act) -> bool
 /// A leaf handles a message.
 fn hear_at(leaf: &mut Leaf, message: &Message) -> Result<Reaction, StepError>
     ensures ok { IfOk result (λ reaction. leaf_law.Makes (leaf_state leaf.old) (leaf_state leaf.new) (leaf_law.message_turn (leaf_state leaf.old) message.now) reaction) }
-    ensures err { IfErr result (λ e. e ≡ StepError.Memory) }
+    ensures err { IfErr result (λ e. (e ≡ StepError.Memory) × leaf_law.Same (leaf_state leaf.old) (leaf_state leaf.new)) }
 {
     if leaf.given() >= MOST_NUMBERS {
         return Err(StepError::Memory);

@@ -156,7 +156,7 @@ fn a_flat_world_runs(rt: HostRuntime) -> Result<(), Fail> {
     ]?;
     assert!(rt; world.run(&events).is_ok());
     assert!(rt; world.run(&events) == Err((0, StepError::UnknownTxn)));
-    assert_eq!(rt; world.sent().len(), 8);
+    assert_eq!(rt; world.sent()?.len(), 8);
     assert_eq!(rt; world.trace().len(), 12);
     let logs = world.logs()?;
     assert_eq!(rt; logs.len(), 2);
