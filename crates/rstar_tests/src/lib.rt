@@ -4,4 +4,20 @@
 #[cfg(test)]
 mod calls;
 #[cfg(test)]
+mod names_and_trees;
+#[cfg(test)]
+mod numbers;
+#[cfg(test)]
+mod scripts;
+#[cfg(test)]
+mod streams;
+#[cfg(test)]
 mod trees;
+#[cfg(test)]
+mod xa_parts;
+#[cfg(test)]
+mod xa_random;
+#[cfg(test)]
+mod xa_rows;
+#[cfg(test)]
+mod xa_steps;
