@@ -13,6 +13,3 @@ mod trace;
 pub use script::{MOST_EVENTS, ScriptError, ScriptFault, read};
 pub use stage::Stage;
 pub use trace::{case_text, push_entry, trace_text};
-
-#[cfg(test)]
-mod tests;

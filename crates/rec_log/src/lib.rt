@@ -6,6 +6,3 @@
 mod log;
 
 pub use log::RecLog;
-
-#[cfg(test)]
-mod tests;

@@ -12,8 +12,3 @@ pub use law::histories_are_legal;
 pub use streams::Failure;
 pub use tree::run_tree;
 pub use xa::{Status, run_xa};
-
-#[cfg(test)]
-mod random;
-#[cfg(test)]
-mod tests;

@@ -1,8 +1,7 @@
 //! Tree scripts, what is written for each, and how it ends.
 
+use crate::streams::{Fails, Full};
 use rstar_engine::{Failure, Status, run_tree};
-use std::io;
-use std::io::{Read, Write};
 use std::test::Fail;
 
 /// A script's name, the script, what is written, and how the run ends.
@@ -315,36 +314,6 @@ fn too_many_event_lines(rt: HostRuntime) -> Result<(), Fail> {
         assert!(rt; out.as_slice() == text);
     }
     Ok(())
-}
-
-/// A reader that fails.
-#[derive(Drop)]
-struct Fails;
-
-impl Read for Fails {
-    fn read(&mut self, _buf: &mut [u8]) -> io::Result<usize> {
-        Err(io::Error::from(io::ErrorKind::Other))
-    }
-}
-
-/// A writer that fails, or takes nothing.
-#[derive(Drop)]
-struct Full {
-    fails: bool,
-}
-
-impl Write for Full {
-    fn write(&mut self, _buf: &[u8]) -> io::Result<usize> {
-        if self.fails {
-            Err(io::Error::from(io::ErrorKind::Other))
-        } else {
-            Ok(0)
-        }
-    }
-
-    fn flush(&mut self) -> io::Result<()> {
-        Ok(())
-    }
 }
 
 #[test]

@@ -21,6 +21,3 @@ pub use names::{Case, Kind, Outcome, Presumption, ProcessId, Ticket, Tickets, Tx
 pub use records::{Branch, Logged, Record, RecordKind, Subject, Write, Writes};
 pub use standings::{Standing, Vote};
 pub use trees::{MOST_LEVELS, MOST_PROCESSES, Tree, TreeEntry, TreeError};
-
-#[cfg(test)]
-mod tests;

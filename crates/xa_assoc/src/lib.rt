@@ -15,6 +15,3 @@ mod law;
 pub use associations::Associations;
 pub use held::OfBranch;
 pub use law::walks_rows;
-
-#[cfg(test)]
-mod tests;

@@ -13,8 +13,3 @@ mod branches;
 mod scans;
 
 pub use branches::Branches;
-
-#[cfg(test)]
-mod random;
-#[cfg(test)]
-mod tests;

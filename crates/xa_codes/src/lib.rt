@@ -9,6 +9,3 @@ mod flags;
 
 pub use code::{Code, one_code_a_number, one_name_a_code};
 pub use flags::Flags;
-
-#[cfg(test)]
-mod tests;

@@ -20,6 +20,3 @@ mod states;
 pub use call::{Call, Verb, legal_call};
 pub use rows::{next_assoc, next_branch, next_init};
 pub use states::{AssocState, BranchState, InitState};
-
-#[cfg(test)]
-mod tests;

@@ -1,6 +1,12 @@
-use super::*;
+//! The names of branches, and the check of a tree.
+
 use std::alloc::{AllocError, Global};
 use std::test::Fail;
+use tree_model::{
+    ForeignXid, Kind, Presumption, ProcessId, Ticket, Tree, TreeEntry, TreeError, Txn, branch_xid,
+    read_branch,
+};
+use xa_xid::Xid;
 
 const ROOT: ProcessId = ProcessId(1);
 
@@ -33,7 +39,7 @@ fn names_of_branches(rt: HostRuntime) -> Result<(), Fail> {
         let xid = branch_xid(txn(presumption), below);
         assert!(rt; read_branch(&xid) == Ok((txn(presumption), below)));
     }
-    assert!(rt; read_branch(&xa_xid::Xid::null()) == Err(ForeignXid));
+    assert!(rt; read_branch(&Xid::null()) == Err(ForeignXid));
     Ok(())
 }
 

@@ -1,4 +1,9 @@
-use super::*;
+//! Scripts as they are read, and the text of a trace.
+
+ghost use Rattle.std.specs.Prelude.{◌≡◌, IfOk, length};
+
+use link_script::{ScriptError, ScriptFault, Stage, case_text, push_entry, read, trace_text};
+use std::alloc::{AllocError, Global};
 use std::test::Fail;
 use tree_model::{
     Act, Case, Entry, Envelope, Event, Happening, Kind, Letters, Logged, Message, Op, Outcome,
@@ -84,47 +89,58 @@ fn refused_scripts(rt: HostRuntime) -> Result<(), Fail> {
     Ok(())
 }
 
-#[test]
-fn lines_of_an_entry(rt: HostRuntime) -> Result<(), Fail> {
-    let txn = Txn {
-        root: ProcessId(1),
-        boot: 1,
-        sequence: 1,
-        presumption: Presumption::PresumeAbort,
-    };
-    let case = Case {
-        txn,
+/// A case at process 2.
+fn second_case() -> Case {
+    Case {
+        txn: Txn {
+            root: ProcessId(1),
+            boot: 1,
+            sequence: 1,
+            presumption: Presumption::PresumeAbort,
+        },
         ticket: Some(Ticket {
             child: ProcessId(2),
             boot: 1,
             number: 1,
         }),
-    };
+    }
+}
+
+/// An entry with a line of almost each form, and one message.
+fn entry_of(alloc: Global, case: Case) -> Result<Entry, AllocError>
+    ensures { IfOk result (λ entry. length entry.reaction.letters ≡ 1) }
+{
     let logged = [Logged {
         kind: RecordKind::Prepared,
         subject: Subject::Case(case),
         forced: true,
     }];
-    let mut letters = Letters::new(rt.alloc());
+    let mut letters = Letters::new(alloc);
     letters.push(Envelope {
         from: ProcessId(2),
         to: ProcessId(1),
         message: Message::Ack(case, Outcome::Committed),
     })?;
-    let entry = Entry {
+    Ok(Entry {
         step: Step {
             process: ProcessId(2),
             happening: Happening::Trim,
             fault: None,
         },
         reaction: Reaction {
-            begun: Some(txn),
-            written: Sequence::from_vec(Vec::from_slice(rt.alloc(), &logged)?),
+            begun: Some(case.txn),
+            written: Sequence::from_vec(Vec::from_slice(alloc, &logged)?),
             told: None,
             letters,
             kept: Some(3),
         },
-    };
+    })
+}
+
+#[test]
+fn lines_of_an_entry(rt: HostRuntime) -> Result<(), Fail> {
+    let case = second_case();
+    let entry = entry_of(rt.alloc(), case)?;
     let mut text = Vec::new(rt.alloc());
     push_entry(&mut text, 8, &entry)?;
     let lines =
@@ -134,5 +150,15 @@ fn lines_of_an_entry(rt: HostRuntime) -> Result<(), Fail> {
         case_text(rt.alloc(), &case)?.as_slice(),
         b"a1.1@2.1.1".as_slice()
     );
+    Ok(())
+}
+
+#[test]
+fn a_trace_numbers_its_messages_from_one(rt: HostRuntime) -> Result<(), Fail> {
+    let entries = [entry_of(rt.alloc(), second_case())?];
+    let text = trace_text(rt.alloc(), &entries)?;
+    let lines =
+        "begin a1.1\nlog 2 Prepared a1.1@2.1.1 forced\n1 2->1 ACK a1.1@2.1.1 commit\ntrim 2 3\n";
+    assert_eq!(rt; text.as_slice(), lines.as_bytes());
     Ok(())
 }

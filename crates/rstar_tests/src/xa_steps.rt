@@ -1,9 +1,8 @@
 //! Random steps of branches, each against the table of branches written here as rows.
 
-ghost use Rattle.std.specs.Prelude.{◌<◌};
-
-use super::*;
+use crate::numbers::Numbers;
 use std::test::Fail;
+use xa_branch::Branches;
 use xa_codes::Code;
 use xa_tables::BranchState::{S0, S1, S2, S3, S4, S5};
 use xa_tables::{BranchState, Call};
@@ -70,22 +69,6 @@ const ROWS: [Row; 55] = [
     (S5, Call::Rollback, Code::HeurMix, S5),
     (S5, Call::Forget, Code::Ok, S0),
 ];
-
-/// A generator of numbers (xorshift).
-#[derive(Drop)]
-struct Numbers(u64);
-
-impl Numbers {
-    fn below(&mut self, bound: u64) -> u64
-        requires { 0 < bound }
-        ensures { result < bound }
-    {
-        self.0 ^= self.0 << 13;
-        self.0 ^= self.0 >> 7;
-        self.0 ^= self.0 << 17;
-        (self.0 >> 11) % bound
-    }
-}
 
 /// A row, by its number.
 fn row_at(number: u64) -> Row {

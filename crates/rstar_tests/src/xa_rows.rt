@@ -1,6 +1,7 @@
-use super::*;
-use std::io;
-use std::io::{Read, Write};
+//! XA scripts, what is written for each, and how it ends.
+
+use crate::streams::{Fails, Full};
+use rstar_engine::{Failure, Status, run_xa};
 use std::test::Fail;
 
 /// A script, what is written, and how the run ends.
@@ -75,36 +76,12 @@ fn rows(rt: HostRuntime) {
     }
 }
 
-/// A reader that fails.
-#[derive(Drop)]
-struct Fails;
-
-impl Read for Fails {
-    fn read(&mut self, _buf: &mut [u8]) -> io::Result<usize> {
-        Err(io::Error::from(io::ErrorKind::Other))
-    }
-}
-
-/// A writer that takes nothing.
-#[derive(Drop)]
-struct Full;
-
-impl Write for Full {
-    fn write(&mut self, _buf: &[u8]) -> io::Result<usize> {
-        Ok(0)
-    }
-
-    fn flush(&mut self) -> io::Result<()> {
-        Ok(())
-    }
-}
-
 #[test]
 fn failures(rt: HostRuntime) -> Result<(), Fail> {
     let mut out = Vec::new(rt.alloc());
     assert!(rt; run_xa(rt.alloc(), &mut Fails, &mut out) == Err(Failure::Read));
     assert_eq!(rt; out.len(), 0);
     let mut input = b"open TMNOFLAGS".as_slice();
-    assert!(rt; run_xa(rt.alloc(), &mut input, &mut Full) == Err(Failure::Write));
+    assert!(rt; run_xa(rt.alloc(), &mut input, &mut Full { fails: false }) == Err(Failure::Write));
     Ok(())
 }

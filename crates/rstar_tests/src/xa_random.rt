@@ -1,8 +1,7 @@
-//! Random calls on managers, each against the tables written here as rows.
+//! Scripts of random calls, and what is written for each, against the tables written here as rows.
 
-ghost use Rattle.std.specs.Prelude.{◌<◌};
-
-use crate::manager::Manager;
+use crate::numbers::Numbers;
+use rstar_engine::{Status, run_xa};
 use std::alloc::AllocError;
 use std::test::Fail;
 use xa_codes::{Code, Flags};
@@ -10,7 +9,6 @@ use xa_tables::AssocState::{M, T0, T1, T2};
 use xa_tables::BranchState::{S0, S1, S2, S4};
 use xa_tables::Verb::{Close, Commit, End, Forget, Open, Prepare, Recover, Rollback, Start};
 use xa_tables::{AssocState, BranchState, Verb};
-use xa_xid::Xid;
 
 /// A row: in this state, this call, this answer, and the state behind it.
 type Row<S> = (S, Verb, Flags, Code, S);
@@ -109,25 +107,34 @@ const LEGAL: [(Verb, Flags); 18] = [
 /// Flags that are added to those of a call, now and then.
 const MORE: [Flags; 4] = [Flags::TMNOWAIT, Flags::TMASYNC, FAIL, Flags::TMMULTIPLE];
 
+/// The flags of these calls, as a script names them.
+const FLAG_NAMES: [(Flags, &str); 12] = [
+    (Flags::TMASYNC, "TMASYNC"),
+    (Flags::TMONEPHASE, "TMONEPHASE"),
+    (Flags::TMFAIL, "TMFAIL"),
+    (Flags::TMNOWAIT, "TMNOWAIT"),
+    (Flags::TMRESUME, "TMRESUME"),
+    (Flags::TMSUCCESS, "TMSUCCESS"),
+    (Flags::TMSUSPEND, "TMSUSPEND"),
+    (Flags::TMSTARTRSCAN, "TMSTARTRSCAN"),
+    (Flags::TMENDRSCAN, "TMENDRSCAN"),
+    (Flags::TMMULTIPLE, "TMMULTIPLE"),
+    (Flags::TMJOIN, "TMJOIN"),
+    (Flags::TMMIGRATE, "TMMIGRATE"),
+];
+
+/// The branches, as a script names them.
+const BRANCH_NAMES: [&str; NAMES] = ["7:00:", "7:01:"];
+
+/// How many scripts are run.
+const SCRIPTS: u32 = 50;
+
+/// How many calls a script makes behind its first, an open.
+const CALLS: u32 = 200;
+
 const THREADS: usize = 3;
 
 const NAMES: usize = 2;
-
-/// A generator of numbers (xorshift).
-#[derive(Drop)]
-struct Numbers(u64);
-
-impl Numbers {
-    fn below(&mut self, bound: u64) -> u64
-        requires { 0 < bound }
-        ensures { result < bound }
-    {
-        self.0 ^= self.0 << 13;
-        self.0 ^= self.0 >> 7;
-        self.0 ^= self.0 << 17;
-        (self.0 >> 11) % bound
-    }
-}
 
 /// A manager as rows make it.
 #[derive(Drop)]
@@ -359,44 +366,115 @@ fn plain(verb: Verb, flags: Flags) -> Flags {
     }
 }
 
-/// Makes a random call of both, and says what each answers.
-fn both(
-    manager: &mut Manager,
-    rows: &mut Rows,
-    numbers: &mut Numbers,
-) -> Result<(Result<usize, Code>, Result<usize, Code>), AllocError> {
-    let (verb, flags) = if numbers.below(3) == 0 {
-        LEGAL[numbers.below(18) as usize]
-    } else {
-        LEGAL[numbers.below(7) as usize + 2]
-    };
-    let more = if numbers.below(6) == 0 {
-        MORE[numbers.below(4) as usize]
-    } else {
-        NONE
-    };
-    let flags = Flags(flags.0 | more.0);
-    let thread = numbers.below(3);
-    let number = numbers.below(17);
-    let migrates = numbers.below(2) == 0;
-    let (name, xid) = match Xid::new(7, &[number as u8 % 2], &[]) {
-        Ok(xid) if number < 16 => (Some(number as usize % 2), xid),
-        _ => (None, Xid::null()),
-    };
-    let by = thread as usize;
+/// The word that a script has for a verb.
+fn word_of(verb: Verb) -> &'static str {
     match verb {
-        Open => Ok((
-            Err(manager.open(flags, migrates)),
-            Err(rows.open(flags, migrates)),
-        )),
-        Close => Ok((Err(manager.close(flags)), Err(rows.close(flags)))),
-        Recover => {
-            let given = manager.recover(thread as u32, 5, flags)?;
-            Ok((given.map(|xids| xids.len()), rows.recover(by, flags)))
+        Open => "open",
+        Close => "close",
+        Start => "start",
+        End => "end",
+        Prepare => "prepare",
+        Commit => "commit",
+        Rollback => "rollback",
+        Forget => "forget",
+        Recover => "recover",
+    }
+}
+
+/// Adds a space and the names of these flags.
+fn push_flags(script: &mut String, flags: Flags) -> Result<(), AllocError> {
+    if flags == NONE {
+        return script.push_str(" TMNOFLAGS");
+    }
+    let mut is_first = true;
+    for (flag, name) in FLAG_NAMES {
+        if flags.has(flag) {
+            script.push(if is_first { ' ' } else { '+' })?;
+            script.push_str(name)?;
+            is_first = false;
         }
-        _ => {
-            let code = manager.call(verb, thread as u32, &xid, flags)?;
-            Ok((Err(code), Err(rows.call(verb, by, name, flags))))
+    }
+    Ok(())
+}
+
+/// A script of random calls, with what is to be written for it.
+#[derive(Drop)]
+struct Script {
+    calls: String,
+    answers: String,
+}
+
+impl Script {
+    /// Adds an open.
+    fn open(&mut self, rows: &mut Rows, flags: Flags, migrates: bool) -> Result<(), AllocError> {
+        self.calls.push_str("open")?;
+        push_flags(&mut self.calls, flags)?;
+        self.calls
+            .push_str(if migrates { "\n" } else { " nomigrate\n" })?;
+        self.answer(Err(rows.open(flags, migrates)))
+    }
+
+    /// Adds a random call.
+    fn call(&mut self, rows: &mut Rows, numbers: &mut Numbers) -> Result<(), AllocError> {
+        let (verb, flags) = if numbers.below(3) == 0 {
+            LEGAL[numbers.below(18) as usize]
+        } else {
+            LEGAL[numbers.below(7) as usize + 2]
+        };
+        let more = if numbers.below(6) == 0 {
+            MORE[numbers.below(4) as usize]
+        } else {
+            NONE
+        };
+        let flags = Flags(flags.0 | more.0);
+        let thread = numbers.below(3);
+        let number = numbers.below(17);
+        let migrates = numbers.below(2) == 0;
+        let by = thread as usize;
+        match verb {
+            Open => self.open(rows, flags, migrates),
+            Close => {
+                self.calls.push_str("close")?;
+                self.flags(flags)?;
+                self.answer(Err(rows.close(flags)))
+            }
+            Recover => {
+                write!(self.calls, "recover {thread} 5")?;
+                self.flags(flags)?;
+                self.answer(rows.recover(by, flags))
+            }
+            _ => {
+                let word = word_of(verb);
+                let name = if number < 16 {
+                    Some(number as usize % NAMES)
+                } else {
+                    None
+                };
+                let branch = match name {
+                    Some(name) => BRANCH_NAMES[name % NAMES],
+                    None => "-1::",
+                };
+                write!(self.calls, "{word} {thread} {branch}")?;
+                self.flags(flags)?;
+                self.answer(Err(rows.call(verb, by, name, flags)))
+            }
+        }
+    }
+
+    /// Adds the flags that end a line.
+    fn flags(&mut self, flags: Flags) -> Result<(), AllocError> {
+        push_flags(&mut self.calls, flags)?;
+        self.calls.push_str("\n")
+    }
+
+    /// Adds the line of an answer.
+    fn answer(&mut self, answer: Result<usize, Code>) -> Result<(), AllocError> {
+        match answer {
+            Ok(count) => writeln!(self.answers, "{count}"),
+            Err(code) => {
+                let name = code.name();
+                writeln!(self.answers, "{name}")
+            }
         }
     }
 }
@@ -405,15 +483,22 @@ fn both(
 fn random_calls(rt: HostRuntime) -> Result<(), Fail> {
     let mut numbers = Numbers(0x2545_F491_4F6C_DD1D);
     let mut rows = Rows::new();
-    for run in 0..50 {
-        let mut manager = Manager::new(rt.alloc());
+    for run in 0..SCRIPTS {
+        let mut script = Script {
+            calls: String::new(rt.alloc()),
+            answers: String::new(rt.alloc()),
+        };
         rows.begin();
-        let migrates = run % 2 == 0;
-        assert_eq!(rt; manager.open(NONE, migrates), rows.open(NONE, migrates));
-        for number in 0..200 {
-            let (answer, wanted) = both(&mut manager, &mut rows, &mut numbers)?;
-            assert_eq!(rt; answer, wanted, "call {number} of run {run}");
+        script.open(&mut rows, NONE, run % 2 == 0)?;
+        for _ in 0..CALLS {
+            script.call(&mut rows, &mut numbers)?;
         }
+        script.answers.push_str("end\n")?;
+        let mut out = Vec::new(rt.alloc());
+        let mut input = script.calls.as_bytes();
+        let ended = run_xa(rt.alloc(), &mut input, &mut out);
+        assert!(rt; ended == Ok(Status::Ended), "script {run}");
+        assert!(rt; out.as_slice() == script.answers.as_bytes(), "script {run}");
     }
     for (i, walked) in rows.associations_walked.iter().enumerate() {
         assert!(rt; *walked, "row {i} of the associations");

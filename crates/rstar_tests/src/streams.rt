@@ -1,0 +1,34 @@
+//! Readers and writers that fail.
+
+use std::io;
+use std::io::{Read, Write};
+
+/// A reader that fails.
+#[derive(Drop)]
+pub(crate) struct Fails;
+
+impl Read for Fails {
+    fn read(&mut self, _buf: &mut [u8]) -> io::Result<usize> {
+        Err(io::Error::from(io::ErrorKind::Other))
+    }
+}
+
+/// A writer that fails, or takes nothing.
+#[derive(Drop)]
+pub(crate) struct Full {
+    pub(crate) fails: bool,
+}
+
+impl Write for Full {
+    fn write(&mut self, _buf: &[u8]) -> io::Result<usize> {
+        if self.fails {
+            Err(io::Error::from(io::ErrorKind::Other))
+        } else {
+            Ok(0)
+        }
+    }
+
+    fn flush(&mut self) -> io::Result<()> {
+        Ok(())
+    }
+}
