@@ -7,7 +7,7 @@ use root_core::Root;
 use std::alloc::{AllocError, Global};
 use std::test::Fail;
 use tree_model::{
-    Act, Bytes, Case, Envelope, Event, Kind, Message, Op, Outcome, Presumption, ProcessId,
+    Act, Bytes, Case, Envelope, Event, Input, Kind, Message, Op, Outcome, Presumption, ProcessId,
     Reaction, Record, RecordKind, Sequence, StepError, Subject, Ticket, Tree, TreeEntry, Txn,
     Write,
 };
@@ -131,6 +131,15 @@ fn a_root_aborts(rt: HostRuntime) -> Result<(), Fail> {
             Some(Message::Commit(_))
         )
     );
+    Ok(())
+}
+
+#[test]
+fn a_root_takes_an_input(rt: HostRuntime) -> Result<(), Fail> {
+    let alloc = rt.alloc();
+    let mut root = Root::open(alloc, ROOT, small_tree(alloc)?)?;
+    let begin = Input::Act(Act::Begin(Presumption::PresumeAbort));
+    assert!(rt; made(root.step(&begin))?.begun == Some(first_txn(Presumption::PresumeAbort)));
     Ok(())
 }
 
