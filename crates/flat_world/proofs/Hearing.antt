@@ -1,11 +1,10 @@
 -- A message that a process heard, and an input that was entered.
-use Rattle.std.proofs.Common.{◌≡◌, ◌∙◌, sym, subst, ℕ, suc, ◌+◌, true, false, Option, None, Some, List, Result, Ok, Err, IfOk, refl, arith}
+use Rattle.std.proofs.Common.{◌≡◌, ◌∙◌, sym, ℕ, suc, ◌+◌, true, false, Option, None, Some, List, Result, Ok, Err, IfOk, refl, arith}
 use Rattle.tree_model.specs.declared.names.ProcessId.{ProcessId}
 use Rattle.tree_model.specs.declared.messages.Message.{Message}
 use Rattle.tree_model.specs.declared.messages.Envelope.{Envelope}
 use Rattle.tree_model.specs.declared.events.Reaction.{Reaction}
 use Rattle.tree_model.specs.Names.{same_process}
-use Rattle.tree_model.specs.NameLaws.{same_process_tells}
 use Rattle.tree_model.specs.Plays.{sent_as}
 use Rattle.std.specs.Prelude.{slice_get, Bool}
 use Rattle.root_core.specs.Roots.{act_turn}
@@ -62,21 +61,6 @@ pub heard : {E : Type 0} (old new : FlatState) (q : ProcessId) (m : Message) (ma
 heard old new q m (Ok r) before behind here stood stands others root done =
     at_leaf old new q m r before behind here stood stands done others root
 heard old new q m (Err e) before behind here stood stands others root done = done
-
--- Refusals for memory.
-
-one_process : (q p : ProcessId) → same_process q p ≡ true → q ≡ p
-one_process q p h = grind (arith, same_process_tells)
-
--- where nothing is otherwise in a leaf, each leaf is the same
-pub same_leaves : (old new : ProcessId → Option LeafState) (q : ProcessId) (before behind : LeafState)
-    → old q ≡ Some before → new q ≡ Some behind → ((p : ProcessId) → same_process q p ≡ false → new p ≡ old p)
-    → leaf.Same before behind → (p : ProcessId) → SameLeaf (old p) (new p)
-same_leaves old new q before behind stood stands others same p = at (same_process q p) refl
-  where
-    at : (b : Bool) → same_process q p ≡ b → SameLeaf (old p) (new p)
-    at true here = subst (λ x. SameLeaf (old x) (new x)) (one_process q p here) (rw (stood, stands) same)
-    at false away = rw (others p away) (same_as_it_is (old p))
 
 -- the number of a place
 pub sent_at : (net : List Envelope) (k place : ℕ) → k ≡ place + 1 → sent_as net k ≡ slice_get net place

@@ -176,8 +176,8 @@ impl FlatWorld {
 
     /// Makes these events, in order, up to the first that is refused: then how many were made, and why the next was not.
     ///
-    /// Whatever the events, what a flat tree has come to from its opening on is a run of the model: no two processes have
-    /// ended one transaction differently, and commit was decided only where every participant consented.
+    /// Whatever the events, and however it ends, what a flat tree has come to from its opening on is a run of the model: no
+    /// two processes have ended one transaction differently, and commit was decided only where every participant consented.
     pub fn run(&mut self, events: &[Event]) -> Result<(), (usize, StepError)>
         ensures ok { OnOk result (Leads (state self.old) events.now (state self.new)) }
         ensures err { IfErr result (λ refusal. AreStopped (state self.old) events.now refusal.0 refusal.1 (state self.new)) }
