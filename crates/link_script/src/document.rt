@@ -27,7 +27,7 @@ use toml::{Table, Value};
 use tree_model::{Bytes, Kind, ProcessId, Tree, TreeEntry};
 
 /// Why a text is no tree.
-#[derive(Clone, Copy, Debug, PartialEq, Eq)]
+#[derive(Clone, Copy)]
 pub enum DocumentError {
     Memory,
     TreeText,

@@ -14,7 +14,7 @@ use tree_model::{Event, ProcessId};
 use xa_xid::word::cut;
 
 /// Why lines could not be read.
-#[derive(Clone, Copy, Debug, PartialEq, Eq)]
+#[derive(Clone, Copy)]
 pub enum LineError {
     Memory,
     /// The line of this number asks for no event.
