@@ -24,8 +24,8 @@ use indexmap::IndexMap;
 use rec_log::RecLog;
 use std::alloc::{AllocError, Global};
 use tree_model::{
-    Act, Case, Input, Message, Op, Outcome, Presumption, ProcessId, Reaction, Record, Standing, StepError,
-    Ticket, Tree, Txn, Vote,
+    Act, Case, Input, Message, Op, Outcome, Presumption, ProcessId, Reaction, Record, Standing,
+    StepError, Ticket, Tree, Txn, Vote,
 };
 
 /// The root of a tree. It keeps its log, its boot, how many transactions it began in this boot, and where each live
