@@ -7,7 +7,7 @@ use root_core::Root;
 use std::alloc::{AllocError, Global};
 use std::test::Fail;
 use tree_model::{
-    Act, Bytes, Case, Envelope, Event, Input, Kind, Message, Op, Outcome, Presumption, ProcessId,
+    Act, Bytes, Case, Envelope, Event, Kind, Message, Op, Outcome, Presumption, ProcessId,
     Reaction, Record, RecordKind, Sequence, StepError, Subject, Ticket, Tree, TreeEntry, Txn,
     Write,
 };
@@ -83,125 +83,54 @@ fn only(reaction: &Reaction) -> Option<&Message> {
     }
 }
 
-// The calls of a test say nothing of what they leave, so that its proof stays short.
-
-fn begin(root: &mut Root, presumption: Presumption) -> Result<Reaction, Fail> {
-    if root.begun() >= 1 << 62 {
-        return Err(Fail::from("numbers are left"));
-    }
-    made(root.begin(presumption))
-}
-
-fn join(root: &mut Root, txn: Txn) -> Result<Reaction, Fail> {
-    made(root.join(root_case(txn), CHILD))
-}
-
-fn work(root: &mut Root, txn: Txn, op: &Op) -> Result<Reaction, Fail> {
-    made(root.work(root_case(txn), CHILD, op))
-}
-
-fn commit(root: &mut Root, txn: Txn) -> Result<Reaction, Fail> {
-    made(root.commit(txn))
-}
-
-fn abort(root: &mut Root, txn: Txn) -> Result<Reaction, Fail> {
-    made(root.abort(txn))
-}
-
-fn act(root: &mut Root, act: &Act) -> Result<Reaction, Fail> {
-    if root.begun() >= 1 << 62 {
-        return Err(Fail::from("numbers are left"));
-    }
-    made(root.act(act))
-}
-
-fn hear(root: &mut Root, message: &Message) -> Result<Reaction, Fail> {
-    Ok(root.hear(message)?)
-}
-
-fn opened(alloc: Global) -> Result<Root, Fail> {
-    Ok(Root::open(alloc, ROOT, small_tree(alloc)?)?)
-}
-
 #[test]
-fn a_root_opens(rt: HostRuntime) -> Result<(), Fail> {
-    let root = opened(rt.alloc())?;
+fn a_root_begins_and_commits(rt: HostRuntime) -> Result<(), Fail> {
+    let alloc = rt.alloc();
+    let txn = first_txn(Presumption::PresumeAbort);
+    let mut root = Root::open(alloc, ROOT, small_tree(alloc)?)?;
     assert_eq!(rt; root.me(), ROOT);
-    assert_eq!(rt; root.begun(), 0);
     assert_eq!(rt; root.tree().entries().len(), 2);
-    assert_eq!(rt; root.records()?.len(), 1);
-    Ok(())
-}
-
-#[test]
-fn a_root_begins_and_invites(rt: HostRuntime) -> Result<(), Fail> {
-    let txn = first_txn(Presumption::PresumeAbort);
-    let mut root = opened(rt.alloc())?;
-    assert!(rt; begin(&mut root, Presumption::PresumeAbort)?.begun == Some(txn));
-    assert!(rt; matches!(only(&join(&mut root, txn)?), Some(Message::Join(_))));
-    Ok(())
-}
-
-#[test]
-fn a_root_commits(rt: HostRuntime) -> Result<(), Fail> {
-    let txn = first_txn(Presumption::PresumeAbort);
-    let mut root = opened(rt.alloc())?;
-    begin(&mut root, Presumption::PresumeAbort)?;
-    hear(&mut root, &Message::Joined(root_case(txn), first_ticket()))?;
-    let op = put(rt.alloc())?;
+    assert!(rt; made(root.begin(Presumption::PresumeAbort))?.begun == Some(txn));
+    assert_eq!(rt; root.begun(), 1);
     assert!(rt;
         matches!(
-            only(&work(&mut root, txn, &op)?),
+            only(&made(root.join(root_case(txn), CHILD))?),
+            Some(Message::Join(_))
+        )
+    );
+    root.hear(&Message::Joined(root_case(txn), first_ticket()))?;
+    let op = put(alloc)?;
+    assert!(rt;
+        matches!(
+            only(&made(root.work(root_case(txn), CHILD, &op))?),
             Some(Message::Work(_, 1, _))
         )
     );
-    assert!(rt; matches!(only(&commit(&mut root, txn)?), Some(Message::Prepare(_, 1))));
-    let decided = hear(&mut root, &Message::Yes(child_case(txn)))?;
+    assert!(rt; matches!(only(&made(root.commit(txn))?), Some(Message::Prepare(_, 1))));
+    let decided = root.hear(&Message::Yes(child_case(txn)))?;
     assert!(rt; matches!(only(&decided), Some(Message::Commit(_))));
-    let ended = hear(
-        &mut root,
-        &Message::Ack(child_case(txn), Outcome::Committed),
-    )?;
+    assert_eq!(rt; decided.written.len(), 1);
+    let ended = root.hear(&Message::Ack(child_case(txn), Outcome::Committed))?;
     assert_eq!(rt; ended.written.len(), 1);
     assert_eq!(rt; root.records()?.len(), 3);
+    assert!(rt; matches!(root.abort(txn), Err(StepError::UnknownTxn)));
     Ok(())
 }
 
 #[test]
 fn a_root_aborts(rt: HostRuntime) -> Result<(), Fail> {
-    let txn = first_txn(Presumption::PresumeCommit);
-    let mut root = opened(rt.alloc())?;
-    act(&mut root, &Act::Begin(Presumption::PresumeCommit))?;
-    hear(&mut root, &Message::Joined(root_case(txn), first_ticket()))?;
-    assert!(rt; matches!(only(&abort(&mut root, txn)?), Some(Message::Abort(_))));
-    let answer = hear(&mut root, &Message::Inquire(child_case(txn)))?;
-    assert!(rt; matches!(only(&answer), Some(Message::Commit(_))));
-    Ok(())
-}
-
-#[test]
-fn a_root_takes_an_input(rt: HostRuntime) -> Result<(), Fail> {
     let alloc = rt.alloc();
+    let txn = first_txn(Presumption::PresumeCommit);
     let mut root = Root::open(alloc, ROOT, small_tree(alloc)?)?;
-    let begin = Input::Act(Act::Begin(Presumption::PresumeAbort));
-    assert!(rt; made(root.step(&begin))?.begun == Some(first_txn(Presumption::PresumeAbort)));
-    Ok(())
-}
-
-fn opened_world(alloc: Global) -> Result<FlatWorld, Fail> {
-    Ok(FlatWorld::new(alloc, ROOT, small_tree(alloc)?)?)
-}
-
-fn run(world: &mut FlatWorld, events: &[Event]) -> Result<(), (usize, StepError)> {
-    world.run(events)
-}
-
-#[test]
-fn a_flat_world_makes_an_event(rt: HostRuntime) -> Result<(), Fail> {
-    let mut world = opened_world(rt.alloc())?;
-    assert_eq!(rt; world.tree().entries().len(), 2);
-    let begin = Event::Act(Act::Begin(Presumption::PresumeAbort));
-    assert!(rt; world.apply(&begin).is_ok());
+    assert!(rt; made(root.act(&Act::Begin(Presumption::PresumeCommit)))?.begun == Some(txn));
+    root.hear(&Message::Joined(root_case(txn), first_ticket()))?;
+    assert!(rt; matches!(only(&made(root.abort(txn))?), Some(Message::Abort(_))));
+    assert!(rt;
+        matches!(
+            only(&root.hear(&Message::Inquire(child_case(txn)))?),
+            Some(Message::Commit(_))
+        )
+    );
     Ok(())
 }
 
@@ -209,9 +138,14 @@ fn a_flat_world_makes_an_event(rt: HostRuntime) -> Result<(), Fail> {
 fn a_flat_world_runs(rt: HostRuntime) -> Result<(), Fail> {
     let alloc = rt.alloc();
     let txn = first_txn(Presumption::PresumeAbort);
-    let mut world = opened_world(alloc)?;
+    let mut world = FlatWorld::new(alloc, ROOT, small_tree(alloc)?)?;
+    assert_eq!(rt; world.tree().entries().len(), 2);
+    assert!(rt;
+        world
+            .apply(&Event::Act(Act::Begin(Presumption::PresumeAbort)))
+            .is_ok()
+    );
     let events = vec![in alloc;
-        Event::Act(Act::Begin(Presumption::PresumeAbort)),
         Event::Act(Act::Join(root_case(txn), CHILD)),
         Event::Settle,
         Event::Act(Act::Work(root_case(txn), CHILD, put(alloc)?)),
@@ -220,8 +154,8 @@ fn a_flat_world_runs(rt: HostRuntime) -> Result<(), Fail> {
         Event::Settle,
         Event::Deliver(1),
     ]?;
-    assert!(rt; run(&mut world, &events).is_ok());
-    assert!(rt; run(&mut world, &[Event::Deliver(9)]) == Err((0, StepError::NoSuch)));
+    assert!(rt; world.run(&events).is_ok());
+    assert!(rt; world.run(&events) == Err((0, StepError::UnknownTxn)));
     assert_eq!(rt; world.sent()?.len(), 8);
     assert_eq!(rt; world.trace().len(), 12);
     let logs = world.logs()?;
