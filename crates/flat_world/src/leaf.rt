@@ -241,7 +241,7 @@ impl Leaf {
         reaction.written = shown(self.alloc, RecordKind::Prepared, case, true)?;
         let writes = take_writes(self.alloc, &case, &mut self.live);
         let entry = Record::Prepared(Branch::Case(case), Sequence::from_vec(writes));
-        write_down(&mut self.log, entry, true);
+        self.log.write(entry, true);
         retire(&case, &mut self.active);
         Ok(reaction)
     }
@@ -278,11 +278,8 @@ impl Leaf {
         let forced = is_acknowledged(case.txn.presumption, outcome);
         let mut reaction = self.acknowledged(case, outcome)?;
         reaction.written = shown_outcome(self.alloc, case, outcome, forced)?;
-        write_down(
-            &mut self.log,
-            outcome_record(self.me, self.parent, case, outcome),
-            forced,
-        );
+        let entry = outcome_record(self.me, self.parent, case, outcome);
+        self.log.write(entry, forced);
         close_in(&case, &mut self.live);
         Ok(reaction)
     }
@@ -578,17 +575,6 @@ fn shown_outcome(
     match outcome {
         Outcome::Committed => shown(alloc, RecordKind::Committed, case, forced),
         Outcome::Aborted => shown(alloc, RecordKind::RolledBack, case, forced),
-    }
-}
-
-/// A record is appended, and the log is forced or not.
-fn write_down(log: &mut RecLog, entry: Record, forced: bool)
-    requires { 0 < log.old.room }
-    ensures { log.new.kept ≡ writes log.old.kept (record { entry = entry; is_forced = forced } ∷ []) }
-{
-    log.append(entry);
-    if forced {
-        log.force();
     }
 }
 

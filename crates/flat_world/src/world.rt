@@ -215,7 +215,7 @@ impl FlatWorld {
             return Err(StepError::Memory);
         }
         self.make_room()?;
-        let input = Input::Act(copied_act(self.alloc, act)?);
+        let input = Input::Act(act.copied(self.alloc)?);
         match self.root.act(act) {
             Ok(reaction) => {
                 self.enter(process, input, reaction);
@@ -358,20 +358,4 @@ fn place_of(number: u64, sent: usize) -> Option<usize>
     } else {
         Some((number - 1) as usize)
     }
-}
-
-/// The same act again.
-fn copied_act(alloc: Global, act: &Act) -> Result<Act, AllocError>
-    ensures { IfOk result (λ copy. copy ≡ act.now) }
-{
-    Ok(match act {
-        Act::Begin(presumption) => Act::Begin(*presumption),
-        Act::Join(case, child) => Act::Join(*case, *child),
-        Act::Work(case, child, op) => Act::Work(*case, *child, op.copied(alloc)?),
-        Act::Commit(txn) => Act::Commit(*txn),
-        Act::Abort(txn) => Act::Abort(*txn),
-        Act::Ask(case) => Act::Ask(*case),
-        Act::Decide(case, outcome) => Act::Decide(*case, *outcome),
-        Act::Forget(case) => Act::Forget(*case),
-    })
 }

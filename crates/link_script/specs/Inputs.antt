@@ -1,11 +1,10 @@
 -- Which bytes are a script, and what is wrong with others.
-use Rattle.std.specs.Prelude.{◌≡◌, ℕ, ◌+◌, ◌<◌, ◌≤◌, List, length, Option, Some, None, Result, Ok, Err, find}
+use Rattle.std.specs.Prelude.{◌≡◌, ℕ, ◌+◌, ◌<◌, ◌≤◌, List, length, Option, Some, Result, Ok, Err}
 use Rattle.std.specs.Str.{IsUtf8}
 use Rattle.std.specs.Str.Lines.{lines_of_parts}
-use Rattle.tree_model.specs.declared.names.ProcessId.{ProcessId}
 use Rattle.tree_model.specs.declared.trees.TreeEntry.{TreeEntry}
 use Rattle.tree_model.specs.declared.events.Event.{Event}
-use Rattle.tree_model.specs.Trees.{IsTree, IsFirstFault, is_top}
+use Rattle.tree_model.specs.Trees.{IsTree, IsFirstFault, root_of}
 use Rattle.link_script.specs.declared.script.ScriptFault.{ScriptFault}
 use Rattle.link_script.specs.declared.script.ScriptFault.TheVariants.{Utf8, TreeText, Tree, TooLong, Line}
 use Rattle.link_script.specs.declared.script.ScriptError.{ScriptError}
@@ -16,14 +15,6 @@ use Rattle.link_script.specs.Documents.{IsTreeText}
 use Rattle.link_script.specs.Rules.{pieces, around_rule}
 use Rattle.link_script.specs.Script.{asked_in, events_at}
 use Rattle.link_script.specs.Trace.{lines_text}
-
-abbrev pub entry_id : Option TreeEntry → ProcessId
-entry_id None = record { 0 = 0 }
-entry_id (Some e) = e.id
-
--- the process without a parent
-unfoldable pub root_of : List TreeEntry → ProcessId
-root_of es = entry_id (find is_top es)
 
 -- bytes that are text, with a tree text before the first line of three dashes
 pub record HasTreeText (stage : Stage) (bytes : List ℕ) (fronts behind : List (List ℕ)) (tree : List TreeEntry) : Type 0 where

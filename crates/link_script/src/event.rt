@@ -7,6 +7,8 @@ ghost use Rattle.link_script.specs.Events.{
   is_visible_word,
   begin_at,
   join_at,
+  key_at,
+  value_at,
   put_at,
   op_at,
   restart_at,
@@ -176,21 +178,13 @@ fn task_of(words: &str) -> Option<Task<'_>>
 fn get_of(key: &str) -> Option<Task<'_>>
     ensures { option_map op_view result ≡ get_at key.now }
 {
-    if is_word(key, 64) {
-        Some(Task::Get(key))
-    } else {
-        None
-    }
+    Some(Task::Get(key_of(key)?))
 }
 
 fn delete_of(key: &str) -> Option<Task<'_>>
     ensures { option_map op_view result ≡ delete_at key.now }
 {
-    if is_word(key, 64) {
-        Some(Task::Delete(key))
-    } else {
-        None
-    }
+    Some(Task::Delete(key_of(key)?))
 }
 
 #[tactic(auto, unfolding(crate::specs::Events::put_at))]
@@ -198,11 +192,23 @@ fn put_of(rest: &str) -> Option<Task<'_>>
     ensures { option_map op_view result ≡ put_at rest.now }
 {
     let (key, value) = cut(rest, ' ')?;
-    if is_word(key, 64) && is_word(value, 256) {
-        Some(Task::Put(key, value))
-    } else {
-        None
-    }
+    let key = key_of(key)?;
+    let value = value_of(value)?;
+    Some(Task::Put(key, value))
+}
+
+/// A word that is a key.
+fn key_of(word: &str) -> Option<&str>
+    ensures { option_map (λ key. key.now) result ≡ key_at word.now }
+{
+    if is_word(word, 64) { Some(word) } else { None }
+}
+
+/// A word that is a value.
+fn value_of(word: &str) -> Option<&str>
+    ensures { option_map (λ value. value.now) result ≡ value_at word.now }
+{
+    if is_word(word, 256) { Some(word) } else { None }
 }
 
 /// Whether a word is 1 to so many bytes from `!` to `~`.

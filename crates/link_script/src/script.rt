@@ -1,9 +1,7 @@
 //! A whole script.
 
-ghost use Rattle.std.specs.Prelude.{◌≡◌, IfOk, IfErr, find};
-ghost use Rattle.std.specs.Option.{option_copied};
-ghost use Rattle.tree_model.specs.Trees.{is_top};
-ghost use Rattle.link_script.specs.Inputs.{root_of as root_id, script_fault_number, IsScript, IsScriptError};
+ghost use Rattle.std.specs.Prelude.{◌≡◌, IfOk, IfErr};
+ghost use Rattle.link_script.specs.Inputs.{script_fault_number, IsScript, IsScriptError};
 
 use crate::document::{DocumentError, read_tree};
 use crate::lines::{LineError, around, count_asked, events_of, lines_of};
@@ -11,7 +9,7 @@ use crate::stage::Stage;
 use std::alloc::{AllocError, Global};
 use std::str;
 use thiserror::Error;
-use tree_model::{Event, ProcessId, Tree, TreeEntry, TreeError};
+use tree_model::{Event, Tree, TreeError};
 
 /// The most lines of a script that ask for an event.
 pub const MOST_EVENTS: usize = 100_000;
@@ -95,27 +93,9 @@ pub fn read(alloc: Global, stage: Stage, bytes: &[u8]) -> Result<(Tree, Vec<Even
     if count_asked(&lines) > MOST_EVENTS {
         return Err(ScriptError::Fault(ScriptFault::TooLong));
     }
-    match events_of(alloc, stage, root_of(&tree), before + 1, &lines) {
+    match events_of(alloc, stage, tree.root(), before + 1, &lines) {
         Ok(events) => Ok((tree, events)),
         Err(LineError::Memory) => Err(ScriptError::Memory),
         Err(LineError::Line(number)) => Err(ScriptError::Fault(ScriptFault::Line(number))),
     }
-}
-
-/// The process of a tree that has no parent.
-#[tactic(auto, unfolding(crate::specs::Inputs::root_of))]
-fn root_of(tree: &Tree) -> ProcessId
-    ensures { result ≡ root_id tree.now }
-{
-    match top_of(tree.entries()) {
-        None => ProcessId(0),
-        Some(entry) => entry.id,
-    }
-}
-
-/// The first of these processes that has no parent.
-fn top_of(entries: &[TreeEntry]) -> Option<&TreeEntry>
-    ensures { option_copied result ≡ find is_top entries.now }
-{
-    entries.iter().find(|entry| entry.parent.is_none())
 }

@@ -25,8 +25,8 @@ ghost use Rattle.link_script.specs.Trace.{lines_text, entry_text, entries_text, 
 use itoa::Buffer;
 use std::alloc::{AllocError, Global};
 use tree_model::{
-    Case, Conclusion, Entry, Envelope, Logged, Message, Op, Outcome, Presumption, RecordKind,
-    Subject, Ticket, Told, Txn,
+    Bytes, Case, Conclusion, Entry, Envelope, Logged, Message, Op, Outcome, Presumption,
+    RecordKind, Subject, Ticket, Told, Txn,
 };
 
 /// The name of a case, as `a1.1@2.1.1`.
@@ -94,20 +94,20 @@ fn push_op(out: &mut Vec<u8>, op: &Op) -> Result<(), AllocError>
 {
     match op {
         Op::Put(key, value) => {
-            push(out, "put ")?;
-            out.extend_from_slice(key.as_slice())?;
-            push(out, " ")?;
-            out.extend_from_slice(value.as_slice())
+            push_bytes(out, "put ", key)?;
+            push_bytes(out, " ", value)
         }
-        Op::Get(key) => {
-            push(out, "get ")?;
-            out.extend_from_slice(key.as_slice())
-        }
-        Op::Delete(key) => {
-            push(out, "del ")?;
-            out.extend_from_slice(key.as_slice())
-        }
+        Op::Get(key) => push_bytes(out, "get ", key),
+        Op::Delete(key) => push_bytes(out, "del ", key),
     }
+}
+
+/// A word, and bytes behind it.
+fn push_bytes(out: &mut Vec<u8>, word: &str, bytes: &Bytes) -> Result<(), AllocError>
+    ensures { OnOk result (out.new.items ≡ out.old.items ++ (word.now ++ bytes.now)) }
+{
+    push(out, word)?;
+    out.extend_from_slice(bytes.as_slice())
 }
 
 fn outcome_word(outcome: Outcome) -> &'static str

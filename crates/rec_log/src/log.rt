@@ -1,7 +1,7 @@
 //! A log as a list of records.
 
-ghost use Rattle.std.specs.Prelude.{◌≡◌, ◌≤◌, ◌<◌, ◌+◌, [], IfOk, IfErr, OnOk, OnErr, IsOk, length};
-ghost use Rattle.rec_log.specs.Logs.{all_forced, records_of, with_record};
+ghost use Rattle.std.specs.Prelude.{◌≡◌, ◌≤◌, ◌<◌, ◌+◌, [], ◌∷◌, IfOk, IfErr, OnOk, OnErr, IsOk, length};
+ghost use Rattle.rec_log.specs.Logs.{all_forced, records_of, with_record, writes};
 
 use std::alloc::{AllocError, Global};
 use std::marker::Model;
@@ -65,6 +65,18 @@ impl RecLog {
         ensures room { self.new.room ≡ self.old.room }
     {
         self.forced = self.records.len();
+    }
+
+    /// Appends a record, where there is room for it, and makes the whole log the forced front, where the record is forced.
+    pub fn write(&mut self, entry: Record, forced: bool)
+        requires { 0 < self.old.room }
+        ensures kept { self.new.kept ≡ writes self.old.kept (record { entry = entry; is_forced = forced } ∷ []) }
+        ensures room { self.old.room ≤ self.new.room + 1 }
+    {
+        self.append(entry);
+        if forced {
+            self.force();
+        }
     }
 
     /// How many records are forced.

@@ -47,10 +47,7 @@ fn write_down(log: &mut RecLog, written: Option<Written>)
     ensures { log.new.kept ≡ writes log.old.kept (written_of written) }
 {
     if let Some(written) = written {
-        log.append(written.entry);
-        if written.forced {
-            log.force();
-        }
+        log.write(written.entry, written.forced);
     }
 }
 

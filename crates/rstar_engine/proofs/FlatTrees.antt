@@ -9,7 +9,7 @@ use Rattle.tree_model.specs.declared.names.Kind.TheVariants.{Coordinator, Manage
 use Rattle.tree_model.specs.declared.trees.TreeEntry.{TreeEntry}
 use Rattle.tree_model.specs.Names.{same_process}
 use Rattle.tree_model.specs.Nodes.{is_listed}
-use Rattle.tree_model.specs.Trees.{IsTree, is_top, is_unlisted, is_managed, is_manager_kind, is_listed_manager, times_listed, lists_twice, has_unknown_parent, has_wrong_roots, has_managed_child}
+use Rattle.tree_model.specs.Trees.{IsTree, entry_id, is_top, is_unlisted, is_managed, is_manager_kind, is_listed_manager, times_listed, lists_twice, root_of, has_unknown_parent, has_wrong_roots, has_managed_child}
 use Rattle.tree_model.proofs.NameTests.{process_tells}
 use Rattle.tree_law.specs.Flat.{is_flat_by, is_flat_entry}
 use Rattle.flat_law.specs.Ties.{IsFlatTree}
@@ -17,7 +17,6 @@ use Rattle.link_script.specs.declared.stage.Stage.TheVariants.{Flat}
 use Rattle.link_script.specs.Stages.{places}
 use Rattle.link_script.specs.Documents.{IsTreeText}
 use Rattle.link_script.proofs.Placed.{read_trees_are_placed}
-use Rattle.link_script.specs.Inputs.{entry_id, root_of}
 
 -- the entry is one of these
 abbrev Among : TreeEntry → List TreeEntry → Type 0

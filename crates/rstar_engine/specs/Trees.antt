@@ -6,11 +6,11 @@ use Rattle.tree_model.specs.declared.trees.TreeEntry.{TreeEntry}
 use Rattle.tree_model.specs.declared.events.Event.{Event}
 use Rattle.tree_model.specs.declared.events.StepError.{StepError}
 use Rattle.tree_model.specs.Errors.{step_error_number}
-use Rattle.tree_model.specs.Trees.{tree_error_number}
+use Rattle.tree_model.specs.Trees.{root_of, tree_error_number}
 use Rattle.link_script.specs.declared.stage.Stage.TheVariants.{Flat}
 use Rattle.link_script.specs.declared.script.ScriptFault.{ScriptFault}
 use Rattle.link_script.specs.declared.script.ScriptFault.TheVariants.{Utf8, TreeText, Tree, TooLong, Line}
-use Rattle.link_script.specs.Inputs.{IsScript, IsScriptFault, root_of}
+use Rattle.link_script.specs.Inputs.{IsScript, IsScriptFault}
 use Rattle.link_script.specs.Trace.{entries_text}
 use Rattle.tree_model.specs.World.{IsRun, Made, World, journal_of}
 use Rattle.flat_law.specs.FlatWorlds.{FlatState, IsOpened, Leads, LeadsUntil}

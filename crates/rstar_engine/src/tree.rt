@@ -1,11 +1,9 @@
 //! The engine of tree scripts.
 
-ghost use Rattle.std.specs.Prelude.{◌≡◌, ◌++◌, ℕ, List, IfOk, IfErr, OnOk, find, string_bytes};
-ghost use Rattle.std.specs.Option.{option_copied};
-ghost use Rattle.tree_model.specs.Trees.{is_top};
+ghost use Rattle.std.specs.Prelude.{◌≡◌, ◌++◌, ℕ, List, IfOk, IfErr, OnOk, string_bytes};
+ghost use Rattle.tree_model.specs.Trees.{root_of};
 ghost use Rattle.std.specs.Io.KnownBytes.{Appends, Keeps};
 ghost use Rattle.link_script.specs.Trace.{entries_text};
-ghost use Rattle.link_script.specs.Inputs.{root_of};
 ghost use Rattle.rstar_engine.specs.Runs.{IsInput};
 ghost use Rattle.tree_model.specs.Outcomes.{Agreement, CommitRule};
 ghost use Rattle.flat_law.specs.FlatWorlds.{IsOpened};
@@ -21,7 +19,7 @@ use flat_world::FlatWorld;
 use link_script::{ScriptError, ScriptFault, Stage, push_entry, read};
 use std::alloc::{AllocError, Global};
 use std::io::{Read, Write};
-use tree_model::{Entry, Event, ProcessId, StepError, Tree, TreeEntry};
+use tree_model::{Entry, Event, StepError, Tree, TreeEntry};
 
 /// How many events were made, and why the next was refused; or none was.
 type Refusal = Option<(usize, StepError)>;
@@ -110,8 +108,7 @@ fn opened(alloc: Global, tree: Tree) -> Result<FlatWorld, AllocError>
     ensures opened { IfOk result (λ world. IsOpened (state world) (root_of tree) tree) }
     ensures modelled { IfOk result (λ world. IsFlatTree (root_of tree) tree → IsModelled (root_of tree) tree (state world)) }
 {
-    let me = top_of(tree.entries());
-    FlatWorld::new(alloc, me, tree)
+    FlatWorld::new(alloc, tree.root(), tree)
 }
 
 /// Runs these events on the tree: what it comes to, and how many events were made and why the next was refused.
@@ -161,23 +158,6 @@ fn push_refused(alloc: Global, out: &mut Vec<u8>, event: u64, refusal: u8) -> Re
 {
     let line = format!(in alloc; "refused {event} {refusal}\n")?;
     out.extend_from_slice(line.as_bytes())
-}
-
-fn first_top(entries: &[TreeEntry]) -> Option<&TreeEntry>
-    ensures { option_copied result ≡ find is_top entries.now }
-{
-    entries.iter().find(|entry| entry.parent.is_none())
-}
-
-/// The process of a tree that has no parent.
-#[tactic(auto, unfolding(link_script::specs::Inputs::root_of))]
-fn top_of(entries: &[TreeEntry]) -> ProcessId
-    ensures { result ≡ root_of entries.now }
-{
-    match first_top(entries) {
-        None => ProcessId(0),
-        Some(entry) => entry.id,
-    }
 }
 
 /// The lines of the processes' opening.

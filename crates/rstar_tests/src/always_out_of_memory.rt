@@ -7,7 +7,7 @@ use root_core::Root;
 use std::alloc::{AllocError, Global};
 use std::test::Fail;
 use tree_model::{
-    Act, Bytes, Case, Envelope, Event, Kind, Message, Op, Outcome, Presumption, ProcessId,
+    Act, Bytes, Case, Envelope, Event, Input, Kind, Message, Op, Outcome, Presumption, ProcessId,
     Reaction, Record, RecordKind, Sequence, StepError, Subject, Ticket, Tree, TreeEntry, Txn,
     Write,
 };
@@ -83,69 +83,133 @@ fn only(reaction: &Reaction) -> Option<&Message> {
     }
 }
 
+// These say nothing of the root or the world that they leave, so that the proof of a test stays short.
+
+/// A root that has begun nothing.
+fn opened(alloc: Global) -> Result<Root, Fail> {
+    Ok(Root::open(alloc, ROOT, small_tree(alloc)?)?)
+}
+
+/// A root that has begun its first transaction.
+fn begun(alloc: Global, presumption: Presumption) -> Result<Root, Fail> {
+    let mut root = opened(alloc)?;
+    if root.begun() >= 1 << 62 {
+        return Err(Fail::from("numbers are left"));
+    }
+    made(root.begin(presumption))?;
+    Ok(root)
+}
+
+fn hear(root: &mut Root, message: &Message) -> Result<Reaction, Fail> {
+    Ok(root.hear(message)?)
+}
+
+/// A root whose child has joined its first transaction.
+fn joined(alloc: Global, presumption: Presumption) -> Result<Root, Fail> {
+    let mut root = begun(alloc, presumption)?;
+    let txn = first_txn(presumption);
+    hear(&mut root, &Message::Joined(root_case(txn), first_ticket()))?;
+    Ok(root)
+}
+
+fn work(root: &mut Root, txn: Txn, op: &Op) -> Result<Reaction, Fail> {
+    made(root.work(root_case(txn), CHILD, op))
+}
+
+fn commit(root: &mut Root, txn: Txn) -> Result<Reaction, Fail> {
+    made(root.commit(txn))
+}
+
+/// A root whose child has voted yes.
+fn committed(alloc: Global, presumption: Presumption) -> Result<Root, Fail> {
+    let mut root = joined(alloc, presumption)?;
+    let txn = first_txn(presumption);
+    commit(&mut root, txn)?;
+    hear(&mut root, &Message::Yes(child_case(txn)))?;
+    Ok(root)
+}
+
 #[test]
-fn a_root_begins_and_commits(rt: HostRuntime) -> Result<(), Fail> {
-    let alloc = rt.alloc();
-    let txn = first_txn(Presumption::PresumeAbort);
-    let mut root = Root::open(alloc, ROOT, small_tree(alloc)?)?;
+fn a_root_opens(rt: HostRuntime) -> Result<(), Fail> {
+    let root = opened(rt.alloc())?;
     assert_eq!(rt; root.me(), ROOT);
+    assert_eq!(rt; root.begun(), 0);
     assert_eq!(rt; root.tree().entries().len(), 2);
-    assert!(rt; made(root.begin(Presumption::PresumeAbort))?.begun == Some(txn));
-    assert_eq!(rt; root.begun(), 1);
-    assert!(rt;
-        matches!(
-            only(&made(root.join(root_case(txn), CHILD))?),
-            Some(Message::Join(_))
-        )
-    );
-    root.hear(&Message::Joined(root_case(txn), first_ticket()))?;
-    let op = put(alloc)?;
-    assert!(rt;
-        matches!(
-            only(&made(root.work(root_case(txn), CHILD, &op))?),
-            Some(Message::Work(_, 1, _))
-        )
-    );
-    assert!(rt; matches!(only(&made(root.commit(txn))?), Some(Message::Prepare(_, 1))));
-    let decided = root.hear(&Message::Yes(child_case(txn)))?;
-    assert!(rt; matches!(only(&decided), Some(Message::Commit(_))));
-    assert_eq!(rt; decided.written.len(), 1);
-    let ended = root.hear(&Message::Ack(child_case(txn), Outcome::Committed))?;
+    assert_eq!(rt; root.records()?.len(), 1);
+    Ok(())
+}
+
+#[test]
+fn a_root_invites(rt: HostRuntime) -> Result<(), Fail> {
+    let txn = first_txn(Presumption::PresumeAbort);
+    let mut root = begun(rt.alloc(), Presumption::PresumeAbort)?;
+    let invited = made(root.join(root_case(txn), CHILD))?;
+    assert!(rt; matches!(only(&invited), Some(Message::Join(_))));
+    Ok(())
+}
+
+#[test]
+fn a_root_gives_work(rt: HostRuntime) -> Result<(), Fail> {
+    let mut root = joined(rt.alloc(), Presumption::PresumeAbort)?;
+    let op = put(rt.alloc())?;
+    let given = work(&mut root, first_txn(Presumption::PresumeAbort), &op)?;
+    assert!(rt; matches!(only(&given), Some(Message::Work(_, 1, _))));
+    Ok(())
+}
+
+#[test]
+fn a_root_asks_for_votes(rt: HostRuntime) -> Result<(), Fail> {
+    let mut root = joined(rt.alloc(), Presumption::PresumeAbort)?;
+    let asked = commit(&mut root, first_txn(Presumption::PresumeAbort))?;
+    assert!(rt; matches!(only(&asked), Some(Message::Prepare(_, 0))));
+    Ok(())
+}
+
+#[test]
+fn a_root_commits(rt: HostRuntime) -> Result<(), Fail> {
+    let mut root = committed(rt.alloc(), Presumption::PresumeAbort)?;
+    let case = child_case(first_txn(Presumption::PresumeAbort));
+    let ended = hear(&mut root, &Message::Ack(case, Outcome::Committed))?;
     assert_eq!(rt; ended.written.len(), 1);
     assert_eq!(rt; root.records()?.len(), 3);
-    assert!(rt; matches!(root.abort(txn), Err(StepError::UnknownTxn)));
     Ok(())
 }
 
 #[test]
 fn a_root_aborts(rt: HostRuntime) -> Result<(), Fail> {
-    let alloc = rt.alloc();
-    let txn = first_txn(Presumption::PresumeCommit);
-    let mut root = Root::open(alloc, ROOT, small_tree(alloc)?)?;
-    assert!(rt; made(root.act(&Act::Begin(Presumption::PresumeCommit)))?.begun == Some(txn));
-    root.hear(&Message::Joined(root_case(txn), first_ticket()))?;
-    assert!(rt; matches!(only(&made(root.abort(txn))?), Some(Message::Abort(_))));
-    assert!(rt;
-        matches!(
-            only(&root.hear(&Message::Inquire(child_case(txn)))?),
-            Some(Message::Commit(_))
-        )
-    );
+    let mut root = joined(rt.alloc(), Presumption::PresumeCommit)?;
+    let aborted = made(root.abort(first_txn(Presumption::PresumeCommit)))?;
+    assert!(rt; matches!(only(&aborted), Some(Message::Abort(_))));
     Ok(())
 }
 
 #[test]
-fn a_flat_world_runs(rt: HostRuntime) -> Result<(), Fail> {
-    let alloc = rt.alloc();
+fn a_root_acts(rt: HostRuntime) -> Result<(), Fail> {
+    let mut root = begun(rt.alloc(), Presumption::PresumeAbort)?;
+    let act = Act::Commit(first_txn(Presumption::PresumeAbort));
+    assert!(rt; made(root.act(&act))?.told.is_some());
+    Ok(())
+}
+
+#[test]
+fn a_root_takes_an_input(rt: HostRuntime) -> Result<(), Fail> {
+    let mut root = begun(rt.alloc(), Presumption::PresumeAbort)?;
+    let input = Input::Act(Act::Commit(first_txn(Presumption::PresumeAbort)));
+    assert!(rt; made(root.step(&input))?.told.is_some());
+    Ok(())
+}
+
+/// A world that has made nothing.
+fn opened_world(alloc: Global) -> Result<FlatWorld, Fail> {
+    Ok(FlatWorld::new(alloc, ROOT, small_tree(alloc)?)?)
+}
+
+/// A world in which the child has done a write, and it was committed.
+fn committed_world(alloc: Global) -> Result<FlatWorld, Fail> {
     let txn = first_txn(Presumption::PresumeAbort);
-    let mut world = FlatWorld::new(alloc, ROOT, small_tree(alloc)?)?;
-    assert_eq!(rt; world.tree().entries().len(), 2);
-    assert!(rt;
-        world
-            .apply(&Event::Act(Act::Begin(Presumption::PresumeAbort)))
-            .is_ok()
-    );
+    let mut world = opened_world(alloc)?;
     let events = vec![in alloc;
+        Event::Act(Act::Begin(Presumption::PresumeAbort)),
         Event::Act(Act::Join(root_case(txn), CHILD)),
         Event::Settle,
         Event::Act(Act::Work(root_case(txn), CHILD, put(alloc)?)),
@@ -154,25 +218,47 @@ fn a_flat_world_runs(rt: HostRuntime) -> Result<(), Fail> {
         Event::Settle,
         Event::Deliver(1),
     ]?;
-    assert!(rt; world.run(&events).is_ok());
-    assert!(rt; world.run(&events) == Err((0, StepError::UnknownTxn)));
+    world.run(&events).ok().ok_or("a run")?;
+    Ok(world)
+}
+
+#[test]
+fn a_flat_world_makes_an_event(rt: HostRuntime) -> Result<(), Fail> {
+    let mut world = opened_world(rt.alloc())?;
+    assert_eq!(rt; world.tree().entries().len(), 2);
+    let begin = Event::Act(Act::Begin(Presumption::PresumeAbort));
+    assert!(rt; world.apply(&begin).is_ok());
+    Ok(())
+}
+
+#[test]
+fn a_flat_world_runs(rt: HostRuntime) -> Result<(), Fail> {
+    let world = committed_world(rt.alloc())?;
     assert_eq!(rt; world.sent()?.len(), 8);
     assert_eq!(rt; world.trace().len(), 12);
-    let logs = world.logs()?;
-    assert_eq!(rt; logs.len(), 2);
-    for (log, kinds) in logs.iter().zip([
-        [RecordKind::Opened, RecordKind::Commit, RecordKind::End],
-        [
-            RecordKind::Opened,
-            RecordKind::Prepared,
-            RecordKind::Committed,
-        ],
-    ]) {
-        assert_eq!(rt; log.len(), kinds.len());
-        for (entry, kind) in log.iter().zip(kinds) {
-            assert!(rt; entry.kind() == kind);
-        }
-    }
+    Ok(())
+}
+
+/// Whether a log has records of these kinds.
+fn is_of(log: &[Record], kinds: [RecordKind; 3]) -> bool {
+    log.len() == kinds.len()
+        && log
+            .iter()
+            .zip(kinds)
+            .all(|(record, kind)| record.kind() == kind)
+}
+
+#[test]
+fn a_flat_world_has_logs(rt: HostRuntime) -> Result<(), Fail> {
+    let logs = committed_world(rt.alloc())?.logs()?;
+    assert!(rt;
+        matches!(
+            logs.as_slice(),
+            [root, child]
+                if is_of(root, [RecordKind::Opened, RecordKind::Commit, RecordKind::End])
+                    && is_of(child, [RecordKind::Opened, RecordKind::Prepared, RecordKind::Committed])
+        )
+    );
     Ok(())
 }
 
@@ -208,32 +294,50 @@ fn a_script_is_read(rt: HostRuntime) -> Result<(), Fail> {
 }
 
 #[test]
-fn values_are_copied(rt: HostRuntime) -> Result<(), Fail> {
+fn an_act_and_its_message_are_copied(rt: HostRuntime) -> Result<(), Fail> {
     let alloc = rt.alloc();
     let op = put(alloc)?.copied(alloc)?;
     assert!(rt; matches!(&op, Op::Put(key, _) if key.as_slice() == b"x".as_slice()));
     let case = child_case(first_txn(Presumption::PresumeAbort));
+    let message = Message::Work(case, 1, op).copied(alloc)?;
+    assert!(rt; matches!(message, Message::Work(_, 1, Op::Put(_, _))));
+    Ok(())
+}
+
+#[test]
+fn a_message_on_its_way_is_copied(rt: HostRuntime) -> Result<(), Fail> {
     let letter = Envelope {
         from: ROOT,
         to: CHILD,
-        message: Message::Work(case, 1, op),
+        message: Message::Join(root_case(first_txn(Presumption::PresumeAbort))),
     };
-    assert!(rt;
-        matches!(
-            letter.copied(alloc)?.message,
-            Message::Work(_, 1, Op::Put(_, _))
-        )
-    );
-    assert!(rt; matches!(letter.message.copied(alloc)?, Message::Work(_, 1, _)));
+    let letter = letter.copied(rt.alloc())?;
+    assert_eq!(rt; letter.to, CHILD);
+    assert!(rt; matches!(letter.message, Message::Join(_)));
+    Ok(())
+}
+
+#[test]
+fn a_write_is_copied(rt: HostRuntime) -> Result<(), Fail> {
     let write = Write {
-        key: bytes(alloc, "x")?,
+        key: bytes(rt.alloc(), "x")?,
         value: None,
     };
-    assert!(rt; write.copied(alloc)?.value.is_none());
-    assert!(rt; matches!(Record::Base(3).copied(alloc)?, Record::Base(3)));
+    assert!(rt; write.copied(rt.alloc())?.value.is_none());
+    Ok(())
+}
+
+#[test]
+fn a_record_is_copied(rt: HostRuntime) -> Result<(), Fail> {
+    assert!(rt; matches!(Record::Base(3).copied(rt.alloc())?, Record::Base(3)));
     assert!(rt; matches!(Record::Base(3).subject(), Subject::Other));
-    let mut list = Sequence::new(alloc);
+    Ok(())
+}
+
+#[test]
+fn a_sequence_is_copied(rt: HostRuntime) -> Result<(), Fail> {
+    let mut list = Sequence::new(rt.alloc());
     list.push(5u8)?;
-    assert_eq!(rt; list.copied(alloc)?.len(), 1);
+    assert_eq!(rt; list.copied(rt.alloc())?.len(), 1);
     Ok(())
 }

@@ -43,9 +43,33 @@ fn names_of_branches(rt: HostRuntime) -> Result<(), Fail> {
     Ok(())
 }
 
-fn tree(alloc: Global, entries: &[(u32, Kind, u32)]) -> Result<Tree, AllocError> {
+/// A process: its id, its kind, and its parent, where 0 stands for none.
+type Listed = (u32, Kind, u32);
+
+const COORDINATOR: Kind = Kind::Coordinator;
+
+const MANAGER: Kind = Kind::Manager;
+
+const DEEP: [Listed; 9] = [
+    (1, COORDINATOR, 0),
+    (2, COORDINATOR, 1),
+    (3, COORDINATOR, 2),
+    (4, COORDINATOR, 3),
+    (5, COORDINATOR, 4),
+    (6, COORDINATOR, 5),
+    (7, COORDINATOR, 6),
+    (8, COORDINATOR, 7),
+    (9, MANAGER, 8),
+];
+
+/// Whether the check of these processes answers so.
+fn is_checked(
+    alloc: Global,
+    processes: &[Listed],
+    answer: Result<(), TreeError>,
+) -> Result<bool, AllocError> {
     let mut listed = Vec::new(alloc);
-    for (id, kind, parent) in entries {
+    for (id, kind, parent) in processes {
         listed.push(TreeEntry {
             id: ProcessId(*id),
             kind: *kind,
@@ -57,54 +81,65 @@ fn tree(alloc: Global, entries: &[(u32, Kind, u32)]) -> Result<Tree, AllocError>
             info: None,
         })?;
     }
-    Ok(Tree::from_vec(listed))
+    Ok(Tree::from_vec(listed).check() == answer)
 }
 
-/// One list of processes for each answer of the check; parent 0 stands for none.
 #[test]
-fn trees(rt: HostRuntime) -> Result<(), Fail> {
-    let alloc = rt.alloc();
-    let (root, leaf) = (Kind::Coordinator, Kind::Manager);
-    assert!(rt;
-        tree(
-            alloc,
-            &[(1, root, 0), (2, leaf, 1), (3, root, 1), (4, leaf, 3)]
-        )?
-        .check()
-            == Ok(())
-    );
-    assert!(rt; tree(alloc, &[])?.check() == Err(TreeError::Empty));
-    assert!(rt; tree(alloc, &[(1, root, 0); 17])?.check() == Err(TreeError::TooMany));
-    assert!(rt;
-        tree(alloc, &[(1, root, 0), (2, leaf, 1), (2, leaf, 9)])?.check()
-            == Err(TreeError::TwoParents)
-    );
-    assert!(rt;
-        tree(alloc, &[(1, root, 0), (2, leaf, 9), (3, root, 3)])?.check() == Err(TreeError::Unknown)
-    );
-    assert!(rt;
-        tree(alloc, &[(1, leaf, 0), (2, root, 3), (3, root, 2)])?.check() == Err(TreeError::Cycle)
-    );
-    assert!(rt;
-        tree(alloc, &[(1, root, 0), (2, leaf, 0), (3, leaf, 2)])?.check() == Err(TreeError::Roots)
-    );
-    assert!(rt; tree(alloc, &[(1, leaf, 0), (2, leaf, 1)])?.check() == Err(TreeError::Roots));
-    assert!(rt;
-        tree(alloc, &[(1, root, 0), (2, leaf, 1), (3, leaf, 2)])?.check()
-            == Err(TreeError::ManagerWithChildren)
-    );
-    let deep = [
-        (1, root, 0),
-        (2, root, 1),
-        (3, root, 2),
-        (4, root, 3),
-        (5, root, 4),
-        (6, root, 5),
-        (7, root, 6),
-        (8, root, 7),
-        (9, leaf, 8),
-    ];
-    assert!(rt; tree(alloc, &deep[..8])?.check() == Ok(()));
-    assert!(rt; tree(alloc, &deep)?.check() == Err(TreeError::TooDeep));
+fn trees_and_what_is_none(rt: HostRuntime) -> Result<(), Fail> {
+    let (top, leaf) = (COORDINATOR, MANAGER);
+    for (processes, answer) in [
+        (
+            [(1, top, 0), (2, leaf, 1), (3, top, 1), (4, leaf, 3)],
+            Ok(()),
+        ),
+        (
+            [(1, top, 0), (2, leaf, 1), (2, leaf, 9), (4, leaf, 1)],
+            Err(TreeError::TwoParents),
+        ),
+        (
+            [(1, top, 0), (2, leaf, 9), (3, top, 3), (4, leaf, 1)],
+            Err(TreeError::Unknown),
+        ),
+        (
+            [(1, leaf, 0), (2, top, 3), (3, top, 2), (4, leaf, 1)],
+            Err(TreeError::Cycle),
+        ),
+        (
+            [(1, top, 0), (2, leaf, 0), (3, leaf, 2), (4, leaf, 1)],
+            Err(TreeError::Roots),
+        ),
+        (
+            [(1, leaf, 0), (2, leaf, 1), (3, leaf, 1), (4, leaf, 1)],
+            Err(TreeError::Roots),
+        ),
+        (
+            [(1, top, 0), (2, leaf, 1), (3, leaf, 2), (4, leaf, 1)],
+            Err(TreeError::ManagerWithChildren),
+        ),
+    ] {
+        assert!(rt; is_checked(rt.alloc(), &processes, answer)?);
+    }
+    Ok(())
+}
+
+#[test]
+fn small_and_large_trees(rt: HostRuntime) -> Result<(), Fail> {
+    let many = [(1, COORDINATOR, 0); 17];
+    assert!(rt; is_checked(rt.alloc(), &[], Err(TreeError::Empty))?);
+    assert!(rt; is_checked(rt.alloc(), &many, Err(TreeError::TooMany))?);
+    assert!(rt; is_checked(rt.alloc(), &DEEP[..8], Ok(()))?);
+    assert!(rt; is_checked(rt.alloc(), &DEEP, Err(TreeError::TooDeep))?);
+    Ok(())
+}
+
+#[test]
+fn the_root_of_a_tree(rt: HostRuntime) -> Result<(), Fail> {
+    let entry = TreeEntry {
+        id: ROOT,
+        kind: COORDINATOR,
+        parent: None,
+        info: None,
+    };
+    assert_eq!(rt; Tree::from_vec(vec![in rt.alloc(); entry]?).root(), ROOT);
     Ok(())
 }

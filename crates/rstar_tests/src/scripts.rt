@@ -37,6 +37,22 @@ fn each_form_of_event(rt: HostRuntime) -> Result<(), Fail> {
     Ok(())
 }
 
+/// What is wrong with a script.
+fn fault_of(alloc: Global, script: &str) -> Option<ScriptFault> {
+    match read(alloc, Stage::Whole, script.as_bytes()) {
+        Err(ScriptError::Fault(fault)) => Some(fault),
+        _ => None,
+    }
+}
+
+/// The number of a fault, or 0.
+fn number_of(fault: Option<ScriptFault>) -> u8 {
+    match fault {
+        None => 0,
+        Some(fault) => fault.number(),
+    }
+}
+
 #[test]
 fn refused_scripts(rt: HostRuntime) -> Result<(), Fail> {
     for (front, back, number) in [
@@ -67,26 +83,27 @@ fn refused_scripts(rt: HostRuntime) -> Result<(), Fail> {
         (TREE, "--- \n", 1),
     ] {
         let script = format!(in rt.alloc(); "{front}{back}")?;
-        let refused = match read(rt.alloc(), Stage::Whole, script.as_bytes()) {
-            Err(ScriptError::Fault(fault)) => fault.number(),
-            _ => 0,
-        };
-        assert_eq!(rt; refused, number, "{script}");
+        assert_eq!(rt;
+            number_of(fault_of(rt.alloc(), &script)),
+            number,
+            "{script}"
+        );
     }
-    let script = format!(in rt.alloc(); "{TREE}---\n\n#\nsettle\nsettle \nx")?;
-    assert!(rt;
-        matches!(
-            read(rt.alloc(), Stage::Whole, script.as_bytes()),
-            Err(ScriptError::Fault(ScriptFault::Line(13)))
-        )
-    );
-    assert!(rt;
-        matches!(
-            read(rt.alloc(), Stage::Whole, b"\xff"),
-            Err(ScriptError::Fault(ScriptFault::Utf8))
-        )
-    );
     Ok(())
+}
+
+#[test]
+fn the_first_line_of_no_event(rt: HostRuntime) -> Result<(), Fail> {
+    let script = format!(in rt.alloc(); "{TREE}---\n\n#\nsettle\nsettle \nx")?;
+    assert!(rt; fault_of(rt.alloc(), &script) == Some(ScriptFault::Line(13)));
+    Ok(())
+}
+
+#[test]
+fn a_script_that_is_not_utf8(rt: HostRuntime) {
+    assert!(rt;
+        read(rt.alloc(), Stage::Whole, b"\xff").err() == Some(ScriptError::Fault(ScriptFault::Utf8))
+    );
 }
 
 /// A case at process 2.

@@ -2,6 +2,8 @@
 
 use crate::streams::{Fails, Full};
 use rstar_engine::{Failure, Status, run_tree};
+use std::alloc::{AllocError, Global};
+use std::io::{Read, Write};
 use std::test::Fail;
 
 /// A script's name, the script, what is written, and how the run ends.
@@ -248,20 +250,30 @@ const ROWS: [Row; 25] = [
     ),
 ];
 
+/// Whether a script's run ends so, and writes this text.
+fn is_run(alloc: Global, mut script: &[u8], text: &[u8], status: Status) -> bool {
+    let mut out = Vec::new(alloc);
+    run_tree(alloc, &mut script, &mut out) == Ok(status) && out.as_slice() == text
+}
+
 #[test]
 fn rows(rt: HostRuntime) {
     for (name, script, text, status) in ROWS {
-        let mut out = Vec::new(rt.alloc());
-        let mut input = script.as_bytes();
-        let ended = run_tree(rt.alloc(), &mut input, &mut out);
-        assert!(rt; ended == Ok(status), "{name}");
-        assert!(rt; out.as_slice() == text.as_bytes(), "{name}");
+        assert!(rt;
+            is_run(rt.alloc(), script.as_bytes(), text.as_bytes(), status),
+            "{name}"
+        );
     }
 }
 
-/// Whether a text ends so.
-fn ends_in(text: &[u8], end: &[u8]) -> bool {
-    text.ends_with(end)
+/// Whether a script is refused, or runs to its end.
+fn is_refused_or_ends(alloc: Global, mut script: &[u8]) -> bool {
+    let mut out = Vec::new(alloc);
+    match run_tree(alloc, &mut script, &mut out) {
+        Ok(Status::Ended) => out.ends_with(b"end\n"),
+        Ok(Status::Refused) => out.starts_with(b"error "),
+        _ => false,
+    }
 }
 
 /// The first row cut at every byte: it is refused, or runs to its end.
@@ -270,14 +282,7 @@ fn every_front_of_a_script(rt: HostRuntime) {
     let (_, script, _, _) = ROWS[0];
     let script = script.as_bytes();
     for cut in 0..script.len() {
-        let mut out = Vec::new(rt.alloc());
-        let mut input = &script[..cut];
-        let ended = run_tree(rt.alloc(), &mut input, &mut out);
-        match ended {
-            Ok(Status::Ended) => assert!(rt; ends_in(&out, b"end\n"), "{cut}"),
-            Ok(Status::Refused) => assert!(rt; out.starts_with(b"error "), "{cut}"),
-            _ => assert!(rt; false, "{cut}"),
-        }
+        assert!(rt; is_refused_or_ends(rt.alloc(), &script[..cut]), "{cut}");
     }
 }
 
@@ -287,45 +292,53 @@ fn not_utf8(rt: HostRuntime) -> Result<(), Fail> {
     let (_, script, _, _) = ROWS[0];
     let mut bytes = Vec::from_slice(rt.alloc(), script.as_bytes())?;
     bytes.push(0xff)?;
-    let mut out = Vec::new(rt.alloc());
-    let mut input = bytes.as_slice();
-    assert!(rt; run_tree(rt.alloc(), &mut input, &mut out) == Ok(Status::Refused));
-    assert!(rt; out.as_slice() == b"error 4\n".as_slice());
+    assert!(rt; is_run(rt.alloc(), &bytes, b"error 4\n", Status::Refused));
     Ok(())
 }
 
-/// More event lines than a script may have, and just as many.
+/// A script with so many event lines.
+fn long_script(alloc: Global, lines: u32) -> Result<Vec<u8>, AllocError> {
+    let head = b"[[process]]\nid = 1\nkind = \"coordinator\"\n---\n";
+    let mut script = Vec::from_slice(alloc, head)?;
+    for _ in 0..lines {
+        script.extend_from_slice(b"settle\n")?;
+    }
+    Ok(script)
+}
+
+#[test]
+fn as_many_event_lines_as_there_may_be(rt: HostRuntime) -> Result<(), Fail> {
+    let script = long_script(rt.alloc(), 100_000)?;
+    let text = b"log 1 Opened 1 forced\nend\n";
+    assert!(rt; is_run(rt.alloc(), &script, text, Status::Ended));
+    Ok(())
+}
+
 #[test]
 fn too_many_event_lines(rt: HostRuntime) -> Result<(), Fail> {
-    let head = b"[[process]]\nid = 1\nkind = \"coordinator\"\n---\n";
-    for (lines, status) in [(100_000u32, Status::Ended), (100_001, Status::Refused)] {
-        let mut script = Vec::from_slice(rt.alloc(), head)?;
-        for _ in 0..lines {
-            script.extend_from_slice(b"settle\n")?;
-        }
-        let mut out = Vec::new(rt.alloc());
-        let mut input = script.as_slice();
-        assert!(rt; run_tree(rt.alloc(), &mut input, &mut out) == Ok(status));
-        let text = if status == Status::Refused {
-            b"error 5\n".as_slice()
-        } else {
-            b"log 1 Opened 1 forced\nend\n".as_slice()
-        };
-        assert!(rt; out.as_slice() == text);
-    }
+    let script = long_script(rt.alloc(), 100_001)?;
+    assert!(rt; is_run(rt.alloc(), &script, b"error 5\n", Status::Refused));
     Ok(())
 }
 
+/// Why a run fails.
+fn failure_of<R: Read, W: Write>(alloc: Global, reader: &mut R, writer: &mut W) -> Option<Failure> {
+    run_tree(alloc, reader, writer).err()
+}
+
 #[test]
-fn failures(rt: HostRuntime) -> Result<(), Fail> {
+fn a_reader_that_fails(rt: HostRuntime) {
     let mut out = Vec::new(rt.alloc());
-    assert!(rt; run_tree(rt.alloc(), &mut Fails, &mut out) == Err(Failure::Read));
+    assert!(rt; failure_of(rt.alloc(), &mut Fails, &mut out) == Some(Failure::Read));
     assert_eq!(rt; out.len(), 0);
+}
+
+#[test]
+fn a_writer_that_fails(rt: HostRuntime) {
+    let (_, script, _, _) = ROWS[0];
     for fails in [false, true] {
-        let (_, script, _, _) = ROWS[0];
         let mut input = script.as_bytes();
-        let ended = run_tree(rt.alloc(), &mut input, &mut Full { fails });
-        assert!(rt; ended == Err(Failure::Write));
+        let failure = failure_of(rt.alloc(), &mut input, &mut Full { fails });
+        assert!(rt; failure == Some(Failure::Write));
     }
-    Ok(())
 }

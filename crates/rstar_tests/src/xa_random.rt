@@ -1,7 +1,8 @@
 //! Scripts of random calls, and what is written for each, against the tables written here as rows.
 
 use crate::numbers::Numbers;
-use rstar_engine::{Status, run_xa};
+use crate::xa_rows::is_run;
+use rstar_engine::Status;
 use std::alloc::AllocError;
 use std::test::Fail;
 use xa_codes::{Code, Flags};
@@ -397,6 +398,29 @@ fn push_flags(script: &mut String, flags: Flags) -> Result<(), AllocError> {
     Ok(())
 }
 
+/// A verb with legal flags, and now and then one more flag.
+fn random_verb(numbers: &mut Numbers) -> (Verb, Flags) {
+    let (verb, flags) = if numbers.below(3) == 0 {
+        LEGAL[numbers.below(18) as usize]
+    } else {
+        LEGAL[numbers.below(7) as usize + 2]
+    };
+    let more = if numbers.below(6) == 0 {
+        MORE[numbers.below(4) as usize]
+    } else {
+        NONE
+    };
+    (verb, Flags(flags.0 | more.0))
+}
+
+/// A branch, or now and then the null name.
+fn random_name(numbers: &mut Numbers) -> Option<usize> {
+    match numbers.below(17) {
+        16 => None,
+        number => Some(number as usize % NAMES),
+    }
+}
+
 /// A script of random calls, with what is to be written for it.
 #[derive(Drop)]
 struct Script {
@@ -414,50 +438,48 @@ impl Script {
         self.answer(Err(rows.open(flags, migrates)))
     }
 
+    /// Adds a close.
+    fn close(&mut self, rows: &mut Rows, flags: Flags) -> Result<(), AllocError> {
+        self.calls.push_str("close")?;
+        self.flags(flags)?;
+        self.answer(Err(rows.close(flags)))
+    }
+
+    /// Adds a recover of a thread.
+    fn recover(&mut self, rows: &mut Rows, thread: u64, flags: Flags) -> Result<(), AllocError> {
+        write!(self.calls, "recover {thread} 5")?;
+        self.flags(flags)?;
+        self.answer(rows.recover(thread as usize, flags))
+    }
+
+    /// Adds a call of a thread on a branch, or on the null name.
+    fn branch_call(
+        &mut self,
+        rows: &mut Rows,
+        verb: Verb,
+        thread: u64,
+        name: Option<usize>,
+        flags: Flags,
+    ) -> Result<(), AllocError> {
+        let word = word_of(verb);
+        let branch = match name {
+            Some(name) => BRANCH_NAMES[name % NAMES],
+            None => "-1::",
+        };
+        write!(self.calls, "{word} {thread} {branch}")?;
+        self.flags(flags)?;
+        self.answer(Err(rows.call(verb, thread as usize, name, flags)))
+    }
+
     /// Adds a random call.
     fn call(&mut self, rows: &mut Rows, numbers: &mut Numbers) -> Result<(), AllocError> {
-        let (verb, flags) = if numbers.below(3) == 0 {
-            LEGAL[numbers.below(18) as usize]
-        } else {
-            LEGAL[numbers.below(7) as usize + 2]
-        };
-        let more = if numbers.below(6) == 0 {
-            MORE[numbers.below(4) as usize]
-        } else {
-            NONE
-        };
-        let flags = Flags(flags.0 | more.0);
+        let (verb, flags) = random_verb(numbers);
         let thread = numbers.below(3);
-        let number = numbers.below(17);
-        let migrates = numbers.below(2) == 0;
-        let by = thread as usize;
         match verb {
-            Open => self.open(rows, flags, migrates),
-            Close => {
-                self.calls.push_str("close")?;
-                self.flags(flags)?;
-                self.answer(Err(rows.close(flags)))
-            }
-            Recover => {
-                write!(self.calls, "recover {thread} 5")?;
-                self.flags(flags)?;
-                self.answer(rows.recover(by, flags))
-            }
-            _ => {
-                let word = word_of(verb);
-                let name = if number < 16 {
-                    Some(number as usize % NAMES)
-                } else {
-                    None
-                };
-                let branch = match name {
-                    Some(name) => BRANCH_NAMES[name % NAMES],
-                    None => "-1::",
-                };
-                write!(self.calls, "{word} {thread} {branch}")?;
-                self.flags(flags)?;
-                self.answer(Err(rows.call(verb, by, name, flags)))
-            }
+            Open => self.open(rows, flags, numbers.below(2) == 0),
+            Close => self.close(rows, flags),
+            Recover => self.recover(rows, thread, flags),
+            _ => self.branch_call(rows, verb, thread, random_name(numbers), flags),
         }
     }
 
@@ -494,11 +516,11 @@ fn random_calls(rt: HostRuntime) -> Result<(), Fail> {
             script.call(&mut rows, &mut numbers)?;
         }
         script.answers.push_str("end\n")?;
-        let mut out = Vec::new(rt.alloc());
-        let mut input = script.calls.as_bytes();
-        let ended = run_xa(rt.alloc(), &mut input, &mut out);
-        assert!(rt; ended == Ok(Status::Ended), "script {run}");
-        assert!(rt; out.as_slice() == script.answers.as_bytes(), "script {run}");
+        let (calls, answers) = (script.calls.as_bytes(), script.answers.as_bytes());
+        assert!(rt;
+            is_run(rt.alloc(), calls, answers, Status::Ended),
+            "script {run}"
+        );
     }
     for (i, walked) in rows.associations_walked.iter().enumerate() {
         assert!(rt; *walked, "row {i} of the associations");

@@ -2,6 +2,7 @@
 
 use crate::streams::{Fails, Full};
 use rstar_engine::{Failure, Status, run_xa};
+use std::alloc::Global;
 use std::test::Fail;
 
 /// A script, what is written, and how the run ends.
@@ -65,14 +66,19 @@ const ROWS: [Row; 9] = [
     ("put 1 a 1\n", "error 3 1\n", Status::Refused),
 ];
 
+/// Whether a script's run ends so, and writes these answers.
+pub(crate) fn is_run(alloc: Global, mut script: &[u8], answers: &[u8], status: Status) -> bool {
+    let mut out = Vec::new(alloc);
+    run_xa(alloc, &mut script, &mut out) == Ok(status) && out.as_slice() == answers
+}
+
 #[test]
 fn rows(rt: HostRuntime) {
     for (script, answers, status) in ROWS {
-        let mut out = Vec::new(rt.alloc());
-        let mut input = script.as_bytes();
-        let ended = run_xa(rt.alloc(), &mut input, &mut out);
-        assert!(rt; ended == Ok(status), "{script}");
-        assert!(rt; out.as_slice() == answers.as_bytes(), "{script}");
+        assert!(rt;
+            is_run(rt.alloc(), script.as_bytes(), answers.as_bytes(), status),
+            "{script}"
+        );
     }
 }
 

@@ -1,6 +1,7 @@
 //! Random steps of branches, each against the table of branches written here as rows.
 
 use crate::numbers::Numbers;
+use std::alloc::AllocError;
 use std::test::Fail;
 use xa_branch::Branches;
 use xa_codes::Code;
@@ -113,6 +114,22 @@ fn wanted(
     }
 }
 
+/// What a step of a branch answers, and the state behind it.
+fn step(
+    branches: &mut Branches,
+    name: &Xid,
+    asked: (Call, Code, BranchState),
+) -> (Code, BranchState) {
+    let (call, code, to) = asked;
+    let answer = branches.step(name, call, (code, to));
+    (answer, branches.state(name))
+}
+
+/// What the begin of a branch answers.
+fn begin(branches: &mut Branches, name: &Xid) -> Result<Code, AllocError> {
+    branches.begin(name)
+}
+
 #[test]
 fn random_steps(rt: HostRuntime) -> Result<(), Fail> {
     let mut numbers = Numbers(0x2545_F491_4F6C_DD1D);
@@ -122,26 +139,29 @@ fn random_steps(rt: HostRuntime) -> Result<(), Fail> {
     let name = Xid::new(7, &[0xaa], &[]).expect(&rt, "a name");
     for number in 0..20_000 {
         if from == S0 {
-            assert!(rt; branches.begin(&name)? == Code::Ok);
+            assert!(rt; begin(&mut branches, &name)? == Code::Ok);
             from = S1;
         }
-        let (call, code, to) = asked(&mut numbers);
-        let (answer, behind) = wanted(&mut walked, from, (call, code, to));
-        assert_eq!(rt;
-            branches.step(&name, call, (code, to)),
-            answer,
+        let asked = asked(&mut numbers);
+        let wanted = wanted(&mut walked, from, asked);
+        assert!(rt;
+            step(&mut branches, &name, asked) == wanted,
             "step {number}"
         );
-        assert_eq!(rt; branches.state(&name), behind, "step {number}");
-        from = behind;
+        from = wanted.1;
     }
-    branches.clear();
-    assert_eq!(rt;
-        branches.step(&name, Call::Forget, (Code::Ok, S0)),
-        Code::NotA
-    );
     for (i, walked) in walked.iter().enumerate() {
         assert!(rt; *walked, "row {i}");
     }
+    Ok(())
+}
+
+#[test]
+fn a_branch_is_gone_behind_a_clear(rt: HostRuntime) -> Result<(), Fail> {
+    let mut branches = Branches::new(rt.alloc());
+    let name = Xid::new(7, &[0xaa], &[]).expect(&rt, "a name");
+    begin(&mut branches, &name)?;
+    branches.clear();
+    assert!(rt; step(&mut branches, &name, (Call::Forget, Code::Ok, S0)) == (Code::NotA, S0));
     Ok(())
 }

@@ -67,6 +67,14 @@ has_cycle es = list_any (λ e. is_none (level_within (length es) es e.id)) es
 abbrev pub is_top : TreeEntry → Bool
 is_top e = is_none e.parent
 
+abbrev pub entry_id : Option TreeEntry → ProcessId
+entry_id None = record { 0 = 0 }
+entry_id (Some e) = e.id
+
+-- the process without a parent
+unfoldable pub root_of : List TreeEntry → ProcessId
+root_of es = entry_id (find is_top es)
+
 abbrev pub is_manager_kind : Kind → Bool
 is_manager_kind Manager = true
 is_manager_kind Coordinator = false

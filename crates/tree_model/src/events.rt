@@ -1,13 +1,13 @@
 //! Events, inputs, steps and what they lead to.
 
-ghost use Rattle.std.specs.Prelude.{◌≡◌};
+ghost use Rattle.std.specs.Prelude.{◌≡◌, IfOk};
 ghost use Rattle.tree_model.specs.Errors.{step_error_number};
 
 use crate::lists::Sequence;
 use crate::messages::{Letters, Message, Op};
 use crate::names::{Case, Outcome, Presumption, ProcessId, Txn};
 use crate::records::Logged;
-use std::alloc::AllocError;
+use std::alloc::{AllocError, Global};
 use thiserror::Error;
 
 /// What an application or an operator asks of one process.
@@ -27,6 +27,24 @@ pub enum Act {
     Decide(Case, Outcome),
     /// A heuristic decision may be forgotten.
     Forget(Case),
+}
+
+impl Act {
+    /// The same act again.
+    pub fn copied(&self, alloc: Global) -> Result<Act, AllocError>
+        ensures { IfOk result (λ copy. copy ≡ self.now) }
+    {
+        Ok(match self {
+            Act::Begin(presumption) => Act::Begin(*presumption),
+            Act::Join(case, child) => Act::Join(*case, *child),
+            Act::Work(case, child, op) => Act::Work(*case, *child, op.copied(alloc)?),
+            Act::Commit(txn) => Act::Commit(*txn),
+            Act::Abort(txn) => Act::Abort(*txn),
+            Act::Ask(case) => Act::Ask(*case),
+            Act::Decide(case, outcome) => Act::Decide(*case, *outcome),
+            Act::Forget(case) => Act::Forget(*case),
+        })
+    }
 }
 
 /// What a process handles: an act, or a message with its number in the net (from 1).
@@ -122,7 +140,8 @@ pub enum StepError {
     /// The process is no child of this one, or for work no accepted child that is a manager.
     #[error("not a child that can take it")]
     NotAChild,
-    /// Commit or abort was asked already, or PREPARE came (but a case that collects votes takes an abort).
+    /// Commit or abort was asked already, or PREPARE came (but a case that collects votes takes an abort). A case that
+    /// is forgotten after that is no case any more, and so `UnknownTxn`.
     #[error("the case is closed")]
     Closed,
     /// The process's device failed, and it was not restarted yet.

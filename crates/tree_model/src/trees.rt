@@ -21,6 +21,7 @@ ghost use Rattle.tree_model.specs.Trees.{
   has_fault,
   is_managed as is_managed_in,
   is_top,
+  root_of as root_in,
   is_manager_kind,
   IsTree,
   IsFirstFault,
@@ -136,6 +137,18 @@ impl Tree {
         ensures { result ≡ is_listed_in self.now id }
     {
         is_listed(&self.entries, id)
+    }
+
+    /// The first process without a parent, which is the root of a tree; process 0, which no tree text lists, where every
+    /// process has one.
+    #[tactic(auto, unfolding(crate::specs::Trees::root_of))]
+    pub fn root(&self) -> ProcessId
+        ensures { result ≡ root_in self.now }
+    {
+        match top_of(&self.entries) {
+            None => ProcessId(0),
+            Some(entry) => entry.id,
+        }
     }
 
     /// Whether the processes are a tree. It takes no memory. The faults are looked for in this order: Empty, TooMany,
@@ -255,6 +268,13 @@ fn climbs_without_end(entries: &[TreeEntry]) -> bool
     entries
         .iter()
         .any(|entry| level(entries, entry.id, entries.len()).is_none())
+}
+
+/// The first of these processes that has no parent.
+fn top_of(entries: &[TreeEntry]) -> Option<&TreeEntry>
+    ensures { option_copied result ≡ find is_top entries.now }
+{
+    entries.iter().find(|entry| entry.parent.is_none())
 }
 
 fn count_tops(entries: &[TreeEntry]) -> usize

@@ -17,12 +17,12 @@ returns-in_err-make_room-clause-err c =
     passed_on c.from_residual.result Memory (λ e. IsStopped old (ActOf c.args.act.now) e new) c.from_residual.ensures.1
     (short_act old new c.args.act.now c.make_room.ensures.stays)
 
-pub returns-in_err-copied_act-clause-err : goal.returns-in_err-copied_act-clause-err
-returns-in_err-copied_act-clause-err c =
+pub returns-in_err-copied-clause-err : goal.returns-in_err-copied-clause-err
+returns-in_err-copied-clause-err c =
     let old = state c.args.self.now in
     let new = state c.make_room.new.self in
-    passed_on c.from_residual-in_err-copied_act.result Memory (λ e. IsStopped old (ActOf c.args.act.now) e new)
-    c.from_residual-in_err-copied_act.ensures.1
+    passed_on c.from_residual-in_err-copied.result Memory (λ e. IsStopped old (ActOf c.args.act.now) e new)
+    c.from_residual-in_err-copied.ensures.1
     (short_act old new c.args.act.now c.make_room.ensures.stays)
 
 pub returns-in-Err-clause-err : goal.returns-in-Err-clause-err
@@ -33,6 +33,6 @@ returns-in-Err-clause-err c =
 pub returns-in-Ok-clause-ok : goal.returns-in-Ok-clause-ok
 returns-in-Ok-clause-ok c =
     acted_behind (state c.args.self.now) (state c.make_room.new.self) _ _ c.process_of-process.result c.args.act.now
-    c.in_ok-copied_act.field-0 c.in-Ok.reaction c.make_room.ensures.stays (search rules) c.in_ok-copied_act.ensures
+    c.in_ok-copied.field-0 c.in-Ok.reaction c.make_room.ensures.stays (search rules) c.in_ok-copied.ensures
     (search (rules, process_equality)) c.in-Ok.ensures.ok (λ q. refl)
     (record { net = refl; delivered = refl; entries = refl }) c.enter.ensures
