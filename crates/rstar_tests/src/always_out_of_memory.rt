@@ -93,11 +93,25 @@ fn opened(alloc: Global) -> Result<Root, Fail> {
 /// A root that has begun its first transaction.
 fn begun(alloc: Global, presumption: Presumption) -> Result<Root, Fail> {
     let mut root = opened(alloc)?;
-    if root.begun() >= 1 << 62 {
-        return Err(Fail::from("numbers are left"));
+    if root.begun() > 0 {
+        return Err(Fail::from("a root that has begun nothing"));
     }
     made(root.begin(presumption))?;
     Ok(root)
+}
+
+fn act(root: &mut Root, act: &Act) -> Result<Reaction, Fail> {
+    if root.begun() > 1 {
+        return Err(Fail::from("a root that has begun little"));
+    }
+    made(root.act(act))
+}
+
+fn step(root: &mut Root, input: &Input) -> Result<Reaction, Fail> {
+    if root.begun() > 1 {
+        return Err(Fail::from("a root that has begun little"));
+    }
+    made(root.step(input))
 }
 
 fn hear(root: &mut Root, message: &Message) -> Result<Reaction, Fail> {
@@ -186,8 +200,8 @@ fn a_root_aborts(rt: HostRuntime) -> Result<(), Fail> {
 #[test]
 fn a_root_acts(rt: HostRuntime) -> Result<(), Fail> {
     let mut root = begun(rt.alloc(), Presumption::PresumeAbort)?;
-    let act = Act::Commit(first_txn(Presumption::PresumeAbort));
-    assert!(rt; made(root.act(&act))?.told.is_some());
+    let asked = Act::Commit(first_txn(Presumption::PresumeAbort));
+    assert!(rt; act(&mut root, &asked)?.told.is_some());
     Ok(())
 }
 
@@ -195,7 +209,7 @@ fn a_root_acts(rt: HostRuntime) -> Result<(), Fail> {
 fn a_root_takes_an_input(rt: HostRuntime) -> Result<(), Fail> {
     let mut root = begun(rt.alloc(), Presumption::PresumeAbort)?;
     let input = Input::Act(Act::Commit(first_txn(Presumption::PresumeAbort)));
-    assert!(rt; made(root.step(&input))?.told.is_some());
+    assert!(rt; step(&mut root, &input)?.told.is_some());
     Ok(())
 }
 
