@@ -9,7 +9,7 @@ use std::test::Fail;
 /// A script's name, the script, what is written, and how the run ends.
 type Row = (&'static str, &'static str, &'static str, Status);
 
-const ROWS: [Row; 25] = [
+const ROWS: [Row; 27] = [
     (
         "flat_pa_commit",
         "[[process]]\nid = 1\nkind = \"coordinator\"\n[[process]]\nid = 2\nkind = \"manager\"\n\
@@ -240,6 +240,31 @@ const ROWS: [Row; 25] = [
          1 1->2 JOIN a1.1\n2 2->1 JOINED a1.1 2.1.1\ntold a1.1 aborted\n3 1->2 ABORT a1.1@2.1.1\n\
          refused 6 3\n",
         Status::Stopped,
+    ),
+    (
+        "all_voted_read",
+        "[[process]]\nid = 1\nkind = \"coordinator\"\n[[process]]\nid = 2\nkind = \"manager\"\n\
+         parent = 1\n[[process]]\nid = 3\nkind = \"manager\"\nparent = 1\n---\nbegin pa\n\
+         join a1.1 2\njoin a1.1 3\nsettle\nwork a1.1 2 get x\nsettle\ncommit a1.1\nsettle\n",
+        "log 1 Opened 1 forced\nlog 2 Opened 1 forced\nlog 3 Opened 1 forced\nbegin a1.1\n\
+         1 1->2 JOIN a1.1\n2 1->3 JOIN a1.1\n3 2->1 JOINED a1.1 2.1.1\n4 3->1 JOINED a1.1 3.1.1\n\
+         5 1->2 WORK a1.1@2.1.1 1 get x\n6 1->2 PREPARE a1.1@2.1.1 1\n\
+         7 1->3 PREPARE a1.1@3.1.1 0\n8 2->1 READ a1.1@2.1.1\n9 3->1 READ a1.1@3.1.1\n\
+         told a1.1 readonly\nend\n",
+        Status::Ended,
+    ),
+    (
+        "prepare_again_behind_the_promise",
+        "[[process]]\nid = 1\nkind = \"coordinator\"\n[[process]]\nid = 2\nkind = \"manager\"\n\
+         parent = 1\n---\nbegin pa\njoin a1.1 2\nsettle\nwork a1.1 2 put x 1\nsettle\n\
+         commit a1.1\ndeliver 4\ndeliver 4\nsettle\n",
+        "log 1 Opened 1 forced\nlog 2 Opened 1 forced\nbegin a1.1\n1 1->2 JOIN a1.1\n\
+         2 2->1 JOINED a1.1 2.1.1\n3 1->2 WORK a1.1@2.1.1 1 put x 1\n\
+         4 1->2 PREPARE a1.1@2.1.1 1\nlog 2 Prepared a1.1@2.1.1 forced\n5 2->1 YES a1.1@2.1.1\n\
+         6 2->1 YES a1.1@2.1.1\nlog 1 Commit a1.1 forced\ntold a1.1 committed\n\
+         7 1->2 COMMIT a1.1@2.1.1\nlog 2 Committed a1.1@2.1.1 forced\n\
+         8 2->1 ACK a1.1@2.1.1 commit\nlog 1 End a1.1 plain\nend\n",
+        Status::Ended,
     ),
     (
         "deliver_of_no_message",
