@@ -9,13 +9,17 @@ use std::test::Fail;
 /// A script's name, the script, what is written, and how the run ends.
 type Row = (&'static str, &'static str, &'static str, Status);
 
+/// The script of the first row.
+const FLAT_PA_COMMIT: &str =
+    "[[process]]\nid = 1\nkind = \"coordinator\"\n[[process]]\nid = 2\nkind = \"manager\"\n\
+     parent = 1\n[[process]]\nid = 3\nkind = \"manager\"\nparent = 1\n---\nbegin pa\n\
+     join a1.1 2\njoin a1.1 3\nsettle\nwork a1.1 2 put x 1\nwork a1.1 3 put y 2\nsettle\n\
+     commit a1.1\nsettle\n";
+
 const ROWS: [Row; 27] = [
     (
         "flat_pa_commit",
-        "[[process]]\nid = 1\nkind = \"coordinator\"\n[[process]]\nid = 2\nkind = \"manager\"\n\
-         parent = 1\n[[process]]\nid = 3\nkind = \"manager\"\nparent = 1\n---\nbegin pa\n\
-         join a1.1 2\njoin a1.1 3\nsettle\nwork a1.1 2 put x 1\nwork a1.1 3 put y 2\nsettle\n\
-         commit a1.1\nsettle\n",
+        FLAT_PA_COMMIT,
         "log 1 Opened 1 forced\nlog 2 Opened 1 forced\nlog 3 Opened 1 forced\nbegin a1.1\n\
          1 1->2 JOIN a1.1\n2 1->3 JOIN a1.1\n3 2->1 JOINED a1.1 2.1.1\n4 3->1 JOINED a1.1 3.1.1\n\
          5 1->2 WORK a1.1@2.1.1 1 put x 1\n6 1->3 WORK a1.1@3.1.1 1 put y 2\n\
@@ -304,8 +308,7 @@ fn is_refused_or_ends(alloc: Global, mut script: &[u8]) -> bool {
 /// The first row cut at every byte: it is refused, or runs to its end.
 #[test]
 fn every_front_of_a_script(rt: HostRuntime) {
-    let (_, script, _, _) = ROWS[0];
-    let script = script.as_bytes();
+    let script = FLAT_PA_COMMIT.as_bytes();
     for cut in 0..script.len() {
         assert!(rt; is_refused_or_ends(rt.alloc(), &script[..cut]), "{cut}");
     }
@@ -314,8 +317,7 @@ fn every_front_of_a_script(rt: HostRuntime) {
 /// Bytes that are no UTF-8 behind a script that would run.
 #[test]
 fn not_utf8(rt: HostRuntime) -> Result<(), Fail> {
-    let (_, script, _, _) = ROWS[0];
-    let mut bytes = Vec::from_slice(rt.alloc(), script.as_bytes())?;
+    let mut bytes = Vec::from_slice(rt.alloc(), FLAT_PA_COMMIT.as_bytes())?;
     bytes.push(0xff)?;
     assert!(rt; is_run(rt.alloc(), &bytes, b"error 4\n", Status::Refused));
     Ok(())
@@ -360,9 +362,8 @@ fn a_reader_that_fails(rt: HostRuntime) {
 
 #[test]
 fn a_writer_that_fails(rt: HostRuntime) {
-    let (_, script, _, _) = ROWS[0];
     for fails in [false, true] {
-        let mut input = script.as_bytes();
+        let mut input = FLAT_PA_COMMIT.as_bytes();
         let failure = failure_of(rt.alloc(), &mut input, &mut Full { fails });
         assert!(rt; failure == Some(Failure::Write));
     }
