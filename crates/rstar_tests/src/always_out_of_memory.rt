@@ -94,7 +94,7 @@ fn opened(alloc: Global) -> Result<Root, Fail> {
 fn begun(alloc: Global, presumption: Presumption) -> Result<Root, Fail> {
     let mut root = opened(alloc)?;
     if root.begun() > 0 {
-        return Err(Fail::from("a root that has begun nothing"));
+        return Err(Fail::from("numbers are left"));
     }
     made(root.begin(presumption))?;
     Ok(root)
@@ -102,14 +102,14 @@ fn begun(alloc: Global, presumption: Presumption) -> Result<Root, Fail> {
 
 fn act(root: &mut Root, act: &Act) -> Result<Reaction, Fail> {
     if root.begun() > 1 {
-        return Err(Fail::from("a root that has begun little"));
+        return Err(Fail::from("numbers are left"));
     }
     made(root.act(act))
 }
 
 fn step(root: &mut Root, input: &Input) -> Result<Reaction, Fail> {
     if root.begun() > 1 {
-        return Err(Fail::from("a root that has begun little"));
+        return Err(Fail::from("numbers are left"));
     }
     made(root.step(input))
 }
@@ -154,6 +154,14 @@ fn a_root_opens(rt: HostRuntime) -> Result<(), Fail> {
 }
 
 #[test]
+fn a_root_begins(rt: HostRuntime) -> Result<(), Fail> {
+    let mut root = opened(rt.alloc())?;
+    let begun = act(&mut root, &Act::Begin(Presumption::PresumeAbort))?.begun;
+    assert!(rt; begun == Some(first_txn(Presumption::PresumeAbort)));
+    Ok(())
+}
+
+#[test]
 fn a_root_invites(rt: HostRuntime) -> Result<(), Fail> {
     let txn = first_txn(Presumption::PresumeAbort);
     let mut root = begun(rt.alloc(), Presumption::PresumeAbort)?;
@@ -186,6 +194,15 @@ fn a_root_commits(rt: HostRuntime) -> Result<(), Fail> {
     let ended = hear(&mut root, &Message::Ack(case, Outcome::Committed))?;
     assert_eq!(rt; ended.written.len(), 1);
     assert_eq!(rt; root.records()?.len(), 3);
+    Ok(())
+}
+
+#[test]
+fn a_root_answers_an_inquiry(rt: HostRuntime) -> Result<(), Fail> {
+    let mut root = opened(rt.alloc())?;
+    let case = child_case(first_txn(Presumption::PresumeCommit));
+    let answer = hear(&mut root, &Message::Inquire(case))?;
+    assert!(rt; matches!(only(&answer), Some(Message::Commit(_))));
     Ok(())
 }
 
@@ -308,13 +325,21 @@ fn a_script_is_read(rt: HostRuntime) -> Result<(), Fail> {
 }
 
 #[test]
-fn an_act_and_its_message_are_copied(rt: HostRuntime) -> Result<(), Fail> {
+fn an_operation_and_its_message_are_copied(rt: HostRuntime) -> Result<(), Fail> {
     let alloc = rt.alloc();
     let op = put(alloc)?.copied(alloc)?;
     assert!(rt; matches!(&op, Op::Put(key, _) if key.as_slice() == b"x".as_slice()));
     let case = child_case(first_txn(Presumption::PresumeAbort));
     let message = Message::Work(case, 1, op).copied(alloc)?;
     assert!(rt; matches!(message, Message::Work(_, 1, Op::Put(_, _))));
+    Ok(())
+}
+
+#[test]
+fn an_act_is_copied(rt: HostRuntime) -> Result<(), Fail> {
+    let case = root_case(first_txn(Presumption::PresumeAbort));
+    let act = Act::Work(case, CHILD, put(rt.alloc())?).copied(rt.alloc())?;
+    assert!(rt; matches!(act, Act::Work(_, _, Op::Put(_, _))));
     Ok(())
 }
 

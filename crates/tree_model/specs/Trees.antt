@@ -71,7 +71,7 @@ abbrev pub entry_id : Option TreeEntry → ProcessId
 entry_id None = record { 0 = 0 }
 entry_id (Some e) = e.id
 
--- the process without a parent
+-- the first process without a parent; process 0 where every one has a parent
 unfoldable pub root_of : List TreeEntry → ProcessId
 root_of es = entry_id (find is_top es)
 
