@@ -79,7 +79,7 @@ module _ (me p : ProcessId) (tree : List TreeEntry) (n : Node) (l l' : LeafState
   fresh_follows none same made =
       let h = hears_message k message a in
       let keeps : Keeps (after n h told) (writes l.log []) =
-      after_keeps n h told l.log (record { forced = f.forced; loose = f.loose }) in
+      after_keeps n h told l.log (record { forced = f.forced; unforced = f.unforced }) in
       let counted : gives_next me (boot_of (kept n))
       (l.given, l.active) a message ≡ (l.given + 1, l.active ++ (d, next) ∷ []) =
       rw (same, f.given d) refl in
@@ -93,7 +93,7 @@ module _ (me p : ProcessId) (tree : List TreeEntry) (n : Node) (l l' : LeafState
         is_named = made.remains.me ∙ f.is_named;
         is_below = made.remains.parent ∙ f.is_below;
         forced = keeps.forced ∙ ap (λ k. k.forced) (nothing_written l ∙ sym made.log);
-        loose = keeps.loose ∙ ap (λ k. k.loose) (nothing_written l ∙ sym made.log);
+        unforced = keeps.unforced ∙ ap (λ k. k.unforced) (nothing_written l ∙ sym made.log);
         boot = after_boots n h told (λ b. refl) ∙ (f.boot ∙ sym made.remains.boot);
         runs = after_runs n h told f.runs;
         given = λ c. ap (λ (g : Givens). g.0) (givens c) ∙ sym made.given;

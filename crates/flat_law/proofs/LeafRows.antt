@@ -95,7 +95,7 @@ row_followed me p tree n l l' k message a d row ws left f own quiet moved made c
     let place = leaf_place me p tree in
     let h = hears_message k message a in
     let keeps : Keeps (after n h (leaf_effect row)) (writes l.log row.written) =
-    after_keeps n h (leaf_effect row) l.log (record { forced = f.forced; loose = f.loose }) in
+    after_keeps n h (leaf_effect row) l.log (record { forced = f.forced; unforced = f.unforced }) in
     let givens : (c : Case) → givens_of (memory_of place (after n h (leaf_effect row)) c) ≡ (l.given, left) =
     λ c. givens-after me p tree n k message a (leaf_effect row) c (same_boot n (leaf_effect row) own.boot)
     ∙ (rw (f.given c, f.active c) counted) in
@@ -103,7 +103,7 @@ row_followed me p tree n l l' k message a d row ws left f own quiet moved made c
       is_named = made.remains.me ∙ f.is_named;
       is_below = made.remains.parent ∙ f.is_below;
       forced = keeps.forced ∙ ap (λ k. k.forced) (sym made.log);
-      loose = keeps.loose ∙ ap (λ k. k.loose) (sym made.log);
+      unforced = keeps.unforced ∙ ap (λ k. k.unforced) (sym made.log);
       boot = after_boots n h (leaf_effect row) own.boot ∙ (f.boot ∙ sym made.remains.boot);
       runs = after_runs n h (leaf_effect row) f.runs;
       given = λ c. ap (λ (g : Givens). g.0) (givens c) ∙ sym made.given;

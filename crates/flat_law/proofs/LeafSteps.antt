@@ -36,7 +36,7 @@ willing holding = record { starts = true; does = true; holding = holding }
 -- A message that a leaf does not hear, or that changes nothing.
 
 pub nothing_written : (l : LeafState) → writes l.log [] ≡ l.log
-nothing_written l = ap (λ rs. record { forced = l.log.forced; loose = rs }) (append-nil l.log.loose)
+nothing_written l = ap (λ rs. record { forced = l.log.forced; unforced = rs }) (append-nil l.log.unforced)
 
 pub still_followed : (me p : ProcessId) (tree : List TreeEntry) (n : Node) (l l' : LeafState) (k : ℕ)
     (message : Message) (a : DataAnswer) (e : Effect)
@@ -49,7 +49,7 @@ still_followed me p tree n l l' k message a e f stays quiet counted views =
     let place = leaf_place me p tree in
     let h = hears_message k message a in
     let keeps : Keeps (after n h e) (writes l.log e.written) =
-    after_keeps n h e l.log (record { forced = f.forced; loose = f.loose }) in
+    after_keeps n h e l.log (record { forced = f.forced; unforced = f.unforced }) in
     let same : writes l.log e.written ≡ l.log = rw quiet (nothing_written l) in
     let givens : (c : Case) → givens_of (memory_of place (after n h e) c) ≡ (l.given, l.active) =
     λ c. givens-after me p tree n k message a e c (same_boot n e (quiet_boots e quiet))
@@ -59,7 +59,7 @@ still_followed me p tree n l l' k message a e f stays quiet counted views =
       is_named = f.is_named;
       is_below = f.is_below;
       forced = keeps.forced ∙ ap (λ k. k.forced) same;
-      loose = keeps.loose ∙ ap (λ k. k.loose) same;
+      unforced = keeps.unforced ∙ ap (λ k. k.unforced) same;
       boot = after_boots n h e (quiet_boots e quiet) ∙ f.boot;
       runs = after_runs n h e f.runs;
       given = λ c. ap (λ (g : Givens). g.0) (givens c);

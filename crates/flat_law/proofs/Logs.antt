@@ -11,7 +11,7 @@ use Rattle.rec_log.specs.Logs.{Kept, writes}
 -- the process has these records
 pub record Keeps (n : Node) (k : Kept) : Type 0 where
   pub forced : n.forced ≡ k.forced
-  pub loose : n.loose ≡ k.loose
+  pub unforced : n.unforced ≡ k.unforced
 
 kept_by : (b : Bool) (whole part : Node) (log rest : Kept) → Keeps whole log → Keeps part rest
     → Keeps (if b then whole else part) (if b then log else rest)
@@ -22,16 +22,16 @@ appends_keep : (n : Node) (k : Kept) (ws : List Written) → Keeps n k → Keeps
 appends_keep n k ws h =
     kept_by (is_any_forced ws) _ _ _ _
     (record {
-      forced = ap (λ xs. (xs ++ n.loose) ++ entries_written ws) h.forced
-          ∙ ap (λ xs. (k.forced ++ xs) ++ entries_written ws) h.loose;
-      loose = refl;
+      forced = ap (λ xs. (xs ++ n.unforced) ++ entries_written ws) h.forced
+          ∙ ap (λ xs. (k.forced ++ xs) ++ entries_written ws) h.unforced;
+      unforced = refl;
     })
-    (record { forced = h.forced; loose = ap (λ xs. xs ++ entries_written ws) h.loose })
+    (record { forced = h.forced; unforced = ap (λ xs. xs ++ entries_written ws) h.unforced })
 
 pub after_keeps : (n : Node) (h : Heard) (e : Effect) (k : Kept) → Keeps n k
     → Keeps (after n h e) (writes k e.written)
 after_keeps n h e k same = let a = appends_keep n k e.written same in
-    record { forced = a.forced; loose = a.loose }
+    record { forced = a.forced; unforced = a.unforced }
 
 failed_by : (b : Bool) (whole part n : Node) → whole.failed ≡ n.failed → part.failed ≡ n.failed
     → (if b then whole else part).failed ≡ n.failed

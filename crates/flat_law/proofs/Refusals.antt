@@ -135,10 +135,10 @@ module _ (me : ProcessId) (tree : List TreeEntry) (es : List Made) (w : World) (
 
   for_nobody : (o : Option Envelope) → IsLost s o → IsForNobody tree o
   for_nobody None h = tt
-  for_nobody (Some letter) h =
-      let away : same_process letter.to me ≡ false =
-      ap (λ p. same_process letter.to p) (sym f.root.is_named) ∙ h.0 in
-      sym (f.listed letter.to away) ∙ h.1
+  for_nobody (Some envelope) h =
+      let away : same_process envelope.to me ≡ false =
+      ap (λ p. same_process envelope.to p) (sym f.root.is_named) ∙ h.0 in
+      sym (f.listed envelope.to away) ∙ h.1
 
   pub lost_messages : (k : ℕ) → IsLost s (sent_as s.net k) → IsForNobody tree (sent_as w.net k)
   lost_messages k h = subst (λ net. IsForNobody tree (sent_as net k)) f.net (for_nobody (sent_as s.net k) h)

@@ -67,9 +67,9 @@ module _ (r r' : RootState) (n : Node) (reaction : Reaction) (f : RootFollows r.
       let e = begin_effect x in
       let h = heard (ActInput (Begin p)) in
       let keeps : Keeps (after n h e) (writes r.log []) =
-      after_keeps n h e r.log (record { forced = f.forced; loose = f.loose }) in
+      after_keeps n h e r.log (record { forced = f.forced; unforced = f.unforced }) in
       let nothing : writes r.log [] ≡ r.log =
-      ap (λ rs. record { forced = r.log.forced; loose = rs }) (append-nil r.log.loose) in
+      ap (λ rs. record { forced = r.log.forced; unforced = rs }) (append-nil r.log.unforced) in
       let memory-after : (y : Txn) → memory_of place (after n h e) (root_case y) ≡ begins r.me
       (boot_of (kept n)) (root_case y) (memory r r' n f y) p =
       λ y. memory_of-after place n h e (root_case y) (same_boot n e (λ b. refl)) in
@@ -100,7 +100,7 @@ module _ (r r' : RootState) (n : Node) (reaction : Reaction) (f : RootFollows r.
         is_named = made.remains.me;
         has_tree = made.remains.tree;
         forced = keeps.forced ∙ ap (λ k. k.forced) (nothing ∙ sym made.log);
-        loose = keeps.loose ∙ ap (λ k. k.loose) (nothing ∙ sym made.log);
+        unforced = keeps.unforced ∙ ap (λ k. k.unforced) (nothing ∙ sym made.log);
         boot = after_boots n h e (λ b. refl) ∙ (f.boot ∙ sym made.remains.boot);
         runs = after_runs n h e f.runs;
         begun = λ c. begun-after r.me r.tree n h e c (same_boot n e (λ b. refl))

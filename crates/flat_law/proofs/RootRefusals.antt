@@ -35,7 +35,7 @@ abbrev reacts_of : Turn → Reacts
 reacts_of (Refuses e) = Refused e
 reacts_of (Begins x) = Does (begin_effect x)
 reacts_of (Takes x row) = Does (row_effect (root_case x) row)
-reacts_of (Answers letter) = Does (sends_only (letter ∷ []))
+reacts_of (Answers envelope) = Does (sends_only (envelope ∷ []))
 reacts_of Ignores = Does no_effect
 
 turn_if : (b : Bool) (p q : Turn) → reacts_of (if b then p else q) ≡ (if b then reacts_of p else reacts_of q)
@@ -182,7 +182,7 @@ unchanged me tree n r r' f same =
       is_named = same.remains.me ∙ f.is_named;
       has_tree = same.remains.tree ∙ f.has_tree;
       forced = f.forced ∙ ap (λ k. k.forced) (sym same.log);
-      loose = f.loose ∙ ap (λ k. k.loose) (sym same.log);
+      unforced = f.unforced ∙ ap (λ k. k.unforced) (sym same.log);
       boot = f.boot ∙ sym same.remains.boot;
       runs = f.runs;
       begun = λ c. f.begun c ∙ sym same.begun;

@@ -191,7 +191,7 @@ pub ack_stands : (me : ProcessId) (c : Case) (v : CoordinatorView) (t : Ticket) 
     (if last then record {
       written = record { entry = EndRecord c; is_forced = false } ∷ [];
       told = None;
-      letters = [];
+      messages = [];
       accepts = [];
       counts = [];
       view = unknown_view;

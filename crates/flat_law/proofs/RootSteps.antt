@@ -95,7 +95,7 @@ module _ (r r' : RootState) (n : Node) (f : RootFollows r.me r.tree n r) where
       let h = heard i in
       let no_boot = wrote_no_boot (root_case x) row.written own.wrote in
       let keeps : Keeps (after n h e) (writes r.log row.written) =
-      after_keeps n h e r.log (record { forced = f.forced; loose = f.loose }) in
+      after_keeps n h e r.log (record { forced = f.forced; unforced = f.unforced }) in
       let memory-after : (y : Txn) → memory_of place (after n h e) (root_case y) ≡ remembered y i =
       λ y. memory_of-after place n h e (root_case y) (same_boot n e no_boot) in
       let P : Txn → Type 0 =
@@ -125,7 +125,7 @@ module _ (r r' : RootState) (n : Node) (f : RootFollows r.me r.tree n r) where
         is_named = made.remains.me;
         has_tree = made.remains.tree;
         forced = keeps.forced ∙ ap (λ k. k.forced) (sym made.log);
-        loose = keeps.loose ∙ ap (λ k. k.loose) (sym made.log);
+        unforced = keeps.unforced ∙ ap (λ k. k.unforced) (sym made.log);
         boot = after_boots n h e no_boot ∙ (f.boot ∙ sym made.remains.boot);
         runs = after_runs n h e f.runs;
         begun = λ c. begun-after r.me r.tree n h e c (same_boot n e no_boot)
@@ -156,9 +156,9 @@ module _ (r r' : RootState) (n : Node) (f : RootFollows r.me r.tree n r) where
       let h = heard i in
       let no_boot = quiet_boots e quiet in
       let keeps : Keeps (after n h e) (writes r.log e.written) =
-      after_keeps n h e r.log (record { forced = f.forced; loose = f.loose }) in
+      after_keeps n h e r.log (record { forced = f.forced; unforced = f.unforced }) in
       let nothing : writes r.log e.written ≡ r.log =
-      rw quiet (ap (λ rs. record { forced = r.log.forced; loose = rs }) (append-nil r.log.loose)) in
+      rw quiet (ap (λ rs. record { forced = r.log.forced; unforced = rs }) (append-nil r.log.unforced)) in
       let memory-after : (y : Txn) → memory_of place (after n h e) (root_case y) ≡ memory y =
       λ y. memory_of-after place n h e (root_case y) (same_boot n e no_boot) ∙ same y in
       let Q : RootState → Type 0 = λ s. RootFollows r.me r.tree (after n h e) s in
@@ -166,7 +166,7 @@ module _ (r r' : RootState) (n : Node) (f : RootFollows r.me r.tree n r) where
         is_named = refl;
         has_tree = refl;
         forced = keeps.forced ∙ ap (λ k. k.forced) nothing;
-        loose = keeps.loose ∙ ap (λ k. k.loose) nothing;
+        unforced = keeps.unforced ∙ ap (λ k. k.unforced) nothing;
         boot = after_boots n h e no_boot ∙ f.boot;
         runs = after_runs n h e f.runs;
         begun = λ c. begun-after r.me r.tree n h e c (same_boot n e no_boot) ∙ (counted _ ∙ f.begun c);

@@ -59,7 +59,7 @@ joined_quiet t v Active = accepted (has_child v.accepted t.child)
         → (if b then quiet v else record {
           written = [];
           told = None;
-          letters = [];
+          messages = [];
           accepts = t ∷ [];
           counts = [];
           view = record v { accepted = v.accepted ++ t ∷ [] };

@@ -28,7 +28,7 @@ heard_by i a = record { input = i; data_answer = a }
 
 -- the world behind it
 abbrev pub world_after : World → ProcessId → Node → Effect → World
-world_after w q n e = record { at = put_at q n w.at; net = w.net ++ e.letters }
+world_after w q n e = record { at = put_at q n w.at; net = w.net ++ e.messages }
 
 pub made_at : (tree : List TreeEntry) (w : World) (q : ProcessId) (i : Input) (a : DataAnswer) (place : Place)
     (e : Effect) → is_listed tree q ≡ true
@@ -89,7 +89,7 @@ shown_by es s s' q i a e reaction before shown grown =
     ∙ (ap (λ y. s.entries ++ entry_at q i y ∷ []) (sym shown) ∙ sym grown)
 
 pub sent_by : (w : World) (s s' : FlatState) (e : Effect) (reaction : Reaction) → s.net ≡ w.net
-    → reaction ≡ reaction_of e → s'.net ≡ s.net ++ reaction.letters
-    → s'.net ≡ w.net ++ e.letters
+    → reaction ≡ reaction_of e → s'.net ≡ s.net ++ reaction.messages
+    → s'.net ≡ w.net ++ e.messages
 sent_by w s s' e reaction before shown grown =
-    grown ∙ (ap (λ xs. xs ++ reaction.letters) before ∙ ap (λ (y : Reaction). w.net ++ y.letters) shown)
+    grown ∙ (ap (λ xs. xs ++ reaction.messages) before ∙ ap (λ (y : Reaction). w.net ++ y.messages) shown)

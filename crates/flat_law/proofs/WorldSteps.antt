@@ -55,7 +55,7 @@ root_goes_on : (me : ProcessId) (tree : List TreeEntry) (es : List Made) (w : Wo
     (i : Input) (marked : List Bool) (reaction : Reaction)
     → Follows me tree es w s → InputStands w.net me i
     → ((q : ProcessId) → s'.leaf_at q ≡ s.leaf_at q)
-    → s'.net ≡ s.net ++ reaction.letters → s'.entries ≡ s.entries ++ entry_at me i reaction ∷ []
+    → s'.net ≡ s.net ++ reaction.messages → s'.entries ≡ s.entries ++ entry_at me i reaction ∷ []
     → RootStep me tree (w.at me) i s'.root reaction
     → is_flat_input i ≡ true → GoesOn me tree es w s'
 root_goes_on me tree es w s s' i marked reaction f stands leaves net entries step flat =
@@ -84,7 +84,7 @@ leaf_goes_on : (me : ProcessId) (tree : List TreeEntry) (es : List Made) (w : Wo
     (q : ProcessId) (k : ℕ) (message : Message) (reaction : Reaction) (l : LeafState)
     → Follows me tree es w s → InputStands w.net q (MessageInput k message) → same_process q me ≡ false
     → LeafTakes s s' q l message reaction
-    → s'.net ≡ s.net ++ reaction.letters
+    → s'.net ≡ s.net ++ reaction.messages
     → s'.entries ≡ s.entries ++ entry_at q (MessageInput k message) reaction ∷ []
     → GoesOn me tree es w s'
 leaf_goes_on me tree es w s s' q k message reaction l f stands o takes net entries =
@@ -153,22 +153,22 @@ message_steps me tree es w s s' q k message marked false f at stands made =
     (ap (λ p. same_process q p) (sym f.root.is_named) ∙ at) takes.1 made.net made.entries
 
 -- a message with a number stands in the net
-sent_stands : (net : List Envelope) (k : ℕ) (letter : Envelope) → sent_as net k ≡ Some letter
-    → IsSent net letter.to k letter.message
-sent_stands net zero letter h = absurd (cc)
-sent_stands net (suc j) letter h =
+sent_stands : (net : List Envelope) (k : ℕ) (envelope : Envelope) → sent_as net k ≡ Some envelope
+    → IsSent net envelope.to k envelope.message
+sent_stands net zero envelope h = absurd (cc)
+sent_stands net (suc j) envelope h =
     let e : suc j - 1 ≡ j = omega arith in
-    record { sender = letter.from; counted = omega arith; stands = ap (λ i. slice_get net i) e ∙ h }
+    record { sender = envelope.from; counted = omega arith; stands = ap (λ i. slice_get net i) e ∙ h }
 
 pub delivery_goes_on : (me : ProcessId) (tree : List TreeEntry) (es : List Made) (w : World)
     (s s' : FlatState) (k : ℕ) → Follows me tree es w s
     → Delivers s s' k → GoesOn me tree es w s'
 delivery_goes_on me tree es w s s' k f made =
-    let letter = made.letter in
-    let stands : IsSent w.net letter.to k letter.message =
-    sent_stands w.net k letter (ap (λ xs. sent_as xs k) (sym f.net) ∙ made.sent) in
-    message_steps me tree es w s s' letter.to k letter.message (marks s.delivered k)
-    (same_process letter.to s.root.me) f refl stands made.made
+    let envelope = made.envelope in
+    let stands : IsSent w.net envelope.to k envelope.message =
+    sent_stands w.net k envelope (ap (λ xs. sent_as xs k) (sym f.net) ∙ made.sent) in
+    message_steps me tree es w s s' envelope.to k envelope.message (marks s.delivered k)
+    (same_process envelope.to s.root.me) f refl stands made.made
 
 pub act_goes_on : (me : ProcessId) (tree : List TreeEntry) (es : List Made) (w : World) (s s' : FlatState)
     (q : ProcessId) (a : Act) (marked : List Bool)

@@ -69,8 +69,8 @@ undelivered ls = map (λ l. false) ls
 pub record Steps (old new : FlatState) (q : ProcessId) (input : Input) (marked : List Bool) : Type 0 where
   pub reaction : Reaction
   pub handled : Handled old new q input reaction
-  pub net : new.net ≡ old.net ++ reaction.letters
-  pub delivered : new.delivered ≡ marked ++ undelivered reaction.letters
+  pub net : new.net ≡ old.net ++ reaction.messages
+  pub delivered : new.delivered ≡ marked ++ undelivered reaction.messages
   pub entries : new.entries ≡ old.entries ++ entry_at q input reaction ∷ []
 
 -- Events.
@@ -82,9 +82,9 @@ marks bs (suc k) = slice_set bs k true
 
 -- the message with this number is delivered
 pub record Delivers (old new : FlatState) (k : ℕ) : Type 0 where
-  pub letter : Envelope
-  pub sent : sent_as old.net k ≡ Some letter
-  pub made : Steps old new letter.to (MessageInput k letter.message) (marks old.delivered k)
+  pub envelope : Envelope
+  pub sent : sent_as old.net k ≡ Some envelope
+  pub made : Steps old new envelope.to (MessageInput k envelope.message) (marks old.delivered k)
 
 -- the number of the first message that was not delivered, the marks being those from this number on
 abbrev pub least_open : ℕ → List Bool → Option ℕ
@@ -125,7 +125,7 @@ pub record RefusesAct (old : FlatState) (a : Act) (e : StepError) : Type 0 where
 -- a message with this number does not exist, or is for no process
 abbrev pub IsLost : FlatState → Option Envelope → Type 0
 IsLost w None = Unit {0}
-IsLost w (Some letter) = (same_process letter.to w.root.me ≡ false) × IsNone (w.leaf_at letter.to)
+IsLost w (Some envelope) = (same_process envelope.to w.root.me ≡ false) × IsNone (w.leaf_at envelope.to)
 
 -- a settle is refused within: what it had delivered stands
 abbrev pub stops_by : FlatState → FlatState → (FlatState → Type 0) → Option ℕ → Type 0

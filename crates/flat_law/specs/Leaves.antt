@@ -127,7 +127,7 @@ pub record Opens (old new : LeafState) (d : Case) (t : Ticket) : Type 0 where
 
 -- a turn was made, and this is the reaction to show
 abbrev pub Makes : LeafState → LeafState → LeafTurn → Reaction → Type 0
-Makes old new (Says letter) reaction = (new ≡ old) × (reaction ≡ reaction_of (sends_only (letter ∷ [])))
+Makes old new (Says envelope) reaction = (new ≡ old) × (reaction ≡ reaction_of (sends_only (envelope ∷ [])))
 Makes old new (Issues d t) reaction =
     Opens old new d t × (reaction ≡ reaction_of (sends_only (post old.me old.parent (Joined d t) ∷ [])))
 Makes old new (Takes d row ws active) reaction = Moves old new d row ws active × (reaction ≡ reaction_of (leaf_effect row))

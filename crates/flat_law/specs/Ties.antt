@@ -91,7 +91,7 @@ pub record RootFollows (me : ProcessId) (tree : List TreeEntry) (n : Node) (r : 
   pub is_named : r.me ≡ me
   pub has_tree : r.tree ≡ tree
   pub forced : n.forced ≡ r.log.forced
-  pub loose : n.loose ≡ r.log.loose
+  pub unforced : n.unforced ≡ r.log.unforced
   pub boot : boot_of (kept n) ≡ r.boot
   pub runs : n.failed ≡ false
   pub begun : (c : Case) → (memory_of (root_place me tree) n c).begun ≡ r.begun
@@ -111,7 +111,7 @@ pub record LeafFollows (me parent : ProcessId) (tree : List TreeEntry) (n : Node
   pub is_named : l.me ≡ me
   pub is_below : l.parent ≡ parent
   pub forced : n.forced ≡ l.log.forced
-  pub loose : n.loose ≡ l.log.loose
+  pub unforced : n.unforced ≡ l.log.unforced
   pub boot : boot_of (kept n) ≡ l.boot
   pub runs : n.failed ≡ false
   pub given : (c : Case) → (memory_of (leaf_place me parent tree) n c).given ≡ l.given
@@ -189,4 +189,4 @@ RefusesSo root tree w a e =
 -- no process that is listed is to have a message with this number
 abbrev pub IsForNobody : List TreeEntry → Option Envelope → Type 0
 IsForNobody tree None = Unit {0}
-IsForNobody tree (Some letter) = is_listed tree letter.to ≡ false
+IsForNobody tree (Some envelope) = is_listed tree envelope.to ≡ false

@@ -50,8 +50,8 @@ acted old mid new q a r here made leaves quiet e =
     record {
       reaction = r;
       handled = (here, record { root = rw e.root made; leaves = λ p. e.leaves p ∙ leaves p });
-      net = e.net ∙ ap (λ n. n ++ r.letters) quiet.net;
-      delivered = e.delivered ∙ ap (λ d. d ++ undelivered r.letters) quiet.delivered;
+      net = e.net ∙ ap (λ n. n ++ r.messages) quiet.net;
+      delivered = e.delivered ∙ ap (λ d. d ++ undelivered r.messages) quiet.delivered;
       entries = e.entries ∙ ap (λ (es : List Entry). es ++ entry_at q (ActInput a) r ∷ []) quiet.entries;
     }
 
@@ -64,25 +64,25 @@ acted_as old mid new q p a b r process act here made leaves quiet e =
     acted old mid new q a r here made leaves quiet (rw (process, act) at e)
 
 -- a message that was heard is marked and entered
-pub delivers : (old mid marked new : FlatState) (k place : ℕ) (letter : Envelope) (to : ProcessId) (m : Message) (r : Reaction)
-    → k ≡ place + 1 → slice_get old.net place ≡ Some letter → to ≡ letter.to → m ≡ letter.message
+pub delivers : (old mid marked new : FlatState) (k place : ℕ) (envelope : Envelope) (to : ProcessId) (m : Message) (r : Reaction)
+    → k ≡ place + 1 → slice_get old.net place ≡ Some envelope → to ≡ envelope.to → m ≡ envelope.message
     → Hears old mid to m r → IsQuietElsewhere old mid
     → marked.root ≡ mid.root → ((p : ProcessId) → marked.leaf_at p ≡ mid.leaf_at p)
     → marked.net ≡ mid.net → marked.delivered ≡ slice_set mid.delivered place true → marked.entries ≡ mid.entries
     → Enters marked new to (MessageInput k m) r → Delivers old new k
-delivers old mid marked new k place letter to m r number sent to_is m_is heard quiet root leaves net delivered entries entered =
+delivers old mid marked new k place envelope to m r number sent to_is m_is heard quiet root leaves net delivered entries entered =
     let e = rw (to_is, m_is) at entered in
     let heard_is = rw (to_is, m_is) at heard in
     record {
-      letter = letter;
+      envelope = envelope;
       sent = sent_at old.net k place number ∙ sent;
       made = record {
         reaction = r;
-        handled = hears_on old mid new letter.to letter.message r heard_is (e.root ∙ root) (λ p. e.leaves p ∙ leaves p);
-        net = e.net ∙ ap (λ n. n ++ r.letters) (net ∙ quiet.net);
-        delivered = e.delivered ∙ ap (λ d. d ++ undelivered r.letters)
+        handled = hears_on old mid new envelope.to envelope.message r heard_is (e.root ∙ root) (λ p. e.leaves p ∙ leaves p);
+        net = e.net ∙ ap (λ n. n ++ r.messages) (net ∙ quiet.net);
+        delivered = e.delivered ∙ ap (λ d. d ++ undelivered r.messages)
             (delivered ∙ ap (λ (d : List Bool). slice_set d place true) quiet.delivered ∙ sym (marked_at old.delivered k place number));
-        entries = e.entries ∙ ap (λ (es : List Entry). es ++ entry_at letter.to (MessageInput k letter.message) r ∷ []) (entries ∙ quiet.entries);
+        entries = e.entries ∙ ap (λ (es : List Entry). es ++ entry_at envelope.to (MessageInput k envelope.message) r ∷ []) (entries ∙ quiet.entries);
       };
     }
 
@@ -176,13 +176,13 @@ no_letter w (suc k) n is (inr h) =
     subst (λ o. IsLost w o) (sym (slice_get_past w.net k (omega (arith, is, h)))) tt
 
 -- a message that its process did not handle
-pub unheard : (old before new : FlatState) (k place : ℕ) (letter : Envelope) (to : ProcessId) (e : StepError) → before ≡ old
-    → k ≡ place + 1 → slice_get before.net place ≡ Some letter → to ≡ letter.to
+pub unheard : (old before new : FlatState) (k place : ℕ) (envelope : Envelope) (to : ProcessId) (e : StepError) → before ≡ old
+    → k ≡ place + 1 → slice_get before.net place ≡ Some envelope → to ≡ envelope.to
     → ((e ≡ Memory) × Same before new) ⊎ ((e ≡ NoSuch) × (new ≡ before) × (same_process to before.root.me ≡ false)
     × IsNone (before.leaf_at to)) → IsStopped old (Deliver k) e new
-unheard old before new k place letter to e is number sent to_is (inl h) =
+unheard old before new k place envelope to e is number sent to_is (inl h) =
     subst (λ w. IsStopped w (Deliver k) e new) is (inl h)
-unheard old before new k place letter to e is number sent to_is (inr h) =
+unheard old before new k place envelope to e is number sent to_is (inr h) =
     subst (λ w. IsStopped w (Deliver k) e new) is
     (inr (
       h.1,

@@ -8,7 +8,7 @@ use Rattle.root_core.specs.Roots.{RootState}
 use Rattle.flat_law.specs.Leaves.{LeafState}
 use Rattle.flat_law.specs.FlatWorlds.{FlatState}
 use Rattle.tree_model.specs.declared.names.ProcessId.{ProcessId}
-use Rattle.flat_world.specs.Journals.{JournalState, Keeps, last_letters}
+use Rattle.flat_world.specs.Journals.{JournalState, Keeps, last_messages}
 
 -- a flat state of these parts
 abbrev pub flat : RootState → (ProcessId → Option LeafState) → JournalState → FlatState
@@ -20,13 +20,13 @@ pub stays : (r : RootState) (leaves : ProcessId → Option LeafState) (j k : Jou
 stays r leaves j k keeps = rw (keeps.net, keeps.delivered, keeps.entries) refl
 
 -- the messages of a step that was just entered
-pub of_entered : (es : List Entry) (e : Entry) → last_letters (es ++ e ∷ []) ≡ e.reaction.letters
+pub of_entered : (es : List Entry) (e : Entry) → last_messages (es ++ e ∷ []) ≡ e.reaction.messages
 of_entered [] e = refl
 of_entered (f ∷ []) e = refl
 of_entered (f ∷ g ∷ es) e = of_entered (g ∷ es) e
 
 -- those of the last step
-pub of_last : (es : List Entry) (e : Entry) → slice_get es (length es - 1) ≡ Some e → last_letters es ≡ e.reaction.letters
+pub of_last : (es : List Entry) (e : Entry) → slice_get es (length es - 1) ≡ Some e → last_messages es ≡ e.reaction.messages
 of_last [] e is = absurd (cc)
 of_last (f ∷ []) e is = let same : f ≡ e = cc in rw same refl
 of_last (f ∷ g ∷ es) e is =

@@ -13,15 +13,15 @@ pub record JournalState : Type 0 where
   pub room : ℕ
 
 -- the messages of the last step
-abbrev pub last_letters : List Entry → List Envelope
-last_letters [] = []
-last_letters (e ∷ []) = e.reaction.letters
-last_letters (e ∷ f ∷ es) = last_letters (f ∷ es)
+abbrev pub last_messages : List Entry → List Envelope
+last_messages [] = []
+last_messages (e ∷ []) = e.reaction.messages
+last_messages (e ∷ f ∷ es) = last_messages (f ∷ es)
 
 -- the messages of the last step, where they are not posted yet
 abbrev pub unposted : Bool → List Entry → List Envelope
 unposted true es = []
-unposted false es = last_letters es
+unposted false es = last_messages es
 
 -- a step can be entered without a growth
 pub record IsReady (j : JournalState) : Type 0 where

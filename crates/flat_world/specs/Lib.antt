@@ -1,3 +1,3 @@
 pub mod Journals
-pub mod Leaving
+pub mod LeafSteps
 pub mod Worlds

@@ -22,7 +22,7 @@ use Rattle.flat_law.specs.Ties.{Follows, GoesOn, IsFlatTree, IsModelled}
 use Rattle.flat_law.specs.FlatWorlds.{BreaksOff, BreaksOffWithin, FlatState, LeadsUntil, Stops, entry_at, undelivered}
 use Rattle.flat_world.specs.declared.leaf.Leaf.{Leaf}
 use Rattle.flat_world.specs.declared.world.FlatWorld.{FlatWorld}
-use Rattle.flat_world.specs.Leaving as leaf
+use Rattle.flat_world.specs.LeafSteps as leaf
 
 -- the leaf of a process
 abbrev pub leaf_in : List (ProcessId × Leaf) → ProcessId → Option LeafState
@@ -50,8 +50,8 @@ logs_at w tree = map (λ e. log_by w (w.leaf_at e.id)) tree
 pub record Enters (old new : FlatState) (q : ProcessId) (input : Input) (reaction : Reaction) : Type 0 where
   pub root : new.root ≡ old.root
   pub leaves : (p : ProcessId) → new.leaf_at p ≡ old.leaf_at p
-  pub net : new.net ≡ old.net ++ reaction.letters
-  pub delivered : new.delivered ≡ old.delivered ++ undelivered reaction.letters
+  pub net : new.net ≡ old.net ++ reaction.messages
+  pub delivered : new.delivered ≡ old.delivered ++ undelivered reaction.messages
   pub entries : new.entries ≡ old.entries ++ entry_at q input reaction ∷ []
 
 -- an event was refused, for memory or otherwise

@@ -2,7 +2,7 @@
 
 ghost use Rattle.std.specs.Prelude.{◌≡◌, ◌+◌, ◌<◌, ◌^◌, ◌++◌, ◌∷◌, [], ℕ, true, None, Some, IfNone, IfOk, IfSome, OnOk, slice_set};
 ghost use Rattle.flat_law.specs.FlatWorlds.{least_open as least_open_in, undelivered};
-ghost use Rattle.flat_world.specs.Journals.{IsReady, Keeps, last_letters as last_letters_of};
+ghost use Rattle.flat_world.specs.Journals.{IsReady, Keeps, last_messages as last_messages_of};
 
 use crate::marks::Marks;
 use std::alloc::{AllocError, Global};
@@ -69,13 +69,13 @@ impl Journal {
     {
         let mut sent = copied(self.alloc, &self.net)?;
         if !self.is_posted {
-            sent.append(&mut copied(self.alloc, last_letters(&self.entries))?)?;
+            sent.append(&mut copied(self.alloc, last_messages(&self.entries))?)?;
         }
         Ok(sent)
     }
 
     /// The messages, where those of the last step are posted.
-    pub(crate) fn letters(&self) -> &[Envelope]
+    pub(crate) fn messages(&self) -> &[Envelope]
         requires { self.now.is_posted ≡ true }
         ensures { result.now ≡ self.now.net }
     {
@@ -112,8 +112,8 @@ impl Journal {
     /// A step more, where there is room for it.
     pub(crate) fn enter(&mut self, entry: Entry)
         requires { IsReady self.old }
-        ensures net { self.new.net ≡ self.old.net ++ entry.reaction.letters }
-        ensures delivered { self.new.delivered ≡ self.old.delivered ++ undelivered entry.reaction.letters }
+        ensures net { self.new.net ≡ self.old.net ++ entry.reaction.messages }
+        ensures delivered { self.new.delivered ≡ self.old.delivered ++ undelivered entry.reaction.messages }
         ensures entries { self.new.entries ≡ self.old.entries ++ entry ∷ [] }
     {
         self.entries.push_reserved(entry);
@@ -128,32 +128,32 @@ impl Journal {
         if self.is_posted {
             return Ok(());
         }
-        let mut letters = copied(self.alloc, last_letters(&self.entries))?;
-        self.net.reserve(letters.len())?;
-        self.delivered.extend(letters.len())?;
-        self.net.append(&mut letters).unwrap();
+        let mut messages = copied(self.alloc, last_messages(&self.entries))?;
+        self.net.reserve(messages.len())?;
+        self.delivered.extend(messages.len())?;
+        self.net.append(&mut messages).unwrap();
         self.is_posted = true;
         Ok(())
     }
 }
 
 /// The messages of the last step.
-fn last_letters(entries: &[Entry]) -> &[Envelope]
-    ensures { result.now ≡ last_letters_of entries.now }
+fn last_messages(entries: &[Entry]) -> &[Envelope]
+    ensures { result.now ≡ last_messages_of entries.now }
 {
     match entries.last() {
         None => &[],
-        Some(entry) => entry.reaction.letters.as_slice(),
+        Some(entry) => entry.reaction.messages.as_slice(),
     }
 }
 
 /// The same messages again.
-fn copied(alloc: Global, letters: &[Envelope]) -> Result<Vec<Envelope>, AllocError>
-    ensures { IfOk result (λ copies. copies.items ≡ letters.now) }
+fn copied(alloc: Global, messages: &[Envelope]) -> Result<Vec<Envelope>, AllocError>
+    ensures { IfOk result (λ copies. copies.items ≡ messages.now) }
 {
     let mut copies = Vec::new(alloc);
-    for letter in letters {
-        copies.push(letter.copied(alloc)?)?;
+    for envelope in messages {
+        copies.push(envelope.copied(alloc)?)?;
     }
     Ok(copies)
 }

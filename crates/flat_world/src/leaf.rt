@@ -9,12 +9,12 @@ ghost use Rattle.tree_model.specs.Nodes.{logged_of, reaction_of, no_effect};
 ghost use Rattle.tree_model.specs.Memory.{active_ticket, without_ticket};
 ghost use Rattle.tree_model.specs.Standings.{standing_branch, unknown_branch};
 ghost use Rattle.tree_model.specs.CoordinatorRows.{post};
-ghost use Rattle.tree_model.specs.ManagerRows.{is_acknowledged as acknowledges, Leaf as Leafling, acknowledgement, ends_record, prepared_outcome};
+ghost use Rattle.tree_model.specs.ManagerRows.{is_acknowledged as acknowledges, Leaf as ModelLeaf, acknowledgement, ends_record, prepared_outcome};
 ghost use Rattle.tree_model.specs.Plays.{op_writes, with_write};
 ghost use Rattle.tree_model.specs.Reactions.{leaf_effect, sends_only};
 ghost use Rattle.rec_log.specs.Logs.{records_of};
 ghost use Rattle.flat_law.specs.Leaves.{IsOpened, Makes, Same, abort_turn, act_refusal, commit_turn, join_turn, leaf_of, message_turn, open_branch, prepare_turn, work_turn};
-ghost use Rattle.flat_world.specs.Leaving.{Concludes, ConcludesRetired, IsReply, Leaves, Promises, Retires, WorksIn, is_reading, meant, promise_reaction, state, view_in, worked_view, worked_writes, writes_in, writes_of};
+ghost use Rattle.flat_world.specs.LeafSteps.{Concludes, ConcludesRetired, IsReply, Leaves, Promises, Retires, WorksIn, is_reading, model_view, promise_reaction, state, view_in, worked_view, worked_writes, writes_in, writes_of};
 
 use indexmap::IndexMap;
 use rec_log::RecLog;
@@ -56,7 +56,7 @@ fn quiet(alloc: Global) -> Reaction
         begun: None,
         written: Sequence::new(alloc),
         told: None,
-        letters: Sequence::new(alloc),
+        messages: Sequence::new(alloc),
         kept: None,
     }
 }
@@ -137,14 +137,14 @@ impl Leaf {
     fn reply(&self, message: Message) -> Result<Reaction, AllocError>
         ensures { IfOk result (λ reaction. reaction ≡ reaction_of (sends_only (post self.now.me self.now.parent message ∷ []))) }
     {
-        let mut letters = Sequence::new(self.alloc);
-        letters.push(Envelope {
+        let mut messages = Sequence::new(self.alloc);
+        messages.push(Envelope {
             from: self.me,
             to: self.parent,
             message,
         })?;
         let mut reaction = quiet(self.alloc);
-        reaction.letters = letters;
+        reaction.messages = messages;
         Ok(reaction)
     }
 
@@ -451,9 +451,9 @@ fn work_in(
 
 /// The branch does its next work, where it is active.
 fn work_on(alloc: Global, index: u64, op: &Op, branch: &mut Live) -> Result<(), AllocError>
-    ensures ok { OnOk result (meant branch.new ≡ worked_view index (meant branch.old)) }
-    ensures writes { OnOk result (writes_of branch.new ≡ worked_writes index (meant branch.old) (writes_of branch.old) op.now) }
-    ensures err { OnErr result (meant branch.new ≡ meant branch.old) }
+    ensures ok { OnOk result (model_view branch.new ≡ worked_view index (model_view branch.old)) }
+    ensures writes { OnOk result (writes_of branch.new ≡ worked_writes index (model_view branch.old) (writes_of branch.old) op.now) }
+    ensures err { OnErr result (model_view branch.new ≡ model_view branch.old) }
     ensures err_writes { OnErr result (writes_of branch.new ≡ writes_of branch.old) }
 {
     match branch {
@@ -569,7 +569,7 @@ fn shown_outcome(
     outcome: Outcome,
     forced: bool,
 ) -> Result<Sequence<Logged>, AllocError>
-    ensures { IfOk result (λ shown. (l : Leafling) → l.own ≡ case
+    ensures { IfOk result (λ shown. (l : ModelLeaf) → l.own ≡ case
         → shown ≡ logged_of (record { entry = ends_record l outcome; is_forced = forced }) ∷ []) }
 {
     match outcome {

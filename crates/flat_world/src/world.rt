@@ -9,7 +9,7 @@ ghost use Rattle.tree_model.specs.Reactions.{names_listed as names_listed_in};
 ghost use Rattle.flat_law.specs.Leaves as leaf_law;
 ghost use Rattle.flat_law.specs.FlatWorlds.{Applies, Delivers, Hears, IsLost, IsOpened, Leads, Same, Settles, SettleStops, Steps, entry_at, leaf_refusal, least_open as least_open_in};
 ghost use Rattle.tree_model.specs.declared.messages.Envelope.{Envelope as AnyEnvelope};
-ghost use Rattle.flat_world.specs.Leaving.{state as leaf_state};
+ghost use Rattle.flat_world.specs.LeafSteps.{state as leaf_state};
 ghost use Rattle.flat_law.specs.Ties.{IsFlatTree, IsModelled};
 ghost use Rattle.flat_world.specs.Journals.{IsReady};
 ghost use Rattle.flat_world.specs.Worlds.{AgreesFrom, AreLeaves, AreStopped, ConsentsFrom, Enters, IsModelledFrom, RunsOn, IsStopped, leaf_in, log_by, logs_at, state};
@@ -244,10 +244,10 @@ impl FlatWorld {
         ensures err { IfErr result (λ e. IsStopped (state self.old) (Event.Deliver number) e (state self.new)) }
     {
         self.make_room()?;
-        let Some(place) = place_of(number, self.journal.letters().len()) else {
+        let Some(place) = place_of(number, self.journal.messages().len()) else {
             return Err(StepError::NoSuch);
         };
-        let (to, message) = self.letter(place)?;
+        let (to, message) = self.envelope(place)?;
         let reaction = self.hear(to, &message)?;
         self.journal.mark(place);
         self.enter(to, Input::Message(number, message), reaction);
@@ -263,13 +263,13 @@ impl FlatWorld {
     }
 
     /// The receiver and the text of a message, made anew.
-    fn letter(&self, place: usize) -> Result<(ProcessId, Message), AllocError>
+    fn envelope(&self, place: usize) -> Result<(ProcessId, Message), AllocError>
         requires posted { self.now.journal.is_posted ≡ true }
         requires sent { place < length self.now.journal.net }
-        ensures { IfOk result (λ r. (letter : AnyEnvelope) × (slice_get self.now.journal.net place ≡ Some letter) × (r.0 ≡ letter.to) × (r.1 ≡ letter.message)) }
+        ensures { IfOk result (λ r. (envelope : AnyEnvelope) × (slice_get self.now.journal.net place ≡ Some envelope) × (r.0 ≡ envelope.to) × (r.1 ≡ envelope.message)) }
     {
-        let letter = &self.journal.letters()[place];
-        Ok((letter.to, letter.message.copied(self.alloc)?))
+        let envelope = &self.journal.messages()[place];
+        Ok((envelope.to, envelope.message.copied(self.alloc)?))
     }
 
     /// A process handles a message.

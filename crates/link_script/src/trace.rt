@@ -247,7 +247,7 @@ fn push_told(out: &mut Vec<u8>, told: &Told) -> Result<(), AllocError>
 /// its messages, and what a trim kept. Where memory is refused, a beginning of them may stand.
 #[tactic(auto, unfolding(crate::specs::Trace::entry_text))]
 pub fn push_entry(out: &mut Vec<u8>, sent: u64, entry: &Entry) -> Result<(), AllocError>
-    requires { sent + length entry.now.reaction.letters < 2 ^ 64 }
+    requires { sent + length entry.now.reaction.messages < 2 ^ 64 }
     ensures { OnOk result (out.new.items ≡ out.old.items ++ entry_text sent entry.now) }
 {
     let process = entry.step.process.0;
@@ -255,7 +255,7 @@ pub fn push_entry(out: &mut Vec<u8>, sent: u64, entry: &Entry) -> Result<(), All
     push_begun(out, &reaction.begun)?;
     push_written(out, process, reaction.written.as_slice())?;
     push_conclusion(out, &reaction.told)?;
-    push_letters(out, sent, reaction.letters.as_slice())?;
+    push_messages(out, sent, reaction.messages.as_slice())?;
     push_kept(out, process, &reaction.kept)
 }
 
@@ -268,7 +268,7 @@ pub fn trace_text(alloc: Global, entries: &[Entry]) -> Result<Vec<u8>, AllocErro
     let mut sent = 0;
     for entry in entries {
         push_entry(&mut out, sent, entry)?;
-        sent += entry.reaction.letters.len() as u64;
+        sent += entry.reaction.messages.len() as u64;
     }
     Ok(out)
 }
@@ -308,12 +308,12 @@ fn push_conclusion(out: &mut Vec<u8>, told: &Option<Told>) -> Result<(), AllocEr
     }
 }
 
-fn push_letters(out: &mut Vec<u8>, sent: u64, letters: &[Envelope]) -> Result<(), AllocError>
-    requires { sent + length letters.now < 2 ^ 64 }
-    ensures { OnOk result (out.new.items ≡ out.old.items ++ lines_text (envelope_lines sent letters.now)) }
+fn push_messages(out: &mut Vec<u8>, sent: u64, messages: &[Envelope]) -> Result<(), AllocError>
+    requires { sent + length messages.now < 2 ^ 64 }
+    ensures { OnOk result (out.new.items ≡ out.old.items ++ lines_text (envelope_lines sent messages.now)) }
 {
     let mut number = sent;
-    for envelope in letters {
+    for envelope in messages {
         number += 1;
         push_envelope(out, number, envelope)?;
         push(out, "\n")?;

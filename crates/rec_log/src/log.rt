@@ -23,7 +23,7 @@ impl Model for RecLog {
     ghost Value = { LogState };
 
     ghost view = { λ l. record {
-      kept = record { forced = take l.forced l.records.items; loose = drop l.forced l.records.items };
+      kept = record { forced = take l.forced l.records.items; unforced = drop l.forced l.records.items };
       room = vec_capacity l.records - length l.records.items;
     } };
 
@@ -34,7 +34,7 @@ impl RecLog {
     /// A log without records. It takes no memory.
     pub fn new(alloc: Global) -> Self
         ensures forced { result.kept.forced ≡ [] }
-        ensures loose { result.kept.loose ≡ [] }
+        ensures unforced { result.kept.unforced ≡ [] }
     {
         RecLog {
             records: Vec::new(alloc),

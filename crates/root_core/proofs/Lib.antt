@@ -1,3 +1,3 @@
 pub mod Entries
-pub mod Letters
+pub mod Envelopes
 pub mod LiveRows

@@ -6,16 +6,16 @@ use Rattle.tree_model.specs.Names.{same_txn}
 use Rattle.tree_model.specs.CoordinatorRows.{Seat, Row}
 use Rattle.tree_model.specs.Standings.{CoordinatorView}
 use Rattle.root_core.specs.declared.view.View.{View}
-use Rattle.root_core.specs.declared.view.Deed.{Deed}
-use Rattle.root_core.specs.Rows.{Does, DoesIn, meant, view_in}
+use Rattle.root_core.specs.declared.view.RowEffect.{RowEffect}
+use Rattle.root_core.specs.Rows.{Does, DoesIn, model_view, view_in}
 
--- where the view before and the view behind stand in the lists, the deed was done in the lists
-pub does_in : {E : Type 0} (row : CoordinatorView → Row) (old new : List (Txn × View)) (x : Txn) (before behind : View) (made : Result Deed E)
-    → view_in old x ≡ meant before → view_in new x ≡ meant behind
+-- where the view before and the view behind stand in the lists, the effect was done in the lists
+pub does_in : {E : Type 0} (row : CoordinatorView → Row) (old new : List (Txn × View)) (x : Txn) (before behind : View) (made : Result RowEffect E)
+    → view_in old x ≡ model_view before → view_in new x ≡ model_view behind
     → ((y : Txn) → same_txn x y ≡ false → view_in new y ≡ view_in old y)
-    → IfOk made (λ deed. Does x (row (meant before)) deed behind)
-    → IfOk made (λ deed. DoesIn old new x (row (view_in old x)) deed)
-does_in row old new x before behind (Ok deed) stood stands others done = rw stood (record {
+    → IfOk made (λ effect. Does x (row (model_view before)) effect behind)
+    → IfOk made (λ effect. DoesIn old new x (row (view_in old x)) effect)
+does_in row old new x before behind (Ok effect) stood stands others done = rw stood (record {
   written = done.written;
   reaction = done.reaction;
   own = stands ∙ done.view_is;

@@ -183,7 +183,7 @@ abbrev pub Makes : RootState → RootState → Turn → Reaction → Type 0
 Makes old new (Refuses e) reaction = ⊥
 Makes old new (Begins x) reaction = Opens old new x × (reaction ≡ reaction_of (begin_effect x))
 Makes old new (Takes x row) reaction = Moves old new x row × (reaction ≡ reaction_of (row_effect (root_case x) row))
-Makes old new (Answers letter) reaction = (new ≡ old) × (reaction ≡ reaction_of (sends_only (letter ∷ [])))
+Makes old new (Answers envelope) reaction = (new ≡ old) × (reaction ≡ reaction_of (sends_only (envelope ∷ [])))
 Makes old new Ignores reaction = (new ≡ old) × (reaction ≡ reaction_of no_effect)
 
 -- nothing is otherwise

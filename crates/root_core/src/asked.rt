@@ -1,12 +1,12 @@
 //! What is asked of a live transaction, and the row that it meets.
 
 ghost use Rattle.std.specs.Prelude.{◌≡◌, IfOk, OnErr};
-ghost use Rattle.root_core.specs.Rows.{Does, meant, seat as seat_meant};
+ghost use Rattle.root_core.specs.Rows.{Does, model_view, seat as model_seat};
 ghost use Rattle.root_core.specs.Asking.{asked_row};
 
 use crate::decisions::{collecting_abort, collecting_vote, on_ack};
 use crate::rows::{active_abort, active_commit, active_join, active_joined, active_work, inquiry};
-use crate::view::{Deed, Seat, View};
+use crate::view::{RowEffect, Seat, View};
 use std::alloc::{AllocError, Global};
 use tree_model::{Op, Outcome, ProcessId, Ticket, Vote};
 
@@ -30,9 +30,9 @@ pub(crate) fn take_row(
     seat: Seat,
     asked: Asked,
     view: &mut View,
-) -> Result<Deed, AllocError>
-    ensures ok { IfOk result (λ deed. Does seat.txn (asked_row (seat_meant seat) asked.entry (meant view.old)) deed view.new) }
-    ensures err { OnErr result (meant view.new ≡ meant view.old) }
+) -> Result<RowEffect, AllocError>
+    ensures ok { IfOk result (λ effect. Does seat.txn (asked_row (model_seat seat) asked.entry (model_view view.old)) effect view.new) }
+    ensures err { OnErr result (model_view view.new ≡ model_view view.old) }
 {
     match asked {
         Asked::Join(child) => active_join(alloc, seat, child, view),

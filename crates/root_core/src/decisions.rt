@@ -14,13 +14,13 @@ ghost use Rattle.tree_model.specs.CoordinatorRows.{
   on_ack as on_ack_row,
   root_commits as commits_row,
 };
-ghost use Rattle.root_core.specs.Rows.{Does, meant, seat as seat_meant};
+ghost use Rattle.root_core.specs.Rows.{Does, model_view, seat as model_seat};
 
 use crate::lists::{
     all_voted, in_list, is_counted, other_tickets, tell_each, undecided_of, yes_of,
 };
 use crate::rows::none_of;
-use crate::view::{Deed, Seat, View, Written};
+use crate::view::{RowEffect, Seat, View, Written};
 use std::alloc::{AllocError, Global};
 use tree_model::{
     Conclusion, Outcome, Presumption, Record, Sequence, Standing, Ticket, Told, Vote,
@@ -38,7 +38,7 @@ fn named_with(alloc: Global, view: &View, tickets: &[Ticket]) -> Result<Vec<Tick
 /// The decided transaction waits for these acknowledgements; where there are none it is forgotten.
 fn awaits(view: &mut View, standing: Standing, tickets: Vec<Ticket>, named: Vec<Ticket>)
     requires { named.items ≡ view.old.named.items ++ tickets.items }
-    ensures { meant view.new ≡ awaits_view standing tickets.items (meant view.old) }
+    ensures { model_view view.new ≡ awaits_view standing tickets.items (model_view view.old) }
 {
     if none_of(&tickets) {
         view.forget();
@@ -56,16 +56,16 @@ pub(crate) fn collecting_vote(
     ticket: Ticket,
     vote: Vote,
     view: &mut View,
-) -> Result<Deed, AllocError>
-    ensures ok { IfOk result (λ deed. Does seat.txn (vote_row (seat_meant seat) ticket vote (meant view.old)) deed view.new) }
-    ensures err { OnErr result (meant view.new ≡ meant view.old) }
+) -> Result<RowEffect, AllocError>
+    ensures ok { IfOk result (λ effect. Does seat.txn (vote_row (model_seat seat) ticket vote (model_view view.old)) effect view.new) }
+    ensures err { OnErr result (model_view view.new ≡ model_view view.old) }
 {
     if !is_counted(&view.accepted, &view.votes, &ticket) {
-        return Ok(Deed::quiet(alloc));
+        return Ok(RowEffect::quiet(alloc));
     }
     view.votes.push((ticket, vote))?;
     match collecting_after(alloc, seat, vote, view) {
-        Ok(deed) => Ok(deed),
+        Ok(effect) => Ok(effect),
         Err(refusal) => {
             let _ = view.votes.pop();
             Err(refusal)
@@ -79,9 +79,9 @@ fn collecting_after(
     seat: Seat,
     vote: Vote,
     view: &mut View,
-) -> Result<Deed, AllocError>
-    ensures ok { IfOk result (λ deed. Does seat.txn (after_row (seat_meant seat) (meant view.old) vote) deed view.new) }
-    ensures err { OnErr result (meant view.new ≡ meant view.old) }
+) -> Result<RowEffect, AllocError>
+    ensures ok { IfOk result (λ effect. Does seat.txn (after_row (model_seat seat) (model_view view.old) vote) effect view.new) }
+    ensures err { OnErr result (model_view view.new ≡ model_view view.old) }
 {
     match vote {
         Vote::No => collecting_abort(alloc, seat, view),
@@ -89,24 +89,24 @@ fn collecting_after(
             if all_voted(&view.accepted, &view.votes) {
                 collecting_full(alloc, seat, view)
             } else {
-                Ok(Deed::quiet(alloc))
+                Ok(RowEffect::quiet(alloc))
             }
         }
     }
 }
 
 /// Collecting, a NO or the abort act: under Presumed Commit the abort is forced and names those that may have promised.
-#[tactic(auto, using(crate::proofs::Letters::nothing_heard))]
+#[tactic(auto, using(crate::proofs::Envelopes::nothing_heard))]
 pub(crate) fn collecting_abort(
     alloc: Global,
     seat: Seat,
     view: &mut View,
-) -> Result<Deed, AllocError>
-    ensures ok { IfOk result (λ deed. (why : Reason) → Does seat.txn (abort_row (seat_meant seat) why (meant view.old)) deed view.new) }
-    ensures err { OnErr result (meant view.new ≡ meant view.old) }
+) -> Result<RowEffect, AllocError>
+    ensures ok { IfOk result (λ effect. (why : Reason) → Does seat.txn (abort_row (model_seat seat) why (model_view view.old)) effect view.new) }
+    ensures err { OnErr result (model_view view.new ≡ model_view view.old) }
 {
     let undecided = undecided_of(alloc, &view.accepted, &view.votes)?;
-    let letters = tell_each(alloc, seat, Outcome::Aborted, &undecided)?;
+    let messages = tell_each(alloc, seat, Outcome::Aborted, &undecided)?;
     let told = Some(Told {
         txn: seat.txn,
         conclusion: Conclusion::Aborted,
@@ -117,9 +117,9 @@ pub(crate) fn collecting_abort(
                 entry: Record::Abort(seat.case(), Sequence::new(alloc)),
                 forced: false,
             };
-            let deed = Deed::writes(alloc, written, told, letters)?;
+            let effect = RowEffect::writes(alloc, written, told, messages)?;
             view.forget();
-            Ok(deed)
+            Ok(effect)
         }
         Presumption::PresumeCommit => {
             let named = named_with(alloc, view, &undecided)?;
@@ -130,17 +130,17 @@ pub(crate) fn collecting_abort(
                 ),
                 forced: true,
             };
-            let deed = Deed::writes(alloc, written, told, letters)?;
+            let effect = RowEffect::writes(alloc, written, told, messages)?;
             awaits(view, Standing::Aborting, undecided, named);
-            Ok(deed)
+            Ok(effect)
         }
     }
 }
 
 /// Collecting, the last vote, and none was NO: all that voted YES are told to commit.
-fn collecting_full(alloc: Global, seat: Seat, view: &mut View) -> Result<Deed, AllocError>
-    ensures ok { IfOk result (λ deed. Does seat.txn (full_row (seat_meant seat) (meant view.old)) deed view.new) }
-    ensures err { OnErr result (meant view.new ≡ meant view.old) }
+fn collecting_full(alloc: Global, seat: Seat, view: &mut View) -> Result<RowEffect, AllocError>
+    ensures ok { IfOk result (λ effect. Does seat.txn (full_row (model_seat seat) (model_view view.old)) effect view.new) }
+    ensures err { OnErr result (model_view view.new ≡ model_view view.old) }
 {
     let yes = yes_of(alloc, &view.accepted, &view.votes)?;
     if none_of(&yes) {
@@ -150,14 +150,14 @@ fn collecting_full(alloc: Global, seat: Seat, view: &mut View) -> Result<Deed, A
 }
 
 /// All read only: nothing is decided. Under Presumed Commit the record of the votes' collection is ended.
-fn collecting_read_only(alloc: Global, seat: Seat, view: &mut View) -> Result<Deed, AllocError>
-    ensures ok { IfOk result (λ deed. Does seat.txn (read_only_row (seat_meant seat)) deed view.new) }
-    ensures err { OnErr result (meant view.new ≡ meant view.old) }
+fn collecting_read_only(alloc: Global, seat: Seat, view: &mut View) -> Result<RowEffect, AllocError>
+    ensures ok { IfOk result (λ effect. Does seat.txn (read_only_row (model_seat seat)) effect view.new) }
+    ensures err { OnErr result (model_view view.new ≡ model_view view.old) }
 {
     match seat.txn.presumption {
         Presumption::PresumeAbort => {
             view.forget();
-            Ok(Deed::tells(alloc, seat.txn, Conclusion::ReadOnly, Sequence::new(alloc)))
+            Ok(RowEffect::tells(alloc, seat.txn, Conclusion::ReadOnly, Sequence::new(alloc)))
         }
         Presumption::PresumeCommit => {
             let told = Some(Told {
@@ -168,20 +168,25 @@ fn collecting_read_only(alloc: Global, seat: Seat, view: &mut View) -> Result<De
                 entry: Record::End(seat.case()),
                 forced: false,
             };
-            let deed = Deed::writes(alloc, written, told, Sequence::new(alloc))?;
+            let effect = RowEffect::writes(alloc, written, told, Sequence::new(alloc))?;
             view.forget();
-            Ok(deed)
+            Ok(effect)
         }
     }
 }
 
 /// The decision: a forced Commit. Under Presumed Abort it names those that owe an acknowledgement; under Presumed Commit
 /// nobody owes one, and the transaction is forgotten.
-fn commits(alloc: Global, seat: Seat, yes: Vec<Ticket>, view: &mut View) -> Result<Deed, AllocError>
-    ensures ok { IfOk result (λ deed. Does seat.txn (commits_row (seat_meant seat) (meant view.old) yes.items seat.txn.presumption) deed view.new) }
-    ensures err { OnErr result (meant view.new ≡ meant view.old) }
+fn commits(
+    alloc: Global,
+    seat: Seat,
+    yes: Vec<Ticket>,
+    view: &mut View,
+) -> Result<RowEffect, AllocError>
+    ensures ok { IfOk result (λ effect. Does seat.txn (commits_row (model_seat seat) (model_view view.old) yes.items seat.txn.presumption) effect view.new) }
+    ensures err { OnErr result (model_view view.new ≡ model_view view.old) }
 {
-    let letters = tell_each(alloc, seat, Outcome::Committed, &yes)?;
+    let messages = tell_each(alloc, seat, Outcome::Committed, &yes)?;
     let told = Some(Told {
         txn: seat.txn,
         conclusion: Conclusion::Committed,
@@ -196,18 +201,18 @@ fn commits(alloc: Global, seat: Seat, yes: Vec<Ticket>, view: &mut View) -> Resu
                 ),
                 forced: true,
             };
-            let deed = Deed::writes(alloc, written, told, letters)?;
+            let effect = RowEffect::writes(alloc, written, told, messages)?;
             awaits(view, Standing::Committing, yes, named);
-            Ok(deed)
+            Ok(effect)
         }
         Presumption::PresumeCommit => {
             let written = Written {
                 entry: Record::Commit(seat.case(), Sequence::new(alloc)),
                 forced: true,
             };
-            let deed = Deed::writes(alloc, written, told, letters)?;
+            let effect = RowEffect::writes(alloc, written, told, messages)?;
             view.forget();
-            Ok(deed)
+            Ok(effect)
         }
     }
 }
@@ -219,15 +224,15 @@ pub(crate) fn on_ack(
     ticket: Ticket,
     outcome: Outcome,
     view: &mut View,
-) -> Result<Deed, AllocError>
-    ensures ok { IfOk result (λ deed. Does seat.txn (on_ack_row (seat_meant seat) ticket outcome (meant view.old) view.old.standing) deed view.new) }
-    ensures err { OnErr result (meant view.new ≡ meant view.old) }
+) -> Result<RowEffect, AllocError>
+    ensures ok { IfOk result (λ effect. Does seat.txn (on_ack_row (model_seat seat) ticket outcome (model_view view.old) view.old.standing) effect view.new) }
+    ensures err { OnErr result (model_view view.new ≡ model_view view.old) }
 {
     match (outcome, view.standing) {
         (Outcome::Committed, Standing::Committing) | (Outcome::Aborted, Standing::Aborting) => {
             decided_ack(alloc, seat, ticket, view)
         }
-        _ => Ok(Deed::quiet(alloc)),
+        _ => Ok(RowEffect::quiet(alloc)),
     }
 }
 
@@ -237,12 +242,12 @@ fn decided_ack(
     seat: Seat,
     ticket: Ticket,
     view: &mut View,
-) -> Result<Deed, AllocError>
-    ensures ok { IfOk result (λ deed. Does seat.txn (ack_row (seat_meant seat) ticket (meant view.old)) deed view.new) }
-    ensures err { OnErr result (meant view.new ≡ meant view.old) }
+) -> Result<RowEffect, AllocError>
+    ensures ok { IfOk result (λ effect. Does seat.txn (ack_row (model_seat seat) ticket (model_view view.old)) effect view.new) }
+    ensures err { OnErr result (model_view view.new ≡ model_view view.old) }
 {
     if !in_list(&view.owed, &ticket) {
-        return Ok(Deed::quiet(alloc));
+        return Ok(RowEffect::quiet(alloc));
     }
     let left = other_tickets(alloc, &ticket, &view.owed)?;
     acknowledged(alloc, seat, left, view)
@@ -254,19 +259,19 @@ fn acknowledged(
     seat: Seat,
     left: Vec<Ticket>,
     view: &mut View,
-) -> Result<Deed, AllocError>
-    ensures ok { IfOk result (λ deed. Does seat.txn (ack_by_row (seat_meant seat) left.items (meant view.old)) deed view.new) }
-    ensures err { OnErr result (meant view.new ≡ meant view.old) }
+) -> Result<RowEffect, AllocError>
+    ensures ok { IfOk result (λ effect. Does seat.txn (ack_by_row (model_seat seat) left.items (model_view view.old)) effect view.new) }
+    ensures err { OnErr result (model_view view.new ≡ model_view view.old) }
 {
     if !none_of(&left) {
         view.owed = left;
-        return Ok(Deed::quiet(alloc));
+        return Ok(RowEffect::quiet(alloc));
     }
     let written = Written {
         entry: Record::End(seat.case()),
         forced: false,
     };
-    let deed = Deed::writes(alloc, written, None, Sequence::new(alloc))?;
+    let effect = RowEffect::writes(alloc, written, None, Sequence::new(alloc))?;
     view.forget();
-    Ok(deed)
+    Ok(effect)
 }

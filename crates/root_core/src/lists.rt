@@ -16,11 +16,11 @@ ghost use Rattle.tree_model.specs.Memory.{
   same_vote as is_same_vote,
 };
 ghost use Rattle.tree_model.specs.CoordinatorRows.{each, other_tickets as others_in, post, prepares as prepares_to, tells_outcome, to_child};
-ghost use Rattle.root_core.specs.Rows.{meant, seat as seat_meant};
+ghost use Rattle.root_core.specs.Rows.{model_view, seat as model_seat};
 
 use crate::view::{Seat, View};
 use std::alloc::{AllocError, Global};
-use tree_model::{Case, Envelope, Letters, Message, Outcome, ProcessId, Sequence, Ticket, Vote};
+use tree_model::{Case, Envelope, Envelopes, Message, Outcome, ProcessId, Sequence, Ticket, Vote};
 
 /// Whether a ticket of the child is among these.
 #[tactic(auto, unfolding(tree_model::specs::Memory::has_child, tree_model::specs::Names::same_process))]
@@ -167,8 +167,8 @@ pub(crate) fn child_case(seat: Seat, ticket: Ticket) -> Case
     }
 }
 
-fn outcome_letter(seat: Seat, outcome: Outcome, ticket: Ticket) -> Envelope
-    ensures { result ≡ to_child (seat_meant seat) (tells_outcome outcome) ticket }
+fn outcome_message(seat: Seat, outcome: Outcome, ticket: Ticket) -> Envelope
+    ensures { result ≡ to_child (model_seat seat) (tells_outcome outcome) ticket }
 {
     let case = child_case(seat, ticket);
     Envelope {
@@ -187,17 +187,17 @@ pub(crate) fn tell_each(
     seat: Seat,
     outcome: Outcome,
     tickets: &[Ticket],
-) -> Result<Letters, AllocError>
-    ensures { IfOk result (λ letters. letters ≡ each (seat_meant seat) (tells_outcome outcome) tickets.now) }
+) -> Result<Envelopes, AllocError>
+    ensures { IfOk result (λ messages. messages ≡ each (model_seat seat) (tells_outcome outcome) tickets.now) }
 {
-    let mut letters = Vec::new(alloc);
+    let mut messages = Vec::new(alloc);
     for ticket in tickets {
-        letters.push(outcome_letter(seat, outcome, *ticket))?;
+        messages.push(outcome_message(seat, outcome, *ticket))?;
     }
-    Ok(Sequence::from_vec(letters))
+    Ok(Sequence::from_vec(messages))
 }
 
-fn prepare_letter(seat: Seat, works: &[Ticket], ticket: Ticket) -> Envelope
+fn prepare_message(seat: Seat, works: &[Ticket], ticket: Ticket) -> Envelope
     ensures { result ≡ post seat.me ticket.child (Message.Prepare (record { txn = seat.txn; ticket = Some ticket }) (works_in works.now ticket)) }
 {
     Envelope {
@@ -208,12 +208,12 @@ fn prepare_letter(seat: Seat, works: &[Ticket], ticket: Ticket) -> Envelope
 }
 
 /// PREPARE to each accepted child, with the number of its works.
-pub(crate) fn prepares(alloc: Global, seat: Seat, view: &View) -> Result<Letters, AllocError>
-    ensures { IfOk result (λ letters. letters ≡ prepares_to (seat_meant seat) (meant view.now)) }
+pub(crate) fn prepares(alloc: Global, seat: Seat, view: &View) -> Result<Envelopes, AllocError>
+    ensures { IfOk result (λ messages. messages ≡ prepares_to (model_seat seat) (model_view view.now)) }
 {
-    let mut letters = Vec::new(alloc);
+    let mut messages = Vec::new(alloc);
     for ticket in &view.accepted {
-        letters.push(prepare_letter(seat, &view.works, *ticket))?;
+        messages.push(prepare_message(seat, &view.works, *ticket))?;
     }
-    Ok(Sequence::from_vec(letters))
+    Ok(Sequence::from_vec(messages))
 }

@@ -12,14 +12,14 @@ ghost use Rattle.rec_log.specs.Logs.{opened_log, records_of, writes};
 ghost use Rattle.root_core.specs.Roots.{IsOpened, Makes, Refused, Refuses, Same, Takes, ack_turn, act_turn, acts, input_turn, inquiry_turn, joined_turn, live_turn, message_turn, of_root, open_view, seat_of, vote_turn, work_for};
 ghost use Rattle.tree_model.specs.declared.names.Txn.{Txn as AnyTxn};
 ghost use Rattle.root_core.specs.Asking.{asked_row};
-ghost use Rattle.root_core.specs.Rows.{DoesIn, IsLive, seat as seat_meant, view_in, written_of};
+ghost use Rattle.root_core.specs.Rows.{DoesIn, IsLive, seat as model_seat, view_in, written_of};
 ghost use Rattle.root_core.specs.States.{state};
 
 use crate::asked::{Asked, take_row};
 use crate::lists::{in_list, tell_each, ticket_of_child};
 use crate::places::{is_child, is_manager};
 use crate::rows::presumed;
-use crate::view::{Deed, Seat, View, Written};
+use crate::view::{RowEffect, Seat, View, Written};
 use indexmap::IndexMap;
 use rec_log::RecLog;
 use std::alloc::{AllocError, Global};
@@ -124,17 +124,17 @@ impl Root {
     {
         let seat = self.seat(txn);
         self.log.reserve(1)?;
-        let deed = take_live(self.alloc, seat, asked, &mut self.live)?;
-        write_down(&mut self.log, deed.written);
+        let effect = take_live(self.alloc, seat, asked, &mut self.live)?;
+        write_down(&mut self.log, effect.written);
         let_go(&mut self.live, &txn);
-        Ok(deed.reaction)
+        Ok(effect.reaction)
     }
 
     /// An input of a transaction that it leaves where it stands.
     fn quiet(&self) -> Reaction
         ensures { result ≡ reaction_of no_effect }
     {
-        Deed::quiet(self.alloc).reaction
+        RowEffect::quiet(self.alloc).reaction
     }
 
     /// Begins a transaction. Memory: nothing changed.
@@ -354,13 +354,13 @@ impl Root {
         ensures { IfOk result (λ reaction. reaction ≡ reaction_of (sends_only
             (post self.now.me ticket.child (tells_outcome (presumed_of txn.presumption) (child_case txn ticket)) ∷ []))) }
     {
-        let letters = tell_each(
+        let messages = tell_each(
             self.alloc,
             self.seat(txn),
             presumed(txn.presumption),
             &[ticket],
         )?;
-        Ok(Deed::sends(self.alloc, letters).reaction)
+        Ok(RowEffect::sends(self.alloc, messages).reaction)
     }
 
     /// Handles a message. What is not for a root, or comes where nothing waits for it, does nothing.
@@ -436,10 +436,10 @@ fn take_live(
     seat: Seat,
     asked: Asked,
     live: &mut IndexMap<Txn, View>,
-) -> Result<Deed, AllocError>
+) -> Result<RowEffect, AllocError>
     requires { IsLive live.old.entries seat.txn }
-    ensures ok { IfOk result (λ deed. DoesIn live.old.entries live.new.entries seat.txn
-        (asked_row (seat_meant seat) asked.entry (view_in live.old.entries seat.txn)) deed) }
+    ensures ok { IfOk result (λ effect. DoesIn live.old.entries live.new.entries seat.txn
+        (asked_row (model_seat seat) asked.entry (view_in live.old.entries seat.txn)) effect) }
     ensures err { OnErr result ((y : AnyTxn) → view_in live.new.entries y ≡ view_in live.old.entries y) }
 {
     let view = live.get_mut(&seat.txn).unwrap();

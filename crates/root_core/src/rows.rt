@@ -13,14 +13,14 @@ ghost use Rattle.tree_model.specs.CoordinatorRows.{
   on_inquiry as inquiry_row,
   post,
 };
-ghost use Rattle.root_core.specs.Rows.{Does, meant, seat as seat_meant};
+ghost use Rattle.root_core.specs.Rows.{Does, model_view, seat as model_seat};
 
 use crate::lists::{child_case, has_child, prepares, tell_each, works_of};
-use crate::view::{Deed, Seat, View, Written};
+use crate::view::{RowEffect, Seat, View, Written};
 use std::alloc::{AllocError, Global};
 use tree_model::{
-    Conclusion, Envelope, Letters, Message, Op, Outcome, Presumption, ProcessId, Record, Sequence,
-    Standing, Ticket,
+    Conclusion, Envelope, Envelopes, Message, Op, Outcome, Presumption, ProcessId, Record,
+    Sequence, Standing, Ticket,
 };
 
 /// Whether there is no ticket.
@@ -35,17 +35,17 @@ pub(crate) fn none_of(tickets: &[Ticket]) -> bool
 }
 
 /// One message.
-pub(crate) fn one_letter(
+pub(crate) fn one_message(
     alloc: Global,
     from: ProcessId,
     to: ProcessId,
     message: Message,
-) -> Result<Letters, AllocError>
-    ensures { IfOk result (λ letters. letters ≡ post from to message ∷ []) }
+) -> Result<Envelopes, AllocError>
+    ensures { IfOk result (λ messages. messages ≡ post from to message ∷ []) }
 {
-    let mut letters = Sequence::new(alloc);
-    letters.push(Envelope { from, to, message })?;
-    Ok(letters)
+    let mut messages = Sequence::new(alloc);
+    messages.push(Envelope { from, to, message })?;
+    Ok(messages)
 }
 
 /// Active, a join act: a child that is not accepted is invited.
@@ -54,14 +54,14 @@ pub(crate) fn active_join(
     seat: Seat,
     child: ProcessId,
     view: &View,
-) -> Result<Deed, AllocError>
-    ensures { IfOk result (λ deed. Does seat.txn (join_row (seat_meant seat) child (meant view.now)) deed view.now) }
+) -> Result<RowEffect, AllocError>
+    ensures { IfOk result (λ effect. Does seat.txn (join_row (model_seat seat) child (model_view view.now)) effect view.now) }
 {
     if has_child(&view.accepted, child) {
-        return Ok(Deed::quiet(alloc));
+        return Ok(RowEffect::quiet(alloc));
     }
-    let letters = one_letter(alloc, seat.me, child, Message::Join(seat.case()))?;
-    Ok(Deed::sends(alloc, letters))
+    let messages = one_message(alloc, seat.me, child, Message::Join(seat.case()))?;
+    Ok(RowEffect::sends(alloc, messages))
 }
 
 /// Active, JOINED: the first ticket of a child is accepted.
@@ -70,14 +70,14 @@ pub(crate) fn active_joined(
     seat: Seat,
     ticket: Ticket,
     view: &mut View,
-) -> Result<Deed, AllocError>
-    ensures ok { IfOk result (λ deed. Does seat.txn (joined_row ticket (meant view.old)) deed view.new) }
-    ensures err { OnErr result (meant view.new ≡ meant view.old) }
+) -> Result<RowEffect, AllocError>
+    ensures ok { IfOk result (λ effect. Does seat.txn (joined_row ticket (model_view view.old)) effect view.new) }
+    ensures err { OnErr result (model_view view.new ≡ model_view view.old) }
 {
     if !has_child(&view.accepted, ticket.child) {
         view.accepted.push(ticket)?;
     }
-    Ok(Deed::quiet(alloc))
+    Ok(RowEffect::quiet(alloc))
 }
 
 /// Active, a work act: the child's next work is sent.
@@ -87,39 +87,43 @@ pub(crate) fn active_work(
     ticket: Ticket,
     op: &Op,
     view: &mut View,
-) -> Result<Deed, AllocError>
-    ensures ok { IfOk result (λ deed. Does seat.txn (work_row (seat_meant seat) ticket op.now (meant view.old)) deed view.new) }
-    ensures err { OnErr result (meant view.new ≡ meant view.old) }
+) -> Result<RowEffect, AllocError>
+    ensures ok { IfOk result (λ effect. Does seat.txn (work_row (model_seat seat) ticket op.now (model_view view.old)) effect view.new) }
+    ensures err { OnErr result (model_view view.new ≡ model_view view.old) }
 {
     let index = works_of(&view.works, &ticket) + 1;
     let message = Message::Work(child_case(seat, ticket), index, op.copied(alloc)?);
-    let letters = one_letter(alloc, seat.me, ticket.child, message)?;
+    let messages = one_message(alloc, seat.me, ticket.child, message)?;
     view.works.push(ticket)?;
-    Ok(Deed::sends(alloc, letters))
+    Ok(RowEffect::sends(alloc, messages))
 }
 
 /// Active, the commit act: with no child the transaction has read only; else each child is asked for its vote.
-pub(crate) fn active_commit(alloc: Global, seat: Seat, view: &mut View) -> Result<Deed, AllocError>
-    ensures ok { IfOk result (λ deed. Does seat.txn (commit_row (seat_meant seat) (meant view.old)) deed view.new) }
-    ensures err { OnErr result (meant view.new ≡ meant view.old) }
+pub(crate) fn active_commit(
+    alloc: Global,
+    seat: Seat,
+    view: &mut View,
+) -> Result<RowEffect, AllocError>
+    ensures ok { IfOk result (λ effect. Does seat.txn (commit_row (model_seat seat) (model_view view.old)) effect view.new) }
+    ensures err { OnErr result (model_view view.new ≡ model_view view.old) }
 {
     if none_of(&view.accepted) {
         view.forget();
-        return Ok(Deed::tells(alloc, seat.txn, Conclusion::ReadOnly, Sequence::new(alloc)));
+        return Ok(RowEffect::tells(alloc, seat.txn, Conclusion::ReadOnly, Sequence::new(alloc)));
     }
     active_commit_with(alloc, seat, view)
 }
 
 /// Under Presumed Commit the children are named in a forced record before they are asked.
-fn active_commit_with(alloc: Global, seat: Seat, view: &mut View) -> Result<Deed, AllocError>
-    ensures ok { IfOk result (λ deed. Does seat.txn (commit_with_row (seat_meant seat) (meant view.old) seat.txn.presumption) deed view.new) }
-    ensures err { OnErr result (meant view.new ≡ meant view.old) }
+fn active_commit_with(alloc: Global, seat: Seat, view: &mut View) -> Result<RowEffect, AllocError>
+    ensures ok { IfOk result (λ effect. Does seat.txn (commit_with_row (model_seat seat) (model_view view.old) seat.txn.presumption) effect view.new) }
+    ensures err { OnErr result (model_view view.new ≡ model_view view.old) }
 {
-    let letters = prepares(alloc, seat, view)?;
+    let messages = prepares(alloc, seat, view)?;
     match seat.txn.presumption {
         Presumption::PresumeAbort => {
             view.standing = Standing::Collecting;
-            Ok(Deed::sends(alloc, letters))
+            Ok(RowEffect::sends(alloc, messages))
         }
         Presumption::PresumeCommit => {
             let named = Sequence::from_vec(Vec::from_slice(alloc, &view.accepted)?);
@@ -127,23 +131,27 @@ fn active_commit_with(alloc: Global, seat: Seat, view: &mut View) -> Result<Deed
                 entry: Record::Collecting(seat.case(), named),
                 forced: true,
             };
-            let deed = Deed::writes(alloc, written, None, letters)?;
+            let effect = RowEffect::writes(alloc, written, None, messages)?;
             view.named.extend_from_slice(&view.accepted)?;
             view.standing = Standing::Collecting;
-            Ok(deed)
+            Ok(effect)
         }
     }
 }
 
 /// Active, the abort act: the children are told, and nothing is written, since none can have promised.
-#[tactic(auto, using(crate::proofs::Letters::nothing_above))]
-pub(crate) fn active_abort(alloc: Global, seat: Seat, view: &mut View) -> Result<Deed, AllocError>
-    ensures ok { IfOk result (λ deed. Does seat.txn (abort_row (seat_meant seat) (meant view.old)) deed view.new) }
-    ensures err { OnErr result (meant view.new ≡ meant view.old) }
+#[tactic(auto, using(crate::proofs::Envelopes::nothing_above))]
+pub(crate) fn active_abort(
+    alloc: Global,
+    seat: Seat,
+    view: &mut View,
+) -> Result<RowEffect, AllocError>
+    ensures ok { IfOk result (λ effect. Does seat.txn (abort_row (model_seat seat) (model_view view.old)) effect view.new) }
+    ensures err { OnErr result (model_view view.new ≡ model_view view.old) }
 {
-    let letters = tell_each(alloc, seat, Outcome::Aborted, &view.accepted)?;
+    let messages = tell_each(alloc, seat, Outcome::Aborted, &view.accepted)?;
     view.forget();
-    Ok(Deed::tells(alloc, seat.txn, Conclusion::Aborted, letters))
+    Ok(RowEffect::tells(alloc, seat.txn, Conclusion::Aborted, messages))
 }
 
 /// INQUIRE of a child of the transaction: a decision is told again, and of a transaction that is forgotten what is
@@ -153,17 +161,17 @@ pub(crate) fn inquiry(
     seat: Seat,
     ticket: Ticket,
     view: &View,
-) -> Result<Deed, AllocError>
-    ensures { IfOk result (λ deed. Does seat.txn (inquiry_row (seat_meant seat) ticket (meant view.now) view.now.standing) deed view.now) }
+) -> Result<RowEffect, AllocError>
+    ensures { IfOk result (λ effect. Does seat.txn (inquiry_row (model_seat seat) ticket (model_view view.now) view.now.standing) effect view.now) }
 {
     let outcome = match view.standing {
         Standing::Committing => Outcome::Committed,
         Standing::Aborting => Outcome::Aborted,
         Standing::Unknown => presumed(seat.txn.presumption),
-        _ => return Ok(Deed::quiet(alloc)),
+        _ => return Ok(RowEffect::quiet(alloc)),
     };
-    let letters = tell_each(alloc, seat, outcome, &[ticket])?;
-    Ok(Deed::sends(alloc, letters))
+    let messages = tell_each(alloc, seat, outcome, &[ticket])?;
+    Ok(RowEffect::sends(alloc, messages))
 }
 
 /// The outcome that an inquiry gets where nothing is known.

@@ -2,12 +2,12 @@
 
 ghost use Rattle.std.specs.Prelude.{◌≡◌, [], None, Some, IfOk, IsTrue};
 ghost use Rattle.tree_model.specs.Standings.{unknown_view};
-ghost use Rattle.root_core.specs.Rows.{Shows, meant};
+ghost use Rattle.root_core.specs.Rows.{Shows, model_view};
 ghost use Rattle.root_core.specs.Roots.{open_view};
 
 use std::alloc::{AllocError, Global};
 use tree_model::{
-    Case, Conclusion, Letters, Logged, ProcessId, Reaction, Record, Sequence, Standing, Ticket,
+    Case, Conclusion, Envelopes, Logged, ProcessId, Reaction, Record, Sequence, Standing, Ticket,
     Told, Txn, Vote,
 };
 
@@ -26,7 +26,7 @@ pub(crate) struct View {
 impl View {
     /// A transaction that has begun. It takes no memory.
     pub(crate) fn open(alloc: Global) -> View
-        ensures { meant result ≡ open_view }
+        ensures { model_view result ≡ open_view }
     {
         View {
             standing: Standing::Active,
@@ -40,7 +40,7 @@ impl View {
 
     /// Whether nothing is left of the transaction.
     pub(crate) fn is_forgotten(&self) -> bool
-        ensures { IsTrue result → meant self.now ≡ unknown_view }
+        ensures { IsTrue result → model_view self.now ≡ unknown_view }
     {
         self.standing == Standing::Unknown
             && self.accepted.is_empty()
@@ -52,7 +52,7 @@ impl View {
 
     /// The transaction is forgotten.
     pub(crate) fn forget(&mut self)
-        ensures { meant self.new ≡ unknown_view }
+        ensures { model_view self.new ≡ unknown_view }
     {
         self.standing = Standing::Unknown;
         self.accepted.clear();
@@ -91,46 +91,51 @@ pub(crate) struct Written {
 
 /// What a row does: at most one record, and the reaction that shows it.
 #[derive(Debug, Drop)]
-pub(crate) struct Deed {
+pub(crate) struct RowEffect {
     pub(crate) written: Option<Written>,
     pub(crate) reaction: Reaction,
 }
 
-impl Deed {
+impl RowEffect {
     /// Nothing. It takes no memory.
-    pub(crate) fn quiet(alloc: Global) -> Deed
+    pub(crate) fn quiet(alloc: Global) -> RowEffect
         ensures { Shows result None None [] }
     {
-        Deed::sends(alloc, Sequence::new(alloc))
+        RowEffect::sends(alloc, Sequence::new(alloc))
     }
 
     /// These messages.
-    pub(crate) fn sends(alloc: Global, letters: Letters) -> Deed
-        ensures { Shows result None None letters }
+    pub(crate) fn sends(alloc: Global, messages: Envelopes) -> RowEffect
+        ensures { Shows result None None messages }
     {
-        Deed {
+        RowEffect {
             written: None,
             reaction: Reaction {
                 begun: None,
                 written: Sequence::new(alloc),
                 told: None,
-                letters,
+                messages,
                 kept: None,
             },
         }
     }
 
     /// The application is told of the transaction's end, and these messages go out.
-    pub(crate) fn tells(alloc: Global, txn: Txn, conclusion: Conclusion, letters: Letters) -> Deed
-        ensures { Shows result None (Some (record { txn = txn; conclusion = conclusion })) letters }
+    pub(crate) fn tells(
+        alloc: Global,
+        txn: Txn,
+        conclusion: Conclusion,
+        messages: Envelopes,
+    ) -> RowEffect
+        ensures { Shows result None (Some (record { txn = txn; conclusion = conclusion })) messages }
     {
-        Deed {
+        RowEffect {
             written: None,
             reaction: Reaction {
                 begun: None,
                 written: Sequence::new(alloc),
                 told: Some(Told { txn, conclusion }),
-                letters,
+                messages,
                 kept: None,
             },
         }
@@ -141,9 +146,9 @@ impl Deed {
         alloc: Global,
         written: Written,
         told: Option<Told>,
-        letters: Letters,
-    ) -> Result<Deed, AllocError>
-        ensures { IfOk result (λ deed. Shows deed (Some written) told letters) }
+        messages: Envelopes,
+    ) -> Result<RowEffect, AllocError>
+        ensures { IfOk result (λ effect. Shows effect (Some written) told messages) }
     {
         let mut shown = Sequence::new(alloc);
         shown.push(Logged {
@@ -151,13 +156,13 @@ impl Deed {
             subject: written.entry.subject(),
             forced: written.forced,
         })?;
-        Ok(Deed {
+        Ok(RowEffect {
             written: Some(written),
             reaction: Reaction {
                 begun: None,
                 written: shown,
                 told,
-                letters,
+                messages,
                 kept: None,
             },
         })

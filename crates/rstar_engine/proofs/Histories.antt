@@ -51,7 +51,7 @@ stays_put true true P Q e h = h
 stays_put true false P Q e h = absurd cc
 stays_put false q P Q e h = h
 
--- what is not refused moves where it is meant
+-- what is not refused moves where it is model_view
 moves_on : (b q : Bool) (P Q : Type 0) → q ≡ false → (b ≡ true → P) → (b ≡ false → Q) → MatchBool (b && not q) P Q
 moves_on true false P Q e p q = p refl
 moves_on true true P Q e p q = absurd cc

@@ -51,11 +51,11 @@ IsNumber w n = (number_at w ≡ Some n) × (n < 2 ^ 32)
 abbrev pub IsName : List ℕ → Xid → Type 0
 IsName w x = IsXid x × (w ≡ xid_text x)
 
--- an information text: 1 to 32 ASCII letters
+-- an information text: 1 to 32 ASCII messages
 pub record IsInfo (w : List ℕ) : Type 0 where
   pub some : 0 < length w
   pub short : length w ≤ 32
-  pub letters : All IsAsciiAlphabetic w
+  pub messages : All IsAsciiAlphabetic w
 
 -- what stands behind `open`: flags, and then the manager migrates; or flags and an information text, and then it
 -- migrates unless the text is `nomigrate`

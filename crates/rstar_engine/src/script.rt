@@ -226,7 +226,7 @@ fn branch_of(rest: &str) -> Option<(u32, Xid, Flags)>
     Some((thread, xid, flags))
 }
 
-/// Whether a word is an information text: 1 to 32 ASCII letters.
+/// Whether a word is an information text: 1 to 32 ASCII messages.
 fn is_info(word: &str) -> bool
     ensures { IsTrue result ↔ IsInfo word.now }
 {

@@ -192,7 +192,7 @@ fn push_entries(out: &mut Vec<u8>, entries: &[Entry]) -> Result<(), Failure>
 {
     let mut sent: u64 = 0;
     for entry in entries {
-        let Some(next) = sent.checked_add(entry.reaction.letters.len() as u64) else {
+        let Some(next) = sent.checked_add(entry.reaction.messages.len() as u64) else {
             return Err(Failure::Memory);
         };
         push_entry(out, sent, entry)?;

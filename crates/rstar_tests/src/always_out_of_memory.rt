@@ -77,8 +77,8 @@ fn made(step: Result<Reaction, StepError>) -> Result<Reaction, Fail> {
 
 /// Its only message.
 fn only(reaction: &Reaction) -> Option<&Message> {
-    match reaction.letters.as_slice() {
-        [letter] => Some(&letter.message),
+    match reaction.messages.as_slice() {
+        [envelope] => Some(&envelope.message),
         _ => None,
     }
 }
@@ -345,14 +345,14 @@ fn an_act_is_copied(rt: HostRuntime) -> Result<(), Fail> {
 
 #[test]
 fn a_message_on_its_way_is_copied(rt: HostRuntime) -> Result<(), Fail> {
-    let letter = Envelope {
+    let envelope = Envelope {
         from: ROOT,
         to: CHILD,
         message: Message::Join(root_case(first_txn(Presumption::PresumeAbort))),
     };
-    let letter = letter.copied(rt.alloc())?;
-    assert_eq!(rt; letter.to, CHILD);
-    assert!(rt; matches!(letter.message, Message::Join(_)));
+    let envelope = envelope.copied(rt.alloc())?;
+    assert_eq!(rt; envelope.to, CHILD);
+    assert!(rt; matches!(envelope.message, Message::Join(_)));
     Ok(())
 }
 

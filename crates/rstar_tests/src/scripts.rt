@@ -6,7 +6,7 @@ use link_script::{ScriptError, ScriptFault, Stage, case_text, push_entry, read, 
 use std::alloc::{AllocError, Global};
 use std::test::Fail;
 use tree_model::{
-    Act, Case, Entry, Envelope, Event, Happening, Kind, Letters, Logged, Message, Op, Outcome,
+    Act, Case, Entry, Envelope, Envelopes, Event, Happening, Kind, Logged, Message, Op, Outcome,
     Presumption, ProcessId, Reaction, RecordKind, Sequence, Step, Subject, Ticket, Txn,
 };
 
@@ -125,15 +125,15 @@ fn second_case() -> Case {
 
 /// An entry with a line of almost each form, and one message.
 fn entry_of(alloc: Global, case: Case) -> Result<Entry, AllocError>
-    ensures { IfOk result (λ entry. length entry.reaction.letters ≡ 1) }
+    ensures { IfOk result (λ entry. length entry.reaction.messages ≡ 1) }
 {
     let logged = [Logged {
         kind: RecordKind::Prepared,
         subject: Subject::Case(case),
         forced: true,
     }];
-    let mut letters = Letters::new(alloc);
-    letters.push(Envelope {
+    let mut messages = Envelopes::new(alloc);
+    messages.push(Envelope {
         from: ProcessId(2),
         to: ProcessId(1),
         message: Message::Ack(case, Outcome::Committed),
@@ -148,7 +148,7 @@ fn entry_of(alloc: Global, case: Case) -> Result<Entry, AllocError>
             begun: Some(case.txn),
             written: Sequence::from_vec(Vec::from_slice(alloc, &logged)?),
             told: None,
-            letters,
+            messages,
             kept: Some(3),
         },
     })

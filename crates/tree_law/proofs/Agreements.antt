@@ -120,8 +120,8 @@ module _ (tree : List TreeEntry) (root : ProcessId) (flat : list_all (is_flat_en
   root_by x CommittedOutcome s e = sym (outcome_is true w x (committed_here x s ∙ e))
   root_by x AbortedOutcome s e =
       let t : Ticket = record { child = root; boot = 0; number = 0 } in
-      let none : list_any (λ (y : Txn). same_txn y x) (w.at root).dropped ≡ false =
-      rw holds.none_dropped refl in
+      let none : list_any (λ (y : Txn). same_txn y x) (w.at root).found_undecided ≡ false =
+      rw holds.none_found_undecided refl in
       sym (outcome_is false w x (committed_here x s
       ∙ no_abort (has (is_abort (root_case x)) (w.at root).life)
       (list_any (is_told_aborted x) (w.at root).told) _ _ e none

@@ -49,24 +49,24 @@ module _ (t : Record → Bool) (n : Node) (h : Heard) (e : Effect) (a f : ℕ) w
   life_stays g = has-append t (take a new) n.life ∙ left (has t n.life) (has t (take a new)) g
 
   pub durable_stays : has t n.durable ≡ true → has t (fails_in n h e a f).durable ≡ true
-  durable_stays g = has-append t (take f (n.loose ++ take a new)) n.durable ∙ left (has t n.durable) _ g
+  durable_stays g = has-append t (take f (n.unforced ++ take a new)) n.durable ∙ left (has t n.durable) _ g
 
   -- what came into its forced front stood in it, or behind it, or would have been kept
   pub failed_durable : has t (fails_in n h e a f).durable ≡ true
       → (has t n.durable ≡ true) ⊎ ((has t (kept n) ≡ true) ⊎ (has t (kept (after n h e)) ≡ true))
   failed_durable g =
-      elim (either (has t n.durable) (has t (take f (n.loose ++ take a new)))
-      (sym (has-append t (take f (n.loose ++ take a new)) n.durable) ∙ g)) [
+      elim (either (has t n.durable) (has t (take f (n.unforced ++ take a new)))
+      (sym (has-append t (take f (n.unforced ++ take a new)) n.durable) ∙ g)) [
         | inl old ↦ inl old
         | inr front ↦
-            let behind : has t (n.loose ++ take a new) ≡ true = has_take t f (n.loose ++ take a new) front in
-            elim (either (has t (take a new)) (has t n.loose)
-            (sym (has-append t n.loose (take a new)) ∙ behind)) [
+            let behind : has t (n.unforced ++ take a new) ≡ true = has_take t f (n.unforced ++ take a new) front in
+            elim (either (has t (take a new)) (has t n.unforced)
+            (sym (has-append t n.unforced (take a new)) ∙ behind)) [
               | inl now ↦ inr
                   (inr (ap (has t) (kept-after n h e)
                   ∙ (has-append t (kept n) new ∙ left (has t new) (has t (kept n)) (has_take t a new now))))
-              | inr loose ↦ inr
-                  (inl (has-append t n.forced n.loose ∙ left (has t n.loose) (has t n.forced) loose))
+              | inr unforced ↦ inr
+                  (inl (has-append t n.forced n.unforced ∙ left (has t n.unforced) (has t n.forced) unforced))
             ]
       ]
 

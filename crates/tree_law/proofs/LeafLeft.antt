@@ -21,21 +21,21 @@ pub record LeafLeft (q : ProcessId) (n k : Node) (m : Message) (ls : List Envelo
       → (has (is_committed c) n.life ≡ true) ⊎ (m ≡ Commit c)
   pub rolled_back : (c : Case) → has (is_rolled_back c) k.life ≡ true
       → (has (is_rolled_back c) n.life ≡ true) ⊎ (m ≡ Abort c)
-  pub letters : AllFair q k ls
+  pub messages : AllFair q k ls
   pub accepted : k.accepted ≡ n.accepted
 
 module _ (q : ProcessId) (n : Node) (h : Heard) (m : Message) (e : Effect) (s : LeafStep q n h m e) where
   accepts_none : e.accepts ++ n.accepted ≡ n.accepted
   accepts_none = rw s.accepts_none refl
 
-  pub after_left : LeafLeft q n (after n h e) m e.letters
+  pub after_left : LeafLeft q n (after n h e) m e.messages
   after_left = record {
     left_open = λ u. s.left_open;
     promises = s.promises;
     writes = λ t f. life_after t n h e f;
     committed = s.committed;
     rolled_back = s.rolled_back;
-    letters = s.letters;
+    messages = s.messages;
     accepted = accepts_none;
   }
 
@@ -46,6 +46,6 @@ module _ (q : ProcessId) (n : Node) (h : Heard) (m : Message) (e : Effect) (s : 
     writes = λ t g. life_stays t n h e a f g;
     committed = λ c g. s.committed c (failed_life (is_committed c) n h e a f g);
     rolled_back = λ c g. s.rolled_back c (failed_life (is_rolled_back c) n h e a f g);
-    letters = tt;
+    messages = tt;
     accepted = accepts_none;
   }

@@ -102,7 +102,7 @@ module _ (q p : ProcessId) (n : Node) (opens : OpenHavePromised n) (h : Heard) (
     decided o v (Some told) was = go (same_outcome told o)
       where
         go : (b : Bool) → LeafStep q n h m
-            (leaf_effect (if b then record { written = []; letters = acknowledgement leaf o; view = v }
+            (leaf_effect (if b then record { written = []; messages = acknowledgement leaf o; view = v }
             else unmoved v))
         go true = acknowledges o
         go false = nothing

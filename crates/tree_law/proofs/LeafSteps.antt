@@ -46,7 +46,7 @@ pub record LeafStep (q : ProcessId) (n : Node) (h : Heard) (m : Message) (e : Ef
       → (has (is_committed c) n.life ≡ true) ⊎ (m ≡ Commit c)
   pub rolled_back : (c : Case) → has (is_rolled_back c) (after n h e).life ≡ true
       → (has (is_rolled_back c) n.life ≡ true) ⊎ (m ≡ Abort c)
-  pub letters : AllFair q (after n h e) e.letters
+  pub messages : AllFair q (after n h e) e.messages
   pub accepts_none : e.accepts ≡ []
 
 -- an effect that writes one record
@@ -73,7 +73,7 @@ module _ (q : ProcessId) (n : Node) (opens : OpenHavePromised n) (h : Heard) (m 
     promises = λ c p. record { was_forced = p.was_forced; was_written = p.was_written };
     committed = λ c e. inl e;
     rolled_back = λ c e. inl e;
-    letters = fair;
+    messages = fair;
     accepts_none = refl;
   }
 
@@ -120,7 +120,7 @@ module _ (q : ProcessId) (n : Node) (opens : OpenHavePromised n) (h : Heard) (m 
         [ inl f ↦ inr (commit c f) | inr f ↦ inl f ];
     rolled_back = λ c e. elim (new_or_old r b ls (is_rolled_back c) e)
         [ inl f ↦ inr (abort c f) | inr f ↦ inl f ];
-    letters = fair;
+    messages = fair;
     accepts_none = refl;
   }
     where

@@ -103,12 +103,12 @@ module _ (tree : List TreeEntry) (root : ProcessId) (w : World) (holds : WorldHo
         [ inl old ↦ holds.aborts q c manager old | inr now ↦ abort_heard c true' now ])
         (λ o g. holds.aborts r c k g) f);
     net = all_append tree root then w.net ls (all_stay tree root w then leaf_grows w.net holds.net)
-        (all_fair_true ls step.letters);
+        (all_fair_true ls step.messages);
     own_children = λ x u t. rw root_stays (holds.own_children x u t);
     root_accepts = λ r o. node_is (λ n. n.accepted ≡ []) q r node w
         (λ s. step.accepted ∙ subst (λ (z : ProcessId). (w.at z).accepted ≡ []) (sym s)
         (holds.root_accepts r o))
         (λ d. holds.root_accepts r o);
-    none_dropped = ap (λ (n : Node). n.dropped) root_stays ∙ holds.none_dropped;
+    none_found_undecided = ap (λ (n : Node). n.found_undecided) root_stays ∙ holds.none_found_undecided;
     unlisted = λ r l. at_other q r node w.at (apart_if q r tree listed l) ∙ holds.unlisted r l;
   }

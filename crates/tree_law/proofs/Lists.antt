@@ -59,7 +59,7 @@ mark_of-push b xs r = fold-append _ _ xs (r ∷ [])
 
 -- what is kept after an event is what was kept, and the records that it appended
 appended_by : (n : Node) (new : List Record) (b : Bool) (whole part : Node)
-    → whole.forced ++ whole.loose ≡ kept n ++ new → part.forced ++ part.loose ≡ kept n ++ new
+    → whole.forced ++ whole.unforced ≡ kept n ++ new → part.forced ++ part.unforced ≡ kept n ++ new
     → kept (if b then whole else part) ≡ kept n ++ new
 appended_by n new true whole part h k = h
 appended_by n new false whole part h k = k
@@ -68,7 +68,7 @@ kept-appends : (n : Node) (ws : List Written) → kept (appends n ws) ≡ kept n
 kept-appends n ws =
     appended_by n (entries_written ws) (is_any_forced ws) _ _
     (append-nil (kept n ++ entries_written ws))
-    (sym (append_assoc n.forced n.loose (entries_written ws)))
+    (sym (append_assoc n.forced n.unforced (entries_written ws)))
 
 pub kept-after : (n : Node) (h : Heard) (e : Effect)
     → kept (after n h e) ≡ kept n ++ entries_written e.written

@@ -20,7 +20,7 @@ use Rattle.tree_law.specs.Flat.{is_flat_happening, is_flat_input}
 -- a process after an input, or after one in which its device failed; and what it sent
 abbrev pub IsLeft : Node → Heard → Effect → Node → List Envelope → Type 0
 IsLeft n h e k ls =
-    ((k ≡ after n h e) × (ls ≡ e.letters)) ⊎ ((a : ℕ) × (f : ℕ) × (k ≡ fails_in n h e a f) × (ls ≡ []))
+    ((k ≡ after n h e) × (ls ≡ e.messages)) ⊎ ((a : ℕ) × (f : ℕ) × (k ≡ fails_in n h e a f) × (ls ≡ []))
 
 -- the process handled an input, and the world is as it leaves it
 pub record Handled (tree : List TreeEntry) (w : World) (m : Move) (w' : World) : Type 0 where
@@ -28,14 +28,14 @@ pub record Handled (tree : List TreeEntry) (w : World) (m : Move) (w' : World) :
   pub input : Input
   pub effect : Effect
   pub node : Node
-  pub letters : List Envelope
+  pub messages : List Envelope
   pub handles : m.step.happening ≡ Handles input
   pub flat : is_flat_input input ≡ true
   pub reaction : reacts (place_of tree m.step.process) (w.at m.step.process)
       (record { input = input; data_answer = m.data_answer }) ≡ Does effect
   pub left : IsLeft (w.at m.step.process) (record { input = input; data_answer = m.data_answer }) effect
-      node letters
-  pub world : w' ≡ record { at = put_at m.step.process node w.at; net = w.net ++ letters }
+      node messages
+  pub world : w' ≡ record { at = put_at m.step.process node w.at; net = w.net ++ messages }
 
 pair_same : {A B : Type 0} (d : A × B) (p q : A × B) → Some p ≡ Some q → p ≡ q
 pair_same d p q h = cc
@@ -47,7 +47,7 @@ makes_same e f n k h = (cc, cc)
 record Inputted (n : Node) (h : Heard) (r : Reacts) (e : Effect) (k : Node) : Type 0 where
   does : Effect
   reaction : r ≡ Does does
-  left : IsLeft n h does k e.letters
+  left : IsLeft n h does k e.messages
 
 input_made : (n : Node) (h : Heard) (f : Option Fault) (r : Reacts) (e : Effect) (k : Node)
     → input_makes n h f r ≡ Makes e k → Inputted n h r e k
@@ -55,13 +55,13 @@ input_made n h None (Refused x) e k made = absurd (cc)
 input_made n h (Some f) (Refused x) e k made = absurd (cc)
 input_made n h None (Does g) e k made =
     let both = makes_same g e (after n h g) k made in
-    record { does = g; reaction = refl; left = inl (sym both.1, ap (λ (x : Effect). x.letters) (sym both.0)) }
+    record { does = g; reaction = refl; left = inl (sym both.1, ap (λ (x : Effect). x.messages) (sym both.0)) }
 input_made n h (Some f) (Does g) e k made =
     let both = makes_same (fault_effect g f.appended) e (fails_in n h g f.appended f.forced) k made in
     record {
       does = g;
       reaction = refl;
-      left = inr (f.appended, f.forced, sym both.1, ap (λ (x : Effect). x.letters) (sym both.0));
+      left = inr (f.appended, f.forced, sym both.1, ap (λ (x : Effect). x.messages) (sym both.0));
     }
 
 -- a happening at one process
@@ -88,17 +88,17 @@ happened place n m Trim e k f made = absurd (cc)
 
 stepped_at : (w : World) (q : ProcessId) (s : Stepped) (e : Effect) (w' : World)
     → world_stepped w q s ≡ Some (e, w')
-    → (n : Node) × (s ≡ Makes e n) × (w' ≡ record { at = put_at q n w.at; net = w.net ++ e.letters })
+    → (n : Node) × (s ≡ Makes e n) × (w' ≡ record { at = put_at q n w.at; net = w.net ++ e.messages })
 stepped_at w q (Refuses r) e w' h = absurd (cc)
 stepped_at w q (Makes f n) e w' h =
-    let same : (f, record { at = put_at q n w.at; net = w.net ++ f.letters }) ≡ (e, w') =
+    let same : (f, record { at = put_at q n w.at; net = w.net ++ f.messages }) ≡ (e, w') =
     pair_same (f, w) _ _ h in
     let fe : f ≡ e = ap (λ (p : Effect × World). p.0) same in
-    let we : record { at = put_at q n w.at; net = w.net ++ f.letters } ≡ w' =
+    let we : record { at = put_at q n w.at; net = w.net ++ f.messages } ≡ w' =
     ap (λ (p : Effect × World). p.1) same in (
       n,
       ap (λ x. Makes x n) fe,
-      sym we ∙ ap (λ (x : Effect). record { at = put_at q n w.at; net = w.net ++ x.letters }) fe,
+      sym we ∙ ap (λ (x : Effect). record { at = put_at q n w.at; net = w.net ++ x.messages }) fe,
     )
 
 handled_if : (tree : List TreeEntry) (w : World) (m : Move) (e : Effect) (w' : World) (b : Bool)
@@ -117,7 +117,7 @@ handled_if tree w m e w' true l f h =
       input = hp.input;
       effect = hp.done.does;
       node = at.0;
-      letters = e.letters;
+      messages = e.messages;
       handles = hp.handles;
       flat = hp.flat;
       reaction = hp.done.reaction;

@@ -75,7 +75,7 @@ decided_takes_none : (s : Seat) (left : List Ticket) (v : CoordinatorView) (b1 b
       written =
           record { entry = EndRecord s.own; is_forced = false } ∷ [];
       told = None;
-      letters = [];
+      messages = [];
       accepts =
           [];
       counts = [];
@@ -169,7 +169,7 @@ joined_at_most : (d : Case) (u : Ticket) (v : CoordinatorView) (b : Bool)
     else record {
       written = [];
       told = None;
-      letters = [];
+      messages = [];
       accepts = u ∷ [];
       counts = [];
       view =

@@ -73,7 +73,7 @@ module _ (me : ProcessId) (tree : List TreeEntry) (n : Node) (holds : AllHold (r
               ∙ ap forgets (acked_same m n me y t u o m.phase),
         )
         (leads_forgets (read y t) (holds y t) e));
-    letters = tt;
+    messages = tt;
   }
 
   decided_by : (b1 b2 : Bool) (left : List Ticket) (v : CoordinatorView)
@@ -83,7 +83,7 @@ module _ (me : ProcessId) (tree : List TreeEntry) (n : Node) (holds : AllHold (r
         written =
             record { entry = EndRecord c; is_forced = false } ∷ [];
         told = None;
-        letters = [];
+        messages = [];
         accepts =
             [];
         counts = [];

@@ -123,7 +123,7 @@ module _ (me : ProcessId) (tree : List TreeEntry) (n : Node) (holds : AllHold (r
             (same_collecting (remembered x) n h me x t y us ls (holds x t).kept_is_forced d))
             (λ t. rw (own, own_collecting asked' n h me y t us ls (holds y t).kept_is_forced)
             (leads_collected (read y t) (holds y t) o (q ∙ commit_presumed)));
-        letters = prepares_sound here _ s v v.accepted;
+        messages = prepares_sound here _ s v v.accepted;
       }
 
   pub commits : (y : Txn) (a : DataAnswer) (e : Effect)

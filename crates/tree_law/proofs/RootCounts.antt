@@ -57,18 +57,18 @@ abort_counts s c v us PresumeCommit = refl
 
 -- an effect that sends nothing but JOIN and WORK
 pub record SendsOnly (e : Effect) : Type 0 where
-  pub letters : List Envelope
-  pub same : e ≡ sends letters
-  pub sound : (place : Place) (n : Node) → AllSound place n letters
+  pub messages : List Envelope
+  pub same : e ≡ sends messages
+  pub sound : (place : Place) (n : Node) → AllSound place n messages
 
 sends_by : (e f : Effect) → Does e ≡ Does f → SendsOnly e → SendsOnly f
 sends_by e f h c = subst SendsOnly (effect_same e f h) c
 
 join_row : (s : Seat) (q : ProcessId) (v : CoordinatorView) (b : Bool)
     → SendsOnly (row_effect s.own (if b then quiet v else row.sends (post s.me q (Join s.own) ∷ []) v))
-join_row s q v true = record { letters = []; same = refl; sound = λ place n. tt }
+join_row s q v true = record { messages = []; same = refl; sound = λ place n. tt }
 join_row s q v false = record {
-  letters = post s.me q (Join s.own) ∷ [];
+  messages = post s.me q (Join s.own) ∷ [];
   same = refl;
   sound =
       λ place n. (tt, tt);
@@ -96,7 +96,7 @@ work_sends_to : (s : Seat) (tree : List TreeEntry) (op : Op) (v : CoordinatorVie
     → work_for s tree op v o ≡ Does e → SendsOnly e
 work_sends_to s tree op v None e h = absurd (cc)
 work_sends_to s tree op v (Some t) e h = join_if s (is_leaf (role_of tree t.child)) (active_work s t op v) e
-    (record { letters = (active_work s t op v).letters; same = refl; sound = λ place n. (tt, tt) }) h
+    (record { messages = (active_work s t op v).messages; same = refl; sound = λ place n. (tt, tt) }) h
 
 pub work_sends : (s : Seat) (tree : List TreeEntry) (q : ProcessId) (op : Op) (v : CoordinatorView)
     (st : Standing) (e : Effect)
@@ -155,7 +155,7 @@ decided_none c s left v true = ended_none (none_of left)
           written = record { entry = EndRecord s.own; is_forced = false } ∷ [];
           told =
               None;
-          letters = [];
+          messages = [];
           accepts = [];
           counts = [];
           view = unknown_view;

@@ -154,7 +154,7 @@ module _ (me : ProcessId) (tree : List TreeEntry) (n : Node) (holds : AllHold (r
         (if b then quiet v else record {
           written = [];
           told = None;
-          letters = [];
+          messages = [];
           accepts =
               u ∷ [];
           counts = [];
@@ -166,7 +166,7 @@ module _ (me : ProcessId) (tree : List TreeEntry) (n : Node) (holds : AllHold (r
     joined_active false e v s = record {
       cases = λ x t. rw (then_reads me tree n heard (accepting d u) x t (boot_of-nil (kept n)))
           (first_if x t (same_case d (root_case x)) refl (open_by s) e);
-      letters = tt;
+      messages = tt;
     }
 
     joined_by : (st : Standing) → coordinator_standing (kept n) d (memory_of here n d) ≡ st

@@ -37,8 +37,8 @@ pub record RootLeft (place : Place) (n k : Node) (ls : List Envelope) (i : Input
       → (has_heard_vote n (root_case x) t is_consent ≡ true) ⊎ Consents (child_case x t) i
   pub accepts : (x : Txn) (u t : Ticket) → has_accepted k (child_case x u) t ≡ true
       → has_accepted n (child_case x u) t ≡ true
-  pub dropped : k.dropped ≡ n.dropped
-  pub letters : AllLeft place k ls
+  pub found_undecided : k.found_undecided ≡ n.found_undecided
+  pub messages : AllLeft place k ls
 
 not_both : (a b c : Bool) → (a ≡ true → b ≡ true) → b ≡ false → a ≡ false
 not_both a b c f e = grind arith
@@ -66,29 +66,29 @@ module _ (place : Place) (n : Node) (h : Heard) (e : Effect) (r : RootReacts pla
     | inr p ↦ record { is_over = p; not_committed = c.not_committed }
   ]
 
-  left_letter : (q : ProcessId) (m : Message) → IsSound place (after n h e) q m
+  left_message : (q : ProcessId) (m : Message) → IsSound place (after n h e) q m
       → IsLeft place (after n h e) q m
-  left_letter q (Join d) s = tt
-  left_letter q (Work d i op) s = tt
-  left_letter q (Prepare d k) s = s
-  left_letter q (Commit d) s = s
-  left_letter q (Abort d) s = record {
+  left_message q (Join d) s = tt
+  left_message q (Work d i op) s = tt
+  left_message q (Prepare d k) s = s
+  left_message q (Commit d) s = s
+  left_message q (Abort d) s = record {
     is_own = (r.step.cases d.txn any).holds.begun_is_own (ap is_begun s.is_over);
     not_committed = s.not_committed;
     no_more = inr s.is_over;
   }
-  left_letter q (Joined d t) s = s
-  left_letter q (Yes d) s = s
-  left_letter q (No d) s = s
-  left_letter q (Read d) s = s
-  left_letter q (Ack d o) s = s
-  left_letter q (Inquire d) s = s
+  left_message q (Joined d t) s = s
+  left_message q (Yes d) s = s
+  left_message q (No d) s = s
+  left_message q (Read d) s = s
+  left_message q (Ack d o) s = s
+  left_message q (Inquire d) s = s
 
-  left_letters : (ls : List Envelope) → AllSound place (after n h e) ls → AllLeft place (after n h e) ls
-  left_letters [] s = tt
-  left_letters (l ∷ ls) s = (left_letter l.to l.message s.0, left_letters ls s.1)
+  left_messages : (ls : List Envelope) → AllSound place (after n h e) ls → AllLeft place (after n h e) ls
+  left_messages [] s = tt
+  left_messages (l ∷ ls) s = (left_message l.to l.message s.0, left_messages ls s.1)
 
-  pub after_left : RootLeft place n (after n h e) e.letters h.input
+  pub after_left : RootLeft place n (after n h e) e.messages h.input
   after_left = record {
     cases = λ u x t. (r.step.cases x t).holds;
     ended = λ x t. ends (reading place (after n h e) x t) (r.step.cases x t).holds;
@@ -100,8 +100,8 @@ module _ (place : Place) (n : Node) (h : Heard) (e : Effect) (r : RootReacts pla
     writes = λ t f. life_after t n h e f;
     consents = r.consents;
     accepts = r.accepts;
-    dropped = dropped_after n h e;
-    letters = left_letters e.letters r.step.letters;
+    found_undecided = dropped_after n h e;
+    messages = left_messages e.messages r.step.messages;
   }
 
   -- The device failed.
@@ -152,6 +152,6 @@ module _ (place : Place) (n : Node) (h : Heard) (e : Effect) (r : RootReacts pla
       writes = λ t g. life_stays t n h e a f g;
       consents = r.consents;
       accepts = r.accepts;
-      dropped = refl;
-      letters = tt;
+      found_undecided = refl;
+      messages = tt;
     }

@@ -66,7 +66,7 @@ module _ (me : ProcessId) (tree : List TreeEntry) (n : Node) (holds : AllHold (r
       let r = begins me tree n holds a p in
       let s : RootReacts here n h (begin_effect x) =
       record {
-        step = record { cases = r.cases; letters = r.letters };
+        step = record { cases = r.cases; messages = r.messages };
         consents =
             λ z t g. inl g;
         accepts = λ z u t g. g;
@@ -75,13 +75,13 @@ module _ (me : ProcessId) (tree : List TreeEntry) (n : Node) (holds : AllHold (r
   by_act (JoinAct c q) e f made =
       let v = coordinator_view here n c in
       let only = join_sends (root_seat me c) tree q v v.standing e made in
-      rw only.same (none_reacts here n (hears_act (JoinAct c q) a) (sends only.letters)
-      (sends_joins me tree n holds a c q only.letters (only.sound here _)) refl refl)
+      rw only.same (none_reacts here n (hears_act (JoinAct c q) a) (sends only.messages)
+      (sends_joins me tree n holds a c q only.messages (only.sound here _)) refl refl)
   by_act (WorkAct c q op) e f made =
       let v = coordinator_view here n c in
       let only = work_sends (root_seat me c) tree q op v v.standing e made in
-      rw only.same (none_reacts here n (hears_act (WorkAct c q op) a) (sends only.letters)
-      (sends_works me tree n holds a c q op only.letters (only.sound here _)) refl refl)
+      rw only.same (none_reacts here n (hears_act (WorkAct c q op) a) (sends only.messages)
+      (sends_works me tree n holds a c q op only.messages (only.sound here _)) refl refl)
   by_act (CommitAct y) e f made =
       let v = coordinator_view here n (root_case y) in
       none_reacts here n (hears_act (CommitAct y) a) e (commits me tree n holds y a e made)

@@ -54,7 +54,7 @@ sends ls = record {
   begun = None;
   written = [];
   told = None;
-  letters = ls;
+  messages = ls;
   accepts = [];
   counts =
       [];

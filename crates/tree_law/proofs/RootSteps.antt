@@ -49,7 +49,7 @@ AllHold place n = (x : Txn) (t : Ticket) → CaseHolds (reading place n x t)
 -- a step of the root
 pub record RootStep (place : Place) (n : Node) (h : Heard) (e : Effect) : Type 0 where
   pub cases : (x : Txn) (t : Ticket) → Leads (reading place n x t) (reading place (after n h e) x t)
-  pub letters : AllSound place (after n h e) e.letters
+  pub messages : AllSound place (after n h e) e.messages
 
 module _ (me : ProcessId) (tree : List TreeEntry) (n : Node) where
   abbrev place : Place
@@ -98,10 +98,10 @@ module _ (me : ProcessId) (tree : List TreeEntry) (n : Node) where
       → ((m : Memory) (x : Txn) (t : Ticket) → reading_at m (after n h e) me x t ≡ reading_at m n me x t)
       → ((x : Txn) (t : Ticket)
       → Leads (reading (root_place me tree) n x t) (reading_at (memory_then h x) n me x t))
-      → AllSound (root_place me tree) (after n h e) e.letters → RootStep (root_place me tree) n h e
+      → AllSound (root_place me tree) (after n h e) e.messages → RootStep (root_place me tree) n h e
   still_step h e boot same f sound = record {
     cases = λ x t. rw (then_reads h e x t boot, same (memory_then h x) x t) (f x t);
-    letters = sound;
+    messages = sound;
   }
 
   -- an effect that ends a case without a commit, and says so
@@ -113,7 +113,7 @@ module _ (me : ProcessId) (tree : List TreeEntry) (n : Node) where
       → ((t : Ticket) → reading_at (memory_then h y) (after n h e) me y t ≡ ended (a t) (b t) (c t) (d t)
       (f t) (reading (root_place me tree) n y t))
       → ((t : Ticket) → (reading (root_place me tree) n y t).collects ≡ true → b t ≡ true)
-      → is_undecided (memory y).phase ≡ true → e.letters ≡ each (root_seat me (root_case y)) Abort us
+      → is_undecided (memory y).phase ≡ true → e.messages ≡ each (root_seat me (root_case y)) Abort us
       → RootStep (root_place me tree) n h e
   ended_step h e y us boot holds others a b c d f own k u ls =
       let t : Ticket = record { child = me; boot = 0; number = 0 } in
@@ -126,6 +126,6 @@ module _ (me : ProcessId) (tree : List TreeEntry) (n : Node) where
         cases = own_and_others h e y boot holds others
             (λ t. rw (own t) (leads_ended (reading (root_place me tree) n y t) (a t) (b t) (c t) (d t) (f t)
             (holds y t) u (k t)));
-        letters = rw ls (each_sound (root_place me tree) (after n h e) (root_seat me (root_case y)) Abort us
+        messages = rw ls (each_sound (root_place me tree) (after n h e) (root_seat me (root_case y)) Abort us
             (λ v. aborted_by h e y t over));
       }

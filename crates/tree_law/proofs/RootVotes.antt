@@ -118,7 +118,7 @@ module _ (me : ProcessId) (tree : List TreeEntry) (n : Node) (holds : AllHold (r
     cases = own_and_others me tree n h (counting y u w (sends [])) y (boot_of-nil (kept n)) holds
         (λ x t d. rw (takes.others x d) (same_counting (memory me tree n x) n h me x t y u w d))
         (λ t. rw (takes.own, counted_case t f) (leads_counts (read y t) (same_ticket u t) (holds y t) o));
-    letters = tt;
+    messages = tt;
   }
 
   -- the last vote, where all read only
@@ -172,7 +172,7 @@ module _ (me : ProcessId) (tree : List TreeEntry) (n : Node) (holds : AllHold (r
             (holds x t).kept_is_forced d))
             (λ t. rw (takes.own, commit_case t named ls f)
             (leads_commits (read y t) (same_ticket u t) (holds y t) o (all_in t all)));
-        letters = each_sound here _ s Commit us (λ t. own_committed m n h me y any u w named ls);
+        messages = each_sound here _ s Commit us (λ t. own_committed m n h me y any u w named ls);
       }
 
   commit_step : IsFor w → m.phase ≡ Asked → Takes (taken Over) → all_voted m.accepted votes ≡ true

@@ -160,11 +160,11 @@ module _ (tree : List TreeEntry) (root : ProcessId) (w : World) (holds : WorldHo
           (ap (λ (n : Node). has (is_rolled_back c) n.life)
           (sym (still q (other_way q root m.elsewhere))) ∙ f));
       net = all_append tree root then w.net ls (all_stay tree root w then root_grows w.net holds.net)
-          (all_left_true ls r.letters);
+          (all_left_true ls r.messages);
       own_children = λ x u t. rw (at_own root k w.at)
           (not_now (has_accepted k (child_case x u) t) (has_accepted (w.at root) (child_case x u) t)
           (r.accepts x u t) (holds.own_children x u t));
       root_accepts = λ q o. rw (still q (other_way q root o)) (holds.root_accepts q o);
-      none_dropped = rw (at_own root k w.at) (r.dropped ∙ holds.none_dropped);
+      none_found_undecided = rw (at_own root k w.at) (r.found_undecided ∙ holds.none_found_undecided);
       unlisted = λ q l. rw (still q (apart_if root q tree listed l)) (holds.unlisted q l);
     }

@@ -46,7 +46,7 @@ unfolding memory_of has
 opened_case root tree x t = grind arith
 
 opened_open : (c : Case) → is_open
-    (mark_of (CaseBranch c) (opened_node.forced ++ opened_node.loose)) ≡ false
+    (mark_of (CaseBranch c) (opened_node.forced ++ opened_node.unforced)) ≡ false
 unfolding mark_of
 opened_open c = refl
 
@@ -62,7 +62,7 @@ opened_holds tree root = record {
   net = tt;
   own_children = λ x u t. refl;
   root_accepts = λ q o. refl;
-  none_dropped = refl;
+  none_found_undecided = refl;
   unlisted = λ q l. refl;
 }
 
@@ -89,7 +89,7 @@ module _ (tree : List TreeEntry) (root : ProcessId) (flat : list_all (is_flat_en
   heard = record { input = h.input; data_answer = m.data_answer }
 
   abbrev then : ProcessId → World
-  then q = record { at = put_at q h.node w.at; net = w.net ++ h.letters }
+  then q = record { at = put_at q h.node w.at; net = w.net ++ h.messages }
 
   stood : (q : ProcessId) → m.step.process ≡ q → InputStands w.net q h.input
   stood q same =
@@ -110,27 +110,27 @@ module _ (tree : List TreeEntry) (root : ProcessId) (flat : list_all (is_flat_en
       is_up (root_place root tree) (w.at root) h.input m.data_answer h.effect made in
       let r = root_reacts root tree (w.at root) (holds.cases up) m.data_answer h.input h.effect h.flat
       (asks_nothing tree root w root h.input t) made in
-      let left : IsLeft (w.at root) heard h.effect h.node h.letters =
-      subst (λ (z : ProcessId). IsLeft (w.at z) heard h.effect h.node h.letters) same h.left in
+      let left : IsLeft (w.at root) heard h.effect h.node h.messages =
+      subst (λ (z : ProcessId). IsLeft (w.at z) heard h.effect h.node h.messages) same h.left in
       let listed : is_listed tree root ≡ true =
       subst (λ (z : ProcessId). is_listed tree z ≡ true) same h.listed in
       let kept : WorldHolds tree root (then root) =
-      root_keeps tree root w holds h.input h.node h.letters
-      (root_left (root_place root tree) (w.at root) heard h.effect h.node h.letters left r up
+      root_keeps tree root w holds h.input h.node h.messages
+      (root_left (root_place root tree) (w.at root) heard h.effect h.node h.messages left r up
       (holds.cases up)) listed t s in
       subst (WorldHolds tree root) (sym h.world)
       (subst (λ (z : ProcessId). WorldHolds tree root (then z)) (sym same) kept)
 
   leaf_does : (q : ProcessId) → IsManager root tree q → is_listed tree q ≡ true
-      → IsLeft (w.at q) heard h.effect h.node h.letters → (i : Input)
+      → IsLeft (w.at q) heard h.effect h.node h.messages → (i : Input)
       → IsHeard tree root w q i
       → LeafDoes q (w.at q) heard h.effect i → WorldHolds tree root (then q)
   leaf_does q k l left (ActInput a) t d =
-      leaf_keeps tree root w holds q k (silence d.0) h.node h.letters
-      (leaf_left q (w.at q) heard (silence d.0) h.effect h.node h.letters left d.1) l tt
+      leaf_keeps tree root w holds q k (silence d.0) h.node h.messages
+      (leaf_left q (w.at q) heard (silence d.0) h.effect h.node h.messages left d.1) l tt
   leaf_does q k l left (MessageInput j message) t d =
-      leaf_keeps tree root w holds q k message h.node h.letters
-      (leaf_left q (w.at q) heard message h.effect h.node h.letters left d) l t
+      leaf_keeps tree root w holds q k message h.node h.messages
+      (leaf_left q (w.at q) heard message h.effect h.node h.messages left d) l t
 
   leaf_move : IsManager root tree m.step.process → WorldHolds tree root w'
   leaf_move k =

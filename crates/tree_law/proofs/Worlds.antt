@@ -76,7 +76,7 @@ pub record WorldHolds (tree : List TreeEntry) (root : ProcessId) (w : World) : T
   pub net : AllTrue tree root w w.net
   pub own_children : (x : Txn) (u t : Ticket) → has_accepted (w.at root) (child_case x u) t ≡ false
   pub root_accepts : (q : ProcessId) → same_process q root ≡ false → (w.at q).accepted ≡ []
-  pub none_dropped : (w.at root).dropped ≡ []
+  pub none_found_undecided : (w.at root).found_undecided ≡ []
   pub unlisted : (q : ProcessId) → is_listed tree q ≡ false → w.at q ≡ opened_node
 
 -- what is true stays true
@@ -158,12 +158,12 @@ promise_after c n h e p =
           life_after (is_prepared c) n h e p.was_written;
     }
 
-dropped_if : (b : Bool) (n k j : Node) → k.dropped ≡ n.dropped → j.dropped ≡ n.dropped
-    → (if b then k else j).dropped ≡ n.dropped
+dropped_if : (b : Bool) (n k j : Node) → k.found_undecided ≡ n.found_undecided → j.found_undecided ≡ n.found_undecided
+    → (if b then k else j).found_undecided ≡ n.found_undecided
 dropped_if true n k j e f = e
 dropped_if false n k j e f = f
 
-pub dropped_after : (n : Node) (h : Heard) (e : Effect) → (after n h e).dropped ≡ n.dropped
+pub dropped_after : (n : Node) (h : Heard) (e : Effect) → (after n h e).found_undecided ≡ n.found_undecided
 dropped_after n h e = dropped_if (is_any_forced e.written) n _ _ refl refl
 
 -- Where a step was made.

@@ -183,7 +183,7 @@ prepare_own l i holding v Heuristic = quiet_own l _ refl
 -- an outcome at a branch that an operator decided
 told_again : (l : Leaf) (m : Memory) (o told : Outcome) (b : Bool)
     → let v = marked_branch m (ToldOf told) in
-    let row = if b then record { written = []; letters = leaf.acknowledgement l o; view = v } else leaf.unmoved v in
+    let row = if b then record { written = []; messages = leaf.acknowledgement l o; view = v } else leaf.unmoved v in
     marked_branch m (marks_of l (ToldOf told) row) ≡ row.view
 told_again l m o told true = refl
 told_again l m o told false = refl

@@ -265,7 +265,7 @@ module _ (me : ProcessId) (tree : List TreeEntry) (n : Node) (x : Txn) where
 
   accepted_at : (t : Ticket) (b : Bool) → standing_with x.presumption rs c m ≡ Active
       → let v = view_at Active rs c m in
-      let row = if b then quiet v else record { written = []; told = None; letters = []; accepts = t ∷ []; counts = []; view = record v { accepted = v.accepted ++ t ∷ [] } } in
+      let row = if b then quiet v else record { written = []; told = None; messages = []; accepts = t ∷ []; counts = []; view = record v { accepted = v.accepted ++ t ∷ [] } } in
       (row.written ≡ []) × (read_view (rs ++ []) c (if b then m else record m { accepted = m.accepted ++ t ∷ [] }) ≡ row.view)
   accepted_at t true h = (refl, same_pure c x.presumption Active rs m m h refl)
   accepted_at t false h = (refl, same_pure c x.presumption Active rs m (record m { accepted = m.accepted ++ t ∷ [] }) h refl)
@@ -433,7 +433,7 @@ module _ (me : ProcessId) (tree : List TreeEntry) (n : Node) (x : Txn) where
       (ap (λ u. read_view (rs ++ entries_written row.written) c u) (ack_memory k t o ∙ noted) ∙ moved)
       (λ y q. ack_elsewhere k t o y q)
 
-  last_of : (t : Ticket) (v : CoordinatorView) (b none : Bool) → IsOf c (if b then (if none then record { written = plain (EndRecord c); told = None; letters = []; accepts = []; counts = []; view = unknown_view } else quiet (record v { owed = other_tickets t v.owed })) else quiet v)
+  last_of : (t : Ticket) (v : CoordinatorView) (b none : Bool) → IsOf c (if b then (if none then record { written = plain (EndRecord c); told = None; messages = []; accepts = []; counts = []; view = unknown_view } else quiet (record v { owed = other_tickets t v.owed })) else quiet v)
   last_of t v true true = end_of c _ false refl
   last_of t v true false = quiet_of c _ refl
   last_of t v false none = quiet_of c _ refl

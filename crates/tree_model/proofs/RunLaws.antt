@@ -10,19 +10,19 @@ use Rattle.tree_model.specs.World.{World, Move, Stepped, Refuses, Makes, node_ma
 pub record MakesAt (tree : List TreeEntry) (w : World) (m : Move) (e : Effect) (w' : World) : Type 0 where
   pub node : Node
   pub made : node_makes (place_of tree m.step.process) (w.at m.step.process) m ≡ Makes e node
-  pub world : w' ≡ record { at = put_at m.step.process node w.at; net = w.net ++ e.letters }
+  pub world : w' ≡ record { at = put_at m.step.process node w.at; net = w.net ++ e.messages }
 
 pair_same : {A B : Type 0} (d : A × B) (p q : A × B) → Some p ≡ Some q → p ≡ q
 pair_same d p q h = cc
 
 stepped_at : (w : World) (q : ProcessId) (s : Stepped) (e : Effect) (w' : World) → world_stepped w q s ≡ Some (e, w')
-    → (n : Node) × (s ≡ Makes e n) × (w' ≡ record { at = put_at q n w.at; net = w.net ++ e.letters })
+    → (n : Node) × (s ≡ Makes e n) × (w' ≡ record { at = put_at q n w.at; net = w.net ++ e.messages })
 stepped_at w q (Refuses r) e w' h = absurd (cc)
 stepped_at w q (Makes f n) e w' h =
-    let same : (f, record { at = put_at q n w.at; net = w.net ++ f.letters }) ≡ (e, w') = pair_same (f, w) _ _ h in
+    let same : (f, record { at = put_at q n w.at; net = w.net ++ f.messages }) ≡ (e, w') = pair_same (f, w) _ _ h in
     let fe : f ≡ e = ap (λ (p : Effect × World). p.0) same in
-    let we : record { at = put_at q n w.at; net = w.net ++ f.letters } ≡ w' = ap (λ (p : Effect × World). p.1) same in
-    (n, ap (λ x. Makes x n) fe, sym we ∙ ap (λ (x : Effect). record { at = put_at q n w.at; net = w.net ++ x.letters }) fe)
+    let we : record { at = put_at q n w.at; net = w.net ++ f.messages } ≡ w' = ap (λ (p : Effect × World). p.1) same in
+    (n, ap (λ x. Makes x n) fe, sym we ∙ ap (λ (x : Effect). record { at = put_at q n w.at; net = w.net ++ x.messages }) fe)
 
 listed_makes : (tree : List TreeEntry) (w : World) (m : Move) (e : Effect) (w' : World) (b : Bool)
     → (if b then world_stepped w m.step.process (node_makes (place_of tree m.step.process) (w.at m.step.process) m) else None) ≡ Some (e, w')
@@ -61,4 +61,4 @@ pub net_by_run : (tree : List TreeEntry) (es : List Made) (w : World) → IsRun 
 unfolding net_by
 net_by_run tree _ _ opens = refl
 net_by_run tree _ _ (makes es w m e w' run stands step) =
-    ap (λ (x : World). x.net) (makes_at tree w m e w' step).world ∙ ap (λ l. l ++ e.letters) (net_by_run tree es w run)
+    ap (λ (x : World). x.net) (makes_at tree w m e w' step).world ∙ ap (λ l. l ++ e.messages) (net_by_run tree es w run)

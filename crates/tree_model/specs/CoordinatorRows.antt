@@ -36,7 +36,7 @@ pub record Seat : Type 0 where
 pub record Row : Type 0 where
   pub written : List Written
   pub told : Option Conclusion
-  pub letters : List Envelope
+  pub messages : List Envelope
   pub accepts : List Ticket
   pub counts : List (Ticket × Vote)
   pub view : CoordinatorView
@@ -76,10 +76,10 @@ abbrev pub tells : Seat → Conclusion → Option Conclusion
 tells s a = told_by s.parent a
 
 abbrev pub quiet : CoordinatorView → Row
-quiet v = record { written = []; told = None; letters = []; accepts = []; counts = []; view = v }
+quiet v = record { written = []; told = None; messages = []; accepts = []; counts = []; view = v }
 
 abbrev pub sends : List Envelope → CoordinatorView → Row
-sends ls v = record { written = []; told = None; letters = ls; accepts = []; counts = []; view = v }
+sends ls v = record { written = []; told = None; messages = ls; accepts = []; counts = []; view = v }
 
 -- the case waits for these, or is forgotten where there are none
 abbrev pub awaits : Standing → List Ticket → CoordinatorView → CoordinatorView
@@ -93,7 +93,7 @@ active_join s q v = if has_child v.accepted q then quiet v else sends (post s.me
 abbrev pub active_joined : Ticket → CoordinatorView → Row
 active_joined t v =
     if has_child v.accepted t.child then quiet v
-    else record { written = []; told = None; letters = []; accepts = t ∷ []; counts = []; view = record v { accepted = v.accepted ++ t ∷ [] } }
+    else record { written = []; told = None; messages = []; accepts = t ∷ []; counts = []; view = record v { accepted = v.accepted ++ t ∷ [] } }
 
 abbrev pub active_work : Seat → Ticket → Op → CoordinatorView → Row
 active_work s t op v =
@@ -102,7 +102,7 @@ active_work s t op v =
 -- the commit act or PREPARE, where nobody takes part
 abbrev pub active_commit_alone : Seat → Row
 active_commit_alone s =
-    record { written = []; told = tells s ReadOnly; letters = up s (Read s.own); accepts = []; counts = []; view = unknown_view }
+    record { written = []; told = tells s ReadOnly; messages = up s (Read s.own); accepts = []; counts = []; view = unknown_view }
 
 abbrev pub prepares : Seat → CoordinatorView → List Envelope
 prepares s v = map (λ t. post s.me t.child (Prepare (child_case s.own.txn t) (works_of v.works t))) v.accepted
@@ -113,7 +113,7 @@ active_commit_with s v PresumeCommit =
     record {
       written = forced (CollectingRecord s.own v.accepted);
       told = None;
-      letters = prepares s v;
+      messages = prepares s v;
       accepts = [];
       counts = [];
       view = record v { standing = Collecting; named = v.named ++ v.accepted };
@@ -134,7 +134,7 @@ active_abort s v =
     record {
       written = [];
       told = tells s ConcludedAborted;
-      letters = acknowledges_abort s s.own.txn.presumption ++ each s Abort v.accepted;
+      messages = acknowledges_abort s s.own.txn.presumption ++ each s Abort v.accepted;
       accepts = [];
       counts = [];
       view = unknown_view;
@@ -159,7 +159,7 @@ collecting_abort_by s why v us PresumeAbort =
     record {
       written = plain (AbortRecord s.own []);
       told = tells s ConcludedAborted;
-      letters = abort_heard_above s why ++ each s Abort us;
+      messages = abort_heard_above s why ++ each s Abort us;
       accepts = [];
       counts = [];
       view = unknown_view;
@@ -168,7 +168,7 @@ collecting_abort_by s why v us PresumeCommit =
     record {
       written = forced (AbortRecord s.own us);
       told = tells s ConcludedAborted;
-      letters = abort_heard_above s why ++ each s Abort us;
+      messages = abort_heard_above s why ++ each s Abort us;
       accepts = [];
       counts = [];
       view = awaits Aborting us v;
@@ -188,7 +188,7 @@ collecting_read_only s =
     record {
       written = read_only_end s s.own.txn.presumption;
       told = tells s ReadOnly;
-      letters = up s (Read s.own);
+      messages = up s (Read s.own);
       accepts = [];
       counts = [];
       view = unknown_view;
@@ -199,7 +199,7 @@ root_commits s v ys PresumeAbort =
     record {
       written = forced (CommitRecord s.own ys);
       told = Some ConcludedCommitted;
-      letters = each s Commit ys;
+      messages = each s Commit ys;
       accepts = [];
       counts = [];
       view = awaits Committing ys v;
@@ -208,7 +208,7 @@ root_commits s v ys PresumeCommit =
     record {
       written = forced (CommitRecord s.own []);
       told = Some ConcludedCommitted;
-      letters = each s Commit ys;
+      messages = each s Commit ys;
       accepts = [];
       counts = [];
       view = unknown_view;
@@ -219,7 +219,7 @@ cascaded_prepares s v ys =
     record {
       written = forced (PrepareRecord s.own ys);
       told = None;
-      letters = up s (Yes s.own);
+      messages = up s (Yes s.own);
       accepts = [];
       counts = [];
       view = record v { standing = Prepared; promised = v.promised ++ ys; named = v.named ++ ys };
@@ -253,7 +253,7 @@ prepared_commit_by s v PresumeAbort =
     record {
       written = forced (CommitRecord s.own v.promised);
       told = None;
-      letters = up s (Ack s.own CommittedOutcome) ++ each s Commit v.promised;
+      messages = up s (Ack s.own CommittedOutcome) ++ each s Commit v.promised;
       accepts = [];
       counts = [];
       view = awaits Committing v.promised v;
@@ -262,7 +262,7 @@ prepared_commit_by s v PresumeCommit =
     record {
       written = plain (CommitRecord s.own []);
       told = None;
-      letters = each s Commit v.promised;
+      messages = each s Commit v.promised;
       accepts = [];
       counts = [];
       view = unknown_view;
@@ -276,7 +276,7 @@ prepared_abort_by s v PresumeAbort =
     record {
       written = plain (AbortRecord s.own []);
       told = None;
-      letters = each s Abort v.promised;
+      messages = each s Abort v.promised;
       accepts = [];
       counts = [];
       view = unknown_view;
@@ -285,7 +285,7 @@ prepared_abort_by s v PresumeCommit =
     record {
       written = forced (AbortRecord s.own v.promised);
       told = None;
-      letters = up s (Ack s.own AbortedOutcome) ++ each s Abort v.promised;
+      messages = up s (Ack s.own AbortedOutcome) ++ each s Abort v.promised;
       accepts = [];
       counts = [];
       view = awaits Aborting v.promised v;
@@ -318,7 +318,7 @@ other_tickets t ts = filter (λ u. not (same_ticket t u)) ts
 abbrev pub decided_ack_by : Seat → List Ticket → CoordinatorView → Row
 decided_ack_by s left v =
     if none_of left
-    then record { written = plain (EndRecord s.own); told = None; letters = []; accepts = []; counts = []; view = unknown_view }
+    then record { written = plain (EndRecord s.own); told = None; messages = []; accepts = []; counts = []; view = unknown_view }
     else quiet (record v { owed = left })
 
 -- an acknowledgement that agrees with the decision; the last one that is owed ends the case

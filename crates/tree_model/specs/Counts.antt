@@ -24,10 +24,10 @@ abbrev pub together : Cost → Cost → Cost
 together a b = record { records = a.records + b.records; forced = a.forced + b.forced; messages = a.messages + b.messages }
 
 abbrev pub row_cost : Row → Cost
-row_cost r = cost_of r.written r.letters
+row_cost r = cost_of r.written r.messages
 
 abbrev pub leaf_cost : LeafRow → Cost
-leaf_cost r = cost_of r.written r.letters
+leaf_cost r = cost_of r.written r.messages
 
 -- the last acknowledgement, which only Presumed Abort has
 abbrev pub last_ack_cost : Presumption → Seat → CoordinatorView → Cost

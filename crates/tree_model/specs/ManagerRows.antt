@@ -30,14 +30,14 @@ pub record Leaf : Type 0 where
 -- what a row does
 pub record LeafRow : Type 0 where
   pub written : List Written
-  pub letters : List Envelope
+  pub messages : List Envelope
   pub view : ManagerView
 
 abbrev pub unmoved : ManagerView → LeafRow
-unmoved v = record { written = []; letters = []; view = v }
+unmoved v = record { written = []; messages = []; view = v }
 
 abbrev pub replies : Leaf → Message → ManagerView → LeafRow
-replies l m v = record { written = []; letters = post l.me l.parent m ∷ []; view = v }
+replies l m v = record { written = []; messages = post l.me l.parent m ∷ []; view = v }
 
 -- the record of the branch
 abbrev pub own_branch : Leaf → Branch
@@ -69,7 +69,7 @@ active_prepare_holding l ReadsOnly = replies l (Read l.own) unknown_branch
 active_prepare_holding l (Holds ws) =
     record {
       written = forced (PreparedRecord (own_branch l) ws);
-      letters = post l.me l.parent (Yes l.own) ∷ [];
+      messages = post l.me l.parent (Yes l.own) ∷ [];
       view = standing_branch Prepared None;
     }
 
@@ -79,7 +79,7 @@ active_prepare l n holding v =
     if (v.done == n) && not v.spoiled then active_prepare_holding l holding else replies l (No l.own) unknown_branch
 
 abbrev pub active_abort : Leaf → LeafRow
-active_abort l = record { written = []; letters = acknowledgement l AbortedOutcome; view = unknown_branch }
+active_abort l = record { written = []; messages = acknowledgement l AbortedOutcome; view = unknown_branch }
 
 -- Prepared.
 
@@ -89,7 +89,7 @@ ends_record l AbortedOutcome = RolledBack (own_branch l)
 
 -- COMMIT or ABORT
 abbrev pub prepared_outcome : Leaf → Outcome → LeafRow
-prepared_outcome l o = record { written = written_as l o (ends_record l o); letters = acknowledgement l o; view = unknown_branch }
+prepared_outcome l o = record { written = written_as l o (ends_record l o); messages = acknowledgement l o; view = unknown_branch }
 
 -- Prepared and Heuristic
 
@@ -105,19 +105,19 @@ decides_record l AbortedOutcome = HeurRollback (own_branch l)
 
 -- an operator decides
 abbrev pub prepared_decide : Leaf → Outcome → LeafRow
-prepared_decide l o = record { written = forced (decides_record l o); letters = []; view = standing_branch Heuristic None }
+prepared_decide l o = record { written = forced (decides_record l o); messages = []; view = standing_branch Heuristic None }
 
 -- Heuristic.
 
 -- the outcome comes: the first one is noted, the same again is acknowledged again
 abbrev pub heuristic_outcome : Leaf → Outcome → ManagerView → Option Outcome → LeafRow
 heuristic_outcome l o v None =
-    record { written = written_as l o (Told (own_branch l) o); letters = acknowledgement l o; view = standing_branch Heuristic (Some o) }
+    record { written = written_as l o (Told (own_branch l) o); messages = acknowledgement l o; view = standing_branch Heuristic (Some o) }
 heuristic_outcome l o v (Some told) =
-    if same_outcome told o then record { written = []; letters = acknowledgement l o; view = v } else unmoved v
+    if same_outcome told o then record { written = []; messages = acknowledgement l o; view = v } else unmoved v
 
 abbrev pub heuristic_forget : Leaf → LeafRow
-heuristic_forget l = record { written = forced (Forgot (own_branch l)); letters = []; view = unknown_branch }
+heuristic_forget l = record { written = forced (Forgot (own_branch l)); messages = []; view = unknown_branch }
 
 -- Unknown.
 
@@ -125,7 +125,7 @@ abbrev pub unknown_prepare : Leaf → ManagerView → LeafRow
 unknown_prepare l v = replies l (No l.own) v
 
 abbrev pub unknown_outcome : Leaf → Outcome → ManagerView → LeafRow
-unknown_outcome l o v = record { written = []; letters = acknowledgement l o; view = v }
+unknown_outcome l o v = record { written = []; messages = acknowledgement l o; view = v }
 
 -- The table by messages.
 

@@ -91,7 +91,7 @@ pub record Heard : Type 0 where
 -- transactions that a restart found undecided.
 pub record Node : Type 0 where
   pub forced : List Record
-  pub loose : List Record
+  pub unforced : List Record
   pub heard : List Heard
   pub failed : Bool
   pub life : List Record
@@ -99,15 +99,15 @@ pub record Node : Type 0 where
   pub accepted : List (Case × Ticket)
   pub voted : List (Case × (Ticket × Vote))
   pub told : List Told
-  pub dropped : List Txn
+  pub found_undecided : List Txn
 
 -- the records that stand
 abbrev pub kept : Node → List Record
-kept n = n.forced ++ n.loose
+kept n = n.forced ++ n.unforced
 
 -- a process whose log was empty, as it opens
 abbrev pub opened_node : Node
-opened_node = record { forced = Opened 1 ∷ []; loose = []; heard = []; failed = false; life = Opened 1 ∷ []; durable = Opened 1 ∷ []; accepted = []; voted = []; told = []; dropped = [] }
+opened_node = record { forced = Opened 1 ∷ []; unforced = []; heard = []; failed = false; life = Opened 1 ∷ []; durable = Opened 1 ∷ []; accepted = []; voted = []; told = []; found_undecided = [] }
 
 -- What a step does.
 
@@ -122,13 +122,13 @@ pub record Effect : Type 0 where
   pub begun : Option Txn
   pub written : List Written
   pub told : Option Told
-  pub letters : List Envelope
+  pub messages : List Envelope
   pub accepts : List (Case × Ticket)
   pub counts : List (Case × (Ticket × Vote))
   pub remains : Option ℕ
 
 abbrev pub no_effect : Effect
-no_effect = record { begun = None; written = []; told = None; letters = []; accepts = []; counts = []; remains = None }
+no_effect = record { begun = None; written = []; told = None; messages = []; accepts = []; counts = []; remains = None }
 
 abbrev pub entries_written : List Written → List Record
 entries_written ws = map (λ w. w.entry) ws
@@ -146,15 +146,15 @@ logged_of w = record { kind = kind_of w.entry; subject = subject_of w.entry; for
 
 -- how an entry of the journal shows an effect
 abbrev pub reaction_of : Effect → Reaction
-reaction_of e = record { begun = e.begun; written = map logged_of e.written; told = e.told; letters = e.letters; kept = e.remains }
+reaction_of e = record { begun = e.begun; written = map logged_of e.written; told = e.told; messages = e.messages; kept = e.remains }
 
 -- A process after an event that appended these records. One force makes the whole log the forced front.
 abbrev pub appends : Node → List Written → Node
 appends n ws =
     let new = entries_written ws in
     if is_any_forced ws
-    then record n { forced = kept n ++ new; loose = []; life = new ++ n.life; durable = new ++ (kept n ++ n.durable) }
-    else record n { loose = n.loose ++ new; life = new ++ n.life }
+    then record n { forced = kept n ++ new; unforced = []; life = new ++ n.life; durable = new ++ (kept n ++ n.durable) }
+    else record n { unforced = n.unforced ++ new; life = new ++ n.life }
 
 -- a process after an input that it handled
 abbrev pub after : Node → Heard → Effect → Node
@@ -172,10 +172,10 @@ after n h e =
 abbrev pub fails_with : Node → List Record → ℕ → ℕ → Node
 fails_with n new appended forced =
     let left = take appended new in
-    let behind = n.loose ++ left in
+    let behind = n.unforced ++ left in
     record n {
       forced = n.forced ++ take forced behind;
-      loose = drop forced behind;
+      unforced = drop forced behind;
       failed = true;
       life = left ++ n.life;
       durable = take forced behind ++ n.durable;

@@ -91,7 +91,7 @@ is_told_aborted x t = same_txn t.txn x && is_aborted t.conclusion
 abbrev pub root_ends : Node → Txn → Outcome → Bool
 root_ends n x CommittedOutcome = has (is_commit (root_case x)) n.durable
 root_ends n x AbortedOutcome =
-    has (is_abort (root_case x)) n.life || list_any (is_told_aborted x) n.told || list_any (λ y. same_txn y x) n.dropped
+    has (is_abort (root_case x)) n.life || list_any (is_told_aborted x) n.told || list_any (λ y. same_txn y x) n.found_undecided
 
 -- a cascaded coordinator ends a transaction by its decision after its promise
 abbrev pub cascaded_ends : Node → Case → Outcome → Bool

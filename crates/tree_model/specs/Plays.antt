@@ -103,7 +103,7 @@ abbrev pub played : Player → Move → List ℕ → Stepped → Played
 played p m delivered (Refuses e) = Stops e p
 played p m delivered (Makes e n) =
     Goes (record {
-      world = record { at = put_at m.step.process n p.world.at; net = p.world.net ++ e.letters };
+      world = record { at = put_at m.step.process n p.world.at; net = p.world.net ++ e.messages };
       moves = record { move = m; effect = e } ∷ p.moves;
       delivered = delivered;
     })
@@ -171,7 +171,7 @@ lines_of [] = record { sent = 0; lines = [] }
 lines_of (e ∷ es) =
     let before = lines_of es in
     record {
-      sent = before.sent + length e.effect.letters;
+      sent = before.sent + length e.effect.messages;
       lines = before.lines ++ reaction_lines e.move.step.process.0 before.sent (reaction_of e.effect);
     }
 

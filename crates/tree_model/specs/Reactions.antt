@@ -51,17 +51,17 @@ row_effect c r =
       begun = None;
       written = r.written;
       told = told_of c.txn r.told;
-      letters = r.letters;
+      messages = r.messages;
       accepts = map (λ t. (c, t)) r.accepts;
       counts = map (λ v. (c, v)) r.counts;
       remains = None;
     }
 
 abbrev pub leaf_effect : LeafRow → Effect
-leaf_effect r = record { begun = None; written = r.written; told = None; letters = r.letters; accepts = []; counts = []; remains = None }
+leaf_effect r = record { begun = None; written = r.written; told = None; messages = r.messages; accepts = []; counts = []; remains = None }
 
 abbrev pub sends_only : List Envelope → Effect
-sends_only ls = record { begun = None; written = []; told = None; letters = ls; accepts = []; counts = []; remains = None }
+sends_only ls = record { begun = None; written = []; told = None; messages = ls; accepts = []; counts = []; remains = None }
 
 -- A coordinator.
 
@@ -73,7 +73,7 @@ seat_of place parent c = record { me = place.me; parent = parent; own = c }
 abbrev pub acts_begin : Place → Node → Presumption → Reacts
 acts_begin place n p =
     let c = root_case (next_txn place.me (boot_of (kept n)) (memory_of place n (some_case place)) p) in
-    Does (record { begun = Some c.txn; written = []; told = None; letters = []; accepts = []; counts = []; remains = None })
+    Does (record { begun = Some c.txn; written = []; told = None; messages = []; accepts = []; counts = []; remains = None })
 
 -- transactions are begun at the root alone
 abbrev pub begins_at : Option ProcessId → Place → Node → Presumption → Reacts

@@ -37,7 +37,7 @@ recorded_branch rs c = marked_branch fresh_memory (mark_of (CaseBranch c) rs)
 
 -- the log that a crash leaves: the forced front, and so many of the records behind it
 abbrev pub left_of : Node → ℕ → List Record
-left_of n k = n.forced ++ take k n.loose
+left_of n k = n.forced ++ take k n.unforced
 
 -- a case that was collecting votes behind a record is aborted, and all that it names owe an acknowledgement
 abbrev pub restart_abort : Case → CoordinatorView → Standing → List Record
@@ -95,7 +95,7 @@ restart_effect place n k =
       begun = None;
       written = forced_all new;
       told = None;
-      letters = resumes place.role place.me (left ++ new);
+      messages = resumes place.role place.me (left ++ new);
       accepts = [];
       counts = [];
       remains = None;
@@ -125,10 +125,10 @@ undecided_at _ place n left = []
 abbrev pub crashed : Place → Node → ℕ → Node
 crashed place n k =
     record n {
-      loose = take k n.loose;
+      unforced = take k n.unforced;
       heard = [];
       failed = false;
-      dropped = undecided_at place.role place n (left_of n k) ++ n.dropped;
+      found_undecided = undecided_at place.role place n (left_of n k) ++ n.found_undecided;
     }
 
 -- a process after a restart: all that is kept, and all that was appended, is forced
@@ -138,7 +138,7 @@ restarted place n k =
     let new = reopens place.role (kept c) in
     record c {
       forced = kept c ++ new;
-      loose = [];
+      unforced = [];
       life = new ++ c.life;
       durable = new ++ (kept c ++ c.durable);
     }
@@ -187,13 +187,13 @@ trimmed role rs = (Opened (boot_of rs) ∷ staying role rs rs) ++ data_records r
 
 abbrev pub trim_effect : Place → Node → Effect
 trim_effect place n =
-    record { begun = None; written = []; told = None; letters = []; accepts = []; counts = []; remains = Some (length (trimmed place.role (kept n))) }
+    record { begun = None; written = []; told = None; messages = []; accepts = []; counts = []; remains = Some (length (trimmed place.role (kept n))) }
 
 -- one atomic, forced replacement
 abbrev pub trims : Place → Node → Node
 trims place n =
     let new = trimmed place.role (kept n) in
-    record n { forced = new; loose = []; life = new ++ n.life; durable = new ++ n.durable }
+    record n { forced = new; unforced = []; life = new ++ n.life; durable = new ++ n.durable }
 
 -- a trim whose device failed leaves the old log or the new one
 abbrev pub trim_fails : Place → Node → ℕ → Node

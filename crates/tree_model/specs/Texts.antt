@@ -29,7 +29,7 @@ abbrev pub presumption_letter : Presumption → List ℕ
 presumption_letter PresumeAbort = codes "a"
 presumption_letter PresumeCommit = codes "c"
 
--- a transaction: its presumption's letter, its boot and its number
+-- a transaction: its presumption's envelope, its boot and its number
 abbrev pub txn_text : Txn → List ℕ
 txn_text x = presumption_letter x.presumption ++ decimal x.boot ++ codes "." ++ decimal x.sequence
 
@@ -140,7 +140,7 @@ kept_lines p (Some n) = (codes "trim " ++ decimal p ++ codes " " ++ decimal n) �
 -- the lines of a reaction of a process before which so many messages were sent
 abbrev pub reaction_lines : ℕ → ℕ → Reaction → List (List ℕ)
 reaction_lines p sent r =
-    begun_lines r.begun ++ logged_lines p r.written ++ told_lines r.told ++ envelope_lines sent r.letters ++ kept_lines p r.kept
+    begun_lines r.begun ++ logged_lines p r.written ++ told_lines r.told ++ envelope_lines sent r.messages ++ kept_lines p r.kept
 
 -- Which names have a text of their own.
 

@@ -130,7 +130,7 @@ pub record BeginsTxn (place : Place) (n : Node) (h : Heard) (e : Effect) (x : Tx
 
 -- what a begin does beside naming its transaction
 abbrev pub begin_effect : Txn → Effect
-begin_effect x = record { begun = Some x; written = []; told = None; letters = []; accepts = []; counts = []; remains = None }
+begin_effect x = record { begun = Some x; written = []; told = None; messages = []; accepts = []; counts = []; remains = None }
 
 -- a transaction that begins
 abbrev pub RootBegins : ProcessId → List TreeEntry → Node → Presumption → DataAnswer → Type 0

@@ -33,7 +33,7 @@ pub data Stepped : Type 0 where
 -- what a device's failure lets through of an effect: a front of the records; nothing is sent or told
 abbrev pub fault_effect : Effect → ℕ → Effect
 fault_effect e appended =
-    record { begun = None; written = take appended e.written; told = None; letters = []; accepts = e.accepts; counts = e.counts; remains = None }
+    record { begun = None; written = take appended e.written; told = None; messages = []; accepts = e.accepts; counts = e.counts; remains = None }
 
 abbrev pub input_makes : Node → Heard → Option Fault → Reacts → Stepped
 input_makes n h fault (Refused e) = Refuses e
@@ -75,7 +75,7 @@ put_at q n f r = if same_process q r then n else f r
 -- what a move at its process makes of the world
 abbrev pub world_stepped : World → ProcessId → Stepped → Option (Effect × World)
 world_stepped w q (Refuses e) = None
-world_stepped w q (Makes e n) = Some (e, record { at = put_at q n w.at; net = w.net ++ e.letters })
+world_stepped w q (Makes e n) = Some (e, record { at = put_at q n w.at; net = w.net ++ e.messages })
 
 unfoldable pub world_makes : List TreeEntry → World → Move → Option (Effect × World)
 world_makes tree w m =
@@ -141,7 +141,7 @@ node_by place (e ∷ es) = node_left (node_by place es) (node_makes place (node_
 -- the net is the messages of the moves, one after another
 unfoldable pub net_by : List Made → List Envelope
 net_by [] = []
-net_by (e ∷ es) = net_by es ++ e.effect.letters
+net_by (e ∷ es) = net_by es ++ e.effect.messages
 
 -- The journal.
 

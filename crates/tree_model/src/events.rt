@@ -4,7 +4,7 @@ ghost use Rattle.std.specs.Prelude.{◌≡◌, IfOk};
 ghost use Rattle.tree_model.specs.Errors.{step_error_number};
 
 use crate::lists::Sequence;
-use crate::messages::{Letters, Message, Op};
+use crate::messages::{Envelopes, Message, Op};
 use crate::names::{Case, Outcome, Presumption, ProcessId, Txn};
 use crate::records::Logged;
 use std::alloc::{AllocError, Global};
@@ -114,7 +114,7 @@ pub struct Reaction {
     pub begun: Option<Txn>,
     pub written: Sequence<Logged>,
     pub told: Option<Told>,
-    pub letters: Letters,
+    pub messages: Envelopes,
     pub kept: Option<u64>,
 }
 

@@ -95,4 +95,4 @@ impl Envelope {
 }
 
 /// Messages, in the order in which they were sent.
-pub type Letters = Sequence<Envelope>;
+pub type Envelopes = Sequence<Envelope>;

@@ -71,13 +71,13 @@ pub row_aborts : (tree : List TreeEntry) (w : World) (above : Bool) (c : Case) (
     → IsCascadedPair tree c t p → (i : ℕ) (h : Heard) (e : Effect) (s : Seat)
     → h.input ≡ MessageInput i (Abort c)
     → e.written ≡ plain (AbortRecord c []) → e.accepts ≡ [] → e.counts ≡ [] → e.told ≡ None
-    → e.letters ≡ each s Abort (promised_by c (kept (w.at (process_of c)))) → s.own.txn ≡ c.txn
+    → e.messages ≡ each s Abort (promised_by c (kept (w.at (process_of c)))) → s.own.txn ≡ c.txn
     → (coordinator_view (record { me = process_of c; role = Below p; tree = tree }) (w.at (process_of c))
     c).standing ≡ Prepared
     → has (is_prepare c) (w.at (process_of c)).life ≡ true
     → reading_of tree (handled w (process_of c) h e) above c t ≡ move.passes_abort
     (reading_of tree w above c t)
-row_aborts tree w above c t p pair i h e s input one none_accepted none_counted none_told letters own
+row_aborts tree w above c t p pair i h e s input one none_accepted none_counted none_told messages own
     stands promised =
     let place : Place = record { me = process_of c; role = Below p; tree = tree } in
     let n = w.at (process_of c) in
@@ -86,7 +86,7 @@ row_aborts tree w above c t p pair i h e s input one none_accepted none_counted 
     (child_half (place_of tree t.child) (w.at t.child) (child_case c.txn t)) _ _
     (cascaded_aborted (process_of c) p tree n i h e c t input one none_accepted none_counted none_told
     stands promised)
-    (ap (λ ls. wire c t (w.net ++ ls)) letters ∙ (wire-aborts c t s (promised_by c (kept n)) w.net own
+    (ap (λ ls. wire c t (w.net ++ ls)) messages ∙ (wire-aborts c t s (promised_by c (kept n)) w.net own
     ∙ ap (λ b. record (wire c t w.net) { abort = b || (wire c t w.net).abort })
     (promised_by-naming c t (kept n))))
     ∙ (reading-aborted (is_leaf (role_of tree t.child)) (is_commit_outcome w c.txn) above

@@ -44,10 +44,10 @@ quiet r h e = let v = h.not_voted e in (v.no_prepared.0, v.no_prepared.1, v.said
 
 fault_zero : (tree : List TreeEntry) (w : World) (above : Bool) (c : Case) (t : Ticket) (p : ProcessId)
     → IsLeafPair tree c t p → (h : Heard) (e e' : Effect) (f : ℕ)
-    → Common (reading_of tree w above c t) → e'.letters ≡ []
+    → Common (reading_of tree w above c t) → e'.messages ≡ []
     → reading_of tree (made_at w t.child (fails_in (w.at t.child) h e zero f) e') above c t
     ≡ crash.hardens_failed_child (child_front (child_case c.txn t) ((w.at t.child).forced
-    ++ take f ((w.at t.child).loose
+    ++ take f ((w.at t.child).unforced
     ++ [])) (w.at t.child).durable) (crash.child_fails (reading_of tree w above c t))
 fault_zero tree w above c t p pair h e e' f inv none =
     let place : Place = record { me = t.child; role = AtLeaf p; tree = tree } in
@@ -68,22 +68,22 @@ fault_zero tree w above c t p pair h e e' f inv none =
     ∙ (reading-fails (is_root_ticket c.ticket) (is_commit_outcome w c.txn) above
     (parent_half (place_of tree (process_of c)) (w.at (process_of c)) c t) (child_half place k d)
     (wire c t w.net)
-    (child_front d (k.forced ++ take f (k.loose ++ [])) k.durable) (quiet _ inv')
-    (λ x. sym (has-nil_behind (is_promise d) k.forced k.loose)
-    ∙ front-kept (is_promise d) k.forced f (k.loose ++ []) x)
+    (child_front d (k.forced ++ take f (k.unforced ++ [])) k.durable) (quiet _ inv')
+    (λ x. sym (has-nil_behind (is_promise d) k.forced k.unforced)
+    ∙ front-kept (is_promise d) k.forced f (k.unforced ++ []) x)
     ∙ ap (λ (r : Reading). crash.hardens_failed_child (child_front d (k.forced
-    ++ take f (k.loose ++ [])) k.durable) (crash.child_fails r)) old))
+    ++ take f (k.unforced ++ [])) k.durable) (crash.child_fails r)) old))
 
 fault_more : (tree : List TreeEntry) (w : World) (above : Bool) (c : Case) (t : Ticket) (p : ProcessId)
     → IsLeafPair tree c t p → (h : Heard) (e e' : Effect) (a f : ℕ) (ws : List Write)
-    → Common (reading_of tree w above c t) → e'.letters ≡ []
+    → Common (reading_of tree w above c t) → e'.messages ≡ []
     → e.written ≡ forced (PreparedRecord (CaseBranch (child_case c.txn t)) ws)
     → (w.at t.child).failed ≡ false
     → (manager_view (record { me = t.child; role = AtLeaf p; tree = tree }) (w.at t.child)
     (child_case c.txn t)).standing ≡ ActiveStanding
     → reading_of tree (made_at w t.child (fails_in (w.at t.child) h e (suc a) f) e') above c t
     ≡ crash.hardens_failed_child (child_front (child_case c.txn t) ((w.at t.child).forced
-    ++ take f ((w.at t.child).loose
+    ++ take f ((w.at t.child).unforced
     ++ PreparedRecord (CaseBranch (child_case c.txn t)) ws ∷ [])) (w.at t.child).durable)
     (crash.fails_to_promise (reading_of tree w above c t))
 fault_more tree w above c t p pair h e e' a f ws inv none one up stands =
@@ -92,7 +92,7 @@ fault_more tree w above c t p pair h e e' a f ws inv none one up stands =
     let d = child_case c.txn t in
     let old = before tree w above c t p pair in
     let front = child_front d (k.forced
-    ++ take f (k.loose ++ PreparedRecord (CaseBranch d) ws ∷ [])) k.durable in
+    ++ take f (k.unforced ++ PreparedRecord (CaseBranch d) ws ∷ [])) k.durable in
     at_child tree w above c t p pair (fails_in k h e (suc a) f) e'
     ∙ (moved (is_root_ticket c.ticket) (is_commit_outcome w c.txn) above
     (parent_half (place_of tree (process_of c)) (w.at (process_of c)) c t) _ _ _ _
@@ -114,21 +114,21 @@ forced_at w q n e = rw (same_process-refl q)
 -- the front that a fault leaves of the promise
 left_zero : (d : Case) (k : Node) (h : Heard) (e : Effect) (f : ℕ) (w : World) (q : ProcessId) (e' : Effect)
     → child_front d ((made_at w q (fails_in k h e zero f) e').at q).forced k.durable ≡ child_front d
-    (k.forced ++ take f (k.loose ++ [])) k.durable
+    (k.forced ++ take f (k.unforced ++ [])) k.durable
 left_zero d k h e f w q e' = ap (λ rs. child_front d rs k.durable) (forced_at w q (fails_in k h e zero f) e')
 
 left_more : (d : Case) (k : Node) (h : Heard) (e : Effect) (a f : ℕ) (w : World) (q : ProcessId)
     (e' : Effect) (r : Record) → e.written ≡ forced r
     → child_front d ((made_at w q (fails_in k h e (suc a) f) e').at q).forced k.durable ≡ child_front d
-    (k.forced ++ take f (k.loose ++ r ∷ [])) k.durable
+    (k.forced ++ take f (k.unforced ++ r ∷ [])) k.durable
 left_more d k h e a f w q e' r one =
     ap (λ rs. child_front d rs k.durable) (forced_at w q (fails_in k h e (suc a) f) e'
-    ∙ ap (λ rs. k.forced ++ take f (k.loose ++ rs)) (ap (λ ws. take (suc a) (entries_written ws)) one
+    ∙ ap (λ rs. k.forced ++ take f (k.unforced ++ rs)) (ap (λ ws. take (suc a) (entries_written ws)) one
     ∙ ap (λ rs. r ∷ rs) (take-nil {A = Record} a)))
 
 fails_by : (a : ℕ) (tree : List TreeEntry) (w : World) (above : Bool) (c : Case) (t : Ticket)
     (p : ProcessId) → IsLeafPair tree c t p → (h : Heard) (e e' : Effect) (f : ℕ) (ws : List Write)
-    → Common (reading_of tree w above c t) → e'.letters ≡ []
+    → Common (reading_of tree w above c t) → e'.messages ≡ []
     → e.written ≡ forced (PreparedRecord (CaseBranch (child_case c.txn t)) ws)
     → (w.at t.child).failed ≡ false
     → (manager_view (record { me = t.child; role = AtLeaf p; tree = tree }) (w.at t.child)

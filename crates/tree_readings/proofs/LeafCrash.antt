@@ -62,16 +62,16 @@ decided-nil q fo l f dur = subst (λ (x : Bool). (x || has q (take f (l ++ [])
 pub half_fails : (s s' : Standing) (n : Node) (h : Heard) (e : Effect) (f : ℕ) (d : Case)
     → IsOld (is_promise d) n → IsOld (is_heuristic d) n → IsOld (is_forgot d) n
     → child_half_at s' (fails_in n h e zero f) d ≡ failed_half (child_front d (n.forced
-    ++ take f (n.loose ++ [])) n.durable) (child_half_at s n d)
+    ++ take f (n.unforced ++ [])) n.durable) (child_half_at s n d)
 half_fails s s' n h e f d o1 o2 o3 =
-    let b = n.loose ++ [] in
+    let b = n.unforced ++ [] in
     simp (
       ever-cut (is_promise d) n.forced f b n.durable o1,
       ever-cut (is_heuristic d) n.forced f b
           n.durable o2,
       ever-cut (is_forgot d) n.forced f b n.durable o3,
       has-cut,
-      decided-nil (is_decided d CommittedOutcome) n.forced n.loose f n.durable,
+      decided-nil (is_decided d CommittedOutcome) n.forced n.unforced f n.durable,
       has-nil_behind,
     )
 
@@ -87,10 +87,10 @@ pub half_fails_to_promise : (s s' : Standing) (n : Node) (h : Heard) (e : Effect
     → IsOld (is_promise d) n → IsOld (is_heuristic d) n → IsOld (is_forgot d) n
     → child_half_at s' (fails_in n h e (suc a) f) d
     ≡ failed_promise (child_front d (n.forced
-    ++ take f (n.loose ++ PreparedRecord (CaseBranch d) ws ∷ [])) n.durable) (child_half_at s n d)
+    ++ take f (n.unforced ++ PreparedRecord (CaseBranch d) ws ∷ [])) n.durable) (child_half_at s n d)
 half_fails_to_promise s s' n h e a f d ws one o1 o2 o3 =
     let r = PreparedRecord (CaseBranch d) ws in
-    let b = n.loose ++ r ∷ [] in
+    let b = n.unforced ++ r ∷ [] in
     rw (one, take-nil {A = Record} a)
     (simp (
       ever-cut (is_promise d) n.forced f b n.durable o1,
@@ -98,7 +98,7 @@ half_fails_to_promise s s' n h e a f d ws one o1 o2 o3 =
           n.durable o2,
       ever-cut (is_forgot d) n.forced f b n.durable o3,
       has-cut,
-      decided-push (is_decided d CommittedOutcome) n.forced n.loose r f n.durable refl,
+      decided-push (is_decided d CommittedOutcome) n.forced n.unforced r f n.durable refl,
       has-push_behind,
       has-cons,
       same_case-refl,

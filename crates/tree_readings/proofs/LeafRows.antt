@@ -65,7 +65,7 @@ moved root outcome above p k k' v v' e f =
 pub row_yes : (tree : List TreeEntry) (w : World) (above : Bool) (c : Case) (t : Ticket) (p : ProcessId)
     → IsLeafPair tree c t p → (h : Heard) (e : Effect) (ws : List Write)
     → e.written ≡ forced (PreparedRecord (CaseBranch (child_case c.txn t)) ws)
-    → e.letters ≡ post t.child p (Yes (child_case c.txn t)) ∷ []
+    → e.messages ≡ post t.child p (Yes (child_case c.txn t)) ∷ []
     → (w.at t.child).failed ≡ false
     → (manager_view (record { me = t.child; role = AtLeaf p; tree = tree }) (w.at t.child)
     (child_case c.txn t)).standing ≡ ActiveStanding

@@ -21,7 +21,7 @@ pub memory_of-nothing : (place : Place) (n : Node) (h : Heard) (e : Effect) (c :
     → memory_of place (after n h e) c ≡ remembers place.me place.role (boot_of (kept n)) c
     (memory_of place n c) h
 memory_of-nothing place n h e c none = memory_of-heard place n h e c
-    (rw none (boot_of-nil_behind n.forced n.loose))
+    (rw none (boot_of-nil_behind n.forced n.unforced))
 
 pub memory_of-forced : (place : Place) (n : Node) (h : Heard) (e : Effect) (c : Case) (r : Record)
     → e.written ≡ forced r → ((b : ℕ) → boot_after b r ≡ b)
@@ -35,4 +35,4 @@ pub memory_of-plain : (place : Place) (n : Node) (h : Heard) (e : Effect) (c : C
     → memory_of place (after n h e) c ≡ remembers place.me place.role (boot_of (kept n)) c
     (memory_of place n c) h
 memory_of-plain place n h e c r one stays = memory_of-heard place n h e c
-    (rw one (boot_of-push_behind n.forced n.loose r ∙ stays (boot_of (kept n))))
+    (rw one (boot_of-push_behind n.forced n.unforced r ∙ stays (boot_of (kept n))))

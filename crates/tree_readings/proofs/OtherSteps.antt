@@ -79,7 +79,7 @@ or_none v ls c t net e =
     )
 
 elsewhere : (tree : List TreeEntry) (w : World) (above : Bool) (c : Case) (t : Ticket) (q : ProcessId)
-    (n : Node) (e : Effect) → IsElsewhere q c t → wire c t e.letters ≡ no_wire
+    (n : Node) (e : Effect) → IsElsewhere q c t → wire c t e.messages ≡ no_wire
     → reading_of tree (made_at w q n e) above c t ≡ reading_of tree w above c t
 elsewhere tree w above c t q n e out quiet =
     rw (outcome_elsewhere w q n e c.txn out.not_root, out.not_parent, out.not_child)
@@ -87,7 +87,7 @@ elsewhere tree w above c t q n e out quiet =
     (is_commit_outcome w c.txn) above
     (parent_half (place_of tree (process_of c)) (w.at (process_of c)) c t)
     (child_half (place_of tree t.child) (w.at t.child) (child_case c.txn t)) v)
-    (or_none (wire c t w.net) e.letters c t w.net quiet))
+    (or_none (wire c t w.net) e.messages c t w.net quiet))
 
 pub others_leave : OthersLeave
 others_leave tree w w' above c t m e out quiet made =
@@ -189,7 +189,7 @@ manager_votes_elsewhere tree w w' above c t p o i n a ws e pair other ready made
     ∙ (moved (is_root_ticket c.ticket) (is_commit_outcome w c.txn) above
     (parent_half (place_of tree (process_of c)) (w.at (process_of c)) c t) _ _ _ _
     (leaf_hardened t.child p tree k h done d o i n ws other refl (ap (λ (x : Effect). x.written) same))
-    (ap (λ ls. wire c t (w.net ++ ls)) (ap (λ (x : Effect). x.letters) same)
+    (ap (λ ls. wire c t (w.net ++ ls)) (ap (λ (x : Effect). x.messages) same)
     ∙ wire-other_yes c o t t.child p w.net other)
     ∙ (reading-hardened (is_root_ticket c.ticket) (is_commit_outcome w c.txn) above
     (parent_half (place_of tree (process_of c)) (w.at (process_of c)) c t) (child_half place k d)

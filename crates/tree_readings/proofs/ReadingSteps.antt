@@ -30,7 +30,7 @@ pub at_child : (tree : List TreeEntry) (w : World) (above : Bool) (c : Case) (t 
     ≡ reading_from (is_root_ticket c.ticket) true (is_commit_outcome w c.txn) above
     (parent_half (place_of tree (process_of c)) (w.at (process_of c)) c t)
     (child_half (record { me = t.child; role = AtLeaf p; tree = tree }) n (child_case c.txn t))
-    (wire c t (w.net ++ e.letters))
+    (wire c t (w.net ++ e.messages))
 at_child tree w above c t p pair n e =
     rw (
       pair.leaf,
@@ -58,7 +58,7 @@ pub at_cascaded : (tree : List TreeEntry) (w : World) (above : Bool) (c : Case) 
     ≡ reading_from false (is_leaf (role_of tree t.child)) (is_commit_outcome w c.txn) above
     (parent_half (record { me = process_of c; role = Below p; tree = tree }) n c t)
     (child_half (place_of tree t.child) (w.at t.child) (child_case c.txn t))
-    (wire c t (w.net ++ e.letters))
+    (wire c t (w.net ++ e.messages))
 at_cascaded tree w above c t p pair n e =
     rw (
       pair.cascaded,
@@ -90,7 +90,7 @@ pub at_root : (tree : List TreeEntry) (w : World) (above : Bool) (x : Txn) (t : 
     ≡ reading_from true (is_leaf (role_of tree t.child)) (has (is_commit (root_case x)) n.durable) above
     (parent_half (record { me = x.root; role = AtRoot; tree = tree }) n (root_case x) t)
     (child_half (place_of tree t.child) (w.at t.child) (child_case x t))
-    (wire (root_case x) t (w.net ++ e.letters))
+    (wire (root_case x) t (w.net ++ e.messages))
 at_root tree w above x t pair n e =
     rw (pair.root, outcome_here w n e x, pair.child_elsewhere, same_process-refl x.root)
 

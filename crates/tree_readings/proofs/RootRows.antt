@@ -92,12 +92,12 @@ pub row_commits : (tree : List TreeEntry) (w : World) (above : Bool) (x : Txn) (
     → e.written ≡ forced (CommitRecord (root_case x) ys) → e.accepts ≡ []
     → e.counts ≡ (root_case x, (t, VoteYes)) ∷ []
     → e.told ≡ Some (record { txn = x; conclusion = ConcludedCommitted })
-    → e.letters ≡ each s Commit ys → s.own.txn ≡ x
+    → e.messages ≡ each s Commit ys → s.own.txn ≡ x
     → (let r = reading_of tree w above (root_case x) t in (in_list ys t ≡ r.accepted)
     × (r.phase ≡ Collecting) × (r.born ≡ true) × (r.owed ≡ false))
     → reading_of tree (handled w x.root h e) above (root_case x) t ≡ root.decides_naming
     (parent.hears_yes (parent.hardens_parent (reading_of tree w above (root_case x) t)))
-row_commits tree w above x t pair i h e s ys input one none_accepted counted told letters own facts =
+row_commits tree w above x t pair i h e s ys input one none_accepted counted told messages own facts =
     let place : Place = record { me = x.root; role = AtRoot; tree = tree } in
     let c = root_case x in
     let n = w.at x.root in
@@ -108,7 +108,7 @@ row_commits tree w above x t pair i h e s ys input one none_accepted counted tol
     ∙ (moved (is_leaf (role_of tree t.child)) _ true above _ _ k _ _ (durable_commit n h e c ys one)
     (root_committed x.root tree n i h e c t ys input one none_accepted counted told
     ∙ ap (λ b. commits_naming b p) (facts.0 ∙ sym (ap (λ (r : Reading). r.accepted) same)))
-    (ap (λ ls. wire c t (w.net ++ ls)) letters ∙ (wire-commits c t s ys w.net own
+    (ap (λ ls. wire c t (w.net ++ ls)) messages ∙ (wire-commits c t s ys w.net own
     ∙ ap (λ b. record (wire c t w.net) { commit = b || (wire c t w.net).commit }) (facts.0
     ∙ sym (ap (λ (r : Reading). r.accepted) same))))
     ∙ (reading-committed (is_leaf (role_of tree t.child)) (is_commit_outcome w x) above p k (wire c t w.net)

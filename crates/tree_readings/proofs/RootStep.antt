@@ -124,4 +124,4 @@ root_decides tree w w' above x t i a e pair pa inv last made =
     (seat_of place None c) (yes_with v t) refl
     (ap (λ (y : Effect). y.written) same) (ap (λ (y : Effect). y.accepts) same)
     (ap (λ (y : Effect). y.counts) same) (ap (λ (y : Effect). y.told) same)
-    (ap (λ (y : Effect). y.letters) same) refl (accepted, phase, facts.0, facts.1)
+    (ap (λ (y : Effect). y.messages) same) refl (accepted, phase, facts.0, facts.1)

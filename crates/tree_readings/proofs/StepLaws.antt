@@ -52,7 +52,7 @@ manager_votes_yes tree w w' above c t p i n a ws e pair ready made =
     (active_prepare_holding (leaf_of place p d) (Holds ws)) = effect_yes place p k a d n ws ready' in
     ap (λ (x : World). reading_of tree x above c t) both.1
     ∙ row_yes tree w above c t p pair h (manager_hears place p k a (Prepare d n)) ws
-    (ap (λ (x : Effect). x.written) same) (ap (λ (x : Effect). x.letters) same) both.0 ready'.active
+    (ap (λ (x : Effect). x.written) same) (ap (λ (x : Effect). x.messages) same) both.0 ready'.active
 
 -- The view of a Prepared case names whom its Prepare names.
 
@@ -93,6 +93,6 @@ cascaded_passes_abort tree w w' above c t p i a e pair pa stands promised made =
     (seat_of place (Some p) c) refl
     (ap (λ (x : Effect). x.written) same) (ap (λ (x : Effect). x.accepts) same)
     (ap (λ (x : Effect). x.counts) same) (ap (λ (x : Effect). x.told) same)
-    (ap (λ (x : Effect). x.letters) same
+    (ap (λ (x : Effect). x.messages) same
     ∙ ap (λ ts. each (seat_of place (Some p) c) Abort ts) (promised_view place n c stands'))
     refl stands' promised

@@ -186,7 +186,7 @@ parent_half_at s m n c t =
       told_committed = list_any (is_told_committed c.txn) n.told;
       told_aborted = list_any (is_told_aborted c.txn) n.told;
       begun = is_begun m.phase || list_any (is_told_of_txn c.txn) n.told || list_any
-          (λ y. same_txn y c.txn) n.dropped || has (is_commit c) n.life;
+          (λ y. same_txn y c.txn) n.found_undecided || has (is_commit c) n.life;
       obeyed_abort = follows (is_abort c) (is_prepare c) n.life;
       collecting_kept = has (is_collecting c) (kept n);
       collecting_forced = has (is_collecting c) n.forced;

@@ -138,7 +138,7 @@ abbrev pub OthersLeave : Type 0
 OthersLeave = (tree : List TreeEntry) (w w' : World) (above : Bool) (c : Case) (t : Ticket) (m : Move)
     (e : Effect)
     → IsElsewhere m.step.process c t
-    → IsQuiet c t e.letters
+    → IsQuiet c t e.messages
     → world_makes tree w m ≡ Some (e, w')
     → reading_of tree w' above c t ≡ reading_of tree w above c t
 

@@ -18,7 +18,7 @@ use Rattle.tree_model.specs.declared.messages.Envelope.{Envelope}
 
 -- a world after a step of one process that left this node and sent the messages of this effect
 abbrev pub made_at : World → ProcessId → Node → Effect → World
-made_at w q n e = record { at = put_at q n w.at; net = w.net ++ e.letters }
+made_at w q n e = record { at = put_at q n w.at; net = w.net ++ e.messages }
 
 -- a world after an input that a process handled
 abbrev pub handled : World → ProcessId → Heard → Effect → World

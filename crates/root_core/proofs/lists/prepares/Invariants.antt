@@ -7,4 +7,4 @@ use Rattle.root_core.proofs.lists.prepares.Given as goal
 
 abbrev pub invariant-loop-ticket : goal.invariant-loop-ticket
 invariant-loop-ticket l =
-    l.letters.items ≡ map (λ t. post l.seat.me t.child (Prepare (child_case l.seat.txn t) (works_of l.view.works.items t))) (take l.ticket-index l.view.accepted.items)
+    l.messages.items ≡ map (λ t. post l.seat.me t.child (Prepare (child_case l.seat.txn t) (works_of l.view.works.items t))) (take l.ticket-index l.view.accepted.items)

@@ -26,9 +26,9 @@ use Rattle.flat_world.specs.declared.leaf.Live.TheVariants.{Active, Promised}
 use Rattle.flat_world.specs.declared.leaf.Leaf.{Leaf}
 
 -- the view of a live branch
-abbrev pub meant : Live → ManagerView
-meant (Active done writes) = record { standing = ActiveStanding; done = done; spoiled = false; told = None }
-meant Promised = standing_branch Prepared None
+abbrev pub model_view : Live → ManagerView
+model_view (Active done writes) = record { standing = ActiveStanding; done = done; spoiled = false; told = None }
+model_view Promised = standing_branch Prepared None
 
 -- the writes of its works
 abbrev pub writes_of : Live → List Write
@@ -37,7 +37,7 @@ writes_of Promised = []
 
 abbrev pub found : Option Live → ManagerView
 found None = unknown_branch
-found (Some b) = meant b
+found (Some b) = model_view b
 
 abbrev pub found_writes : Option Live → List Write
 found_writes None = []

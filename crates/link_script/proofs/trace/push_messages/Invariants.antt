@@ -1,10 +1,10 @@
 use Rattle.std.proofs.Common.{◌≡◌, ◌+◌, ◌++◌, drop}
 use Rattle.tree_model.specs.Texts.{envelope_lines}
 use Rattle.link_script.specs.Trace.{lines_text}
-use Rattle.link_script.proofs.trace.push_letters.Given as goal
+use Rattle.link_script.proofs.trace.push_messages.Given as goal
 
 abbrev pub invariant-loop-envelope : goal.invariant-loop-envelope
 invariant-loop-envelope l =
     (l.number ≡ l.sent + l.envelope-index)
-    × (l.out.items ++ lines_text (envelope_lines l.number (drop l.envelope-index l.letters))
-    ≡ l.initial.out.items ++ lines_text (envelope_lines l.sent l.letters))
+    × (l.out.items ++ lines_text (envelope_lines l.number (drop l.envelope-index l.messages))
+    ≡ l.initial.out.items ++ lines_text (envelope_lines l.sent l.messages))
