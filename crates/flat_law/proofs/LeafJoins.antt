@@ -18,7 +18,7 @@ use Rattle.tree_model.specs.CoordinatorRows.{post}
 use Rattle.tree_model.specs.Reactions.{Does, leaf_joins, sends_only}
 use Rattle.tree_model.specs.Views.{leaf_place, hears_message, fresh_case, JoinsBranch}
 use Rattle.tree_model.proofs.ManagerViewLaws.{Givens, givens_of, gives_next, manager_views}
-use Rattle.rec_log.specs.Logs.{writes}
+use Rattle.list_log.specs.Logs.{writes}
 use Rattle.flat_law.specs.Leaves.{LeafState, join_turn, message_turn, Makes, Opens}
 use Rattle.flat_law.specs.Ties.{LeafFollows}
 use Rattle.flat_law.proofs.Logs.{Keeps, after_keeps, after_runs, after_boots, same_boot, quiet_keeps}

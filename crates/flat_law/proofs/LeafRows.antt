@@ -21,7 +21,7 @@ use Rattle.tree_model.specs.Reactions as model
 use Rattle.tree_model.specs.Views.{leaf_place, hears_message, MovesBranch}
 use Rattle.tree_model.proofs.ListLaws.{kept-after}
 use Rattle.tree_model.proofs.ManagerViewLaws.{Givens, givens_of, gives_next, marks, IsOwn, mark_of-append}
-use Rattle.rec_log.specs.Logs.{writes}
+use Rattle.list_log.specs.Logs.{writes}
 use Rattle.flat_law.specs.Leaves.{LeafState, Moves}
 use Rattle.flat_law.specs.Ties.{LeafFollows}
 use Rattle.flat_law.proofs.Logs.{Keeps, after_keeps, after_runs, after_boots, same_boot}

@@ -22,7 +22,7 @@ use Rattle.tree_model.specs.Reactions as model
 use Rattle.tree_model.specs.Plays.{held_writes}
 use Rattle.tree_model.specs.Views.{leaf_place, hears_message, MovesBranch}
 use Rattle.tree_model.proofs.ManagerViewLaws.{Givens, givens_of, gives_next, IsOwn, quiet-after, work_writes, prepare_own, commit_own, abort_own, manager_views}
-use Rattle.rec_log.specs.Logs.{writes}
+use Rattle.list_log.specs.Logs.{writes}
 use Rattle.flat_law.specs.Leaves.{LeafState, message_turn, Makes, Moves}
 use Rattle.flat_law.specs.Ties.{LeafFollows}
 use Rattle.flat_law.proofs.Logs.{Keeps, after_keeps, after_runs, after_boots, same_boot, quiet_keeps, quiet_boots}

@@ -6,7 +6,7 @@ use Rattle.tree_model.specs.Records.{boot_of, boot_after}
 use Rattle.tree_model.specs.Nodes.{Node, kept, Heard, Effect, Written, entries_written, is_any_forced, appends, after}
 use Rattle.tree_model.proofs.ListLaws.{kept-after}
 use Rattle.tree_model.proofs.ManagerViewLaws.{boot_of-append}
-use Rattle.rec_log.specs.Logs.{Kept, writes}
+use Rattle.list_log.specs.Logs.{Kept, writes}
 
 -- the process has these records
 pub record Keeps (n : Node) (k : Kept) : Type 0 where

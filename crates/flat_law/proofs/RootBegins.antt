@@ -25,7 +25,7 @@ use Rattle.tree_model.specs.Views.{root_place, begin_effect, next_begun, RootBeg
 use Rattle.tree_model.proofs.ListLaws.{memory_of-after}
 use Rattle.tree_model.proofs.BeginLaws.{root_begins}
 use Rattle.tree_model.proofs.RootViewLaws.{apart_case}
-use Rattle.rec_log.specs.Logs.{writes}
+use Rattle.list_log.specs.Logs.{writes}
 use Rattle.root_core.specs.Roots.{RootState, Makes, Opens, act_turn, acts, of_root, join_turn, work_turn, live_turn}
 use Rattle.root_core.specs.Roots as root
 use Rattle.tree_law.specs.Flat.{is_flat_act}

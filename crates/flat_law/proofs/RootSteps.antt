@@ -22,7 +22,7 @@ use Rattle.tree_model.specs.Views.{root_place, MovesTxn}
 use Rattle.tree_model.proofs.ListLaws.{memory_of-after, kept-after}
 use Rattle.tree_model.proofs.BeginLaws.{begun_next}
 use Rattle.tree_model.proofs.RootViewLaws.{apart_case}
-use Rattle.rec_log.specs.Logs.{writes}
+use Rattle.list_log.specs.Logs.{writes}
 use Rattle.root_core.specs.Roots.{RootState, Turn, Makes, Moves, Refuses, act_turn, acts}
 use Rattle.flat_law.specs.Ties.{recorded_of, StandsIn, RootFollows}
 use Rattle.flat_law.proofs.Logs.{Keeps, after_keeps, after_runs, after_boots, same_boot, quiet_keeps, quiet_boots}

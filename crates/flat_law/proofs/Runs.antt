@@ -14,7 +14,7 @@ use Rattle.flat_law.specs.FlatWorlds.{FlatState, IsOpened, least_open, settles_b
 use Rattle.flat_law.specs.FlatWorlds.{BreaksOff, BreaksOffWithin, SameLeaf}
 use Rattle.flat_law.specs.FlatWorlds.{Same as SameWorld}
 use Rattle.flat_law.specs.Leaves.{LeafState, Same}
-use Rattle.rec_log.specs.Logs.{Kept}
+use Rattle.list_log.specs.Logs.{Kept}
 use Rattle.flat_law.specs.Ties.{IsFlatTree, IsLeafOf, Follows, GoesOn, IsModelled}
 use Rattle.flat_law.proofs.Openings.{opened_follows}
 use Rattle.flat_law.proofs.RootRefusals.{unchanged}

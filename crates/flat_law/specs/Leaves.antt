@@ -24,7 +24,7 @@ use Rattle.tree_model.specs.CoordinatorRows.{post}
 use Rattle.tree_model.specs.ManagerRows.{Leaf, LeafRow, on_work, on_prepare, on_commit, on_abort}
 use Rattle.tree_model.specs.Reactions.{leaf_effect, sends_only}
 use Rattle.tree_model.specs.Plays.{op_writes, held_writes}
-use Rattle.rec_log.specs.Logs.{Kept, opened_log, writes}
+use Rattle.list_log.specs.Logs.{Kept, opened_log, writes}
 
 -- What a leaf keeps: its log, its boot, how many tickets it gave in this boot, each parent's case with the active ticket
 -- given to it, and the view of each branch, which is Unknown where it is not live, with the writes of its works.

@@ -17,7 +17,7 @@ use Rattle.tree_model.specs.Memory.{without_ticket}
 use Rattle.tree_model.specs.CoordinatorRows.{forced, post}
 use Rattle.tree_model.specs.ManagerRows.{LeafRow, active_prepare_holding, on_work}
 use Rattle.tree_model.specs.Reactions.{leaf_effect, sends_only}
-use Rattle.rec_log.specs.Logs.{writes}
+use Rattle.list_log.specs.Logs.{writes}
 use Rattle.tree_model.specs.contracts.names.CasePartialEq.TheImpl as cases
 use Rattle.flat_law.specs.Leaves.{LeafState}
 use Rattle.flat_law.specs.Leaves as leaf

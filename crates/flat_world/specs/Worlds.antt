@@ -9,7 +9,7 @@ use Rattle.tree_model.specs.declared.events.StepError.{StepError}
 use Rattle.tree_model.specs.declared.events.StepError.TheVariants.{Memory}
 use Rattle.tree_model.specs.contracts.names.ProcessIdPartialEq.TheImpl as processes
 use Rattle.tree_model.specs.declared.records.Record.{Record}
-use Rattle.rec_log.specs.Logs.{records_of}
+use Rattle.list_log.specs.Logs.{records_of}
 use Rattle.root_core.specs.States as root
 use Rattle.flat_law.specs.Leaves.{LeafState}
 use Rattle.flat_law.specs.Leaves as leaf_law

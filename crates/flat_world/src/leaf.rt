@@ -12,12 +12,12 @@ ghost use Rattle.tree_model.specs.CoordinatorRows.{post};
 ghost use Rattle.tree_model.specs.ManagerRows.{is_acknowledged as acknowledges, Leaf as ModelLeaf, acknowledgement, ends_record, prepared_outcome};
 ghost use Rattle.tree_model.specs.Plays.{op_writes, with_write};
 ghost use Rattle.tree_model.specs.Reactions.{leaf_effect, sends_only};
-ghost use Rattle.rec_log.specs.Logs.{records_of};
+ghost use Rattle.list_log.specs.Logs.{records_of};
 ghost use Rattle.flat_law.specs.Leaves.{IsOpened, Makes, Same, abort_turn, act_refusal, commit_turn, join_turn, leaf_of, message_turn, open_branch, prepare_turn, work_turn};
 ghost use Rattle.flat_world.specs.LeafSteps.{Concludes, ConcludesRetired, IsReply, Leaves, Promises, Retires, WorksIn, is_reading, model_view, promise_reaction, state, view_in, worked_view, worked_writes, writes_in, writes_of};
 
 use indexmap::IndexMap;
-use rec_log::RecLog;
+use list_log::RecLog;
 use std::alloc::{AllocError, Global};
 use std::mem;
 use tree_model::{

@@ -30,7 +30,7 @@ use Rattle.tree_model.specs.Standings.{CoordinatorView, unknown_view}
 use Rattle.tree_model.specs.CoordinatorRows.{Seat, Row, ByAct, active_join, active_work, active_commit, active_abort, collecting_abort, on_joined, on_vote, on_ack, on_inquiry, post, tells_outcome}
 use Rattle.tree_model.specs.Reactions.{row_effect, sends_only, names_listed}
 use Rattle.tree_model.specs.Views.{begin_effect}
-use Rattle.rec_log.specs.Logs.{Kept, opened_log, writes}
+use Rattle.list_log.specs.Logs.{Kept, opened_log, writes}
 
 -- What a root keeps: its log, its boot, how many transactions it began in this boot, and the view of each transaction,
 -- which is Unknown where it is not live.

@@ -8,7 +8,7 @@ ghost use Rattle.tree_model.specs.Memory.{ticket_of_child as ticket_in};
 ghost use Rattle.tree_model.specs.CoordinatorRows.{post, tells_outcome};
 ghost use Rattle.tree_model.specs.Reactions.{sends_only};
 ghost use Rattle.tree_model.specs.Standings.{unknown_view};
-ghost use Rattle.rec_log.specs.Logs.{opened_log, records_of, writes};
+ghost use Rattle.list_log.specs.Logs.{opened_log, records_of, writes};
 ghost use Rattle.root_core.specs.Roots.{IsOpened, Makes, Refused, Refuses, Same, Takes, ack_turn, act_turn, acts, input_turn, inquiry_turn, joined_turn, live_turn, message_turn, of_root, open_view, seat_of, vote_turn, work_for};
 ghost use Rattle.tree_model.specs.declared.names.Txn.{Txn as AnyTxn};
 ghost use Rattle.root_core.specs.Asking.{asked_row};
@@ -21,7 +21,7 @@ use crate::places::{is_child, is_manager};
 use crate::rows::presumed;
 use crate::view::{RowEffect, Seat, View, Written};
 use indexmap::IndexMap;
-use rec_log::RecLog;
+use list_log::RecLog;
 use std::alloc::{AllocError, Global};
 use tree_model::{
     Act, Case, Input, Message, Op, Outcome, Presumption, ProcessId, Reaction, Record, Standing,

@@ -2,7 +2,7 @@
 
 use flat_world::FlatWorld;
 use link_script::{Stage, case_text, read};
-use rec_log::RecLog;
+use list_log::RecLog;
 use root_core::Root;
 use std::alloc::{AllocError, Global};
 use std::test::Fail;

@@ -6,6 +6,7 @@ pub mod Texts
 pub mod Records
 pub mod Nodes
 pub mod Trees
+pub mod LogNames
 pub mod Memory
 pub mod Standings
 pub mod CoordinatorRows

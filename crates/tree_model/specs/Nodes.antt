@@ -1,5 +1,5 @@
 -- A process: its log, its histories, and what it has heard.
-use Rattle.std.specs.Prelude.{Bool, true, false, ℕ, if◌then◌else◌, Option, Some, None, List, [], ◌∷◌, ◌++◌, map, take, drop}
+use Rattle.std.specs.Prelude.{Bool, true, false, ℕ, if◌then◌else◌, Option, Some, None, List, [], ◌∷◌, ◌++◌, map, take, drop, reverse}
 use Rattle.std.specs.List.{list_any}
 use Rattle.tree_model.specs.declared.names.Case.{Case}
 use Rattle.tree_model.specs.declared.names.ProcessId.{ProcessId}
@@ -86,9 +86,9 @@ pub record Heard : Type 0 where
 -- A process.
 
 -- The forced front of its log and the records behind it; what it has handled since its last restart; whether its
--- device failed; and histories that only grow, the newest first: every record ever appended, every record that was
--- ever in the forced front, the tickets that each case accepted, the first vote of each, what was told, and the
--- transactions that a restart found undecided.
+-- device failed; and histories that only grow, the newest first: the life list, which has every record once as it was
+-- appended; every record that was ever in the forced front; the transactions begun; the tickets that each case
+-- accepted; the first vote of each; what was told; and the transactions that a restart found undecided.
 pub record Node : Type 0 where
   pub forced : List Record
   pub unforced : List Record
@@ -96,6 +96,7 @@ pub record Node : Type 0 where
   pub failed : Bool
   pub life : List Record
   pub durable : List Record
+  pub begun : List Txn
   pub accepted : List (Case × Ticket)
   pub voted : List (Case × (Ticket × Vote))
   pub told : List Told
@@ -107,7 +108,7 @@ kept n = n.forced ++ n.unforced
 
 -- a process whose log was empty, as it opens
 abbrev pub opened_node : Node
-opened_node = record { forced = Opened 1 ∷ []; unforced = []; heard = []; failed = false; life = Opened 1 ∷ []; durable = Opened 1 ∷ []; accepted = []; voted = []; told = []; found_undecided = [] }
+opened_node = record { forced = Opened 1 ∷ []; unforced = []; heard = []; failed = false; life = Opened 1 ∷ []; durable = Opened 1 ∷ []; begun = []; accepted = []; voted = []; told = []; found_undecided = [] }
 
 -- What a step does.
 
@@ -136,6 +137,10 @@ entries_written ws = map (λ w. w.entry) ws
 abbrev pub is_any_forced : List Written → Bool
 is_any_forced ws = list_any (λ w. w.is_forced) ws
 
+abbrev pub begun_first : Option Txn → List Txn → List Txn
+begun_first None xs = xs
+begun_first (Some x) xs = x ∷ xs
+
 abbrev pub told_first : Option Told → List Told → List Told
 told_first None ts = ts
 told_first (Some t) ts = t ∷ ts
@@ -153,8 +158,8 @@ abbrev pub appends : Node → List Written → Node
 appends n ws =
     let new = entries_written ws in
     if is_any_forced ws
-    then record n { forced = kept n ++ new; unforced = []; life = new ++ n.life; durable = new ++ (kept n ++ n.durable) }
-    else record n { unforced = n.unforced ++ new; life = new ++ n.life }
+    then record n { forced = kept n ++ new; unforced = []; life = reverse new ++ n.life; durable = new ++ (kept n ++ n.durable) }
+    else record n { unforced = n.unforced ++ new; life = reverse new ++ n.life }
 
 -- a process after an input that it handled
 abbrev pub after : Node → Heard → Effect → Node
@@ -162,6 +167,7 @@ after n h e =
     let written = appends n e.written in
     record written {
       heard = n.heard ++ h ∷ [];
+      begun = begun_first e.begun n.begun;
       accepted = e.accepts ++ n.accepted;
       voted = e.counts ++ n.voted;
       told = told_first e.told n.told;
@@ -177,7 +183,7 @@ fails_with n new appended forced =
       forced = n.forced ++ take forced behind;
       unforced = drop forced behind;
       failed = true;
-      life = left ++ n.life;
+      life = reverse left ++ n.life;
       durable = take forced behind ++ n.durable;
     }
 
@@ -185,4 +191,4 @@ fails_with n new appended forced =
 abbrev pub fails_in : Node → Heard → Effect → ℕ → ℕ → Node
 fails_in n h e appended forced =
     let failed = fails_with n (entries_written e.written) appended forced in
-    record failed { heard = n.heard ++ h ∷ []; accepted = e.accepts ++ n.accepted; voted = e.counts ++ n.voted }
+    record failed { heard = n.heard ++ h ∷ []; begun = begun_first e.begun n.begun; accepted = e.accepts ++ n.accepted; voted = e.counts ++ n.voted }

@@ -1,5 +1,5 @@
 -- How transactions end, and the headline.
-use Rattle.std.specs.Prelude.{◌≡◌, ◌≢◌, ◌⊎◌, Bool, true, false, ◌&&◌, ◌||◌, if◌then◌else◌, List, [], ◌∷◌}
+use Rattle.std.specs.Prelude.{◌≡◌, ◌≢◌, ◌⊎◌, Bool, true, false, not, ◌&&◌, ◌||◌, if◌then◌else◌, Option, Some, None, List, [], ◌∷◌}
 use Rattle.std.specs.List.{list_any}
 use Rattle.tree_model.specs.declared.names.Case.{Case}
 use Rattle.tree_model.specs.declared.names.ProcessId.{ProcessId}
@@ -25,7 +25,7 @@ use Rattle.tree_model.specs.Names.{same_txn, same_ticket, same_case, root_case, 
 use Rattle.tree_model.specs.Records.{has, is_commit, is_abort, is_prepare, is_prepared, is_committed, is_rolled_back, is_heuristic, is_decided, is_told, is_forgot}
 use Rattle.tree_model.specs.Nodes.{Role, AtRoot, Below, AtLeaf, role_of, place_of, Node, kept}
 use Rattle.tree_model.specs.Standings.{manager_view}
-use Rattle.tree_model.specs.World.{World, Made, Continues}
+use Rattle.tree_model.specs.World.{World, Made, Continues, made_by, node_by}
 
 -- Histories.
 
@@ -55,7 +55,16 @@ is_outcome_message AbortedOutcome c _ = false
 abbrev pub has_accepted : Node → Case → Ticket → Bool
 has_accepted n c t = list_any (λ a. same_case a.0 c && same_ticket a.1 t) n.accepted
 
--- the case has heard this as the ticket's first vote, at some step of the run
+-- the first vote of the ticket that the case has heard, at some step of the run; the list has the newest first
+abbrev pub vote_in : Case × (Ticket × Vote) → Case → Ticket → Option Vote → Option Vote
+vote_in a c t (Some v) = Some v
+vote_in a c t None = if same_case a.0 c && same_ticket a.1.0 t then Some a.1.1 else None
+
+unfoldable pub first_vote : List (Case × (Ticket × Vote)) → Case → Ticket → Option Vote
+first_vote [] c t = None
+first_vote (a ∷ as') c t = vote_in a c t (first_vote as' c t)
+
+-- the case has heard such a vote of the ticket, at some step of the run
 abbrev pub has_heard_vote : Node → Case → Ticket → (Vote → Bool) → Bool
 has_heard_vote n c t q = list_any (λ a. same_case a.0 c && (same_ticket a.1.0 t && q a.1.1)) n.voted
 
@@ -149,12 +158,28 @@ pub data IsAcceptor (w : World) (x : Txn) (t : Ticket) : Case → Type 0 where
   by_root : has_accepted (w.at x.root) (root_case x) t ≡ true → IsAcceptor w x t (root_case x)
   by_ticket : (u : Ticket) → has_accepted (w.at u.child) (child_case x u) t ≡ true → IsAcceptor w x t (child_case x u)
 
--- commit is decided only where every participant voted yes or read-only, and a manager's yes was behind its forced promise
-pub record CommitRule (tree : List TreeEntry) (w : World) : Type 0 where
+abbrev pub consents : Option Vote → Bool
+consents None = false
+consents (Some v) = is_consent v
+
+-- the promise of the case stands in the forced front of its process, where the moves have left it
+abbrev pub promise_is_forced : List TreeEntry → List Made → Case → Bool
+promise_is_forced tree es c = has (is_prepared c) (node_by (place_of tree (process_of c)) (made_by (process_of c) es)).forced
+
+-- each manager's YES, a repeated one too, was sent with its Prepared in the forced front, move by move
+abbrev pub YesIsForced : List TreeEntry → List Made → Type 0
+YesIsForced tree [] = Unit {0}
+YesIsForced tree (e ∷ es) =
+    ((c : Case) (p : ProcessId) → role_of tree (process_of c) ≡ AtLeaf p → sent (is_yes_message c) e.effect.messages ≡ true
+    → promise_is_forced tree (e ∷ es) c ≡ true)
+    × YesIsForced tree es
+
+-- commit is decided only where the first vote heard of every participant was yes or read-only, and a manager says yes
+-- behind its forced promise
+pub record CommitRule (tree : List TreeEntry) (es : List Made) (w : World) : Type 0 where
   pub all_consented : (x : Txn) (t : Ticket) (c : Case) → is_commit_outcome w x ≡ true → TakesPart w x t → IsAcceptor w x t c
-      → has_heard_vote (w.at (process_of c)) c t is_consent ≡ true
-  pub yes_was_forced : (x : Txn) (t : Ticket) (p : ProcessId) → role_of tree t.child ≡ AtLeaf p
-      → sent (is_yes_message (child_case x t)) w.net ≡ true → has (is_prepared (child_case x t)) (w.at t.child).durable ≡ true
+      → consents (first_vote (w.at (process_of c)).voted c t) ≡ true
+  pub yes_is_forced : YesIsForced tree es
 
 -- each COMMIT and each ABORT that finds its case in doubt tells the outcome, in this world and in every later one
 pub record TrueAnswers (tree : List TreeEntry) (w : World) : Type 0 where
@@ -162,15 +187,33 @@ pub record TrueAnswers (tree : List TreeEntry) (w : World) : Type 0 where
       → InDoubt (w.at t.child) (child_case x t)
       → (es : List Made) (later : World) → Continues tree w es later → o ≡ outcome_of later x
 
--- an operator's decision that was ever in the forced front is in it until a Forgot of its case was appended
-pub record StandingMismatches (tree : List TreeEntry) (w : World) : Type 0 where
-  pub stands : (c : Case) (o : Outcome) → has (is_decided c o) (w.at (process_of c)).durable ≡ true
-      → (has (is_decided c o) (w.at (process_of c)).forced ≡ true) ⊎ (has (is_forgot c) (w.at (process_of c)).life ≡ true)
+-- an operator's decision that was ever in the forced front and differs from the outcome
+pub record Mismatch (w : World) (c : Case) (o : Outcome) : Type 0 where
+  pub decided : has (is_decided c o) (w.at (process_of c)).durable ≡ true
+  pub differs : o ≢ outcome_of w c.txn
 
--- a step that makes such a record handles such an act
+-- a record that passes the first test stands in the list, the oldest first, with none behind it that passes the second
+unfoldable pub has_last : (Record → Bool) → (Record → Bool) → List Record → Bool
+has_last q r [] = false
+has_last q r (x ∷ xs) = (q x && not (has r xs)) || has_last q r xs
+
+-- the decision stands in the forced front, and no Forgot of its case is kept behind it
+pub record DecisionStands (n : Node) (c : Case) (o : Outcome) : Type 0 where
+  pub is_forced : has (is_decided c o) n.forced ≡ true
+  pub not_forgotten : has_last (is_decided c o) (is_forgot c) (kept n) ≡ true
+
+-- an operator's decision that was ever in the forced front stands until a Forgot of its case was appended; so each
+-- mismatch stands until then
+pub record StandingMismatches (tree : List TreeEntry) (w : World) : Type 0 where
+  pub decisions_stand : (c : Case) (o : Outcome) → has (is_decided c o) (w.at (process_of c)).durable ≡ true
+      → DecisionStands (w.at (process_of c)) c o ⊎ (has (is_forgot c) (w.at (process_of c)).life ≡ true)
+  pub mismatches_stand : (c : Case) (o : Outcome) → Mismatch w c o
+      → DecisionStands (w.at (process_of c)) c o ⊎ (has (is_forgot c) (w.at (process_of c)).life ≡ true)
+
+-- a step that appends an operator's record, also where its device failed, handles the act that asks for just that
 pub record ByOperator (e : Made) : Type 0 where
-  pub decided : (c : Case) → list_any (λ w. is_heuristic c w.entry) e.effect.written ≡ true
-      → (o : Outcome) × (e.move.step.happening ≡ Handles (ActInput (Decide c o)))
+  pub decided : (c : Case) (o : Outcome) → list_any (λ w. is_decided c o w.entry) e.effect.written ≡ true
+      → e.move.step.happening ≡ Handles (ActInput (Decide c o))
   pub forgot : (c : Case) → list_any (λ w. is_forgot c w.entry) e.effect.written ≡ true
       → e.move.step.happening ≡ Handles (ActInput (Forget c))
 
@@ -182,7 +225,7 @@ ByOperatorAlone (e ∷ es) = ByOperator e × ByOperatorAlone es
 -- Over every list of sends, deliveries, losses, repeats, restarts, trims and inquiries in a tree.
 pub record Headline (tree : List TreeEntry) (es : List Made) (w : World) : Type 0 where
   pub agreement : Agreement tree w
-  pub commit_rule : CommitRule tree w
+  pub commit_rule : CommitRule tree es w
   pub true_answers : TrueAnswers tree w
   pub standing_mismatches : StandingMismatches tree w
   pub by_operator_alone : ByOperatorAlone es

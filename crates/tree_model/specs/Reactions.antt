@@ -34,9 +34,10 @@ use Rattle.tree_model.specs.CoordinatorRows.{Seat, Row, post, active_join, activ
 use Rattle.tree_model.specs.ManagerRows.{Leaf, LeafRow, prepared_decide, heuristic_forget, untold_ask}
 use Rattle.tree_model.specs.ManagerRows as leaf
 
--- what an input leads to
+-- what an input leads to; one that is passed over counts as not heard
 pub data Reacts : Type 0 where
   Refused : StepError → Reacts
+  PassesOver : Reacts
   Does : Effect → Reacts
 
 -- Effects of rows.
@@ -64,6 +65,10 @@ abbrev pub sends_only : List Envelope → Effect
 sends_only ls = record { begun = None; written = []; told = None; messages = ls; accepts = []; counts = []; remains = None }
 
 -- A coordinator.
+
+abbrev pub is_prepared_standing : Standing → Bool
+is_prepared_standing Prepared = true
+is_prepared_standing _ = false
 
 abbrev pub seat_of : Place → Option ProcessId → Case → Seat
 seat_of place parent c = record { me = place.me; parent = parent; own = c }
@@ -262,9 +267,25 @@ names_listed tree (JoinAct c q) = is_listed tree q
 names_listed tree (WorkAct c q op) = is_listed tree q
 names_listed tree _ = true
 
+-- the case waits for its parent's decision: nobody can owe it an acknowledgement yet
+abbrev pub is_prepared_case : Place → Node → Option Case → Bool
+is_prepared_case place n None = false
+is_prepared_case place n (Some c) = is_prepared_standing (coordinator_view place n c).standing
+
+-- an acknowledgement that comes while its case is Prepared
+abbrev pub is_early_ack : Place → Node → Message → Bool
+is_early_ack place n (Ack d o) = of_ticket d.ticket false (λ t. is_prepared_case place n (case_of_child place n d.txn t))
+is_early_ack place n _ = false
+
+-- a message that no row is of; such an acknowledgement does nothing
+abbrev pub takes : Role → Place → Node → DataAnswer → Message → Reacts
+takes AtRoot place n a m = Does (hears AtRoot place n a m)
+takes (Below p) place n a m = if is_early_ack place n m then PassesOver else Does (hears (Below p) place n a m)
+takes (AtLeaf p) place n a m = Does (hears (AtLeaf p) place n a m)
+
 abbrev pub handles : Place → Node → Heard → Input → Reacts
 handles place n h (ActInput a) = if n.failed then Refused Failed else acts place.role place n a
-handles place n h (MessageInput k m) = if n.failed then Refused Failed else Does (hears place.role place n h.data_answer m)
+handles place n h (MessageInput k m) = if n.failed then Refused Failed else takes place.role place n h.data_answer m
 
 abbrev pub act_is_listed : List TreeEntry → Input → Bool
 act_is_listed tree (ActInput a) = names_listed tree a

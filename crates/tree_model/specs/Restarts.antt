@@ -1,5 +1,5 @@
 -- Restart and trim of one process.
-use Rattle.std.specs.Prelude.{◌+◌, ℕ, zero, suc, Bool, true, false, not, ◌&&◌, if◌then◌else◌, Option, Some, None, List, [], ◌∷◌, ◌++◌, take, filter, map, length}
+use Rattle.std.specs.Prelude.{◌+◌, ℕ, zero, suc, Bool, true, false, not, ◌&&◌, if◌then◌else◌, Option, Some, None, List, [], ◌∷◌, ◌++◌, take, filter, map, length, reverse}
 use Rattle.std.specs.List.{list_any, flat_map}
 use Rattle.tree_model.specs.declared.names.Case.{Case}
 use Rattle.tree_model.specs.declared.names.ProcessId.{ProcessId}
@@ -101,25 +101,19 @@ restart_effect place n k =
       remains = None;
     }
 
--- The transactions that a restart finds undecided: those begun since the last one that were not concluded for the
--- application and of which no Commit is left.
-
-abbrev pub begun_then : ProcessId → ℕ → ℕ → Input → (ℕ → List Txn) → List Txn
-begun_then me boot k (ActInput (Begin p)) more = record { root = me; boot = boot; sequence = k + 1; presumption = p } ∷ more (k + 1)
-begun_then me boot k (ActInput _) more = more k
-begun_then me boot k (MessageInput i m) more = more k
-
-abbrev pub begun_by : ProcessId → ℕ → ℕ → List Heard → List Txn
-begun_by me boot k [] = []
-begun_by me boot k (h ∷ hs) = begun_then me boot k h.input (λ j. begun_by me boot j hs)
-
 abbrev pub is_concluded : List Told → Txn → Bool
 is_concluded ts x = list_any (λ t. same_txn t.txn x) ts
 
-abbrev pub undecided_at : Role → Place → Node → List Record → List Txn
-undecided_at AtRoot place n left =
-    filter (λ x. not (is_concluded n.told x) && not (has (is_commit (root_case x)) left)) (begun_by place.me (boot_of (kept n)) 0 n.heard)
-undecided_at _ place n left = []
+-- the transaction is undecided where these records are left: it was not concluded for the application, no Commit of it
+-- was ever in the forced front, and none is left
+abbrev pub is_undecided : Node → List Record → Txn → Bool
+is_undecided n left x =
+    not (is_concluded n.told x) && (not (has (is_commit (root_case x)) n.durable) && not (has (is_commit (root_case x)) left))
+
+-- the transactions, of all that the root ever began, that a restart finds undecided
+abbrev pub undecided_at : Role → Node → List Record → List Txn
+undecided_at AtRoot n left = filter (is_undecided n left) n.begun
+undecided_at _ n left = []
 
 -- what a crash leaves of a process
 abbrev pub crashed : Place → Node → ℕ → Node
@@ -128,7 +122,7 @@ crashed place n k =
       unforced = take k n.unforced;
       heard = [];
       failed = false;
-      found_undecided = undecided_at place.role place n (left_of n k) ++ n.found_undecided;
+      found_undecided = undecided_at place.role n (left_of n k) ++ n.found_undecided;
     }
 
 -- a process after a restart: all that is kept, and all that was appended, is forced
@@ -139,7 +133,7 @@ restarted place n k =
     record c {
       forced = kept c ++ new;
       unforced = [];
-      life = new ++ c.life;
+      life = reverse new ++ c.life;
       durable = new ++ (kept c ++ c.durable);
     }
 
@@ -189,11 +183,11 @@ abbrev pub trim_effect : Place → Node → Effect
 trim_effect place n =
     record { begun = None; written = []; told = None; messages = []; accepts = []; counts = []; remains = Some (length (trimmed place.role (kept n))) }
 
--- one atomic, forced replacement
+-- one atomic, forced replacement; nothing but the data's records is new in it
 abbrev pub trims : Place → Node → Node
 trims place n =
     let new = trimmed place.role (kept n) in
-    record n { forced = new; unforced = []; life = new ++ n.life; durable = new ++ n.durable }
+    record n { forced = new; unforced = []; life = reverse (data_records place.role (kept n)) ++ n.life; durable = new ++ n.durable }
 
 -- a trim whose device failed leaves the old log or the new one
 abbrev pub trim_fails : Place → Node → ℕ → Node

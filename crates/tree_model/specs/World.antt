@@ -10,11 +10,12 @@ use Rattle.tree_model.specs.declared.events.Happening.TheVariants.{Input as Hand
 use Rattle.tree_model.specs.declared.events.Fault.{Fault}
 use Rattle.tree_model.specs.declared.events.Step.{Step}
 use Rattle.tree_model.specs.declared.events.Entry.{Entry}
+use Rattle.tree_model.specs.declared.events.Reaction.{Reaction}
 use Rattle.tree_model.specs.declared.events.StepError.{StepError}
 use Rattle.tree_model.specs.declared.events.StepError.TheVariants.{Failed}
 use Rattle.tree_model.specs.declared.trees.TreeEntry.{TreeEntry}
 use Rattle.tree_model.specs.Names.{same_process}
-use Rattle.tree_model.specs.Nodes.{Place, place_of, is_listed, Node, opened_node, Heard, DataAnswer, Effect, after, fails_in, reaction_of}
+use Rattle.tree_model.specs.Nodes.{Place, place_of, is_listed, Node, opened_node, Heard, DataAnswer, Effect, no_effect, after, fails_in, reaction_of}
 use Rattle.tree_model.specs.Reactions.{Reacts, Refused, Does, reacts}
 use Rattle.tree_model.specs.Restarts.{restart_effect, restarted, restart_fails, trim_effect, trims, trim_fails}
 
@@ -30,13 +31,15 @@ pub data Stepped : Type 0 where
   Refuses : StepError → Stepped
   Makes : Effect → Node → Stepped
 
--- what a device's failure lets through of an effect: a front of the records; nothing is sent or told
+-- what a device's failure lets through of an effect: a front of the records that were appended; nothing is sent or told
 abbrev pub fault_effect : Effect → ℕ → Effect
 fault_effect e appended =
     record { begun = None; written = take appended e.written; told = None; messages = []; accepts = e.accepts; counts = e.counts; remains = None }
 
 abbrev pub input_makes : Node → Heard → Option Fault → Reacts → Stepped
 input_makes n h fault (Refused e) = Refuses e
+input_makes n h None PassesOver = Makes no_effect n
+input_makes n h (Some f) PassesOver = Makes no_effect (record n { failed = true })
 input_makes n h None (Does e) = Makes e (after n h e)
 input_makes n h (Some f) (Does e) = Makes (fault_effect e f.appended) (fails_in n h e f.appended f.forced)
 
@@ -153,17 +156,21 @@ process_of_entry e = e.step.process
 unfoldable pub entries_of : ProcessId → List Entry → List Entry
 entries_of q es = filter (λ e. same_process (process_of_entry e) q) es
 
+-- how the journal shows what a step led to: a fault shows nothing, and its step names the front that it left
+abbrev pub shown : Option Fault → Effect → Reaction
+shown None e = reaction_of e
+shown (Some f) e = reaction_of no_effect
+
 abbrev pub entry_of : Made → Entry
-entry_of e = record { step = e.move.step; reaction = reaction_of e.effect }
+entry_of e = record { step = e.move.step; reaction = shown e.move.step.fault e.effect }
 
 -- moves, the newest first, as entries, the oldest first
 unfoldable pub journal_of : List Made → List Entry
 journal_of [] = []
 journal_of (e ∷ es) = journal_of es ++ entry_of e ∷ []
 
--- a list of entries whose steps are a run
-pub record IsJournal (tree : List TreeEntry) (entries : List Entry) : Type 0 where
+-- a list of entries whose steps are a run to the world
+pub record IsJournal (tree : List TreeEntry) (entries : List Entry) (world : World) : Type 0 where
   pub moves : List Made
-  pub world : World
   pub is_run : IsRun tree moves world
-  pub shown : journal_of moves ≡ entries
+  pub are_entries : journal_of moves ≡ entries

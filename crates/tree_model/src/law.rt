@@ -11,7 +11,9 @@ ghost use Rattle.tree_model.specs.declared.trees.TreeEntry.{TreeEntry};
 ghost use Rattle.tree_model.specs.declared.names.Case.{Case};
 ghost use Rattle.tree_model.specs.declared.names.Presumption.{Presumption};
 ghost use Rattle.tree_model.specs.declared.names.Txn.{Txn};
-ghost use Rattle.tree_model.specs.Nodes.{DataAnswer, Node, place_of};
+ghost use Rattle.tree_model.specs.LogNames.{ReadsBack};
+ghost use Rattle.tree_model.specs.Nodes.{DataAnswer, Node, Place, place_of};
+ghost use Rattle.tree_model.specs.declared.records.Record.{Record};
 ghost use Rattle.tree_model.specs.Views.{ManagerViews, RootBegins, RootViews};
 ghost use Rattle.tree_model.specs.World.{IsRun, Made, World, made_by, net_by, node_by};
 ghost use Rattle.tree_model.specs.Rows.{Runs};
@@ -68,6 +70,11 @@ pub fn root_views_follow_the_table()
 /// What a committed update of a flat tree costs its root and each of its managers.
 pub fn committed_update_costs()
     ensures { (s : Seat) (n : ℕ) → CommittedUpdateCosts s n }
+{}
+
+/// What a process wrote into its log under whole names it reads there again.
+pub fn own_records_read_back()
+    ensures { (place : Place) (rs : List Record) → ReadsBack place rs }
 {}
 
 /// The tests of names tell exactly which names are one.

@@ -18,6 +18,6 @@ pub use events::{
 pub use lists::Sequence;
 pub use messages::{Bytes, Envelope, Envelopes, Message, Op};
 pub use names::{Case, Kind, Outcome, Presumption, ProcessId, Ticket, Tickets, Txn};
-pub use records::{Branch, Logged, Record, RecordKind, Subject, Write, Writes};
+pub use records::{Branch, LogRecord, Logged, Record, RecordKind, Subject, Write, Writes};
 pub use standings::{Standing, Vote};
 pub use trees::{MOST_LEVELS, MOST_PROCESSES, Tree, TreeEntry, TreeError};

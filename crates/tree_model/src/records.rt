@@ -1,11 +1,12 @@
 //! The records of a log.
 
 ghost use Rattle.std.specs.Prelude.{◌≡◌, IfOk};
-ghost use Rattle.tree_model.specs.Records.{branch_case, case_subject, kind_of, subject_of};
+ghost use Rattle.tree_model.specs.LogNames.{in_log};
+ghost use Rattle.tree_model.specs.Records.{branch_case, case_subject, kind_of, record_case, subject_of};
 
 use crate::lists::Sequence;
 use crate::messages::Bytes;
-use crate::names::{Case, Outcome, Tickets};
+use crate::names::{Case, Outcome, ProcessId, Tickets};
 use std::alloc::{AllocError, Global};
 use xa_xid::Xid;
 
@@ -87,6 +88,15 @@ pub enum Record {
     Pair(Bytes, Bytes),
 }
 
+/// A record as a log holds it, with its name whole. A log names a case by its XID, which below the root has the parent
+/// too; so two names that differ in the parent alone are two.
+#[derive(Drop)]
+pub struct LogRecord {
+    pub entry: Record,
+    /// The parent of the record's case; none of a root's case, of a foreign XID, and where no name stands.
+    pub parent: Option<ProcessId>,
+}
+
 impl Branch {
     /// The case that the branch is, if it is one.
     pub fn case(&self) -> Option<Case>
@@ -135,6 +145,39 @@ impl Record {
             Record::Base(count) => Record::Base(*count),
             Record::Pair(key, value) => Record::Pair(key.copied(alloc)?, value.copied(alloc)?),
         })
+    }
+
+    /// The case that it is of, if any.
+    pub fn case(&self) -> Option<Case>
+        ensures { result ≡ record_case self.now }
+    {
+        match self {
+            Record::Collecting(case, _)
+            | Record::Prepare(case, _)
+            | Record::Commit(case, _)
+            | Record::Abort(case, _)
+            | Record::End(case) => Some(*case),
+            Record::Prepared(branch, _)
+            | Record::Committed(branch)
+            | Record::RolledBack(branch)
+            | Record::Direct(branch, _)
+            | Record::HeurCommit(branch)
+            | Record::HeurRollback(branch)
+            | Record::Told(branch, _)
+            | Record::Forgot(branch) => branch.case(),
+            Record::Opened(_) | Record::Base(_) | Record::Pair(..) => None,
+        }
+    }
+
+    /// The record as the log of a process below this parent holds it; the root has none. It takes no memory.
+    pub fn in_log(self, parent: Option<ProcessId>) -> LogRecord
+        ensures { result ≡ in_log parent self }
+    {
+        let ticket = self.case().and_then(|case| case.ticket);
+        LogRecord {
+            entry: self,
+            parent: if ticket.is_some() { parent } else { None },
+        }
     }
 
     /// Its kind.

@@ -1,7 +1,7 @@
 //! A log as a list of records.
 
 ghost use Rattle.std.specs.Prelude.{◌≡◌, ◌≤◌, ◌<◌, ◌+◌, [], ◌∷◌, IfOk, IfErr, OnOk, OnErr, IsOk, length};
-ghost use Rattle.rec_log.specs.Logs.{all_forced, records_of, with_record, writes};
+ghost use Rattle.list_log.specs.Logs.{all_forced, records_of, with_record, writes};
 
 use std::alloc::{AllocError, Global};
 use std::marker::Model;
@@ -18,7 +18,7 @@ pub struct RecLog {
 impl Model for RecLog {
     ghost use Rattle.std.specs.Prelude.{◌≤◌, ◌-◌, length, take, drop};
     ghost use Rattle.std.specs.Vec.{vec_capacity};
-    ghost use Rattle.rec_log.specs.Logs.{LogState};
+    ghost use Rattle.list_log.specs.Logs.{LogState};
 
     ghost Value = { LogState };
 
