@@ -16,7 +16,7 @@ const FLAT_PA_COMMIT: &str =
      join a1.1 2\njoin a1.1 3\nsettle\nwork a1.1 2 put x 1\nwork a1.1 3 put y 2\nsettle\n\
      commit a1.1\nsettle\n";
 
-const ROWS: [Row; 27] = [
+const ROWS: [Row; 30] = [
     (
         "flat_pa_commit",
         FLAT_PA_COMMIT,
@@ -216,18 +216,64 @@ const ROWS: [Row; 27] = [
         Status::Refused,
     ),
     (
-        "presumed_commit_is_a_fault_of_its_line",
-        "[[process]]\nid = 1\nkind = \"coordinator\"\n---\nbegin pc\n",
+        "restart_is_a_fault_of_its_line",
+        "[[process]]\nid = 1\nkind = \"coordinator\"\n---\nrestart 1\n",
         "error 3 5\n",
         Status::Refused,
     ),
     (
-        "presumed_commit_is_of_a_later_stage",
+        "the_first_faulty_line",
         "[[process]]\nid = 1\nkind = \"coordinator\"\n[[process]]\nid = 2\nkind = \"manager\"\n\
-         parent = 1\n[[process]]\nid = 3\nkind = \"manager\"\nparent = 1\n---\nbegin pa\nbegin pc\n\
+         parent = 1\n[[process]]\nid = 3\nkind = \"manager\"\nparent = 1\n---\nbegin pc\ntrim 2\n\
          nonsense\n",
         "error 3 14\n",
         Status::Refused,
+    ),
+    (
+        "flat_pc_commit",
+        "[[process]]\nid = 1\nkind = \"coordinator\"\n[[process]]\nid = 2\n\
+         kind = \"manager\"\nparent = 1\n[[process]]\nid = 3\nkind = \"manager\"\n\
+         parent = 1\n---\nbegin pc\njoin c1.1 2\njoin c1.1 3\nsettle\nwork c1.1 2 put x 1\n\
+         work c1.1 3 put y 2\nsettle\ncommit c1.1\nsettle\n",
+        "log 1 Opened 1 forced\nlog 2 Opened 1 forced\nlog 3 Opened 1 forced\nbegin c1.1\n\
+         1 1->2 JOIN c1.1\n2 1->3 JOIN c1.1\n3 2->1 JOINED c1.1 2.1.1\n\
+         4 3->1 JOINED c1.1 3.1.1\n5 1->2 WORK c1.1@2.1.1 1 put x 1\n\
+         6 1->3 WORK c1.1@3.1.1 1 put y 2\nlog 1 Collecting c1.1 forced\n\
+         7 1->2 PREPARE c1.1@2.1.1 1\n8 1->3 PREPARE c1.1@3.1.1 1\n\
+         log 2 Prepared c1.1@2.1.1 forced\n9 2->1 YES c1.1@2.1.1\n\
+         log 3 Prepared c1.1@3.1.1 forced\n10 3->1 YES c1.1@3.1.1\nlog 1 Commit c1.1 forced\n\
+         told c1.1 committed\n11 1->2 COMMIT c1.1@2.1.1\n12 1->3 COMMIT c1.1@3.1.1\n\
+         log 2 Committed c1.1@2.1.1 plain\nlog 3 Committed c1.1@3.1.1 plain\nend\n",
+        Status::Ended,
+    ),
+    (
+        "late_no_vote_pc",
+        "[[process]]\nid = 1\nkind = \"coordinator\"\n[[process]]\nid = 2\n\
+         kind = \"manager\"\nparent = 1\n[[process]]\nid = 3\nkind = \"manager\"\n\
+         parent = 1\n---\nbegin pc\njoin c1.1 2\njoin c1.1 3\nsettle\nwork c1.1 2 put x 1\n\
+         work c1.1 3 put y 2\ndeliver 5\ncommit c1.1\ndeliver 7\ndeliver 8\ndeliver 9\n\
+         deliver 10\ndeliver 11\ndeliver 12\n",
+        "log 1 Opened 1 forced\nlog 2 Opened 1 forced\nlog 3 Opened 1 forced\nbegin c1.1\n\
+         1 1->2 JOIN c1.1\n2 1->3 JOIN c1.1\n3 2->1 JOINED c1.1 2.1.1\n\
+         4 3->1 JOINED c1.1 3.1.1\n5 1->2 WORK c1.1@2.1.1 1 put x 1\n\
+         6 1->3 WORK c1.1@3.1.1 1 put y 2\nlog 1 Collecting c1.1 forced\n\
+         7 1->2 PREPARE c1.1@2.1.1 1\n8 1->3 PREPARE c1.1@3.1.1 1\n\
+         log 2 Prepared c1.1@2.1.1 forced\n9 2->1 YES c1.1@2.1.1\n10 3->1 NO c1.1@3.1.1\n\
+         log 1 Abort c1.1 forced\ntold c1.1 aborted\n11 1->2 ABORT c1.1@2.1.1\n\
+         log 2 RolledBack c1.1@2.1.1 forced\n12 2->1 ACK c1.1@2.1.1 abort\n\
+         log 1 End c1.1 plain\nend\n",
+        Status::Ended,
+    ),
+    (
+        "readonly_transactions",
+        "[[process]]\nid = 1\nkind = \"coordinator\"\n[[process]]\nid = 2\n\
+         kind = \"manager\"\nparent = 1\n[[process]]\nid = 3\nkind = \"manager\"\n\
+         parent = 1\n---\nbegin pc\ncommit c1.1\nbegin pa\njoin a1.2 2\nsettle\ncommit a1.2\n\
+         settle\n",
+        "log 1 Opened 1 forced\nlog 2 Opened 1 forced\nlog 3 Opened 1 forced\nbegin c1.1\n\
+         told c1.1 readonly\nbegin a1.2\n1 1->2 JOIN a1.2\n2 2->1 JOINED a1.2 2.1.1\n\
+         3 1->2 PREPARE a1.2@2.1.1 0\n4 2->1 READ a1.2@2.1.1\ntold a1.2 readonly\nend\n",
+        Status::Ended,
     ),
     (
         "root_alone",
