@@ -10,7 +10,7 @@ use tree_engine::{Failure, run_tree};
 use xa_engine::run_xa;
 
 /// What a command line asks for.
-#[derive(Clone, Copy, Debug, PartialEq, Eq)]
+#[derive(Clone, Copy, PartialEq, Eq)]
 enum Request {
     /// The events of a tree script.
     Tree,
@@ -19,7 +19,7 @@ enum Request {
 }
 
 /// What was read of a command line.
-#[derive(Clone, Copy, Debug, PartialEq, Eq)]
+#[derive(Clone, Copy, PartialEq, Eq)]
 enum Asked {
     Request(Request),
     Memory,
