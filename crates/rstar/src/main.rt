@@ -3,10 +3,11 @@
 
 use clap::error::ErrorKind;
 use clap::{Command, Error};
-use rstar_engine::{Failure, run_tree, run_xa};
 use std::alloc::Global;
 use std::io;
 use std::process::ExitCode;
+use tree_engine::{Failure, run_tree};
+use xa_engine::run_xa;
 
 /// What a command line asks for.
 #[derive(Clone, Copy, Debug, PartialEq, Eq)]
