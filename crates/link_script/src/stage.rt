@@ -6,7 +6,7 @@ ghost use Rattle.link_script.specs.Stages.{admits, places, staged};
 use tree_model::{Act, Event, Kind, ProcessId};
 
 /// How much of the grammar is read; what is not read is a fault of its line, or of the tree text.
-#[derive(Clone, Copy, Debug, PartialEq, Eq)]
+#[derive(Clone, Copy, PartialEq, Eq)]
 pub enum Stage {
     /// All of it.
     Whole,

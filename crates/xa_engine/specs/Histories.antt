@@ -1,5 +1,5 @@
--- Legal histories of a resource manager: which rows of the tables any list of calls on it walks, and what each
--- call answers.
+-- Legal histories of a resource manager: which rows of the tables any list of calls on it walks, and what
+-- each call answers.
 use Rattle.std.specs.Prelude.{◌≡◌, ℕ, ◌+◌, ◌-◌, ◌^◌, Bool, true, false, not, ◌||◌, ◌&&◌, ◌==◌, List, [], ◌∷◌, length, Contains, Option, Some, None, is_some, Result, Ok, Err, IsOkAnd, MatchBool, nat_eq, nat_le, nat_lt, if◌then◌else◌}
 use Rattle.xa_codes.specs.declared.code.Code.{Code}
 use Rattle.xa_codes.specs.declared.code.Code.TheVariants as code
@@ -64,17 +64,19 @@ abbrev pub has_rows : {S : Type 0} → List (Code × S) → Bool
 has_rows [] = false
 has_rows (row ∷ rows) = true
 
--- the table of associations has a row for a call, from the thread's own association or from one that is suspended
--- for migration
+-- the table of associations has a row for a call, from the thread's own association or from one that is
+-- suspended for migration
 abbrev pub has_own_row : AssocList → Call → ℕ → Xid → Bool
 has_own_row a c t x =
     has_rows (assoc_rows (own_state a t x) c) || (has_rows (assoc_rows M c) && not (moved_of a x == 0))
 
--- a thread may not work on a branch: the association has no row, or it is active in a branch already and starts
+-- a thread may not work on a branch: the association has no row, or it is active in a branch already and
+-- starts
 abbrev pub is_unfit : AssocList → Call → ℕ → Xid → Bool
 is_unfit a c t x = (is_start c && is_some (active_of a t)) || not (has_own_row a c t x)
 
--- no row applies: the branch has none, the thread may not work on it, or it is held and to be prepared or ended
+-- no row applies: the branch has none, the thread may not work on it, or it is held and to be prepared or
+-- ended
 abbrev pub is_out_of_state : Manager → Call → ℕ → Xid → Bool
 is_out_of_state m c t x =
     not (has_rows (branch_rows (state_at m x) c))
@@ -141,6 +143,7 @@ is_refusal code.DupId = true
 is_refusal code.Outside = true
 is_refusal _ = false
 
+-- the answer is a refusal
 abbrev pub is_refused : Answer → Bool
 is_refused (Ok given) = false
 is_refused (Err c) = is_refusal c
@@ -181,6 +184,7 @@ abbrev pub BranchStep : Xid → BranchState → Request → Answer → BranchSta
 BranchStep x s r answer k =
     MatchBool (is_on x r && not (is_refused answer)) (HasBranchRow s r answer k) (k ≡ s)
 
+-- the call, where its flags are legal, is a start or an end
 abbrev pub is_work_call : Result Call Code → Bool
 is_work_call (Ok c) = is_work c
 is_work_call (Err refusal) = false
@@ -203,6 +207,7 @@ pub record OwnRow (s : AssocState) (c : Call) (a : Code) (k : AssocState) : Type
   pub leaves : own_part from ≡ s
   pub leads : own_part to ≡ k
 
+-- a call walks a row of the thread's own association with the branch
 abbrev pub HasOwnRow : AssocState → Request → Answer → AssocState → Type 0
 HasOwnRow s (Branch v u y flags) answer k =
     IsOkAnd (legal v flags.0) (λ c. IsCode (λ a. OwnRow s c a k) answer)
@@ -221,6 +226,7 @@ pub record MigrationRow (n : ℕ) (c : Call) (a : Code) (k : ℕ) : Type 0 where
   pub listed : Contains (assoc_rows from c) (a, to)
   pub counted : k + counts from ≡ n + counts to
 
+-- a call walks a row of the migrations of the branch
 abbrev pub HasMigrationRow : ℕ → Request → Answer → ℕ → Type 0
 HasMigrationRow n (Branch v u y flags) answer k =
     IsOkAnd (legal v flags.0) (λ c. IsCode (λ a. MigrationRow n c a k) answer)
@@ -240,9 +246,9 @@ WalksBy step s [] [] e = s ≡ e
 WalksBy {S} step s (r ∷ rs) (a ∷ rest) e = (k : S) × step s r a k × WalksBy step k rs rest e
 WalksBy step s _ _ e = ⊥
 
--- a history is legal: its projections on the manager, on each branch, on each thread's association with each branch
--- and on the migrations of each branch walk rows of the tables, a thread is active in one branch at most, and each
--- call answers by the first check that refuses it
+-- a history is legal: its projections on the manager, on each branch, on each thread's association with each
+-- branch and on the migrations of each branch walk rows of the tables, a thread is active in one branch at
+-- most, and each call answers by the first check that refuses it
 pub record IsLegalHistory (m : Manager) (rs : List Request) (given : List Answer) (n : Manager) : Type 0 where
   pub manager : WalksBy InitStep m.init rs given n.init
   pub branches : (x : Xid) → WalksBy (BranchStep x) (state_at m x) rs given (state_at n x)

@@ -1,4 +1,5 @@
--- A resource manager that has the tables alone: what each call answers, and what it changes (C193, chapters 3 and 6).
+-- A resource manager that has the tables alone: what each call answers, and what it changes (C193, chapters 3
+-- and 6).
 use Rattle.std.specs.Prelude.{◌≡◌, ℕ, Bool, true, false, ◌||◌, not, List, [], Some, Result, Ok, Err, MatchResult, is_some, length, nat_le, nat_lt, Contains, if◌then◌else◌}
 use Rattle.std.specs.Global.{Vec}
 use Rattle.xa_codes.specs.declared.code.Code.{Code}
@@ -26,15 +27,16 @@ pub record Same (old new : Manager) : Type 0 where
   pub associations : new.associations ≡ old.associations
 
 -- a call made a row of the table of associations, and one of the table of branches that leads to a state
-pub record Walks (old new : Manager) (t : ℕ) (x : Xid) (call : Call) (row : Row) (to : BranchState) (answer : Code) : Type 0 where
+pub record Walks (old new : Manager) (t : ℕ) (x : Xid) (call : Call) (row : Row) (to : BranchState)
+    (answer : Code) : Type 0 where
   pub answers : answer ≡ row.1
   pub association : AssocMoves old.associations new.associations t x row.0 row.2
   pub listed : Contains (branch_rows (state_in old.branches.branches x) call) (answer, to)
   pub branch : BranchMoves old.branches new.branches x to
   pub init : new.init ≡ old.init
 
--- a call made a row of each table that it touches, of the associations this one and of the branches the one that leads
--- to a state, or was refused and changed nothing
+-- a call made a row of each table that it touches, of the associations this one and of the branches the one
+-- that leads to a state, or was refused and changed nothing
 abbrev pub Reacts : Manager → Manager → ℕ → Xid → Call → Result Row Code → BranchState → Code → Type 0
 Reacts old new t x call plan to answer = MatchResult plan
     (λ row. Walks old new t x call row to answer)
@@ -48,6 +50,7 @@ left_state m x lost = left_by lost (has_active m.associations x)
 abbrev pub is_held : AssocList → Xid → Bool
 is_held a x = has_active a x || has_suspended a x || nat_lt 0 (moved_of a x)
 
+-- the state of a branch
 abbrev pub state_at : Manager → Xid → BranchState
 state_at m x = state_in m.branches.branches x
 
@@ -80,30 +83,38 @@ Refuses old new answer refusal = (answer ≡ refusal) × Same old new
 abbrev pub Resumes : Manager → Manager → ℕ → Xid → Code → Type 0
 Resumes old new t x answer =
     ByState (state_at old x) (Refuses old new answer code.NotA)
-    (λ lost. Reacts old new t x call.StartResume (resume_plan old.associations t x lost) (resumed lost) answer)
+    (λ lost. Reacts old new t x call.StartResume
+    (resume_plan old.associations t x lost) (resumed lost) answer)
     (Refuses old new answer code.Proto)
 
 -- an end TMSUSPEND, with TMMIGRATE or not
 abbrev pub Suspends : Manager → Manager → ℕ → Xid → Bool → Code → Type 0
 Suspends old new t x migrate answer =
     ByState (state_at old x) (Refuses old new answer code.NotA)
-    (λ lost. Reacts old new t x (suspend_call migrate) (suspend_plan old.associations t x lost migrate) (left_state new x lost) answer)
+    (λ lost. Reacts old new t x (suspend_call migrate)
+    (suspend_plan old.associations t x lost migrate) (left_state new x lost) answer)
     (Refuses old new answer code.Proto)
 
 -- an end TMSUCCESS, or else TMFAIL
 abbrev pub Ends : Manager → Manager → ℕ → Xid → Bool → Code → Type 0
 Ends old new t x succeeds answer =
     ByState (state_at old x) (Refuses old new answer code.NotA)
-    (λ lost. Reacts old new t x (end_call succeeds) (end_plan old.associations t x lost succeeds) (left_state new x (lost || not succeeds)) answer)
+    (λ lost. Reacts old new t x (end_call succeeds)
+    (end_plan old.associations t x lost succeeds) (left_state new x (lost || not succeeds)) answer)
     (Refuses old new answer code.Proto)
 
--- a prepare, commit, rollback or forget that asks for this answer, and for the end of the branch: NotA, then Proto, come first
+-- a prepare, commit, rollback or forget that asks for this answer, and for the end of the branch: NotA, then
+-- Proto, come first
 pub record Finishes (old new : Manager) (x : Xid) (call : Call) (wanted answer : Code) : Type 0 where
   pub unknown : is_known old.branches.branches x ≡ false → (answer ≡ code.NotA) × Same old new
-  pub held : is_known old.branches.branches x ≡ true → is_held old.associations x ≡ true → (answer ≡ code.Proto) × Same old new
-  pub row : is_known old.branches.branches x ≡ true → is_held old.associations x ≡ false → Contains (branch_rows (state_at old x) call) (wanted, S0)
-      → (answer ≡ wanted) × BranchMoves old.branches new.branches x S0 × (new.associations ≡ old.associations) × (new.init ≡ old.init)
-  pub off : is_known old.branches.branches x ≡ true → is_held old.associations x ≡ false → (Contains (branch_rows (state_at old x) call) (wanted, S0) → ⊥)
+  pub held : is_known old.branches.branches x ≡ true → is_held old.associations x ≡ true
+      → (answer ≡ code.Proto) × Same old new
+  pub row : is_known old.branches.branches x ≡ true → is_held old.associations x ≡ false
+      → Contains (branch_rows (state_at old x) call) (wanted, S0)
+      → (answer ≡ wanted) × BranchMoves old.branches new.branches x S0 × (new.associations ≡ old.associations)
+      × (new.init ≡ old.init)
+  pub off : is_known old.branches.branches x ≡ true → is_held old.associations x ≡ false
+      → (Contains (branch_rows (state_at old x) call) (wanted, S0) → ⊥)
       → (answer ≡ off_row call) × Same old new
 
 -- a manager that is not open, without branches, scans and associations
@@ -120,18 +131,24 @@ pub record Opened (old new : Manager) (migrates : Bool) (answer : Code) : Type 0
   pub init : new.init ≡ R1
   pub branches : new.branches ≡ old.branches
   pub again : old.init ≡ R1 → new ≡ old
-  pub anew : old.init ≡ R0 → IsBare new.associations × (new.associations.seats ≡ []) × (new.associations.migrates ≡ migrates)
+  pub anew : old.init ≡ R0 → IsBare new.associations × (new.associations.seats ≡ [])
+      × (new.associations.migrates ≡ migrates)
 
+-- an open by its flags: refused, or made
 abbrev pub Opens : Manager → Manager → ℕ → Bool → Code → Type 0
-Opens old new flags migrates answer = MatchResult (legal verb.Open flags) (λ _. Opened old new migrates answer) (λ refusal. (answer ≡ refusal) × (new ≡ old))
+Opens old new flags migrates answer = MatchResult (legal verb.Open flags)
+    (λ _. Opened old new migrates answer) (λ refusal. (answer ≡ refusal) × (new ≡ old))
 
 -- a close that is legal is refused while there is an association, and else closes the manager
 pub record Closed (old new : Manager) (answer : Code) : Type 0 where
   pub held : (IsBare old.associations → ⊥) → (answer ≡ code.Proto) × (new ≡ old)
-  pub done : IsBare old.associations → (answer ≡ code.Ok) × (new.init ≡ R0) × (new.branches ≡ old.branches) × (new.associations ≡ old.associations)
+  pub done : IsBare old.associations → (answer ≡ code.Ok) × (new.init ≡ R0) × (new.branches ≡ old.branches)
+      × (new.associations ≡ old.associations)
 
+-- a close by its flags: refused, or made
 abbrev pub Closes : Manager → Manager → ℕ → Code → Type 0
-Closes old new flags answer = MatchResult (legal verb.Close flags) (λ _. Closed old new answer) (λ refusal. (answer ≡ refusal) × (new ≡ old))
+Closes old new flags answer = MatchResult (legal verb.Close flags)
+    (λ _. Closed old new answer) (λ refusal. (answer ≡ refusal) × (new ≡ old))
 
 -- a call on a branch of an open manager, by a name that is not null
 abbrev pub Does : Manager → Manager → Call → ℕ → Xid → Code → Type 0
@@ -153,18 +170,24 @@ pub record Checked (old new : Manager) (c : Call) (t : ℕ) (x : Xid) (answer : 
 
 -- what a call on a branch answers and changes: illegal flags and TMASYNC are refused before all else
 abbrev pub Answers : Manager → Manager → Verb → ℕ → Xid → ℕ → Code → Type 0
-Answers old new v t x flags answer = MatchResult (legal v flags) (λ c. Checked old new c t x answer) (λ refusal. Refuses old new answer refusal)
+Answers old new v t x flags answer = MatchResult (legal v flags)
+    (λ c. Checked old new c t x answer) (λ refusal. Refuses old new answer refusal)
 
+-- an answer, with the branches that a recover gives as a list
 abbrev pub map_ok : Result (Vec Xid) Code → Result (List Xid) Code
 map_ok (Ok v) = Ok v.items
 map_ok (Err e) = Err e
 
 -- what a recover gives: its flags, then an open manager, then a scan
-pub record Scanned (old new : Manager) (t count : ℕ) (c : Call) (answer : Result (List Xid) Code) : Type 0 where
+pub record Scanned (old new : Manager) (t count : ℕ) (c : Call)
+    (answer : Result (List Xid) Code) : Type 0 where
   pub closed : old.init ≡ R0 → (answer ≡ Err code.Proto) × Same old new
   pub given : old.init ≡ R1 → MatchResult answer
-      (λ given. Scans old.branches new.branches t count c given × (new.associations ≡ old.associations) × (new.init ≡ old.init))
+      (λ given. Scans old.branches new.branches t count c given × (new.associations ≡ old.associations)
+      × (new.init ≡ old.init))
       (λ refusal. (scan_refusal old.branches.scans t c ≡ Some refusal) × Same old new)
 
+-- a recover by its flags: refused, or made
 abbrev pub Recovers : Manager → Manager → ℕ → ℕ → ℕ → Result (List Xid) Code → Type 0
-Recovers old new t count flags answer = MatchResult (legal verb.Recover flags) (λ c. Scanned old new t count c answer) (λ refusal. (answer ≡ Err refusal) × Same old new)
+Recovers old new t count flags answer = MatchResult (legal verb.Recover flags)
+    (λ c. Scanned old new t count c answer) (λ refusal. (answer ≡ Err refusal) × Same old new)

@@ -8,7 +8,8 @@ use Rattle.xa_tables.specs.declared.states.BranchState.{BranchState}
 use Rattle.xa_tables.specs.declared.states.BranchState.TheVariants.{S0, S1, S2, S3, S4, S5}
 use Rattle.xa_assoc.specs.Associations.{Row}
 
--- what a call on a branch does by the branch's state: work goes on in S1 and S2, is lost in S4, and the rest is refused
+-- what a call on a branch does by the branch's state: work goes on in S1 and S2, is lost in S4, and the rest
+-- is refused
 abbrev pub by_state : BranchState → Result Row Code → Result Row Code → Result Row Code
 by_state S0 work lost = Err code.NotA
 by_state S1 work lost = work
@@ -29,7 +30,8 @@ IsAt false _ = ⊥
 abbrev pub resumed : Bool → BranchState
 resumed lost = if lost then S4 else S1
 
--- the state of a branch behind an end: active while another thread is active in it, and lost where its work failed
+-- the state of a branch behind an end: active while another thread is active in it, and lost where its work
+-- failed
 abbrev pub left_by : Bool → Bool → BranchState
 left_by lost active = if lost then S4 else if active then S1 else S2
 

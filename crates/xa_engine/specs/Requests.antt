@@ -57,20 +57,23 @@ pub record IsInfo (w : List ℕ) : Type 0 where
   pub short : length w ≤ 32
   pub messages : All IsAsciiAlphabetic w
 
--- what stands behind `open`: flags, and then the manager migrates; or flags and an information text, and then it
--- migrates unless the text is `nomigrate`
+-- what stands behind `open`: flags, and then the manager migrates; or flags and an information text, and then
+-- it migrates unless the text is `nomigrate`
 abbrev pub IsOpenOf : List ℕ → Option (List ℕ × List ℕ) → ℕ → Bool → Type 0
 IsOpenOf rest None flags migrates = IsFlagText rest flags × (migrates ≡ true)
 IsOpenOf rest (Some p) flags migrates =
     IsFlagText p.0 flags × IsInfo p.1 × (migrates ≡ not (same_word p.1 (codes "nomigrate")))
 
+-- what stands behind `open` spells these flags, and whether the manager migrates associations
 abbrev pub SpellsOpen : List ℕ → ℕ → Bool → Type 0
 SpellsOpen rest flags migrates = IsOpenOf rest (cut_at 32 rest) flags migrates
 
+-- three words, of the first and the cut of what stands behind it
 abbrev pub last_two : List ℕ → Option (List ℕ × List ℕ) → Option (List ℕ × List ℕ × List ℕ)
 last_two first None = None
 last_two first (Some q) = Some (first, q.0, q.1)
 
+-- three words, of a first cut
 abbrev pub first_of_three : Option (List ℕ × List ℕ) → Option (List ℕ × List ℕ × List ℕ)
 first_of_three None = None
 first_of_three (Some p) = last_two p.0 (cut_at 32 p.1)
@@ -120,7 +123,8 @@ SpellEach [] [] = Unit {0}
 SpellEach (line ∷ ls) (request ∷ requests) = Spells line request × SpellEach ls requests
 SpellEach _ _ = ⊥
 
--- an input is a script of these calls: text, of which at most 100,000 lines are not skipped, and these spell them
+-- an input is a script of these calls: text, of which at most 100,000 lines are not skipped, and these spell
+-- them
 pub record IsScript (input : List ℕ) (requests : List Request) : Type 0 where
   pub text : IsUtf8 input
   pub short : call_count (lines input) ≤ 100000

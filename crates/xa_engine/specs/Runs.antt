@@ -49,7 +49,8 @@ report_text answers = flat_map answer_text answers ++ codes "end" ++ 10 ∷ []
 
 -- a text reports a run of these calls from a new manager on
 abbrev pub Reports : List Request → List ℕ → Type 0
-Reports requests text = (m : Manager) × (n : Manager) × (answers : List Answer) × IsNew m × Leads m requests answers n × (text ≡ report_text answers)
+Reports requests text = (m : Manager) × (n : Manager) × (answers : List Answer) × IsNew m
+    × Leads m requests answers n × (text ≡ report_text answers)
 
 -- the line of a refused script
 abbrev pub refusal_text : ScriptError → List ℕ
@@ -57,8 +58,8 @@ refusal_text Utf8 = codes "error 4" ++ 10 ∷ []
 refusal_text TooLong = codes "error 5" ++ 10 ∷ []
 refusal_text (Line n) = codes "error 3 " ++ decimal n ++ 10 ∷ []
 
--- what a run writes of an input, by how it ends: the answers of the calls that the input spells, or the line of
--- the fault that is there
+-- what a run writes of an input, by how it ends: the answers of the calls that the input spells, or the line
+-- of the fault that is there
 abbrev pub IsReport : Status → List ℕ → List ℕ → Type 0
 IsReport Ended input text = (requests : List Request) × IsScript input requests × Reports requests text
 IsReport Refused input text = (error : ScriptError) × IsScriptFault input error × (text ≡ refusal_text error)

@@ -20,7 +20,7 @@ use xa_xid::{Xid, numeral};
 const LINES: usize = 100_000;
 
 /// A call of a script.
-#[derive(Clone, Copy, Debug, PartialEq, Eq)]
+#[derive(Clone, Copy, PartialEq, Eq)]
 pub(crate) enum Request {
     Open {
         flags: Flags,
@@ -43,7 +43,7 @@ pub(crate) enum Request {
 }
 
 /// Why a script is refused.
-#[derive(Clone, Copy, Debug, PartialEq, Eq)]
+#[derive(Clone, Copy, PartialEq, Eq)]
 pub(crate) enum ScriptError {
     /// A line that is no call, by its number from 1. The first of them is named.
     Line(usize),
