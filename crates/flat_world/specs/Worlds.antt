@@ -89,4 +89,4 @@ AgreesFrom old new = (me : ProcessId) (tree : List TreeEntry) → IsFlatTree me 
 -- and commit was decided only where every participant consented
 abbrev pub ConsentsFrom : FlatState → FlatState → Type 0
 ConsentsFrom old new = (me : ProcessId) (tree : List TreeEntry) → IsFlatTree me tree → IsModelled me tree old
-    → (es : List Made) × (w : World) × Follows me tree es w new × CommitRule tree w
+    → (es : List Made) × (w : World) × Follows me tree es w new × CommitRule tree es w

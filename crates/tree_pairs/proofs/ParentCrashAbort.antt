@@ -15,6 +15,9 @@ parent_fails r h g = grind arith
 pub fails_to_hear_no : Keeps Inv rows.MayHearNo crash.fails_to_hear_no
 fails_to_hear_no r h g = grind arith
 
+pub fails_at_no : Keeps Inv rows.MayHearNo crash.fails_at_no
+fails_at_no r h g = grind arith
+
 pub fails_to_promise_up : Keeps Inv cascaded.MayPromise crash.fails_to_promise_up
 fails_to_promise_up r h g = grind arith
 

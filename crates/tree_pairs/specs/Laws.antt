@@ -164,6 +164,7 @@ pub record CascadedRowsUnderCommit : Type 0 where
 pub record ParentCrashesUnderAbort : Type 0 where
   pub parent_fails : Keeps PresumedAbort parent_crash.MayFailParent parent_crash.parent_fails
   pub fails_to_hear_no : Keeps PresumedAbort parent.MayHearNo parent_crash.fails_to_hear_no
+  pub fails_at_no : Keeps PresumedAbort parent.MayHearNo parent_crash.fails_at_no
   pub fails_to_abort : Keeps PresumedAbort parent.MayAbort parent_crash.fails_to_abort
   pub fails_to_decide : Keeps PresumedAbort root.MayDecide parent_crash.fails_to_decide_naming
   pub fails_to_promise_up : Keeps PresumedAbort cascaded.MayPromise parent_crash.fails_to_promise_up
@@ -185,6 +186,7 @@ pub record ParentCrashesUnderCommit : Type 0 where
   pub parent_fails : Keeps PresumedCommit parent_crash.MayFailParent parent_crash.parent_fails
   pub fails_to_collect : Keeps PresumedCommit parent_crash.MayFailToCollect parent_crash.fails_to_collect
   pub fails_to_hear_no : Keeps PresumedCommit parent.MayHearNo parent_crash.fails_to_hear_no
+  pub fails_at_no : Keeps PresumedCommit parent.MayHearNo parent_crash.fails_at_no
   pub fails_to_abort : Keeps PresumedCommit parent.MayAbort parent_crash.fails_to_abort_naming
   pub fails_to_abort_at_restart : Keeps PresumedCommit parent_crash.MayAbortAtRestart
       parent_crash.fails_to_abort_at_restart

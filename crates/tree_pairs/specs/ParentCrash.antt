@@ -76,6 +76,10 @@ fails_to_hear_no r = record r {
   abort_kept = true;
 }
 
+-- It failed at the ticket's NO, before a record of it: the vote was counted.
+abbrev pub fails_at_no : Reading → Reading
+fails_at_no r = record r { failed = true; phase = Closed; first_no = true; refused = true }
+
 -- Presumed Commit: it failed behind the End of a case whose children all voted READ; nothing was told or
 -- sent.
 pub record MayFailToEndReadOnly (r : Reading) : Type 0 where

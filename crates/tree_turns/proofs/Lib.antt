@@ -1,0 +1,4 @@
+pub mod LeafInputs
+pub mod CoordinatorInputs
+pub mod Steps
+pub mod Operators

@@ -1,0 +1,3 @@
+pub mod LeafTurns
+pub mod Written
+pub mod Steps
