@@ -14,7 +14,7 @@ use Rattle.link_script.specs.Stages.{reading}
 use Rattle.link_script.specs.Documents.{IsTreeText}
 use Rattle.link_script.specs.Rules.{pieces, around_rule}
 use Rattle.link_script.specs.Script.{asked_in, events_at}
-use Rattle.link_script.specs.Trace.{lines_text}
+use Rattle.trace_lines.specs.Trace.{lines_text}
 
 -- bytes that are text, with a tree text before the first line of three dashes
 pub record HasTreeText (stage : Stage) (bytes : List ℕ) (fronts behind : List (List ℕ))

@@ -11,7 +11,7 @@ use Rattle.link_script.specs.declared.stage.Stage.TheVariants.{Flat}
 use Rattle.link_script.specs.declared.script.ScriptFault.{ScriptFault}
 use Rattle.link_script.specs.declared.script.ScriptFault.TheVariants.{Utf8, TreeText, Tree, TooLong, Line}
 use Rattle.link_script.specs.Inputs.{IsScript, IsScriptFault}
-use Rattle.link_script.specs.Trace.{entries_text}
+use Rattle.trace_lines.specs.Trace.{entries_text}
 use Rattle.tree_model.specs.World.{IsRun, Made, World, journal_of}
 use Rattle.flat_law.specs.FlatWorlds.{FlatState, IsOpened, Leads, LeadsUntil}
 use Rattle.flat_law.specs.Ties.{IsModelled}

@@ -3,7 +3,7 @@
 ghost use Rattle.std.specs.Prelude.{◌≡◌, ◌++◌, ℕ, List, IfOk, IfErr, OnOk, string_bytes};
 ghost use Rattle.tree_model.specs.Trees.{root_of};
 ghost use Rattle.std.specs.Io.KnownBytes.{Appends, Keeps};
-ghost use Rattle.link_script.specs.Trace.{entries_text};
+ghost use Rattle.trace_lines.specs.Trace.{entries_text};
 ghost use Rattle.tree_model.specs.Outcomes.{Agreement, CommitRule};
 ghost use Rattle.flat_law.specs.FlatWorlds.{IsOpened};
 ghost use Rattle.flat_law.specs.Ties.{IsFlatTree, IsModelled};
@@ -13,10 +13,11 @@ ghost use Rattle.report_io.specs.Streams.{IsInput, WritesFront};
 ghost use Rattle.tree_engine.specs.Trees.{IsNumbered, IsTreeReport, Plays, TellsWhere, ending, fault_text, last_line, opened_text, opening_text, refused_text, trace_of};
 
 use flat_world::FlatWorld;
-use link_script::{ScriptError, ScriptFault, Stage, push_entry, read};
+use link_script::{ScriptError, ScriptFault, Stage, read};
 use report_io::{Failure, Status, read_all, write_all};
 use std::alloc::{AllocError, Global};
 use std::io::{Read, Write};
+use trace_lines::push_entry;
 use tree_model::{Entry, Event, StepError, Tree, TreeEntry};
 
 /// How many events were made, and why the next was refused; or none was.
