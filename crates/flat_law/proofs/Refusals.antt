@@ -15,10 +15,10 @@ use Rattle.tree_model.specs.declared.trees.TreeEntry.{TreeEntry}
 use Rattle.tree_model.specs.Names.{same_process}
 use Rattle.tree_model.specs.Nodes.{Place, place_of, is_listed, Node, DataAnswer}
 use Rattle.tree_model.specs.Standings.{ManagerView, manager_view}
-use Rattle.tree_model.specs.Reactions.{Reacts, Refused, reacts, names_listed, manager_acts, childless_by}
+use Rattle.tree_model.specs.Reactions.{Reacts, Refused, reacts, names_listed, manager_acts, childless_by, is_passed_over}
 use Rattle.tree_model.specs.Plays.{process_of_act, move_of, sent_as}
 use Rattle.tree_model.specs.Views.{root_place, leaf_place, hears_act}
-use Rattle.tree_model.specs.World.{World, Made, node_makes, input_makes}
+use Rattle.tree_model.specs.World.{World, Made, node_makes, input_makes, passes_over}
 use Rattle.flat_law.specs.Leaves.{LeafState, childless, act_refusal}
 use Rattle.flat_law.specs.FlatWorlds.{FlatState, RefusesAct, leaf_refusal, IsLost}
 use Rattle.flat_law.specs.Ties.{is_application_act}
@@ -76,13 +76,17 @@ module _ (me p : ProcessId) (tree : List TreeEntry) (n : Node) (l : LeafState)
 
 refusal_at : (tree : List TreeEntry) (w : World) (q : ProcessId) (a : Act) (d : DataAnswer)
     (place : Place) (e : StepError) → is_listed tree q ≡ true
-    → place_of tree q ≡ place → reacts place (w.at q) (hears_act a d) ≡ Refused e
+    → place_of tree q ≡ place → is_passed_over place (w.at q) (ActInput a) ≡ false
+    → reacts place (w.at q) (hears_act a d) ≡ Refused e
     → model_refusal tree w (move_of q (Handles (ActInput a)) d) ≡ Some e
 unfolding node_makes
-refusal_at tree w q a d place e listed at refused =
+refusal_at tree w q a d place e listed at taken refused =
     rw listed (ap
-    (λ p. refusal_in (input_makes (w.at q) (hears_act a d) None (reacts p (w.at q) (hears_act a d)))) at
-    ∙ ap (λ y. refusal_in (input_makes (w.at q) (hears_act a d) None y)) refused)
+    (λ p. refusal_in (if is_passed_over p (w.at q) (ActInput a) then passes_over (w.at q) None
+    else input_makes (w.at q) (hears_act a d) None (reacts p (w.at q) (hears_act a d)))) at
+    ∙ (ap (λ (b : Bool). refusal_in (if b then passes_over (w.at q) None
+    else input_makes (w.at q) (hears_act a d) None (reacts place (w.at q) (hears_act a d)))) taken
+    ∙ ap (λ y. refusal_in (input_makes (w.at q) (hears_act a d) None y)) refused))
 
 unlisted_refusal : (tree : List TreeEntry) (w : World) (q : ProcessId) (a : Act) (d : DataAnswer)
     → is_listed tree q ≡ false
@@ -103,7 +107,7 @@ module _ (me : ProcessId) (tree : List TreeEntry) (es : List Made) (w : World) (
       (leaf_refusal (names_listed tree a) o a)
   refused_below q a d (Some l) away is stood h =
       let here = f.leaves q l away stood in
-      refusal_at tree w q a d (leaf_place q me tree) _ (sym (f.listed q away) ∙ ap is_some stood) here.place
+      refusal_at tree w q a d (leaf_place q me tree) _ (sym (f.listed q away) ∙ ap is_some stood) here.place refl
       (leaf_refuses q me tree (w.at q) l here.follows a d h (ap (λ p. same_process p me) (sym is) ∙ away))
   refused_below q a d None away is stood h =
       unlisted_refusal tree w q a d (sym (f.listed q away) ∙ ap is_some stood)
@@ -117,7 +121,7 @@ module _ (me : ProcessId) (tree : List TreeEntry) (es : List Made) (w : World) (
       let is : process_of_act s.root.me a ≡ me = is_one (process_of_act s.root.me a) s.root.me at
       ∙ f.root.is_named in
       subst (λ q. model_refusal tree w (move_of q (Handles (ActInput a)) d) ≡ Some e) (sym is)
-      (refusal_at tree w me a d (root_place me tree) e f.root_is_listed f.place
+      (refusal_at tree w me a d (root_place me tree) e f.root_is_listed f.place refl
       (refuses_at_root me tree (w.at me) s.root a d e f.root h (refused.at_root at)))
   refused_act a e d false at h refused =
       let q = process_of_act s.root.me a in

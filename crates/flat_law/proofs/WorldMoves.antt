@@ -1,5 +1,5 @@
 -- A move of one process, and the world behind it.
-use Rattle.std.proofs.Common.{◌≡◌, ◌∙◌, ap, sym, ◌&&◌, Bool, true, false, Some, None, List, [], ◌∷◌, ◌++◌, refl, arith}
+use Rattle.std.proofs.Common.{◌≡◌, ◌∙◌, ap, sym, ◌&&◌, Bool, true, false, Some, None, List, [], ◌∷◌, ◌++◌, refl, if◌then◌else◌, arith}
 use Rattle.tree_model.specs.declared.names.ProcessId.{ProcessId}
 use Rattle.tree_model.specs.declared.events.Input.{Input}
 use Rattle.tree_model.specs.declared.events.Happening.TheVariants.{Input as Handles}
@@ -8,8 +8,8 @@ use Rattle.tree_model.specs.declared.trees.TreeEntry.{TreeEntry}
 use Rattle.tree_model.specs.Names.{same_process}
 use Rattle.tree_model.specs.NameLaws.{same_process_tells}
 use Rattle.tree_model.specs.Nodes.{Place, place_of, is_listed, Node, Heard, DataAnswer, Effect, reaction_of, after}
-use Rattle.tree_model.specs.Reactions.{Does, reacts}
-use Rattle.tree_model.specs.World.{World, Move, Made, put_at, world_makes, node_makes, world_stepped, input_makes, InputStands, stays, goes_on, journal_of}
+use Rattle.tree_model.specs.Reactions.{Does, reacts, is_passed_over}
+use Rattle.tree_model.specs.World.{World, Move, Made, put_at, world_makes, node_makes, world_stepped, input_makes, InputStands, stays, goes_on, journal_of, passes_over}
 use Rattle.tree_law.specs.Flat.{is_flat_input}
 use Rattle.flat_law.specs.FlatWorlds.{FlatState, entry_at}
 use Rattle.flat_law.specs.Ties.{Follows, GoesOn}
@@ -32,14 +32,17 @@ world_after w q n e = record { at = put_at q n w.at; net = w.net ++ e.messages }
 
 pub made_at : (tree : List TreeEntry) (w : World) (q : ProcessId) (i : Input) (a : DataAnswer) (place : Place)
     (e : Effect) → is_listed tree q ≡ true
-    → place_of tree q ≡ place → reacts place (w.at q) (heard_by i a) ≡ Does e
+    → place_of tree q ≡ place → is_passed_over place (w.at q) i ≡ false → reacts place (w.at q) (heard_by i a) ≡ Does e
     → world_makes tree w (move_for q i a) ≡ Some (e, world_after w q (after (w.at q) (heard_by i a) e) e)
 unfolding world_makes node_makes
-made_at tree w q i a place e listed at does =
+made_at tree w q i a place e listed at taken does =
     let made : node_makes (place_of tree q) (w.at q) (move_for q i a) ≡ input_makes (w.at q)
     (heard_by i a) None (Does e) =
-    ap (λ p. input_makes (w.at q) (heard_by i a) None (reacts p (w.at q) (heard_by i a))) at
-    ∙ ap (λ r. input_makes (w.at q) (heard_by i a) None r) does in
+    ap (λ p. if is_passed_over p (w.at q) i then passes_over (w.at q) None
+    else input_makes (w.at q) (heard_by i a) None (reacts p (w.at q) (heard_by i a))) at
+    ∙ (ap (λ (b : Bool). if b then passes_over (w.at q) None
+    else input_makes (w.at q) (heard_by i a) None (reacts place (w.at q) (heard_by i a))) taken
+    ∙ ap (λ r. input_makes (w.at q) (heard_by i a) None r) does) in
     rw listed (ap (λ s. world_stepped w q s) made)
 
 -- a process that steps, and another
@@ -62,17 +65,18 @@ flat_one b h = rw h refl
 
 pub gone_on : (me : ProcessId) (tree : List TreeEntry) (es : List Made) (w : World) (s : FlatState)
     (q : ProcessId) (i : Input) (a : DataAnswer) (e : Effect) (place : Place)
-    → is_listed tree q ≡ true → place_of tree q ≡ place → reacts place (w.at q) (heard_by i a) ≡ Does e
+    → is_listed tree q ≡ true → place_of tree q ≡ place → is_passed_over place (w.at q) i ≡ false
+    → reacts place (w.at q) (heard_by i a) ≡ Does e
     → InputStands w.net q i
     → is_flat_input i ≡ true → GoesOnBy me tree es w s q i a e
     → GoesOn me tree es w s
-gone_on me tree es w s q i a e place listed at does stands flat follows =
+gone_on me tree es w s q i a e place listed at taken does stands flat follows =
     let m = move_for q i a in
     let w' = world_after w q (after (w.at q) (heard_by i a) e) e in
     record {
       later = record { move = m; effect = e } ∷ [];
       world = w';
-      leads = goes_on [] w m e w' stays stands (made_at tree w q i a place e listed at does);
+      leads = goes_on [] w m e w' stays stands (made_at tree w q i a place e listed at taken does);
       follows = follows;
       are_flat = flat_one (is_flat_input i) flat;
     }

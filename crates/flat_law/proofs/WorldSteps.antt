@@ -61,10 +61,10 @@ root_goes_on : (me : ProcessId) (tree : List TreeEntry) (es : List Made) (w : Wo
 root_goes_on me tree es w s s' i marked reaction f stands leaves net entries step flat =
     let e = step.effect in
     let n = after (w.at me) (heard i) e in
-    gone_on me tree es w s' me i no_data e (root_place me tree) f.root_is_listed f.place step.does stands flat
+    gone_on me tree es w s' me i no_data e (root_place me tree) f.root_is_listed f.place refl step.does stands flat
     (record {
       is_run = makes es w (move_for me i no_data) e (world_after w me n e) f.is_run stands
-          (made_at tree w me i no_data (root_place me tree) e f.root_is_listed f.place step.does);
+          (made_at tree w me i no_data (root_place me tree) e f.root_is_listed f.place refl step.does);
       shown = shown_by es s s' me i no_data e reaction f.shown step.shown entries;
       net = sent_by w s s' e reaction f.net step.shown net;
       root_is_listed = f.root_is_listed;
@@ -97,10 +97,10 @@ leaf_goes_on me tree es w s s' q k message reaction l f stands o takes net entri
     let a = step.answer in
     let n = after (w.at q) (heard_by i a) e in
     let w' = world_after w q n e in
-    gone_on me tree es w s' q i a e (leaf_place q me tree) listed here.place step.does stands refl
+    gone_on me tree es w s' q i a e (leaf_place q me tree) listed here.place refl step.does stands refl
     (record {
       is_run = makes es w (move_for q i a) e w' f.is_run stands
-          (made_at tree w q i a (leaf_place q me tree) e listed here.place step.does);
+          (made_at tree w q i a (leaf_place q me tree) e listed here.place refl step.does);
       shown = shown_by es s s' q i a e reaction f.shown step.shown entries;
       net = sent_by w s s' e reaction f.net step.shown net;
       root_is_listed = f.root_is_listed;

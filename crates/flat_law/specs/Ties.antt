@@ -157,7 +157,7 @@ pub record IsModelled (me : ProcessId) (tree : List TreeEntry) (s : FlatState) :
   pub follows : Follows me tree moves world s
   pub are_flat : AreFlatMoves moves
   pub agreement : Agreement tree world
-  pub commit_rule : CommitRule tree world
+  pub commit_rule : CommitRule tree moves world
 
 -- Refusals.
 

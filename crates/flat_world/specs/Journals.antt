@@ -3,8 +3,8 @@ use Rattle.std.specs.Prelude.{◌≡◌, ◌<◌, ℕ, Bool, true, false, List, 
 use Rattle.tree_model.specs.declared.messages.Envelope.{Envelope}
 use Rattle.tree_model.specs.declared.events.Entry.{Entry}
 
--- Every message ever sent, with the mark whether it was delivered, and every step that was made; whether the messages of
--- the last step are posted, and how many more steps fit without a growth.
+-- Every message ever sent, with the mark whether it was delivered, and every step that was made; whether the
+-- messages of the last step are posted, and how many more steps fit without a growth.
 pub record JournalState : Type 0 where
   pub net : List Envelope
   pub delivered : List Bool

@@ -27,7 +27,8 @@ use Rattle.flat_world.specs.declared.leaf.Leaf.{Leaf}
 
 -- the view of a live branch
 abbrev pub model_view : Live → ManagerView
-model_view (Active done writes) = record { standing = ActiveStanding; done = done; spoiled = false; told = None }
+model_view (Active done writes) =
+    record { standing = ActiveStanding; done = done; spoiled = false; told = None }
 model_view Promised = standing_branch Prepared None
 
 -- the writes of its works
@@ -35,10 +36,12 @@ abbrev pub writes_of : Live → List Write
 writes_of (Active done writes) = writes.items
 writes_of Promised = []
 
+-- the view of a live branch, or of one that is not known
 abbrev pub found : Option Live → ManagerView
 found None = unknown_branch
 found (Some b) = model_view b
 
+-- what a live branch has written
 abbrev pub found_writes : Option Live → List Write
 found_writes None = []
 found_writes (Some b) = writes_of b
@@ -47,9 +50,11 @@ found_writes (Some b) = writes_of b
 abbrev pub view_in : List (Case × Live) → Case → ManagerView
 view_in live c = found (lookup (cases.ghosts.eq c) live)
 
+-- what the branch of a case has written
 abbrev pub writes_in : List (Case × Live) → Case → List Write
 writes_in live c = found_writes (lookup (cases.ghosts.eq c) live)
 
+-- what the definitions see of a leaf
 abbrev pub state : Leaf → LeafState
 state l = record {
   me = l.me;
@@ -74,7 +79,8 @@ is_reading (w ∷ ws) = false
 -- the vote YES, behind the forced promise of these writes
 abbrev pub promise_reaction : ProcessId → ProcessId → Case → List Write → Reaction
 promise_reaction me parent c ws =
-    reaction_of (leaf_effect (active_prepare_holding (record { me = me; parent = parent; own = c }) (Holds ws)))
+    reaction_of (leaf_effect (active_prepare_holding
+    (record { me = me; parent = parent; own = c }) (Holds ws)))
 
 -- What a part of a turn makes of a leaf.
 

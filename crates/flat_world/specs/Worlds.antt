@@ -28,6 +28,7 @@ use Rattle.flat_world.specs.LeafSteps as leaf
 abbrev pub leaf_in : List (ProcessId × Leaf) → ProcessId → Option LeafState
 leaf_in leaves q = option_map leaf.state (lookup (processes.ghosts.eq q) leaves)
 
+-- what the definitions see of a flat tree
 abbrev pub state : FlatWorld → FlatState
 state w = record {
   root = root.state w.root;
@@ -60,10 +61,12 @@ IsStopped old event e new = ((e ≡ Memory) × BreaksOff old event new) ⊎ Stop
 
 -- so many events were made, and the next was refused, for memory or otherwise
 abbrev pub AreStopped : FlatState → List Event → ℕ → StepError → FlatState → Type 0
-AreStopped old events n e new = ((e ≡ Memory) × BreaksOffWithin old events n new) ⊎ LeadsUntil old events n e new
+AreStopped old events n e new = ((e ≡ Memory) × BreaksOffWithin old events n new)
+    ⊎ LeadsUntil old events n e new
 
 -- the leaves of these processes but the root, each as it opens
-pub record AreLeaves (me : ProcessId) (tree : List TreeEntry) (leaves : List (ProcessId × Leaf)) : Type 0 where
+pub record AreLeaves (me : ProcessId) (tree : List TreeEntry)
+    (leaves : List (ProcessId × Leaf)) : Type 0 where
   pub opened : (q : ProcessId) (l : LeafState) → leaf_in leaves q ≡ Some l → leaf_law.IsOpened l q me
   pub listed : (q : ProcessId) → same_process q me ≡ false → is_some (leaf_in leaves q) ≡ is_listed tree q
 
@@ -72,10 +75,11 @@ abbrev pub RunsOn : FlatState → FlatState → Type 0
 RunsOn old new = (me : ProcessId) (tree : List TreeEntry) (es : List Made) (w : World)
     → Follows me tree es w old → GoesOn me tree es w new
 
--- Where the old state of a flat tree stands for a run of the model, the new one stands for such a run too, with agreement
--- and the commit rule.
+-- Where the old state of a flat tree stands for a run of the model, the new one stands for such a run too,
+-- with agreement and the commit rule.
 abbrev pub IsModelledFrom : FlatState → FlatState → Type 0
-IsModelledFrom old new = (me : ProcessId) (tree : List TreeEntry) → IsFlatTree me tree → IsModelled me tree old → IsModelled me tree new
+IsModelledFrom old new = (me : ProcessId) (tree : List TreeEntry) → IsFlatTree me tree
+    → IsModelled me tree old → IsModelled me tree new
 
 -- then no two processes have ended one transaction differently, in a run that the new state stands for
 abbrev pub AgreesFrom : FlatState → FlatState → Type 0
@@ -85,4 +89,4 @@ AgreesFrom old new = (me : ProcessId) (tree : List TreeEntry) → IsFlatTree me 
 -- and commit was decided only where every participant consented
 abbrev pub ConsentsFrom : FlatState → FlatState → Type 0
 ConsentsFrom old new = (me : ProcessId) (tree : List TreeEntry) → IsFlatTree me tree → IsModelled me tree old
-    → (es : List Made) × (w : World) × Follows me tree es w new × CommitRule tree w
+    → (es : List Made) × (w : World) × Follows me tree es w new × CommitRule tree es w

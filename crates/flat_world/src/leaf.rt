@@ -26,7 +26,7 @@ use tree_model::{
 };
 
 /// A live branch.
-#[derive(Debug, Drop)]
+#[derive(Drop)]
 pub(crate) enum Live {
     /// It does works: so many are done, and left these writes.
     Active(u64, Vec<Write>),

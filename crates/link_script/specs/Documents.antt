@@ -10,6 +10,7 @@ use Rattle.tree_model.specs.declared.trees.TreeEntry.{TreeEntry}
 use Rattle.link_script.specs.declared.stage.Stage.{Stage}
 use Rattle.link_script.specs.Stages.{places}
 
+-- how a kind of process is written
 abbrev pub kind_text : Kind → List ℕ
 kind_text Coordinator = codes "coordinator"
 kind_text Manager = codes "manager"
@@ -27,9 +28,11 @@ MayHaveInfo Coordinator info = info ≡ None
 abbrev pub IsInfo : Data → List ℕ → Type 0
 IsInfo d info = (d ≡ string info) × (length info ≤ 32) × All IsAsciiAlphabetic info
 
+-- a table of a process has these keys
 abbrev pub IsKnownKey : List ℕ → Type 0
 IsKnownKey k = (k ≡ codes "id") ⊎ ((k ≡ codes "kind") ⊎ ((k ≡ codes "parent") ⊎ (k ≡ codes "info")))
 
+-- each member of a table has such a key
 abbrev pub KeysAreKnown : Members → Type 0
 KeysAreKnown no_members = Unit {0}
 KeysAreKnown (member k d ms) = IsKnownKey k × KeysAreKnown ms
@@ -61,6 +64,7 @@ pub record IsProcess (stage : Stage) (d : Data) (e : TreeEntry) : Type 0 where
   pub info_kind : MayHaveInfo e.kind e.info
   pub placed : places stage e.kind e.parent ≡ true
 
+-- the tables of a list are these processes, one for one, in order
 abbrev pub AreProcesses : Stage → Items → List TreeEntry → Type 0
 AreProcesses stage no_items [] = Unit {0}
 AreProcesses stage no_items (e ∷ es) = ⊥
@@ -70,7 +74,8 @@ AreProcesses stage (item d ds) (e ∷ es) = IsProcess stage d e × AreProcesses 
 -- a table with one key, the processes; without a process the key may be absent
 abbrev pub IsTable : Stage → Members → List TreeEntry → Type 0
 IsTable stage no_members es = es ≡ []
-IsTable stage (member k d ms) es = (ds : Items) × (member k d ms ≡ member (codes "process") (array ds) no_members) × AreProcesses stage ds es
+IsTable stage (member k d ms) es = (ds : Items)
+    × (member k d ms ≡ member (codes "process") (array ds) no_members) × AreProcesses stage ds es
 
 -- the text is a document of such a table
 abbrev pub IsTreeText : Stage → List ℕ → List TreeEntry → Type 0

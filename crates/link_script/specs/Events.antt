@@ -53,6 +53,7 @@ join_at root rest = do
   child ← process_at p.1
   Some (ActOf (Join case child))
 
+-- `put`: a key and the value to be stored under it
 unfoldable pub put_at : List ℕ → Option Op
 put_at rest = do
   p ← cut_at 32 rest
@@ -60,12 +61,15 @@ put_at rest = do
   value ← value_at p.1
   Some (Put key value)
 
+-- `get`: the key to be read
 abbrev pub get_at : List ℕ → Option Op
 get_at rest = key_at rest >>= λ key. Some (Get key)
 
+-- `del`: the key to be deleted
 abbrev pub delete_at : List ℕ → Option Op
 delete_at rest = key_at rest >>= λ key. Some (Delete key)
 
+-- an operation on data, by its verb and what stands behind it
 abbrev pub verb_at : List ℕ → List ℕ → Option Op
 verb_at verb rest =
     if same verb (codes "put") then put_at rest
@@ -87,6 +91,7 @@ work_at root rest = do
   op ← op_at q.1
   Some (ActOf (Work case child op))
 
+-- `restart` of a process alone, or with the bytes of its log that are kept
 abbrev pub restart_parts : List ℕ → Option (List ℕ × List ℕ) → Option Event
 restart_parts rest None = process_at rest >>= λ p. Some (Restart p None)
 restart_parts rest (Some q) = process_at q.0 >>= λ p. number_at q.1 >>= λ keep. Some (Restart p (Some keep))
@@ -110,21 +115,27 @@ heur_at root rest = do
   outcome ← decision_at p.1
   Some (ActOf (Decide case outcome))
 
+-- `commit`: the application wants this transaction committed
 abbrev pub commit_at : ProcessId → List ℕ → Option Event
 commit_at root rest = txn_at root rest >>= λ x. Some (ActOf (Commit x))
 
+-- `abort`: the application gives this transaction up
 abbrev pub abort_at : ProcessId → List ℕ → Option Event
 abort_at root rest = txn_at root rest >>= λ x. Some (ActOf (Abort x))
 
+-- `ask`: a process in doubt sends an inquiry about this case
 abbrev pub ask_at : ProcessId → List ℕ → Option Event
 ask_at root rest = case_at root rest >>= λ c. Some (ActOf (Ask c))
 
+-- `forget`: an operator lets the record of a heuristic decision go
 abbrev pub forget_at : ProcessId → List ℕ → Option Event
 forget_at root rest = case_at root rest >>= λ c. Some (ActOf (Forget c))
 
+-- `deliver`: the message of this number arrives, for the first time or again
 abbrev pub deliver_at : List ℕ → Option Event
 deliver_at rest = number_at rest >>= λ n. Some (Deliver n)
 
+-- `trim`: a process drops from its log what is forgotten
 abbrev pub trim_at : List ℕ → Option Event
 trim_at rest = process_at rest >>= λ p. Some (Trim p)
 
@@ -143,6 +154,7 @@ plain_at root word rest =
     else if same word (codes "forget") then forget_at root rest
     else None
 
+-- the event of a line: `settle` alone, `work` or another first word, by what stands behind it
 abbrev pub event_parts : ProcessId → List ℕ → Option (List ℕ × List ℕ) → Option Event
 event_parts root line None = if same line (codes "settle") then Some Settle else None
 event_parts root line (Some p) = if same p.0 (codes "work") then work_at root p.1 else plain_at root p.0 p.1
@@ -157,5 +169,6 @@ op_view (PutTask key value) = Put key.now value.now
 op_view (GetTask key) = Get key.now
 op_view (DeleteTask key) = Delete key.now
 
+-- the event of a work, as its parts are read
 abbrev pub work_view : Case × ProcessId × Task → Event
 work_view (case, child, task) = ActOf (Work case child (op_view task))

@@ -17,26 +17,30 @@ use Rattle.link_script.specs.Script.{asked_in, events_at}
 use Rattle.link_script.specs.Trace.{lines_text}
 
 -- bytes that are text, with a tree text before the first line of three dashes
-pub record HasTreeText (stage : Stage) (bytes : List ℕ) (fronts behind : List (List ℕ)) (tree : List TreeEntry) : Type 0 where
+pub record HasTreeText (stage : Stage) (bytes : List ℕ) (fronts behind : List (List ℕ))
+    (tree : List TreeEntry) : Type 0 where
   pub text : IsUtf8 bytes
   pub rule : around_rule (pieces bytes) ≡ Some (fronts, behind)
   pub tree_text : IsTreeText stage (lines_text fronts) tree
 
 -- what the lines behind the rule ask for; the first of them is the second behind the tree text
 abbrev pub script_events : Stage → List (List ℕ) → List (List ℕ) → List TreeEntry → Result (List Event) ℕ
-script_events stage fronts behind tree = events_at (reading stage (root_of tree)) (length fronts + 1 + 1) (lines_of_parts behind)
+script_events stage fronts behind tree =
+    events_at (reading stage (root_of tree)) (length fronts + 1 + 1) (lines_of_parts behind)
 
 -- bytes that are a script of this tree and these events
 abbrev pub IsScript : Stage → List ℕ → List TreeEntry → List Event → Type 0
 IsScript stage bytes tree events =
-    (fronts : List (List ℕ)) × (behind : List (List ℕ)) × HasTreeText stage bytes fronts behind tree × IsTree tree
+    (fronts : List (List ℕ)) × (behind : List (List ℕ)) × HasTreeText stage bytes fronts behind tree
+    × IsTree tree
     × (asked_in (lines_of_parts behind) ≤ 100000) × (script_events stage fronts behind tree ≡ Ok events)
 
 -- what is wrong with bytes, each fault where none of those above it is there
 abbrev pub IsScriptFault : Stage → List ℕ → ScriptFault → Type 0
 IsScriptFault stage bytes Utf8 = IsUtf8 bytes → ⊥
 IsScriptFault stage bytes TreeText =
-    IsUtf8 bytes × ((fronts behind : List (List ℕ)) (tree : List TreeEntry) → HasTreeText stage bytes fronts behind tree → ⊥)
+    IsUtf8 bytes × ((fronts behind : List (List ℕ)) (tree : List TreeEntry)
+    → HasTreeText stage bytes fronts behind tree → ⊥)
 IsScriptFault stage bytes (Tree cause) =
     (fronts : List (List ℕ)) × (behind : List (List ℕ)) × (tree : List TreeEntry)
     × HasTreeText stage bytes fronts behind tree × IsFirstFault tree cause

@@ -11,6 +11,7 @@ use Rattle.tree_model.specs.declared.names.Case.{Case}
 
 -- the second step of reading, where the first gave something
 infixl 10 ◌>>=◌
+-- what is read next, where something was read
 abbrev pub ◌>>=◌ : {A B : Type 0} → Option A → (A → Option B) → Option B
 None >>= f = None
 (Some x) >>= f = f x
@@ -26,6 +27,8 @@ abbrev pub after_at : ℕ → List ℕ → Option (List ℕ)
 after_at c [] = None
 after_at c (b ∷ bs) = if b == c then Some bs else None
 
+-- the presumption of a name: Presumed Abort where it begins with the one letter, Presumed Commit with the
+-- other
 abbrev pub or_commit : Option (List ℕ) → Option (List ℕ) → Option (Presumption × List ℕ)
 or_commit (Some rest) other = Some (PresumeAbort, rest)
 or_commit None other = option_map (λ rest. (PresumeCommit, rest)) other
@@ -53,9 +56,11 @@ ticket_at w = do
   number ← number_at q.1
   Some (record { child = child; boot = boot; number = number })
 
+-- a case, by its transaction, and by its ticket where there is one
 abbrev pub case_parts : ProcessId → List ℕ → Option (List ℕ × List ℕ) → Option Case
 case_parts root w None = txn_at root w >>= λ t. Some (record { txn = t; ticket = None })
-case_parts root w (Some p) = txn_at root p.0 >>= λ t. ticket_at p.1 >>= λ k. Some (record { txn = t; ticket = Some k })
+case_parts root w (Some p) =
+    txn_at root p.0 >>= λ t. ticket_at p.1 >>= λ k. Some (record { txn = t; ticket = Some k })
 
 -- a case: at the root its transaction, elsewhere with `@` and the ticket
 unfoldable pub case_at : ProcessId → List ℕ → Option Case

@@ -11,11 +11,15 @@ pieces text = slice_split (λ b. b == 10) text
 abbrev pub is_rule : List ℕ → Bool
 is_rule line = same line (codes "---") || same line (codes "---\r")
 
+-- the last piece of an input, which may be the line of three dashes
 abbrev pub last_rule : List ℕ → Option (List (List ℕ) × List (List ℕ))
 last_rule piece = if same piece (codes "---") then Some ([], []) else None
 
-abbrev pub rule_or : List ℕ → List (List ℕ) → Option (List (List ℕ) × List (List ℕ)) → Option (List (List ℕ) × List (List ℕ))
-rule_or piece more found = if is_rule piece then Some ([], more) else option_map (λ p. (piece ∷ p.0, p.1)) found
+-- the pieces before and behind the first line of three dashes, a piece put in front
+abbrev pub rule_or : List ℕ → List (List ℕ) → Option (List (List ℕ) × List (List ℕ))
+    → Option (List (List ℕ) × List (List ℕ))
+rule_or piece more found = if is_rule piece then Some ([], more)
+    else option_map (λ p. (piece ∷ p.0, p.1)) found
 
 -- the pieces before the first line of three dashes, and those behind it
 unfoldable pub around_rule : List (List ℕ) → Option (List (List ℕ) × List (List ℕ))

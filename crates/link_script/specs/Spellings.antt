@@ -38,7 +38,8 @@ decision_word Aborted = codes "rollback"
 abbrev pub act_text : Act → List ℕ
 act_text (Begin p) = codes "begin " ++ presumption_word p
 act_text (Join c child) = codes "join " ++ case_text c ++ codes " " ++ process_text child
-act_text (Work c child op) = codes "work " ++ case_text c ++ codes " " ++ process_text child ++ codes " " ++ op_text op
+act_text (Work c child op) = codes "work " ++ case_text c ++ codes " " ++ process_text child ++ codes " "
+    ++ op_text op
 act_text (Commit x) = codes "commit " ++ txn_text x
 act_text (Abort x) = codes "abort " ++ txn_text x
 act_text (Ask c) = codes "ask " ++ case_text c

@@ -3,7 +3,6 @@ use Rattle.std.specs.Prelude.{ℕ, List, Bool, true, false, Option, Some, None, 
 use Rattle.tree_model.specs.declared.names.Kind.{Kind}
 use Rattle.tree_model.specs.declared.names.Kind.TheVariants.{Coordinator, Manager}
 use Rattle.tree_model.specs.declared.names.ProcessId.{ProcessId}
-use Rattle.tree_model.specs.declared.names.Presumption.TheVariants.{PresumeAbort, PresumeCommit}
 use Rattle.tree_model.specs.declared.events.Act.{Act}
 use Rattle.tree_model.specs.declared.events.Act.TheVariants.{Begin, Join, Work, Commit, Abort, Ask, Decide, Forget}
 use Rattle.tree_model.specs.declared.events.Event.{Event}
@@ -19,10 +18,9 @@ places Flat Manager parent = true
 places Flat Coordinator None = true
 places Flat Coordinator (Some p) = false
 
--- an act of a flat tree under Presumed Abort
+-- an act of a flat tree in which no process restarts, asks or decides alone
 abbrev pub admits_act : Act → Bool
-admits_act (Begin PresumeAbort) = true
-admits_act (Begin PresumeCommit) = false
+admits_act (Begin p) = true
 admits_act (Join c q) = true
 admits_act (Work c q op) = true
 admits_act (Commit x) = true

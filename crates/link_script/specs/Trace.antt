@@ -8,6 +8,7 @@ use Rattle.tree_model.specs.Texts.{reaction_lines}
 abbrev pub line_text : List ℕ → List ℕ
 line_text line = line ++ 10 ∷ []
 
+-- lines, each with its end
 abbrev pub lines_text : List (List ℕ) → List ℕ
 lines_text lines = flat_map line_text lines
 

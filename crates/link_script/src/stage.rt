@@ -3,15 +3,15 @@
 ghost use Rattle.std.specs.Prelude.{◌≡◌};
 ghost use Rattle.link_script.specs.Stages.{admits, places, staged};
 
-use tree_model::{Act, Event, Kind, Presumption, ProcessId};
+use tree_model::{Act, Event, Kind, ProcessId};
 
 /// How much of the grammar is read; what is not read is a fault of its line, or of the tree text.
-#[derive(Clone, Copy, Debug, PartialEq, Eq)]
+#[derive(Clone, Copy, PartialEq, Eq)]
 pub enum Stage {
     /// All of it.
     Whole,
-    /// A root with managers alone, under Presumed Abort: `begin pa`, `join`, `work`, `commit`, `abort`, `deliver` and
-    /// `settle`.
+    /// A root with managers alone, none of which restarts: `begin`, `join`, `work`, `commit`, `abort`, `deliver` and
+    /// `settle`, under either presumption.
     Flat,
 }
 
@@ -34,11 +34,7 @@ impl Stage {
             (Stage::Whole, _) => true,
             (Stage::Flat, Event::Act(act)) => matches!(
                 act,
-                Act::Begin(Presumption::PresumeAbort)
-                    | Act::Join(..)
-                    | Act::Work(..)
-                    | Act::Commit(_)
-                    | Act::Abort(_)
+                Act::Begin(_) | Act::Join(..) | Act::Work(..) | Act::Commit(_) | Act::Abort(_)
             ),
             (Stage::Flat, Event::Deliver(_) | Event::Settle) => true,
             (Stage::Flat, Event::Restart(..) | Event::Trim(_)) => false,

@@ -4,6 +4,7 @@ use Rattle.tree_model.specs.CoordinatorRows.{Seat, Row, ByAct, active_join, acti
 use Rattle.root_core.specs.declared.asked.Asked.{Asked}
 use Rattle.root_core.specs.declared.asked.Asked.TheVariants.{Join, Joined, Work, Commit, AbortActive, AbortCollecting, Vote, Ack, Inquiry}
 
+-- the row of the reaction table that answers what is asked of a live transaction
 abbrev pub asked_row : Seat → Asked → CoordinatorView → Row
 asked_row s (Join q) v = active_join s q v
 asked_row s (Joined t) v = active_joined t v

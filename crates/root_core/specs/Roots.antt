@@ -32,8 +32,8 @@ use Rattle.tree_model.specs.Reactions.{row_effect, sends_only, names_listed}
 use Rattle.tree_model.specs.Views.{begin_effect}
 use Rattle.list_log.specs.Logs.{Kept, opened_log, writes}
 
--- What a root keeps: its log, its boot, how many transactions it began in this boot, and the view of each transaction,
--- which is Unknown where it is not live.
+-- What a root keeps: its log, its boot, how many transactions it began in this boot, and the view of each
+-- transaction, which is Unknown where it is not live.
 pub record RootState : Type 0 where
   pub me : ProcessId
   pub tree : List TreeEntry
@@ -42,8 +42,8 @@ pub record RootState : Type 0 where
   pub begun : ℕ
   pub view_of : Txn → CoordinatorView
 
--- What an input meets: a refusal; a transaction that begins; a row for a transaction; an answer to a child of no case;
--- or nothing.
+-- What an input meets: a refusal; a transaction that begins; a row for a transaction; an answer to a child of
+-- no case; or nothing.
 pub data Turn : Type 0 where
   Refuses : StepError → Turn
   Begins : Txn → Turn
@@ -51,6 +51,7 @@ pub data Turn : Type 0 where
   Answers : Envelope → Turn
   Ignores : Turn
 
+-- the place from which the root acts for a transaction: its own case, and nobody above
 abbrev pub seat_of : RootState → Txn → Seat
 seat_of r x = record { me = r.me; parent = None; own = root_case x }
 
@@ -60,9 +61,11 @@ seat_of r x = record { me = r.me; parent = None; own = root_case x }
 abbrev pub next_begun : RootState → Presumption → Txn
 next_begun r p = record { root = r.me; boot = r.boot; sequence = r.begun + 1; presumption = p }
 
+-- a join invites a child, while the transaction is Active
 abbrev pub join_turn : RootState → Txn → ProcessId → CoordinatorView → Standing → Turn
 join_turn r x q v Unknown = Refuses UnknownTxn
-join_turn r x q v Active = if is_child r.tree q r.me then Takes x (active_join (seat_of r x) q v) else Refuses NotAChild
+join_turn r x q v Active = if is_child r.tree q r.me then Takes x (active_join (seat_of r x) q v)
+    else Refuses NotAChild
 join_turn r x q v _ = Refuses Closed
 
 -- an accepted child that is a manager takes work
@@ -71,16 +74,19 @@ work_for r x op v None = Refuses NotAChild
 work_for r x op v (Some t) =
     if is_leaf (role_of r.tree t.child) then Takes x (active_work (seat_of r x) t op v) else Refuses NotAChild
 
+-- work goes to an accepted manager, while the transaction is Active
 abbrev pub work_turn : RootState → Txn → ProcessId → Op → CoordinatorView → Standing → Turn
 work_turn r x q op v Unknown = Refuses UnknownTxn
 work_turn r x q op v Active = work_for r x op v (ticket_of_child v.accepted q)
 work_turn r x q op v _ = Refuses Closed
 
+-- the application wants a transaction committed, which is asked once
 abbrev pub commit_turn : RootState → Txn → CoordinatorView → Standing → Turn
 commit_turn r x v Unknown = Refuses UnknownTxn
 commit_turn r x v Active = Takes x (active_commit (seat_of r x) v)
 commit_turn r x v _ = Refuses Closed
 
+-- the application gives a transaction up, before it is decided
 abbrev pub abort_turn : RootState → Txn → CoordinatorView → Standing → Turn
 abort_turn r x v Unknown = Refuses UnknownTxn
 abort_turn r x v Active = Takes x (active_abort (seat_of r x) v)
@@ -97,6 +103,7 @@ abbrev pub of_root : Option Ticket → Turn → Turn
 of_root None turn = turn
 of_root (Some t) turn = Refuses UnknownTxn
 
+-- what the root makes of an act for a transaction of its own
 abbrev pub acts : RootState → Act → Turn
 acts r (Begin p) = Begins (next_begun r p)
 acts r (Join c q) = let v = r.view_of c.txn in of_root c.ticket (join_turn r c.txn q v v.standing)
@@ -113,6 +120,7 @@ act_turn r a = if names_listed r.tree a then acts r a else Refuses NoSuch
 
 -- Messages.
 
+-- JOINED names the child's ticket for the case of the root
 abbrev pub joined_turn : RootState → Txn → Ticket → Option Ticket → Turn
 joined_turn r x t None = let v = r.view_of x in Takes x (on_joined t v v.standing)
 joined_turn r x t (Some u) = Ignores
@@ -122,9 +130,11 @@ abbrev pub of_child : Option Ticket → (Ticket → Turn) → Turn
 of_child None turn = Ignores
 of_child (Some t) turn = turn t
 
+-- a vote of a ticket
 abbrev pub vote_turn : RootState → Txn → Vote → Ticket → Turn
 vote_turn r x w t = let v = r.view_of x in Takes x (on_vote (seat_of r x) t w v v.standing)
 
+-- an acknowledgement of an outcome, by the ticket that learned it
 abbrev pub ack_turn : RootState → Txn → Outcome → Ticket → Turn
 ack_turn r x o t = let v = r.view_of x in Takes x (on_ack (seat_of r x) t o v v.standing)
 
@@ -136,6 +146,7 @@ inquiry_turn r x t =
     then Takes x (on_inquiry (seat_of r x) t v v.standing)
     else Answers (post r.me t.child (tells_outcome (presumed x.presumption) (child_case x t)))
 
+-- what the root makes of a message, by its kind; the messages of a parent are not for it
 abbrev pub message_turn : RootState → Message → Turn
 message_turn r (Joined d t) = joined_turn r d.txn t d.ticket
 message_turn r (Yes d) = of_child d.ticket (vote_turn r d.txn VoteYes)
@@ -168,7 +179,8 @@ pub record Moves (old new : RootState) (x : Txn) (row : Row) : Type 0 where
 
 -- a transaction that takes children and work, and has none
 abbrev pub open_view : CoordinatorView
-open_view = record { standing = Active; accepted = []; votes = []; works = []; promised = []; named = []; owed = [] }
+open_view =
+    record { standing = Active; accepted = []; votes = []; works = []; promised = []; named = []; owed = [] }
 
 -- one transaction more was begun
 pub record Opens (old new : RootState) (x : Txn) : Type 0 where
@@ -182,8 +194,10 @@ pub record Opens (old new : RootState) (x : Txn) : Type 0 where
 abbrev pub Makes : RootState → RootState → Turn → Reaction → Type 0
 Makes old new (Refuses e) reaction = ⊥
 Makes old new (Begins x) reaction = Opens old new x × (reaction ≡ reaction_of (begin_effect x))
-Makes old new (Takes x row) reaction = Moves old new x row × (reaction ≡ reaction_of (row_effect (root_case x) row))
-Makes old new (Answers envelope) reaction = (new ≡ old) × (reaction ≡ reaction_of (sends_only (envelope ∷ [])))
+Makes old new (Takes x row) reaction = Moves old new x row
+    × (reaction ≡ reaction_of (row_effect (root_case x) row))
+Makes old new (Answers envelope) reaction = (new ≡ old)
+    × (reaction ≡ reaction_of (sends_only (envelope ∷ [])))
 Makes old new Ignores reaction = (new ≡ old) × (reaction ≡ reaction_of no_effect)
 
 -- nothing is otherwise

@@ -19,8 +19,17 @@ use Rattle.tree_model.specs.contracts.names.TxnPartialEq.TheImpl as txns
 
 -- the view that the code's stands for: a root promises nothing
 abbrev pub model_view : View → CoordinatorView
-model_view v = record { standing = v.standing; accepted = v.accepted.items; votes = v.votes.items; works = v.works.items; promised = []; named = v.named.items; owed = v.owed.items }
+model_view v = record {
+  standing = v.standing;
+  accepted = v.accepted.items;
+  votes = v.votes.items;
+  works = v.works.items;
+  promised = [];
+  named = v.named.items;
+  owed = v.owed.items;
+}
 
+-- the view of a live transaction, or of one that is not known
 abbrev pub found : Option View → CoordinatorView
 found None = unknown_view
 found (Some v) = model_view v
@@ -39,9 +48,16 @@ written_of None = []
 written_of (Some w) = record { entry = w.entry; is_forced = w.forced } ∷ []
 
 -- a effect writes, tells and sends this
-pub record Shows (effect : RowEffect) (written : Option Written) (told : Option Told) (messages : List Envelope) : Type 0 where
+pub record Shows (effect : RowEffect) (written : Option Written) (told : Option Told)
+    (messages : List Envelope) : Type 0 where
   pub record_is : effect.written ≡ written
-  pub reaction : effect.reaction ≡ record { begun = None; written = map logged_of (written_of written); told = told; messages = messages; kept = None }
+  pub reaction : effect.reaction ≡ record {
+    begun = None;
+    written = map logged_of (written_of written);
+    told = told;
+    messages = messages;
+    kept = None;
+  }
 
 -- a effect does what the row of the transaction says, and leaves this view
 pub record Does (x : Txn) (row : Row) (effect : RowEffect) (view : View) : Type 0 where
@@ -53,8 +69,8 @@ pub record Does (x : Txn) (row : Row) (effect : RowEffect) (view : View) : Type 
 abbrev pub IsLive : List (Txn × View) → Txn → Type 0
 IsLive live x = IsSome (lookup (txns.ghosts.eq x) live)
 
--- a effect does what the row of the transaction says, and among the live ones the transaction stands as the row says; no
--- other moves
+-- a effect does what the row of the transaction says, and among the live ones the transaction stands as the
+-- row says; no other moves
 pub record DoesIn (old new : List (Txn × View)) (x : Txn) (row : Row) (effect : RowEffect) : Type 0 where
   pub written : written_of effect.written ≡ row.written
   pub reaction : effect.reaction ≡ reaction_of (row_effect (root_case x) row)

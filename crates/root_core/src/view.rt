@@ -13,7 +13,7 @@ use tree_model::{
 
 /// Where a live transaction stands: its accepted children in order of acceptance, their first votes, a ticket for each
 /// work sent, the children that its records name, and those that owe an acknowledgement.
-#[derive(Debug, Drop)]
+#[derive(Drop)]
 pub(crate) struct View {
     pub(crate) standing: Standing,
     pub(crate) accepted: Vec<Ticket>,
@@ -64,7 +64,7 @@ impl View {
 }
 
 /// The root in one of its transactions.
-#[derive(Clone, Copy, Debug, PartialEq, Eq)]
+#[derive(Clone, Copy, PartialEq, Eq)]
 pub(crate) struct Seat {
     pub(crate) me: ProcessId,
     pub(crate) txn: Txn,
@@ -83,14 +83,14 @@ impl Seat {
 }
 
 /// A record that a row writes, and whether it is forced.
-#[derive(Debug, Drop)]
+#[derive(Drop)]
 pub(crate) struct Written {
     pub(crate) entry: Record,
     pub(crate) forced: bool,
 }
 
 /// What a row does: at most one record, and the reaction that shows it.
-#[derive(Debug, Drop)]
+#[derive(Drop)]
 pub(crate) struct RowEffect {
     pub(crate) written: Option<Written>,
     pub(crate) reaction: Reaction,

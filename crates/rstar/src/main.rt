@@ -3,13 +3,14 @@
 
 use clap::error::ErrorKind;
 use clap::{Command, Error};
-use rstar_engine::{Failure, run_tree, run_xa};
 use std::alloc::Global;
 use std::io;
 use std::process::ExitCode;
+use tree_engine::{Failure, run_tree};
+use xa_engine::run_xa;
 
 /// What a command line asks for.
-#[derive(Clone, Copy, Debug, PartialEq, Eq)]
+#[derive(Clone, Copy, PartialEq, Eq)]
 enum Request {
     /// The events of a tree script.
     Tree,
@@ -18,18 +19,54 @@ enum Request {
 }
 
 /// What was read of a command line.
-#[derive(Clone, Copy, Debug, PartialEq, Eq)]
+#[derive(Clone, Copy, PartialEq, Eq)]
 enum Asked {
     Request(Request),
     Memory,
 }
 
-/// The words after the program's name.
+/// What `rstar --help` says behind its subcommands.
+const EXAMPLES: &str = "\
+Examples:
+  rstar tree < examples/commit.tree
+  rstar xa < examples/branch.xa
+
+Exit status: 0 the script was run to its end, 1 it was refused, 2 an event was refused,
+4 reading, writing or memory failed.";
+
+/// What `rstar tree --help` says below its usage.
+const TREE_HELP: &str = "\
+In: the processes as TOML, a line ---, and an event a line: begin, join, work, commit,
+abort, deliver, settle. Out: a line for each log record, message and word to the
+application, and 'end'; 'refused N E' where event N is refused, 'error ..' where the
+script is.
+
+Example: rstar tree < examples/commit.tree";
+
+/// What `rstar xa --help` says below its usage.
+const XA_HELP: &str = "\
+In: a call of the XA interface a line: open, close, start, end, prepare, commit, rollback,
+forget, recover. Out: the answer of each call by its name in XA, a line each, and 'end';
+'error ..' where the script is refused.
+
+Example: rstar xa < examples/branch.xa";
+
+/// The words after the program's name, and what help says of them.
 fn grammar<'a>(alloc: Global) -> Result<Command<'a>, Error> {
+    let tree = Command::new(alloc, "tree")
+        .about("Runs a transaction script on a tree of processes, and writes the trace")
+        .after_help(TREE_HELP);
+    let xa = Command::new(alloc, "xa")
+        .about("Makes the calls of an XA script on one resource manager, and writes the answers")
+        .after_help(XA_HELP);
     let command = Command::new(alloc, "rstar")
+        .about(
+            "Distributed transactions by the R* commit protocol. Scripts come on standard input.",
+        )
+        .after_help(EXAMPLES)
         .subcommand_required(true)
-        .subcommand(Command::new(alloc, "tree"))?
-        .subcommand(Command::new(alloc, "xa"))?;
+        .subcommand(tree)?
+        .subcommand(xa)?;
     Ok(command)
 }
 

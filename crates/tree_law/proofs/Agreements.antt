@@ -1,5 +1,5 @@
 -- The clauses of the headline, read off what holds of the world.
-use Rattle.std.proofs.Common.{◌≡◌, ◌∙◌, ap, sym, subst, Bool, true, false, ◌||◌, ◌⊎◌, inl, inr, List, [], ◌∷◌, refl, if◌then◌else◌, arith}
+use Rattle.std.proofs.Common.{◌≡◌, ◌∙◌, ap, sym, subst, Bool, true, false, ◌||◌, ◌⊎◌, inl, inr, ◌&&◌, Option, Some, None, List, [], ◌∷◌, refl, if◌then◌else◌, arith}
 use Rattle.std.specs.List.{list_any, list_all}
 use Rattle.tree_model.specs.declared.names.Case.{Case}
 use Rattle.tree_model.specs.declared.names.ProcessId.{ProcessId}
@@ -11,12 +11,13 @@ use Rattle.tree_model.specs.declared.messages.Message.{Message}
 use Rattle.tree_model.specs.declared.messages.Message.TheVariants.{Join, Joined, Work, Prepare, Yes, No, Read, Commit, Abort, Ack, Inquire}
 use Rattle.tree_model.specs.declared.messages.Envelope.{Envelope}
 use Rattle.tree_model.specs.declared.records.Record.{Record}
+use Rattle.tree_model.specs.declared.standings.Vote.{Vote}
 use Rattle.tree_model.specs.declared.trees.TreeEntry.{TreeEntry}
-use Rattle.tree_model.specs.Names.{same_process, same_txn, root_case, child_case, process_of}
+use Rattle.tree_model.specs.Names.{same_process, same_case, same_ticket, same_txn, root_case, child_case, process_of}
 use Rattle.tree_model.specs.NameLaws.{same_process_tells}
 use Rattle.tree_model.specs.Records.{has, is_commit, is_abort, is_prepared, is_committed, is_rolled_back}
 use Rattle.tree_model.specs.Nodes.{Role, AtRoot, AtLeaf, role_of, Node, is_listed, opened_node}
-use Rattle.tree_model.specs.Outcomes.{Agreement, CommitRule, TakesPart, at_root, below, IsAcceptor, by_root, by_ticket, Ends, EndsIn, DiesUnprepared, root_ends, manager_ends, follows, outcome_of, is_commit_outcome, has_accepted, has_heard_vote, is_consent, sent, is_yes_message, is_told_aborted}
+use Rattle.tree_model.specs.Outcomes.{Agreement, TakesPart, at_root, below, IsAcceptor, by_root, by_ticket, Ends, EndsIn, DiesUnprepared, root_ends, manager_ends, follows, outcome_of, is_commit_outcome, has_accepted, has_heard_vote, first_vote, vote_in, consents, is_consent, sent, is_yes_message, is_told_aborted}
 use Rattle.tree_model.specs.World.{World}
 use Rattle.tree_law.specs.Flat.{is_flat_entry}
 use Rattle.tree_law.proofs.RootActs.{told_same}
@@ -59,10 +60,16 @@ yes_true tree root w q c (Abort d) t e = absurd (cc)
 yes_true tree root w q c (Ack d o) t e = absurd (cc)
 yes_true tree root w q c (Inquire d) t e = absurd (cc)
 
+right : (a b : Bool) → b ≡ true → (a || b) ≡ true
+right a b e = grind arith
+
+left : (a b : Bool) → a ≡ true → (a || b) ≡ true
+left a b e = grind arith
+
 either : (a b : Bool) → (a || b) ≡ true → (a ≡ true) ⊎ (b ≡ true)
 either a b e = grind arith
 
-all_yes_true : (tree : List TreeEntry) (root : ProcessId) (w : World) (c : Case) (ls : List Envelope)
+pub all_yes_true : (tree : List TreeEntry) (root : ProcessId) (w : World) (c : Case) (ls : List Envelope)
     → AllTrue tree root w ls → sent (is_yes_message c) ls ≡ true → HasPromised c (w.at (process_of c))
 unfolding sent
 all_yes_true tree root w c [] a e = absurd (cc)
@@ -71,6 +78,26 @@ all_yes_true tree root w c (l ∷ ls) a e =
       | inl now ↦ yes_true tree root w l.to c l.message a.0 now
       | inr old ↦ all_yes_true tree root w c ls a.1 old
     ]
+
+-- a ticket whose first vote was a consent was heard to consent
+first_by : (a : Case × (Ticket × Vote)) (c : Case) (t : Ticket) (o : Option Vote) (rest : Bool)
+    → (consents o ≡ true → rest ≡ true) → consents (vote_in a c t o) ≡ true
+    → ((same_case a.0 c && (same_ticket a.1.0 t && is_consent a.1.1)) || rest) ≡ true
+first_by a c t (Some v) rest f e = right _ rest (f e)
+first_by a c t None rest f e = vote_if (same_case a.0 c) (same_ticket a.1.0 t) e
+  where
+    vote_if : (b d : Bool) → consents (if b && d then Some a.1.1 else None) ≡ true
+        → ((b && (d && is_consent a.1.1)) || rest) ≡ true
+    vote_if true true e = left (is_consent a.1.1) rest e
+    vote_if true false e = absurd (cc)
+    vote_if false d e = absurd (cc)
+
+first_was_heard : (vs : List (Case × (Ticket × Vote))) (c : Case) (t : Ticket) → consents (first_vote vs c t) ≡ true
+    → list_any (λ (a : Case × (Ticket × Vote)). same_case a.0 c && (same_ticket a.1.0 t && is_consent a.1.1)) vs ≡ true
+unfolding first_vote
+first_was_heard [] c t e = absurd (cc)
+first_was_heard (a ∷ as') c t e =
+    first_by a c t (first_vote as' c t) _ (first_was_heard as' c t) e
 
 module _ (tree : List TreeEntry) (root : ProcessId) (flat : list_all (is_flat_entry root) tree ≡ true)
     (w : World) (holds : WorldHolds tree root w) where
@@ -151,25 +178,19 @@ module _ (tree : List TreeEntry) (root : ProcessId) (flat : list_all (is_flat_en
 
   consented : (x : Txn) (t : Ticket) → is_commit_outcome w x ≡ true
       → has_accepted (w.at x.root) (root_case x) t ≡ true
-      → has_heard_vote (w.at x.root) (root_case x) t is_consent ≡ true
+      → consents (first_vote (w.at x.root).voted (root_case x) t) ≡ true
   consented x t c a =
       let s = root_accepted x t a in
       let f = holds.ended x t in
-      subst (λ (z : ProcessId). has_heard_vote (w.at z) (root_case x) t is_consent ≡ true) (sym s)
+      subst (λ (z : ProcessId). consents (first_vote (w.at z).voted (root_case x) t) ≡ true) (sym s)
       (f.committed_has_consents (sym (committed_here x s) ∙ c)
       (subst (λ (z : ProcessId). has_accepted (w.at z) (root_case x) t ≡ true) s a))
 
-  all_consented : (x : Txn) (t : Ticket) (c : Case) → is_commit_outcome w x ≡ true → TakesPart w x t
+  pub all_consented : (x : Txn) (t : Ticket) (c : Case) → is_commit_outcome w x ≡ true → TakesPart w x t
       → IsAcceptor w x t c
-      → has_heard_vote (w.at (process_of c)) c t is_consent ≡ true
+      → consents (first_vote (w.at (process_of c)).voted c t) ≡ true
   all_consented x t _ c part (by_root a) = consented x t c a
   all_consented x t _ c part (by_ticket u a) = absurd (no_child_case x u t a)
-
-  pub commit_rule : CommitRule tree w
-  commit_rule = record {
-    all_consented = all_consented;
-    yes_was_forced = λ x t p r s. (all_yes_true tree root w (child_case x t) w.net holds.net s).was_forced;
-  }
 
   -- The managers.
 
@@ -192,7 +213,7 @@ module _ (tree : List TreeEntry) (root : ProcessId) (flat : list_all (is_flat_en
       let a = takes_part_at_root x t d.takes_part in
       let s = root_accepted x t a in
       let v = subst (λ (z : ProcessId). has_heard_vote (w.at z) (root_case x) t is_consent ≡ true) s
-      (consented x t c a) in
+      (first_was_heard (w.at x.root).voted (root_case x) t (consented x t c a)) in
       elim (holds.consents x t v) [
         | inl p ↦ (let f : false ≡ true = sym d.never_promised ∙ p in cc)
         | inr r ↦ (let f : false ≡ true = sym d.never_read ∙ r in cc)

@@ -4,9 +4,8 @@ use Rattle.tree_model.specs.Memory.{Phase, Idle, Open, Asked, Over}
 
 -- The case was not begun yet; its phase; what its transaction's name says; records of it that are kept; a
 -- Commit ever
--- forced, an Abort ever written or told; of the ticket, whether it was ever accepted and ever counted as a
--- consent, and
--- what is remembered of it.
+-- forced, an Abort ever written or told; of the ticket, whether it was ever accepted, whether a vote of it was
+-- ever counted and the first was a consent, and what is remembered of it.
 pub record CaseReading : Type 0 where
   pub is_ahead : Bool
   pub phase : Phase
@@ -22,6 +21,7 @@ pub record CaseReading : Type 0 where
   pub accepted : Bool
   pub refused : Bool
   pub voted : Bool
+  pub heard : Bool
 
 -- the case can still be decided
 abbrev pub is_undecided : Phase → Bool
@@ -58,6 +58,8 @@ pub record CaseHolds (r : CaseReading) : Type 0 where
   pub undecided_remembers : is_undecided r.phase ≡ true → r.took_part ≡ true → r.accepted ≡ true
   pub undecided_counted : is_undecided r.phase ≡ true → r.voted ≡ true → r.refused ≡ false
       → r.consented ≡ true
+  pub heard_is_begun : r.heard ≡ true → is_begun r.phase ≡ true
+  pub undecided_heard : is_undecided r.phase ≡ true → r.heard ≡ true → r.voted ≡ true
   pub kept_is_forced : r.commit_kept ≡ true → r.committed ≡ true
   pub committed_is_not_aborted : r.committed ≡ true → r.aborted ≡ false
   pub committed_has_consents : r.committed ≡ true → r.took_part ≡ true → r.consented ≡ true
@@ -127,8 +129,8 @@ leads_collected r h o a = grind arith
 
 -- it ends without a commit, with an Abort written or told or none; the ticket's vote may have been counted
 -- in it
-abbrev pub ended : Bool → Bool → Bool → Bool → Bool → CaseReading → CaseReading
-ended abort record' consent refusal vote r = record r {
+abbrev pub ended : Bool → Bool → Bool → Bool → Bool → Bool → CaseReading → CaseReading
+ended abort record' consent refusal vote heard' r = record r {
   phase = Over;
   aborted = abort;
   recorded = record';
@@ -136,11 +138,12 @@ ended abort record' consent refusal vote r = record r {
   refused =
       refusal;
   voted = vote;
+  heard = heard';
 }
 
-pub leads_ended : (r : CaseReading) (a b c d e : Bool) → CaseHolds r → is_undecided r.phase ≡ true
-    → (r.collects ≡ true → b ≡ true) → Leads r (ended a b c d e r)
-leads_ended r a b c d e h u k = grind arith
+pub leads_ended : (r : CaseReading) (a b c d e g : Bool) → CaseHolds r → is_undecided r.phase ≡ true
+    → (r.collects ≡ true → b ≡ true) → Leads r (ended a b c d e g r)
+leads_ended r a b c d e g h u k = grind arith
 
 -- the ticket is accepted, or another one
 abbrev pub accepts : Bool → CaseReading → CaseReading
@@ -152,7 +155,7 @@ leads_accepts r b h u = grind arith
 
 -- a vote is counted, the ticket's or another one's, and others are awaited
 abbrev pub counts : Bool → CaseReading → CaseReading
-counts b r = record r { phase = Asked; consented = b || r.consented; voted = b || r.voted }
+counts b r = record r { phase = Asked; consented = b || r.consented; voted = b || r.voted; heard = b || r.heard }
 
 pub leads_counts : (r : CaseReading) (b : Bool) → CaseHolds r → r.phase ≡ Asked → Leads r (counts b r)
 leads_counts r b h u = grind arith
@@ -167,6 +170,7 @@ commits b r = record r {
   consented =
       b || r.consented;
   voted = b || r.voted;
+  heard = b || r.heard;
 }
 
 pub leads_commits : (r : CaseReading) (b : Bool) → CaseHolds r → r.phase ≡ Asked
@@ -180,6 +184,6 @@ forgets r = record r { recorded = true }
 pub leads_forgets : (r : CaseReading) → CaseHolds r → r.recorded ≡ true → Leads r (forgets r)
 leads_forgets r h u = grind arith
 
-pub ended_aborted : (r : CaseReading) (a b c d e : Bool) → CaseHolds r → is_undecided r.phase ≡ true
-    → IsAbortedCase (ended a b c d e r)
-ended_aborted r a b c d e h u = record { is_over = refl; not_committed = h.undecided_has_no_commit u }
+pub ended_aborted : (r : CaseReading) (a b c d e g : Bool) → CaseHolds r → is_undecided r.phase ≡ true
+    → IsAbortedCase (ended a b c d e g r)
+ended_aborted r a b c d e g h u = record { is_over = refl; not_committed = h.undecided_has_no_commit u }

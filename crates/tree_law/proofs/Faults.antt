@@ -1,10 +1,10 @@
 -- What is left of a process whose device failed in an input: between what it was and what it would have been.
-use Rattle.std.proofs.Common.{◌≡◌, ◌∙◌, ap, sym, ℕ, zero, suc, Bool, true, false, ◌||◌, ◌⊎◌, inl, inr, List, [], ◌∷◌, ◌++◌, take, refl, if◌then◌else◌, arith}
+use Rattle.std.proofs.Common.{◌≡◌, ◌∙◌, ap, sym, ℕ, zero, suc, Bool, true, false, ◌||◌, ◌⊎◌, inl, inr, List, [], ◌∷◌, ◌++◌, take, reverse, refl, if◌then◌else◌, arith}
 use Rattle.tree_model.specs.declared.names.Case.{Case}
 use Rattle.tree_model.specs.declared.records.Record.{Record}
 use Rattle.tree_model.specs.Records.{has, is_prepared}
 use Rattle.tree_model.specs.Nodes.{Node, kept, Heard, Effect, entries_written, is_any_forced, after, fails_in}
-use Rattle.tree_law.proofs.Lists.{has-append, kept-after}
+use Rattle.tree_law.proofs.Lists.{has-append, has-reversed, kept-after}
 use Rattle.tree_law.proofs.LeafSteps.{HasPromised}
 
 right : (a b : Bool) → b ≡ true → (a || b) ≡ true
@@ -33,20 +33,20 @@ module _ (t : Record → Bool) (n : Node) (h : Heard) (e : Effect) (a f : ℕ) w
   pub failed_life : has t (fails_in n h e a f).life ≡ true → has t (after n h e).life ≡ true
   failed_life g =
       life_if (is_any_forced e.written) _ _ refl refl
-      (elim (either (has t n.life) (has t (take a new)) (sym (has-append t (take a new) n.life) ∙ g)) [
+      (elim (either (has t n.life) (has t (take a new)) (sym (has-reversed t (take a new) n.life) ∙ g)) [
         | inl old ↦ left (has t n.life) (has t new) old
         | inr now ↦ right (has t n.life) (has t new) (has_take t a new now)
       ])
     where
-      life_if : (b : Bool) (k j : Node) → k.life ≡ new ++ n.life → j.life ≡ new ++ n.life
+      life_if : (b : Bool) (k j : Node) → k.life ≡ reverse new ++ n.life → j.life ≡ reverse new ++ n.life
           → (has t n.life || has t new) ≡ true
           → has t (if b then k else j).life ≡ true
-      life_if true k j p q g = ap (has t) p ∙ (has-append t new n.life ∙ g)
-      life_if false k j p q g = ap (has t) q ∙ (has-append t new n.life ∙ g)
+      life_if true k j p q g = ap (has t) p ∙ (has-reversed t new n.life ∙ g)
+      life_if false k j p q g = ap (has t) q ∙ (has-reversed t new n.life ∙ g)
 
   -- what was written and forced stays so
   pub life_stays : has t n.life ≡ true → has t (fails_in n h e a f).life ≡ true
-  life_stays g = has-append t (take a new) n.life ∙ left (has t n.life) (has t (take a new)) g
+  life_stays g = has-reversed t (take a new) n.life ∙ left (has t n.life) (has t (take a new)) g
 
   pub durable_stays : has t n.durable ≡ true → has t (fails_in n h e a f).durable ≡ true
   durable_stays g = has-append t (take f (n.unforced ++ take a new)) n.durable ∙ left (has t n.durable) _ g

@@ -6,6 +6,7 @@ use Rattle.tree_model.specs.Outcomes.{Agreement, CommitRule}
 use Rattle.tree_law.specs.Flat.{IsFlat, AreFlatMoves}
 use Rattle.tree_law.proofs.Runs.{run_holds}
 use Rattle.tree_law.proofs.Agreements as clauses
+use Rattle.tree_law.proofs.Yeses.{yes_is_forced}
 
 pub agreement : (tree : List TreeEntry) (es : List Made) (w : World) → IsFlat tree → IsRun tree es w
     → AreFlatMoves es → Agreement tree w
@@ -13,6 +14,8 @@ agreement tree es w f run moves =
     clauses.agreement tree f.root f.entries w (run_holds tree f.root f.entries es w run moves)
 
 pub commit_rule : (tree : List TreeEntry) (es : List Made) (w : World) → IsFlat tree → IsRun tree es w
-    → AreFlatMoves es → CommitRule tree w
-commit_rule tree es w f run moves =
-    clauses.commit_rule tree f.root f.entries w (run_holds tree f.root f.entries es w run moves)
+    → AreFlatMoves es → CommitRule tree es w
+commit_rule tree es w f run moves = record {
+  all_consented = clauses.all_consented tree f.root f.entries w (run_holds tree f.root f.entries es w run moves);
+  yes_is_forced = yes_is_forced tree f.root f.entries es w run moves;
+}

@@ -31,5 +31,6 @@ pub mod ChildCases
 pub mod RootAccepts
 pub mod Runs
 pub mod Agreements
+pub mod Yeses
 pub mod FlatRuns
 pub mod PlayedRuns

@@ -1,5 +1,5 @@
 -- What a flat move makes of the world, and what stands in the net.
-use Rattle.std.proofs.Common.{◌≡◌, ◌∙◌, ap, sym, ℕ, zero, suc, Bool, true, false, ◌||◌, ◌⊎◌, inl, inr, Option, Some, None, List, [], ◌∷◌, ◌++◌, refl, if◌then◌else◌, arith}
+use Rattle.std.proofs.Common.{◌≡◌, ◌∙◌, ap, sym, subst, ℕ, zero, suc, Bool, true, false, ◌||◌, ◌⊎◌, inl, inr, Option, Some, None, List, [], ◌∷◌, ◌++◌, refl, if◌then◌else◌, arith}
 use Rattle.std.specs.Prelude.{slice_get}
 use Rattle.tree_model.specs.declared.names.ProcessId.{ProcessId}
 use Rattle.tree_model.specs.declared.messages.Message.{Message}
@@ -11,10 +11,10 @@ use Rattle.tree_model.specs.declared.events.Happening.{Happening}
 use Rattle.tree_model.specs.declared.events.Happening.TheVariants.{Input as Handles, Restart, Trim}
 use Rattle.tree_model.specs.declared.events.Fault.{Fault}
 use Rattle.tree_model.specs.declared.trees.TreeEntry.{TreeEntry}
-use Rattle.tree_model.specs.Nodes.{Place, place_of, is_listed, Node, Heard, DataAnswer, Effect, after, fails_in}
-use Rattle.tree_model.specs.Reactions.{Reacts, Does, Refused, reacts, acts, hears, act_is_listed}
+use Rattle.tree_model.specs.Nodes.{Role, AtRoot, Below, AtLeaf, Place, place_of, role_of, is_listed, Node, Heard, DataAnswer, Effect, after, fails_in}
+use Rattle.tree_model.specs.Reactions.{Reacts, Does, Refused, reacts, acts, hears, act_is_listed, passes_at}
 use Rattle.tree_model.specs.Outcomes.{sent}
-use Rattle.tree_model.specs.World.{World, Move, Stepped, Refuses, Makes, node_makes, world_makes, world_stepped, put_at, input_makes, happening_makes, fault_effect}
+use Rattle.tree_model.specs.World.{World, Move, Stepped, Refuses, Makes, node_makes, world_makes, world_stepped, put_at, input_makes, passes_over, happening_makes, fault_effect}
 use Rattle.tree_law.specs.Flat.{is_flat_happening, is_flat_input}
 
 -- a process after an input, or after one in which its device failed; and what it sent
@@ -64,6 +64,17 @@ input_made n h (Some f) (Does g) e k made =
       left = inr (f.appended, f.forced, sym both.1, ap (λ (x : Effect). x.messages) (sym both.0));
     }
 
+-- the process is no coordinator with a parent, so it passes nothing over
+abbrev pub IsFlatRole : Role → Type 0
+IsFlatRole (Below p) = ⊥
+IsFlatRole _ = Unit {0}
+
+none_passed : (role : Role) (place : Place) (n : Node) (i : Input) → IsFlatRole role
+    → passes_at role place n i ≡ false
+none_passed AtRoot place n i f = refl
+none_passed (AtLeaf p) place n i f = refl
+none_passed (Below p) place n i f = absurd f
+
 -- a happening at one process
 record Happened (place : Place) (n : Node) (m : Move) (hp : Happening) (e : Effect) (k : Node) : Type 0 where
   input : Input
@@ -73,18 +84,22 @@ record Happened (place : Place) (n : Node) (m : Move) (hp : Happening) (e : Effe
       (reacts place n (record { input = input; data_answer = m.data_answer })) e k
 
 happened : (place : Place) (n : Node) (m : Move) (hp : Happening) (e : Effect) (k : Node)
+    → IsFlatRole place.role
     → is_flat_happening hp ≡ true → happening_makes place n m hp ≡ Makes e k → Happened place n m hp e k
-happened place n m (Handles i) e k f made =
+happened place n m (Handles i) e k role f made =
     let h : Heard = record { input = i; data_answer = m.data_answer } in
     record {
       input = i;
       handles = refl;
       flat = f;
       done =
-          input_made n h m.step.fault (reacts place n h) e k made;
+          input_made n h m.step.fault (reacts place n h) e k
+          (subst (λ (b : Bool). (if b then passes_over n m.step.fault
+          else input_makes n h m.step.fault (reacts place n h)) ≡ Makes e k)
+          (none_passed place.role place n i role) made);
     }
-happened place n m (Restart j) e k f made = absurd (cc)
-happened place n m Trim e k f made = absurd (cc)
+happened place n m (Restart j) e k role f made = absurd (cc)
+happened place n m Trim e k role f made = absurd (cc)
 
 stepped_at : (w : World) (q : ProcessId) (s : Stepped) (e : Effect) (w' : World)
     → world_stepped w q s ≡ Some (e, w')
@@ -102,16 +117,16 @@ stepped_at w q (Makes f n) e w' h =
     )
 
 handled_if : (tree : List TreeEntry) (w : World) (m : Move) (e : Effect) (w' : World) (b : Bool)
-    → is_listed tree m.step.process ≡ b
+    → is_listed tree m.step.process ≡ b → IsFlatRole (role_of tree m.step.process)
     → is_flat_happening m.step.happening ≡ true
     → (if b then world_stepped w m.step.process
     (node_makes (place_of tree m.step.process) (w.at m.step.process) m) else None) ≡ Some (e, w')
     → Handled tree w m w'
 unfolding node_makes
-handled_if tree w m e w' true l f h =
+handled_if tree w m e w' true l role f h =
     let q = m.step.process in
     let at = stepped_at w q (node_makes (place_of tree q) (w.at q) m) e w' h in
-    let hp = happened (place_of tree q) (w.at q) m m.step.happening e at.0 f at.1 in
+    let hp = happened (place_of tree q) (w.at q) m m.step.happening e at.0 role f at.1 in
     record {
       listed = l;
       input = hp.input;
@@ -124,12 +139,12 @@ handled_if tree w m e w' true l f h =
       left = hp.done.left;
       world = at.2;
     }
-handled_if tree w m e w' false l f h = absurd (cc)
+handled_if tree w m e w' false l role f h = absurd (cc)
 
 pub handled : (tree : List TreeEntry) (w : World) (m : Move) (e : Effect) (w' : World)
-    → is_flat_happening m.step.happening ≡ true → world_makes tree w m ≡ Some (e, w') → Handled tree w m w'
+    → IsFlatRole (role_of tree m.step.process) → is_flat_happening m.step.happening ≡ true → world_makes tree w m ≡ Some (e, w') → Handled tree w m w'
 unfolding world_makes
-handled tree w m e w' f h = handled_if tree w m e w' (is_listed tree m.step.process) refl f h
+handled tree w m e w' role f h = handled_if tree w m e w' (is_listed tree m.step.process) refl role f h
 
 -- a process that reacts is up
 up_by : (b f : Bool) (r : Reacts) (e : Effect)

@@ -85,7 +85,7 @@ module _ (me : ProcessId) (tree : List TreeEntry) (n : Node) (holds : AllHold (r
       let ls = acknowledges_abort s y.presumption ++ each s Abort v.accepted in
       ended_step me tree n h (tells y ConcludedAborted ls) y v.accepted (boot_of-nil (kept n)) holds
       (λ x t d. rw (abort_elsewhere y x a d) (same_tells (remembered x) n h me x t y ConcludedAborted ls d))
-      (λ t. true) (λ t. (read y t).recorded) (λ t. false) (λ t. (read y t).refused) (λ t. (read y t).voted)
+      (λ t. true) (λ t. (read y t).recorded) (λ t. false) (λ t. (read y t).refused) (λ t. (read y t).voted) (λ t. (read y t).heard)
       (λ t. rw (abort_then y a u)
       (own_tells_aborted (record (remembered y) { phase = Over }) n h me y t ls))
       (λ t k. absurd (let f : false ≡ true = sym ((holds y t).open_collects_not o) ∙ k in cc))
@@ -103,7 +103,7 @@ module _ (me : ProcessId) (tree : List TreeEntry) (n : Node) (holds : AllHold (r
       ended_step me tree n h (aborting y ls) y us (boot_of-push (kept n) (AbortRecord (root_case y) []))
       holds
       (λ x t o. rw (abort_elsewhere y x a o) (same_aborting (remembered x) n h me x t y ls o))
-      (λ t. true) (λ t. true) (λ t. false) (λ t. (read y t).refused) (λ t. (read y t).voted)
+      (λ t. true) (λ t. true) (λ t. false) (λ t. (read y t).refused) (λ t. (read y t).voted) (λ t. (read y t).heard)
       (λ t. rw (abort_then y a u) (own_aborting (record (remembered y) { phase = Over }) n h me y t ls))
       (λ t k. refl) u refl
   aborts_collecting y a v us PresumeCommit u =
@@ -115,7 +115,7 @@ module _ (me : ProcessId) (tree : List TreeEntry) (n : Node) (holds : AllHold (r
       holds
       (λ x t o. rw (abort_elsewhere y x a o)
       (same_aborting_named (remembered x) n h me x t y us ls (holds x t).kept_is_forced o))
-      (λ t. true) (λ t. true) (λ t. false) (λ t. (read y t).refused) (λ t. (read y t).voted)
+      (λ t. true) (λ t. true) (λ t. false) (λ t. (read y t).refused) (λ t. (read y t).voted) (λ t. (read y t).heard)
       (λ t. rw (abort_then y a u)
       (own_aborting_named (record (remembered y) { phase = Over }) n h me y t us ls
       (holds y t).kept_is_forced))

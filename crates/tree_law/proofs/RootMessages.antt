@@ -1,6 +1,6 @@
 -- The messages of children keep what holds of the root's cases.
-use Rattle.std.proofs.Common.{◌≡◌, ◌∙◌, ap, sym, subst, Bool, true, false, inl, inr, Some, None, List, [], ◌∷◌, ◌++◌, refl, if◌then◌else◌, arith}
-use Rattle.tree_model.specs.Records.{has, none_of, is_end, is_commit, is_abort, is_prepare, is_collecting, owing_by}
+use Rattle.std.proofs.Common.{◌≡◌, ◌∙◌, ap, sym, subst, Bool, true, false, inl, inr, Some, None, List, [], ◌∷◌, ◌++◌, ◌&&◌, not, refl, if◌then◌else◌, arith}
+use Rattle.tree_model.specs.Records.{has, none_of, is_end, is_commit, is_abort, is_prepare, is_collecting, owing_by, in_list}
 use Rattle.tree_model.specs.declared.names.Case.{Case}
 use Rattle.tree_model.specs.declared.names.ProcessId.{ProcessId}
 use Rattle.tree_model.specs.declared.names.Ticket.{Ticket}
@@ -12,9 +12,9 @@ use Rattle.tree_model.specs.declared.standings.Vote.{Vote}
 use Rattle.tree_model.specs.declared.standings.Vote.TheVariants.{Yes as VoteYes, No as VoteNo, Read as VoteRead}
 use Rattle.tree_model.specs.declared.trees.TreeEntry.{TreeEntry}
 use Rattle.tree_model.specs.Names.{same_txn, root_case}
-use Rattle.tree_model.specs.NameLaws.{same_txn-refl, same_txn_tells}
+use Rattle.tree_model.specs.NameLaws.{same_txn-refl, same_txn_tells, names}
 use Rattle.tree_model.specs.Nodes.{Place, Node, kept, Heard}
-use Rattle.tree_model.specs.Memory.{Memory, Phase, Idle, Open, Asked, Over, all_voted, is_counted, takes_vote, with_vote, undecided_of, yes_of}
+use Rattle.tree_model.specs.Memory.{Memory, Phase, Idle, Open, Asked, Over, all_voted, has_voted, is_counted, takes_vote, with_vote, undecided_of, yes_of}
 use Rattle.tree_model.specs.Standings.{standing_by, phase_standing, CoordinatorView, coordinator_view, coordinator_standing, view_at, belongs, case_of_child}
 use Rattle.tree_model.specs.CoordinatorRows.{on_vote, collecting_after, quiet}
 use Rattle.tree_model.specs.Reactions.{row_effect, vote_for}
@@ -24,7 +24,7 @@ use Rattle.tree_law.proofs.RootReading.{reading_at, reading, sends}
 use Rattle.tree_law.proofs.RootSteps.{AllHold, RootStep, memory, memory_then}
 use Rattle.tree_law.proofs.RootActs.{sends_step}
 use Rattle.tree_law.proofs.RootEnds.{asked_when_collecting}
-use Rattle.tree_law.proofs.RootVotes.{Takes, refused_step, for_step}
+use Rattle.tree_law.proofs.RootVotes.{IsFresh, Takes, refused_step, for_step}
 use Rattle.tree_law.proofs.Standings.{asked_stands, viewed}
 
 taken_if : (b : Bool) (m r : Memory) → (b ≡ true → ⊥) → (if b then r else m) ≡ m
@@ -77,25 +77,37 @@ module _ (me : ProcessId) (tree : List TreeEntry) (n : Node) (holds : AllHold (r
       x.presumption
       (f.undecided_has_no_record (ap is_undecided o)) f.abort_collects_not (f.asked_collects o)
 
+  -- where the vote counts, none of its ticket was counted before
+  fresh : (h : Heard) (y : Txn) (u : Ticket) (w : Vote) → (remembered y).phase ≡ Asked
+      → has_voted (remembered y).votes u ≡ false → IsFresh me tree n holds h y u w
+  fresh h y u w o e t s =
+      let same : u ≡ t = grind (arith, names) in
+      unheard (read y t).heard (read y t).voted ((holds y t).undecided_heard (ap is_undecided o))
+      (subst (λ (z : Ticket). has_voted (remembered y).votes z ≡ false) same e)
+    where
+      unheard : (a b : Bool) → (a ≡ true → b ≡ true) → b ≡ false → a ≡ false
+      unheard a b f g = grind arith
+
   counted_as : (h : Heard) (y : Txn) (u : Ticket) (w : Vote)
+      → IsFresh me tree n holds h y u w
       → Takes me tree n holds h y u w (with_vote (remembered y) u w) → (remembered y).phase ≡ Asked
       → let v = view_at Collecting (kept n) (root_case y) (remembered y) in
       RootStep here n h (row_effect (root_case y)
       (record (collecting_after (root_seat me (root_case y))
       (record v { votes = v.votes ++ (u, w) ∷ [] }) w) { counts = (u, w) ∷ [] }))
-  counted_as h y u VoteNo takes o =
+  counted_as h y u VoteNo g takes o =
       let v = view_at Collecting (kept n) (root_case y) (remembered y) in
       let v' : CoordinatorView = record v { votes = v.votes ++ (u, VoteNo) ∷ [] } in
       refused_step me tree n holds h y u VoteNo v' (undecided_of v'.accepted v'.votes) y.presumption o takes
-  counted_as h y u VoteYes takes o =
+  counted_as h y u VoteYes g takes o =
       let v = view_at Collecting (kept n) (root_case y) (remembered y) in
       let v' : CoordinatorView = record v { votes = v.votes ++ (u, VoteYes) ∷ [] } in
-      for_step me tree n holds h y u VoteYes (record { consents = refl; refuses_not = refl }) o
+      for_step me tree n holds h y u VoteYes (record { consents = refl; refuses_not = refl }) g o
       (all_voted v'.accepted v'.votes) refl takes v' (yes_of v'.accepted v'.votes)
-  counted_as h y u VoteRead takes o =
+  counted_as h y u VoteRead g takes o =
       let v = view_at Collecting (kept n) (root_case y) (remembered y) in
       let v' : CoordinatorView = record v { votes = v.votes ++ (u, VoteRead) ∷ [] } in
-      for_step me tree n holds h y u VoteRead (record { consents = refl; refuses_not = refl }) o
+      for_step me tree n holds h y u VoteRead (record { consents = refl; refuses_not = refl }) g o
       (all_voted v'.accepted v'.votes) refl takes v' (yes_of v'.accepted v'.votes)
 
   module _ (h : Heard) (y : Txn) (u : Ticket) (w : Vote)
@@ -144,7 +156,14 @@ module _ (me : ProcessId) (tree : List TreeEntry) (n : Node) (holds : AllHold (r
         RootStep here n h (row_effect c
         (record (collecting_after (root_seat me c) (record v { votes = v.votes ++ (u, w) ∷ [] }) w)
         { counts = (u, w) ∷ [] }))
-    counted o e = counted_as h y u w (takes_with o e) o
+    counted o e = counted_as h y u w (fresh h y u w o (uncounted_before m.accepted m.votes e)) (takes_with o e) o
+      where
+        uncounted_before : (ts : List Ticket) (vs : List (Ticket × Vote)) → is_counted ts vs u ≡ true
+            → has_voted vs u ≡ false
+        uncounted_before ts vs e = not_voted (in_list ts u) (has_voted vs u) e
+          where
+            not_voted : (a b : Bool) → (a && not b) ≡ true → b ≡ false
+            not_voted a b e = grind arith
 
     collecting : m.phase ≡ Asked → (b : Bool) → is_counted m.accepted m.votes u ≡ b
         → let v = view_at Collecting (kept n) c m in

@@ -1,5 +1,5 @@
 -- What the effects of the root's rows change in the reading of their own case, beside its memory.
-use Rattle.std.proofs.Common.{◌≡◌, true, ◌||◌, ◌&&◌, List, []}
+use Rattle.std.proofs.Common.{◌≡◌, Bool, true, not, ◌||◌, ◌&&◌, List, []}
 use Rattle.tree_model.specs.declared.names.ProcessId.{ProcessId}
 use Rattle.tree_model.specs.declared.names.Ticket.{Ticket}
 use Rattle.tree_model.specs.declared.names.Txn.{Txn}
@@ -14,7 +14,7 @@ use Rattle.tree_model.specs.Memory.{Memory}
 use Rattle.tree_model.specs.Outcomes.{is_consent}
 use Rattle.tree_law.proofs.Lists.{lists}
 use Rattle.tree_law.proofs.CaseMoves.{CaseReading}
-use Rattle.tree_law.proofs.RootReading.{reading_at, sends, tells, accepting, counting, aborting, committing, ending, collecting, aborting_named, ending_read, or-true, or-false, and-false, and-true, absorbed}
+use Rattle.tree_law.proofs.RootReading.{reading_at, sends, tells, accepting, counting, aborting, committing, ending, collecting, aborting_named, ending_read, or-true, or-false, and-false, and-true, absorbed, first-consents, first-heard}
 
 ruleset own = (lists, same_case-refl, same_txn-refl, or-true, or-false, and-true, and-false)
 
@@ -24,6 +24,10 @@ module _ (m : Memory) (n : Node) (h : Heard) (me : ProcessId) (x : Txn) (t : Tic
 
   abbrev before : CaseReading
   before = reading_at m n me x t
+
+  -- the vote is the ticket's first, and a consent
+  abbrev pub counted : Ticket → Vote → Bool
+  counted u w = not before.heard && (same_ticket u t && is_consent w)
 
   pub own_tells_aborted : (ls : List Envelope)
       → Becomes (tells x ConcludedAborted ls) (record before { aborted = true })
@@ -36,13 +40,13 @@ module _ (m : Memory) (n : Node) (h : Heard) (me : ProcessId) (x : Txn) (t : Tic
 
   pub own_counting : (u : Ticket) (w : Vote)
       → Becomes (counting x u w (sends []))
-      (record before { consented = (same_ticket u t && is_consent w) || before.consented })
-  own_counting u w = simp (own)
+      (record before { consented = counted u w || before.consented; heard = same_ticket u t || before.heard })
+  own_counting u w = simp (own, first-consents, first-heard)
 
   pub own_counting_reads_only : (u : Ticket) (w : Vote) (ls : List Envelope)
       → Becomes (counting x u w (tells x ReadOnly ls))
-      (record before { consented = (same_ticket u t && is_consent w) || before.consented })
-  own_counting_reads_only u w ls = simp (own)
+      (record before { consented = counted u w || before.consented; heard = same_ticket u t || before.heard })
+  own_counting_reads_only u w ls = simp (own, first-consents, first-heard)
 
   pub own_aborting : (ls : List Envelope)
       → Becomes (aborting x ls) (record before { aborted = true; recorded = true })
@@ -54,9 +58,10 @@ module _ (m : Memory) (n : Node) (h : Heard) (me : ProcessId) (x : Txn) (t : Tic
         aborted = true;
         recorded = true;
         consented =
-            (same_ticket u t && is_consent w) || before.consented;
+            counted u w || before.consented;
+        heard = same_ticket u t || before.heard;
       })
-  own_counting_aborting u w ls = simp (own)
+  own_counting_aborting u w ls = simp (own, first-consents, first-heard)
 
   pub own_counting_committing : (u : Ticket) (w : Vote) (us : List Ticket) (ls : List Envelope)
       → Becomes (counting x u w (committing x us ls))
@@ -65,9 +70,10 @@ module _ (m : Memory) (n : Node) (h : Heard) (me : ProcessId) (x : Txn) (t : Tic
         commit_kept = true;
         committed = true;
         consented =
-            (same_ticket u t && is_consent w) || before.consented;
+            counted u w || before.consented;
+        heard = same_ticket u t || before.heard;
       })
-  own_counting_committing u w us ls = simp (own)
+  own_counting_committing u w us ls = simp (own, first-consents, first-heard)
 
   pub own_committed : (u : Ticket) (w : Vote) (us : List Ticket) (ls : List Envelope)
       → has (is_commit (root_case x)) (after n h (counting x u w (committing x us ls))).durable ≡ true
@@ -100,19 +106,22 @@ module _ (m : Memory) (n : Node) (h : Heard) (me : ProcessId) (x : Txn) (t : Tic
         aborted = true;
         recorded = true;
         consented =
-            (same_ticket u t && is_consent w) || before.consented;
+            counted u w || before.consented;
+        heard = same_ticket u t || before.heard;
       })
   own_counting_aborting_named u w us ls k =
       simp (
         own,
+        first-consents,
+        first-heard,
         absorbed (has (is_commit (root_case x)) (kept n))
             (has (is_commit (root_case x)) n.durable) k,
       )
 
   pub own_counting_ending_read : (u : Ticket) (w : Vote)
       → Becomes (counting x u w (ending_read x)) (record before
-      { recorded = true; consented = (same_ticket u t && is_consent w) || before.consented })
-  own_counting_ending_read u w = simp (own)
+      { recorded = true; consented = counted u w || before.consented; heard = same_ticket u t || before.heard })
+  own_counting_ending_read u w = simp (own, first-consents, first-heard)
 
   pub own_ending : Becomes (ending x) (record before { recorded = true })
   own_ending = simp (own)

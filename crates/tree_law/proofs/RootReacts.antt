@@ -60,6 +60,7 @@ module _ (me : ProcessId) (tree : List TreeEntry) (n : Node) (holds : AllHold (r
 
   by_act : (b : Act) (e : Effect) → is_flat_act b ≡ true → coordinator_acts here None n b ≡ Does e
       → RootReacts here n (hears_act b a) e
+  unfolding memory_of
   by_act (Begin p) e f made =
       let h = hears_act (Begin p) a in
       let x = next_begun here n p in

@@ -109,23 +109,23 @@ module _ (me : ProcessId) (tree : List TreeEntry) (n : Node) where
       → AllHold (root_place me tree) n
       → ((x : Txn) (t : Ticket) → same_txn y x ≡ false
       → reading_at (memory_then h x) (after n h e) me x t ≡ reading (root_place me tree) n x t)
-      → (a b c d f : Ticket → Bool)
+      → (a b c d f g : Ticket → Bool)
       → ((t : Ticket) → reading_at (memory_then h y) (after n h e) me y t ≡ ended (a t) (b t) (c t) (d t)
-      (f t) (reading (root_place me tree) n y t))
+      (f t) (g t) (reading (root_place me tree) n y t))
       → ((t : Ticket) → (reading (root_place me tree) n y t).collects ≡ true → b t ≡ true)
       → is_undecided (memory y).phase ≡ true → e.messages ≡ each (root_seat me (root_case y)) Abort us
       → RootStep (root_place me tree) n h e
-  ended_step h e y us boot holds others a b c d f own k u ls =
+  ended_step h e y us boot holds others a b c d f g own k u ls =
       let t : Ticket = record { child = me; boot = 0; number = 0 } in
       let r = reading (root_place me tree) n y t in
-      let became : reading (root_place me tree) (after n h e) y t ≡ ended (a t) (b t) (c t) (d t) (f t) r =
+      let became : reading (root_place me tree) (after n h e) y t ≡ ended (a t) (b t) (c t) (d t) (f t) (g t) r =
       then_reads h e y t boot ∙ own t in
       let over : IsAbortedCase (reading (root_place me tree) (after n h e) y t) =
-      rw became (ended_aborted r (a t) (b t) (c t) (d t) (f t) (holds y t) u) in
+      rw became (ended_aborted r (a t) (b t) (c t) (d t) (f t) (g t) (holds y t) u) in
       record {
         cases = own_and_others h e y boot holds others
             (λ t. rw (own t) (leads_ended (reading (root_place me tree) n y t) (a t) (b t) (c t) (d t) (f t)
-            (holds y t) u (k t)));
+            (g t) (holds y t) u (k t)));
         messages = rw ls (each_sound (root_place me tree) (after n h e) (root_seat me (root_case y)) Abort us
             (λ v. aborted_by h e y t over));
       }

@@ -1,5 +1,5 @@
 -- A vote that the root hears keeps what holds of its cases.
-use Rattle.std.proofs.Common.{◌≡◌, ◌∙◌, ap, sym, Bool, true, false, ◌||◌, ◌&&◌, List, [], ◌∷◌, ◌++◌, refl, if◌then◌else◌, arith}
+use Rattle.std.proofs.Common.{◌≡◌, ◌∙◌, ap, sym, Bool, true, false, not, ◌||◌, ◌&&◌, List, [], ◌∷◌, ◌++◌, refl, if◌then◌else◌, arith}
 use Rattle.std.proofs.lemmas.List.Folds.{list_any-append}
 use Rattle.tree_model.specs.declared.names.ProcessId.{ProcessId}
 use Rattle.tree_model.specs.declared.names.Ticket.{Ticket}
@@ -74,6 +74,17 @@ module _ (me : ProcessId) (tree : List TreeEntry) (n : Node) (holds : AllHold (r
     pub own : memory_then me tree n h y ≡ m'
     pub others : (x : Txn) → same_txn y x ≡ false → memory_then me tree n h x ≡ memory me tree n x
 
+  -- no vote of the ticket was counted before
+  abbrev pub IsFresh : Type 0
+  IsFresh = (t : Ticket) → same_ticket u t ≡ true → (read y t).heard ≡ false
+
+  -- the vote is the ticket's first, and a consent
+  abbrev counts_first : Ticket → Bool
+  counts_first t = not (read y t).heard && (same_ticket u t && is_consent w)
+
+  first-counts : (a h c : Bool) → (a ≡ true → h ≡ false) → ((not h && a) || c) ≡ (a || c)
+  first-counts a h c f = grind arith
+
   abbrev taken : Phase → Memory
   taken ph = record m { votes = votes; phase = ph }
 
@@ -88,8 +99,8 @@ module _ (me : ProcessId) (tree : List TreeEntry) (n : Node) (holds : AllHold (r
       ended_step me tree n h (counting y u w (aborting y ls)) y us
       (boot_of-push (kept n) (AbortRecord (root_case y) [])) holds
       (λ x t d. rw (takes.others x d) (same_counting_aborting (memory me tree n x) n h me x t y u w ls d))
-      (λ t. true) (λ t. true) (λ t. same_ticket u t && is_consent w) (λ t. voted_so VoteNo votes t)
-      (λ t. has_voted votes t)
+      (λ t. true) (λ t. true) (λ t. counts_first t) (λ t. voted_so VoteNo votes t)
+      (λ t. has_voted votes t) (λ t. same_ticket u t || (read y t).heard)
       (λ t. rw takes.own (own_counting_aborting (taken Over) n h me y t u w ls))
       (λ t k. refl) (ap is_undecided o) refl
   refused_step v us PresumeCommit o takes =
@@ -98,26 +109,32 @@ module _ (me : ProcessId) (tree : List TreeEntry) (n : Node) (holds : AllHold (r
       (boot_of-push (kept n) (AbortRecord (root_case y) us)) holds
       (λ x t d. rw (takes.others x d)
       (same_counting_aborting_named (memory me tree n x) n h me x t y u w us ls (holds x t).kept_is_forced d))
-      (λ t. true) (λ t. true) (λ t. same_ticket u t && is_consent w) (λ t. voted_so VoteNo votes t)
-      (λ t. has_voted votes t)
+      (λ t. true) (λ t. true) (λ t. counts_first t) (λ t. voted_so VoteNo votes t)
+      (λ t. has_voted votes t) (λ t. same_ticket u t || (read y t).heard)
       (λ t. rw takes.own
       (own_counting_aborting_named (taken Over) n h me y t u w us ls (holds y t).kept_is_forced))
       (λ t k. refl) (ap is_undecided o) refl
 
   -- a vote for it, and others are awaited
-  counted_case : (t : Ticket) → IsFor w
+  counted_case : (t : Ticket) → IsFor w → IsFresh
       → reading_at (taken Asked) (after n h (counting y u w (sends []))) me y t
       ≡ counts (same_ticket u t) (read y t)
-  counted_case t f =
+  counted_case t f g =
       own_counting (taken Asked) n h me y t u w
-      ∙ simp (f.consents, and-true, refused-push m.votes u t w f.refuses_not, has_voted-push)
+      ∙ simp (
+        f.consents,
+        and-true,
+        first-counts (same_ticket u t) (read y t).heard (read y t).consented (g t),
+        refused-push m.votes u t w f.refuses_not,
+        has_voted-push,
+      )
 
-  counted_step : IsFor w → m.phase ≡ Asked → Takes (taken Asked)
+  counted_step : IsFor w → IsFresh → m.phase ≡ Asked → Takes (taken Asked)
       → RootStep here n h (counting y u w (sends []))
-  counted_step f o takes = record {
+  counted_step f g o takes = record {
     cases = own_and_others me tree n h (counting y u w (sends [])) y (boot_of-nil (kept n)) holds
         (λ x t d. rw (takes.others x d) (same_counting (memory me tree n x) n h me x t y u w d))
-        (λ t. rw (takes.own, counted_case t f) (leads_counts (read y t) (same_ticket u t) (holds y t) o));
+        (λ t. rw (takes.own, counted_case t f g) (leads_counts (read y t) (same_ticket u t) (holds y t) o));
     messages = tt;
   }
 
@@ -130,8 +147,8 @@ module _ (me : ProcessId) (tree : List TreeEntry) (n : Node) (holds : AllHold (r
       ended_step me tree n h (counting y u w (tells y ReadOnly [])) y [] (boot_of-nil (kept n)) holds
       (λ x t d. rw (takes.others x d)
       (same_counting_tells (memory me tree n x) n h me x t y u w ReadOnly [] d))
-      (λ t. (read y t).aborted) (λ t. (read y t).recorded) (λ t. same_ticket u t && is_consent w)
-      (λ t. voted_so VoteNo votes t) (λ t. has_voted votes t)
+      (λ t. (read y t).aborted) (λ t. (read y t).recorded) (λ t. counts_first t)
+      (λ t. voted_so VoteNo votes t) (λ t. has_voted votes t) (λ t. same_ticket u t || (read y t).heard)
       (λ t. rw takes.own (own_counting_reads_only (taken Over) n h me y t u w []))
       (λ t k. absurd (let f : false ≡ true = sym ((holds y t).abort_collects_not (q ∙ abort_presumed))
       ∙ k in cc))
@@ -140,28 +157,34 @@ module _ (me : ProcessId) (tree : List TreeEntry) (n : Node) (holds : AllHold (r
       ended_step me tree n h (counting y u w (ending_read y)) y []
       (boot_of-push (kept n) (EndRecord (root_case y))) holds
       (λ x t d. rw (takes.others x d) (same_counting_ending_read (memory me tree n x) n h me x t y u w d))
-      (λ t. (read y t).aborted) (λ t. true) (λ t. same_ticket u t && is_consent w)
-      (λ t. voted_so VoteNo votes t) (λ t. has_voted votes t)
+      (λ t. (read y t).aborted) (λ t. true) (λ t. counts_first t)
+      (λ t. voted_so VoteNo votes t) (λ t. has_voted votes t) (λ t. same_ticket u t || (read y t).heard)
       (λ t. rw takes.own (own_counting_ending_read (taken Over) n h me y t u w))
       (λ t k. refl) (ap is_undecided o) refl
 
   -- the last vote, where some said yes
-  commit_case : (t : Ticket) (us : List Ticket) (ls : List Envelope) → IsFor w
+  commit_case : (t : Ticket) (us : List Ticket) (ls : List Envelope) → IsFor w → IsFresh
       → reading_at (taken Over) (after n h (counting y u w (committing y us ls))) me y t ≡ commits
       (same_ticket u t) (read y t)
-  commit_case t us ls f =
+  commit_case t us ls f g =
       own_counting_committing (taken Over) n h me y t u w us ls
-      ∙ simp (f.consents, and-true, refused-push m.votes u t w f.refuses_not, has_voted-push)
+      ∙ simp (
+        f.consents,
+        and-true,
+        first-counts (same_ticket u t) (read y t).heard (read y t).consented (g t),
+        refused-push m.votes u t w f.refuses_not,
+        has_voted-push,
+      )
 
   all_in : (t : Ticket) → all_voted m.accepted votes ≡ true → in_list m.accepted t ≡ true
       → (same_ticket u t || has_voted m.votes t) ≡ true
   all_in t all i = sym (has_voted-push m.votes u t w) ∙ voted_by_all m.accepted votes t all i
 
   -- its record names these, and these are told
-  commit_naming : IsFor w → m.phase ≡ Asked → Takes (taken Over) → all_voted m.accepted votes ≡ true
+  commit_naming : IsFor w → IsFresh → m.phase ≡ Asked → Takes (taken Over) → all_voted m.accepted votes ≡ true
       → (named us : List Ticket)
       → RootStep here n h (counting y u w (committing y named (each (root_seat me (root_case y)) Commit us)))
-  commit_naming f o takes all named us =
+  commit_naming f g o takes all named us =
       let s = root_seat me (root_case y) in
       let ls = each s Commit us in
       record {
@@ -170,35 +193,35 @@ module _ (me : ProcessId) (tree : List TreeEntry) (n : Node) (holds : AllHold (r
             (λ x t d. rw (takes.others x d)
             (same_counting_committing (memory me tree n x) n h me x t y u w named ls
             (holds x t).kept_is_forced d))
-            (λ t. rw (takes.own, commit_case t named ls f)
+            (λ t. rw (takes.own, commit_case t named ls f g)
             (leads_commits (read y t) (same_ticket u t) (holds y t) o (all_in t all)));
         messages = each_sound here _ s Commit us (λ t. own_committed m n h me y any u w named ls);
       }
 
-  commit_step : IsFor w → m.phase ≡ Asked → Takes (taken Over) → all_voted m.accepted votes ≡ true
+  commit_step : IsFor w → IsFresh → m.phase ≡ Asked → Takes (taken Over) → all_voted m.accepted votes ≡ true
       → (v : CoordinatorView) (us : List Ticket) (p : Presumption)
       → let s = root_seat me (root_case y) in
       RootStep here n h (row_effect (root_case y) (record (root_commits s v us p) { counts = (u, w) ∷ [] }))
-  commit_step f o takes all v us PresumeAbort = commit_naming f o takes all us us
-  commit_step f o takes all v us PresumeCommit = commit_naming f o takes all [] us
+  commit_step f g o takes all v us PresumeAbort = commit_naming f g o takes all us us
+  commit_step f g o takes all v us PresumeCommit = commit_naming f g o takes all [] us
 
   -- the last vote
-  full_step : IsFor w → m.phase ≡ Asked → Takes (taken Over) → all_voted m.accepted votes ≡ true
+  full_step : IsFor w → IsFresh → m.phase ≡ Asked → Takes (taken Over) → all_voted m.accepted votes ≡ true
       → (v : CoordinatorView) (us : List Ticket) (b : Bool)
       → let s = root_seat me (root_case y) in
       RootStep here n h (row_effect (root_case y)
       (record (if b then collecting_read_only s else root_commits s v us y.presumption)
       { counts = (u, w) ∷ [] }))
-  full_step f o takes all v us true = read_only_step o takes y.presumption refl
-  full_step f o takes all v us false = commit_step f o takes all v us y.presumption
+  full_step f g o takes all v us true = read_only_step o takes y.presumption refl
+  full_step f g o takes all v us false = commit_step f g o takes all v us y.presumption
 
   -- a vote for it
-  pub for_step : IsFor w → m.phase ≡ Asked → (all : Bool) → all_voted m.accepted votes ≡ all
+  pub for_step : IsFor w → IsFresh → m.phase ≡ Asked → (all : Bool) → all_voted m.accepted votes ≡ all
       → Takes (taken (if all then Over else Asked))
       → (v : CoordinatorView) (us : List Ticket)
       → let s = root_seat me (root_case y) in
       RootStep here n h (row_effect (root_case y)
       (record (if all then (if none_of us then collecting_read_only s else root_commits s v us
       y.presumption) else quiet v) { counts = (u, w) ∷ [] }))
-  for_step f o true e takes v us = full_step f o takes e v us (none_of us)
-  for_step f o false e takes v us = counted_step f o takes
+  for_step f g o true e takes v us = full_step f g o takes e v us (none_of us)
+  for_step f g o false e takes v us = counted_step f g o takes

@@ -11,7 +11,8 @@ use Rattle.tree_model.specs.declared.events.Input.TheVariants.{Act as ActInput, 
 use Rattle.tree_model.specs.declared.events.Happening.{Happening}
 use Rattle.tree_model.specs.declared.trees.TreeEntry.{TreeEntry}
 use Rattle.tree_model.specs.Records.{has}
-use Rattle.tree_model.specs.Nodes.{Role, place_of, Heard, Effect, is_listed, opened_node, Place, Node}
+use Rattle.tree_model.specs.Outcomes.{first_vote}
+use Rattle.tree_model.specs.Nodes.{Role, place_of, Heard, Effect, is_listed, opened_node, Place, Node, role_of}
 use Rattle.tree_model.specs.Memory.{memory_of}
 use Rattle.tree_model.specs.Standings.{mark_of}
 use Rattle.tree_model.specs.Reactions.{Does, reacts}
@@ -33,7 +34,7 @@ use Rattle.tree_law.proofs.Ends.{ends}
 use Rattle.tree_model.specs.declared.messages.Message.{Message}
 use Rattle.tree_model.specs.declared.messages.Envelope.{Envelope}
 use Rattle.tree_law.proofs.FlatTrees.{IsManager, role_in, root_is_top}
-use Rattle.tree_law.proofs.Moves.{IsLeft, Handled, handled, is_up}
+use Rattle.tree_law.proofs.Moves.{IsFlatRole, IsLeft, Handled, handled, is_up}
 use Rattle.tree_law.proofs.Worlds.{WorldHolds}
 use Rattle.tree_law.proofs.RootWorld.{IsHeard, heard_true, asks_nothing, root_keeps}
 use Rattle.tree_law.proofs.LeafWorld.{is_for, leaf_keeps}
@@ -42,7 +43,7 @@ use Rattle.tree_law.proofs.LeafWorld.{is_for, leaf_keeps}
 
 opened_case : (root : ProcessId) (tree : List TreeEntry) (x : Txn) (t : Ticket)
     → CaseHolds (reading (root_place root tree) opened_node x t)
-unfolding memory_of has
+unfolding memory_of has first_vote
 opened_case root tree x t = grind arith
 
 opened_open : (c : Case) → is_open
@@ -154,8 +155,15 @@ module _ (tree : List TreeEntry) (root : ProcessId) (flat : list_all (is_flat_en
 
 -- Every run.
 
-split : (a b : Bool) → (a && b) ≡ true → (a ≡ true) × (b ≡ true)
+pub split : (a b : Bool) → (a && b) ≡ true → (a ≡ true) × (b ≡ true)
 split a b e = grind arith
+
+pub flat_role : (root : ProcessId) (tree : List TreeEntry) (q : ProcessId)
+    → list_all (is_flat_entry root) tree ≡ true → IsFlatRole (role_of tree q)
+flat_role root tree q flat = elim (role_in root tree q flat) [
+  | inl top ↦ subst IsFlatRole (sym top.role) tt
+  | inr below ↦ subst IsFlatRole (sym below.role) tt
+]
 
 pub run_holds : (tree : List TreeEntry) (root : ProcessId) → list_all (is_flat_entry root) tree ≡ true
     → (es : List Made) (w : World) → IsRun tree es w → AreFlatMoves es → WorldHolds tree root w
@@ -163,4 +171,4 @@ run_holds tree root flat _ _ opens moves = opened_holds tree root
 run_holds tree root flat _ _ (makes es w m e w' run stands step) moves =
     let both = split (is_flat_move (record { move = m; effect = e })) (list_all is_flat_move es) moves in
     step_keeps tree root flat w (run_holds tree root flat es w run both.1) m w'
-    (handled tree w m e w' both.0 step) stands
+    (handled tree w m e w' (flat_role root tree m.step.process flat) both.0 step) stands

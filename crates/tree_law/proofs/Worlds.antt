@@ -1,5 +1,5 @@
 -- What holds of the world of a flat run after each step.
-use Rattle.std.proofs.Common.{◌≡◌, ◌∙◌, ap, subst, ℕ, zero, suc, Bool, true, false, ◌||◌, ◌⊎◌, inl, inr, Some, List, [], ◌∷◌, ◌++◌, refl, if◌then◌else◌, arith}
+use Rattle.std.proofs.Common.{◌≡◌, ◌∙◌, ap, subst, ℕ, zero, suc, Bool, true, false, ◌||◌, ◌⊎◌, inl, inr, Some, List, [], ◌∷◌, ◌++◌, refl, if◌then◌else◌, reverse, arith}
 use Rattle.std.specs.Prelude.{slice_get}
 use Rattle.tree_model.specs.declared.names.Case.{Case}
 use Rattle.tree_model.specs.declared.names.ProcessId.{ProcessId}
@@ -17,7 +17,7 @@ use Rattle.tree_model.specs.Nodes.{Node, Heard, Effect, after, is_any_forced, en
 use Rattle.tree_model.specs.Outcomes.{sent, has_accepted, has_heard_vote, is_consent, is_read_message}
 use Rattle.tree_model.specs.Views.{root_place}
 use Rattle.tree_model.specs.World.{World, put_at}
-use Rattle.tree_law.proofs.Lists.{has-append}
+use Rattle.tree_law.proofs.Lists.{has-append, has-reversed}
 use Rattle.tree_law.proofs.RootReading.{reading}
 use Rattle.tree_law.proofs.RootSteps.{AllHold}
 use Rattle.tree_law.proofs.Ends.{CaseEnds, NeverCommits}
@@ -124,13 +124,13 @@ right a b e = grind arith
 left : (a b : Bool) → a ≡ true → (a || b) ≡ true
 left a b e = grind arith
 
-life_if : (t : Record → Bool) (b : Bool) (n k j : Node) (new : List Record) → k.life ≡ new ++ n.life
-    → j.life ≡ new ++ n.life
+life_if : (t : Record → Bool) (b : Bool) (n k j : Node) (new : List Record) → k.life ≡ reverse new ++ n.life
+    → j.life ≡ reverse new ++ n.life
     → has t n.life ≡ true → has t (if b then k else j).life ≡ true
 life_if t true n k j new e f h =
-    ap (has t) e ∙ (has-append t new n.life ∙ left (has t n.life) (has t new) h)
+    ap (has t) e ∙ (has-reversed t new n.life ∙ left (has t n.life) (has t new) h)
 life_if t false n k j new e f h =
-    ap (has t) f ∙ (has-append t new n.life ∙ left (has t n.life) (has t new) h)
+    ap (has t) f ∙ (has-reversed t new n.life ∙ left (has t n.life) (has t new) h)
 
 pub life_after : (t : Record → Bool) (n : Node) (h : Heard) (e : Effect) → has t n.life ≡ true
     → has t (after n h e).life ≡ true

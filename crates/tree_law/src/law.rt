@@ -13,7 +13,7 @@ pub fn flat_runs_agree()
     ensures agreement { (tree : List TreeEntry) (es : List Made) (w : World) → IsFlat tree → IsRun tree es w
         → AreFlatMoves es → Agreement tree w }
     ensures commit_rule { (tree : List TreeEntry) (es : List Made) (w : World) → IsFlat tree → IsRun tree es w
-        → AreFlatMoves es → CommitRule tree w }
+        → AreFlatMoves es → CommitRule tree es w }
 {}
 
 /// There is such a run that commits a transaction in which a manager takes part.

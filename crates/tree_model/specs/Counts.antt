@@ -1,17 +1,22 @@
 -- What a committed update costs: records, forced records and messages (R*, table of costs).
-use Rattle.std.specs.Prelude.{◌≡◌, ◌+◌, ◌*◌, ℕ, false, None, List, [], length, count_by}
+use Rattle.std.specs.Prelude.{◌≡◌, ◌+◌, ◌*◌, ℕ, Bool, true, false, not, ◌&&◌, None, List, [], ◌∷◌, fold, length, count_by}
+use Rattle.std.specs.List.{list_all}
 use Rattle.tree_model.specs.declared.names.Presumption.{Presumption}
 use Rattle.tree_model.specs.declared.names.Presumption.TheVariants.{PresumeAbort, PresumeCommit}
 use Rattle.tree_model.specs.declared.names.Outcome.TheVariants.{Committed}
+use Rattle.tree_model.specs.declared.names.Ticket.{Ticket}
 use Rattle.tree_model.specs.declared.messages.Envelope.{Envelope}
 use Rattle.tree_model.specs.declared.records.Write.{Write}
-use Rattle.tree_model.specs.Records.{none_of}
+use Rattle.tree_model.specs.declared.standings.Standing.TheVariants.{Active as ActiveStanding}
+use Rattle.tree_model.specs.declared.standings.Vote.TheVariants.{Yes as VoteYes}
+use Rattle.tree_model.specs.Records.{in_list, none_of}
 use Rattle.tree_model.specs.Nodes.{Written, Holds}
-use Rattle.tree_model.specs.Memory.{yes_of}
-use Rattle.tree_model.specs.Standings.{CoordinatorView}
-use Rattle.tree_model.specs.CoordinatorRows.{Seat, Row, active_commit, collecting_full, decided_ack_by}
-use Rattle.tree_model.specs.ManagerRows.{Leaf, LeafRow, active_prepare_holding, prepared_outcome}
+use Rattle.tree_model.specs.Standings.{CoordinatorView, ManagerView, unknown_view}
+use Rattle.tree_model.specs.CoordinatorRows.{Seat, Row, active_commit, on_vote, on_ack}
+use Rattle.tree_model.specs.ManagerRows.{Leaf, LeafRow}
+use Rattle.tree_model.specs.ManagerRows as leaf
 
+-- records, forced ones among them, and messages
 pub record Cost : Type 0 where
   pub records : ℕ
   pub forced : ℕ
@@ -29,20 +34,58 @@ row_cost r = cost_of r.written r.messages
 abbrev pub leaf_cost : LeafRow → Cost
 leaf_cost r = cost_of r.written r.messages
 
--- the last acknowledgement, which only Presumed Abort has
-abbrev pub last_ack_cost : Presumption → Seat → CoordinatorView → Cost
-last_ack_cost PresumeAbort s v = row_cost (decided_ack_by s [] v)
-last_ack_cost PresumeCommit s v = record { records = 0; forced = 0; messages = 0 }
+-- The root, walked through its table.
 
--- the root, from the commit act on, where all its children vote yes: the commit act, the last vote, the last
--- acknowledgement; the rows between them write and send nothing
-abbrev pub root_cost : Seat → CoordinatorView → CoordinatorView → CoordinatorView → Cost
-root_cost s asking full waiting =
-    together (row_cost (active_commit s asking)) (together (row_cost (collecting_full s full)) (last_ack_cost s.own.txn.presumption s waiting))
+-- what a case has cost, and the view that it has come to
+pub record Walked : Type 0 where
+  pub cost : Cost
+  pub view : CoordinatorView
 
--- a manager that wrote, from PREPARE to COMMIT
-abbrev pub manager_cost : Leaf → List Write → Cost
-manager_cost l ws = together (leaf_cost (active_prepare_holding l (Holds ws))) (leaf_cost (prepared_outcome l Committed))
+-- one row more
+abbrev pub walks : Walked → Row → Walked
+walks w r = record { cost = together w.cost (row_cost r); view = r.view }
+
+-- the commit act, from a view in which nothing was paid yet
+abbrev pub asks : Seat → CoordinatorView → Walked
+asks s v = record { cost = row_cost (active_commit s v); view = (active_commit s v).view }
+
+-- the vote YES of a child comes
+abbrev pub hears_yes : Seat → Walked → Ticket → Walked
+hears_yes s w t = walks w (on_vote s t VoteYes w.view w.view.standing)
+
+-- the acknowledgement of a child comes
+abbrev pub hears_ack : Seat → Walked → Ticket → Walked
+hears_ack s w t = walks w (on_ack s t Committed w.view w.view.standing)
+
+-- the children that acknowledge a commit: under Presumed Commit none does
+abbrev pub acknowledging : Presumption → List Ticket → List Ticket
+acknowledging PresumeAbort ts = ts
+acknowledging PresumeCommit ts = []
+
+-- the root from the commit act on: each of its children votes YES, in one order, and acknowledges, in another
+abbrev pub root_walk : Seat → CoordinatorView → List Ticket → List Ticket → Walked
+root_walk s v votes acks =
+    fold (hears_ack s) (fold (hears_yes s) (asks s v) votes) (acknowledging s.own.txn.presumption acks)
+
+-- A manager that wrote, walked through its table.
+
+-- PREPARE, after all its works, and COMMIT
+abbrev pub manager_cost : Leaf → ℕ → List Write → ManagerView → Cost
+manager_cost l n ws v =
+    let promise = leaf.on_prepare l n (Holds ws) v v.standing in
+    let outcome = leaf.on_commit l promise.view promise.view.standing in
+    together (leaf_cost promise) (leaf_cost outcome)
+
+-- a list has no ticket twice
+unfoldable pub are_distinct : List Ticket → Bool
+are_distinct [] = true
+are_distinct (t ∷ ts) = not (in_list ts t) && are_distinct ts
+
+-- the tickets of the one list are those of the other, each once
+pub record IsOrderOf (order tickets : List Ticket) : Type 0 where
+  pub distinct : are_distinct order ≡ true
+  pub among : list_all (in_list tickets) order ≡ true
+  pub all : list_all (in_list order) tickets ≡ true
 
 abbrev pub root_price : Presumption → ℕ → Cost
 root_price PresumeAbort n = record { records = 2; forced = 1; messages = 2 * n }
@@ -53,10 +96,11 @@ manager_price PresumeAbort = record { records = 2; forced = 2; messages = 2 }
 manager_price PresumeCommit = record { records = 2; forced = 1; messages = 1 }
 
 -- A committed update of a flat tree of n managers: the root writes 2 records, 1 forced under Presumed Abort and 2 under
--- Presumed Commit, and sends 2 messages to each child; a child writes 2 records, 2 or 1 forced, and sends 2 or 1 messages.
-pub record CommittedUpdateCosts (s : Seat) (n : ℕ) : Type 0 where
-  pub root : s.parent ≡ None → (asking full waiting : CoordinatorView)
-      → none_of asking.accepted ≡ false → length asking.accepted ≡ n
-      → none_of full.accepted ≡ false → length full.accepted ≡ n → yes_of full.accepted full.votes ≡ full.accepted
-      → root_cost s asking full waiting ≡ root_price s.own.txn.presumption n
-  pub manager : (l : Leaf) (ws : List Write) → manager_cost l ws ≡ manager_price l.own.txn.presumption
+-- Presumed Commit, and sends 2 messages to each child, in whatever order the votes and the acknowledgements come; a child
+-- writes 2 records, 2 or 1 forced, and sends 2 or 1 messages. At the end neither knows of the case.
+pub record CommittedUpdateCosts (s : Seat) : Type 0 where
+  pub root : s.parent ≡ None → (v : CoordinatorView) → v.standing ≡ ActiveStanding → v.votes ≡ [] → none_of v.accepted ≡ false
+      → (votes acks : List Ticket) → IsOrderOf votes v.accepted → IsOrderOf acks v.accepted
+      → root_walk s v votes acks ≡ record { cost = root_price s.own.txn.presumption (length v.accepted); view = unknown_view }
+  pub manager : (l : Leaf) (n : ℕ) (ws : List Write) (v : ManagerView) → v.standing ≡ ActiveStanding → v.done ≡ n → v.spoiled ≡ false
+      → manager_cost l n ws v ≡ manager_price l.own.txn.presumption

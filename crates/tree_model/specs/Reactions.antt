@@ -1,7 +1,7 @@
 -- What a process does with an input: an effect, or a refusal after which nothing has changed.
 -- The refusals come in this order: no such process (9), the process has failed (6), no such case here (3), the case is
 -- not in doubt (7) or has nothing to forget (8), it is closed (5), the child cannot take it (4).
-use Rattle.std.specs.Prelude.{Bool, true, false, if◌then◌else◌, Option, Some, None, List, [], ◌∷◌, map}
+use Rattle.std.specs.Prelude.{Bool, true, false, not, ◌&&◌, if◌then◌else◌, Option, Some, None, List, [], ◌∷◌, map}
 use Rattle.tree_model.specs.declared.names.Case.{Case}
 use Rattle.tree_model.specs.declared.names.ProcessId.{ProcessId}
 use Rattle.tree_model.specs.declared.names.Ticket.{Ticket}
@@ -34,10 +34,9 @@ use Rattle.tree_model.specs.CoordinatorRows.{Seat, Row, post, active_join, activ
 use Rattle.tree_model.specs.ManagerRows.{Leaf, LeafRow, prepared_decide, heuristic_forget, untold_ask}
 use Rattle.tree_model.specs.ManagerRows as leaf
 
--- what an input leads to; one that is passed over counts as not heard
+-- what an input leads to
 pub data Reacts : Type 0 where
   Refused : StepError → Reacts
-  PassesOver : Reacts
   Does : Effect → Reacts
 
 -- Effects of rows.
@@ -277,15 +276,18 @@ abbrev pub is_early_ack : Place → Node → Message → Bool
 is_early_ack place n (Ack d o) = of_ticket d.ticket false (λ t. is_prepared_case place n (case_of_child place n d.txn t))
 is_early_ack place n _ = false
 
--- a message that no row is of; such an acknowledgement does nothing
-abbrev pub takes : Role → Place → Node → DataAnswer → Message → Reacts
-takes AtRoot place n a m = Does (hears AtRoot place n a m)
-takes (Below p) place n a m = if is_early_ack place n m then PassesOver else Does (hears (Below p) place n a m)
-takes (AtLeaf p) place n a m = Does (hears (AtLeaf p) place n a m)
+-- such an acknowledgement does nothing, at a coordinator with a parent: a root is never Prepared
+abbrev pub passes_at : Role → Place → Node → Input → Bool
+passes_at (Below p) place n (MessageInput k m) = is_early_ack place n m && not n.failed
+passes_at _ place n i = false
+
+-- the input is passed over, and counts as not heard
+abbrev pub is_passed_over : Place → Node → Input → Bool
+is_passed_over place n i = passes_at place.role place n i
 
 abbrev pub handles : Place → Node → Heard → Input → Reacts
 handles place n h (ActInput a) = if n.failed then Refused Failed else acts place.role place n a
-handles place n h (MessageInput k m) = if n.failed then Refused Failed else takes place.role place n h.data_answer m
+handles place n h (MessageInput k m) = if n.failed then Refused Failed else Does (hears place.role place n h.data_answer m)
 
 abbrev pub act_is_listed : List TreeEntry → Input → Bool
 act_is_listed tree (ActInput a) = names_listed tree a

@@ -16,7 +16,7 @@ use Rattle.tree_model.specs.declared.events.StepError.TheVariants.{Failed}
 use Rattle.tree_model.specs.declared.trees.TreeEntry.{TreeEntry}
 use Rattle.tree_model.specs.Names.{same_process}
 use Rattle.tree_model.specs.Nodes.{Place, place_of, is_listed, Node, opened_node, Heard, DataAnswer, Effect, no_effect, after, fails_in, reaction_of}
-use Rattle.tree_model.specs.Reactions.{Reacts, Refused, PassesOver, Does, reacts}
+use Rattle.tree_model.specs.Reactions.{Reacts, Refused, Does, is_passed_over, reacts}
 use Rattle.tree_model.specs.Restarts.{restart_effect, restarted, restart_fails, trim_effect, trims, trim_fails}
 
 -- One process.
@@ -38,10 +38,12 @@ fault_effect e appended =
 
 abbrev pub input_makes : Node → Heard → Option Fault → Reacts → Stepped
 input_makes n h fault (Refused e) = Refuses e
-input_makes n h None PassesOver = Makes no_effect n
-input_makes n h (Some f) PassesOver = Makes no_effect (record n { failed = true })
 input_makes n h None (Does e) = Makes e (after n h e)
 input_makes n h (Some f) (Does e) = Makes (fault_effect e f.appended) (fails_in n h e f.appended f.forced)
+
+abbrev pub passes_over : Node → Option Fault → Stepped
+passes_over n None = Makes no_effect n
+passes_over n (Some f) = Makes no_effect (record n { failed = true })
 
 abbrev pub restart_makes : Place → Node → ℕ → Option Fault → Stepped
 restart_makes place n k None = Makes (restart_effect place n k) (restarted place n k)
@@ -53,7 +55,8 @@ trim_makes place n (Some f) = Makes (fault_effect (trim_effect place n) 0) (trim
 
 abbrev pub happening_makes : Place → Node → Move → Happening → Stepped
 happening_makes place n m (Handles i) =
-    let h : Heard = record { input = i; data_answer = m.data_answer } in input_makes n h m.step.fault (reacts place n h)
+    let h : Heard = record { input = i; data_answer = m.data_answer } in
+    if is_passed_over place n i then passes_over n m.step.fault else input_makes n h m.step.fault (reacts place n h)
 happening_makes place n m (Restart k) = restart_makes place n k m.step.fault
 happening_makes place n m Trim = if n.failed then Refuses Failed else trim_makes place n m.step.fault
 

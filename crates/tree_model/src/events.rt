@@ -11,7 +11,7 @@ use std::alloc::{AllocError, Global};
 use thiserror::Error;
 
 /// What an application or an operator asks of one process.
-#[derive(Debug, Drop)]
+#[derive(Drop)]
 pub enum Act {
     /// The root begins a transaction.
     Begin(Presumption),
@@ -48,14 +48,14 @@ impl Act {
 }
 
 /// What a process handles: an act, or a message with its number in the net (from 1).
-#[derive(Debug, Drop)]
+#[derive(Drop)]
 pub enum Input {
     Act(Act),
     Message(u64, Message),
 }
 
 /// An event of a script.
-#[derive(Debug, Drop)]
+#[derive(Drop)]
 pub enum Event {
     Act(Act),
     /// Delivers the message with this number.
@@ -68,7 +68,7 @@ pub enum Event {
 }
 
 /// What happens at one process.
-#[derive(Debug, Drop)]
+#[derive(Drop)]
 pub enum Happening {
     Input(Input),
     /// So many records behind the forced front are kept.
@@ -78,14 +78,14 @@ pub enum Happening {
 
 /// What a device's failure left of an event: how many of its records were appended, and how many of the records
 /// behind the old forced front are in the new one.
-#[derive(Clone, Copy, Debug, PartialEq, Eq)]
+#[derive(Clone, Copy, PartialEq, Eq)]
 pub struct Fault {
     pub appended: u64,
     pub forced: u64,
 }
 
 /// One atomic step of the whole system: what happened at which process, and the device's failure in it.
-#[derive(Debug, Drop)]
+#[derive(Drop)]
 pub struct Step {
     pub process: ProcessId,
     pub happening: Happening,
@@ -93,7 +93,7 @@ pub struct Step {
 }
 
 /// How a transaction was concluded for the application.
-#[derive(Clone, Copy, Debug, PartialEq, Eq)]
+#[derive(Clone, Copy, PartialEq, Eq)]
 pub enum Conclusion {
     Committed,
     Aborted,
@@ -101,7 +101,7 @@ pub enum Conclusion {
 }
 
 /// What the application was told.
-#[derive(Clone, Copy, Debug, PartialEq, Eq)]
+#[derive(Clone, Copy, PartialEq, Eq)]
 pub struct Told {
     pub txn: Txn,
     pub conclusion: Conclusion,
@@ -109,7 +109,7 @@ pub struct Told {
 
 /// What a step led to: the transaction begun, the records made, what was told, the messages, and for a trim the
 /// number of records kept. One with nothing in it takes no memory.
-#[derive(Debug, Drop)]
+#[derive(Drop)]
 pub struct Reaction {
     pub begun: Option<Txn>,
     pub written: Sequence<Logged>,
@@ -119,7 +119,7 @@ pub struct Reaction {
 }
 
 /// A step with its reaction.
-#[derive(Debug, Drop)]
+#[derive(Drop)]
 pub struct Entry {
     pub step: Step,
     pub reaction: Reaction,

@@ -67,9 +67,9 @@ pub fn root_views_follow_the_table()
     ensures begins { (me : ProcessId) (tree : List TreeEntry) (n : Node) (p : Presumption) (a : DataAnswer) → RootBegins me tree n p a }
 {}
 
-/// What a committed update of a flat tree costs its root and each of its managers.
+/// What a committed update of a flat tree costs its root and each of its managers, row by row through the reaction table.
 pub fn committed_update_costs()
-    ensures { (s : Seat) (n : ℕ) → CommittedUpdateCosts s n }
+    ensures { (s : Seat) → CommittedUpdateCosts s }
 {}
 
 /// What a process wrote into its log under whole names it reads there again.

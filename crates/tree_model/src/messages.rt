@@ -10,7 +10,7 @@ use std::alloc::{AllocError, Global};
 pub type Bytes = Sequence<u8>;
 
 /// One operation on a manager's data.
-#[derive(Debug, Drop)]
+#[derive(Drop)]
 pub enum Op {
     Put(Bytes, Bytes),
     Get(Bytes),
@@ -31,7 +31,7 @@ impl Op {
 }
 
 /// A message between a parent and its child (R*). JOIN and JOINED name the parent's case, the others the child's.
-#[derive(Debug, Drop)]
+#[derive(Drop)]
 pub enum Message {
     /// A parent asks its child to take part.
     Join(Case),
@@ -74,7 +74,7 @@ impl Message {
 }
 
 /// A message with its sender and its receiver.
-#[derive(Debug, Drop)]
+#[derive(Drop)]
 pub struct Envelope {
     pub from: ProcessId,
     pub to: ProcessId,

@@ -9,25 +9,25 @@ ghost use Rattle.tree_model.specs.declared.names.Txn.{Txn as AnyTxn};
 use crate::lists::Sequence;
 
 /// A process of the tree, by its number.
-#[derive(Clone, Copy, Debug, PartialEq, Eq, PartialOrd, Ord, Hash)]
+#[derive(Clone, Copy, PartialEq, Eq, PartialOrd, Ord, Hash)]
 pub struct ProcessId(pub u32);
 
 /// What a process is: a coordinator (the root or below it), or a resource manager at a leaf.
-#[derive(Clone, Copy, Debug, PartialEq, Eq)]
+#[derive(Clone, Copy, PartialEq, Eq)]
 pub enum Kind {
     Coordinator,
     Manager,
 }
 
 /// What an inquiry gets where its case has left no information (R*: Presumed Abort, Presumed Commit).
-#[derive(Clone, Copy, Debug, PartialEq, Eq, Hash)]
+#[derive(Clone, Copy, PartialEq, Eq, Hash)]
 pub enum Presumption {
     PresumeAbort,
     PresumeCommit,
 }
 
 /// How a transaction ends.
-#[derive(Clone, Copy, Debug, PartialEq, Eq)]
+#[derive(Clone, Copy, PartialEq, Eq)]
 pub enum Outcome {
     Committed,
     Aborted,
@@ -35,7 +35,7 @@ pub enum Outcome {
 
 /// A transaction's name: the root that began it, the root's boot, its number in that boot (both from 1), and the
 /// presumption that the root chose.
-#[derive(Clone, Copy, Debug, PartialEq, Eq, Hash)]
+#[derive(Clone, Copy, PartialEq, Eq, Hash)]
 pub struct Txn {
     pub root: ProcessId,
     pub boot: u64,
@@ -55,7 +55,7 @@ impl Txn {
 
 /// A child's promise to take part in one case of its parent: the child, its boot, and the number in that boot
 /// (both from 1). It is issued once and never again.
-#[derive(Clone, Copy, Debug, PartialEq, Eq, Hash)]
+#[derive(Clone, Copy, PartialEq, Eq, Hash)]
 pub struct Ticket {
     pub child: ProcessId,
     pub boot: u64,
@@ -76,7 +76,7 @@ impl Ticket {
 pub type Tickets = Sequence<Ticket>;
 
 /// A transaction at one process: at the root with no ticket, elsewhere with the process's own.
-#[derive(Clone, Copy, Debug, PartialEq, Eq, Hash)]
+#[derive(Clone, Copy, PartialEq, Eq, Hash)]
 pub struct Case {
     pub txn: Txn,
     pub ticket: Option<Ticket>,

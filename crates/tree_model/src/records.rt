@@ -11,14 +11,14 @@ use std::alloc::{AllocError, Global};
 use xa_xid::Xid;
 
 /// A branch at a manager: a case of the tree, or a transaction manager's own XID that reads back as no case.
-#[derive(Clone, Copy, Debug, PartialEq, Eq)]
+#[derive(Clone, Copy, PartialEq, Eq)]
 pub enum Branch {
     Case(Case),
     Foreign(Xid),
 }
 
 /// What a branch leaves at a key: a value, or nothing.
-#[derive(Debug, Drop)]
+#[derive(Drop)]
 pub struct Write {
     pub key: Bytes,
     pub value: Option<Bytes>,
@@ -54,7 +54,7 @@ fn copied_writes(writes: &[Write], alloc: Global) -> Result<Writes, AllocError>
 pub type Writes = Sequence<Write>;
 
 /// A record of a log: Opened at each process, Collecting to End at coordinators, Prepared to Pair at managers.
-#[derive(Debug, Drop)]
+#[derive(Drop)]
 pub enum Record {
     /// The process opened with this boot.
     Opened(u64),
@@ -229,7 +229,7 @@ impl Record {
 }
 
 /// The kind of a record, as a trace names it.
-#[derive(Clone, Copy, Debug, PartialEq, Eq)]
+#[derive(Clone, Copy, PartialEq, Eq)]
 pub enum RecordKind {
     Opened,
     Collecting,
@@ -250,7 +250,7 @@ pub enum RecordKind {
 }
 
 /// What a record is of: a boot (Opened), a case, or neither (a foreign branch, Base and Pair).
-#[derive(Clone, Copy, Debug, PartialEq, Eq)]
+#[derive(Clone, Copy, PartialEq, Eq)]
 pub enum Subject {
     Boot(u64),
     Case(Case),
@@ -258,7 +258,7 @@ pub enum Subject {
 }
 
 /// A record that a step made: its kind, what it is of, and whether it was forced.
-#[derive(Clone, Copy, Debug, PartialEq, Eq)]
+#[derive(Clone, Copy, PartialEq, Eq)]
 pub struct Logged {
     pub kind: RecordKind,
     pub subject: Subject,

@@ -1,7 +1,7 @@
 //! What a process knows of a case.
 
 /// A vote of a child.
-#[derive(Clone, Copy, Debug, PartialEq, Eq)]
+#[derive(Clone, Copy, PartialEq, Eq)]
 pub enum Vote {
     Yes,
     No,
@@ -10,7 +10,7 @@ pub enum Vote {
 }
 
 /// Where a case stands at a process.
-#[derive(Clone, Copy, Debug, PartialEq, Eq)]
+#[derive(Clone, Copy, PartialEq, Eq)]
 pub enum Standing {
     /// Nothing is known of it: it never was, or is forgotten.
     Unknown,

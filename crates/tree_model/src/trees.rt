@@ -39,7 +39,7 @@ pub const MOST_PROCESSES: usize = 16;
 pub const MOST_LEVELS: usize = 8;
 
 /// A process as a tree lists it. `info` is a manager's text for xa_open, of 0 to 32 ASCII messages.
-#[derive(Debug, Drop)]
+#[derive(Drop)]
 pub struct TreeEntry {
     pub id: ProcessId,
     pub kind: Kind,
@@ -48,7 +48,7 @@ pub struct TreeEntry {
 }
 
 /// The processes that a tree text lists, in its order. `check` says whether they are a tree.
-#[derive(Debug, Drop)]
+#[derive(Drop)]
 pub struct Tree {
     entries: Vec<TreeEntry>,
 }

@@ -13,8 +13,8 @@ use Rattle.xa_xid.specs.declared.xid.Xid.{Xid}
 use Rattle.xa_assoc.specs.declared.held.Seat.{Seat}
 use Rattle.xa_assoc.specs.Names.{same, same_seat}
 
--- the threads that hold associations, each with the branch that it is active in; which branches they have suspended;
--- how often a branch is suspended for migration; and whether the manager migrates
+-- the threads that hold associations, each with the branch that it is active in; which branches they have
+-- suspended; how often a branch is suspended for migration; and whether the manager migrates
 pub record AssocList : Type 0 where
   pub holders : List (ℕ × Option Xid)
   pub seats : List Seat
@@ -90,7 +90,9 @@ active_after was x from to = was
 -- one association turns from a state to another, and no other association does
 pub record Turns (old new : AssocList) (t : ℕ) (x : Xid) (from to : AssocState) : Type 0 where
   pub own : own_state new t x ≡ own_part to
-  pub others : (u : ℕ) (y : Xid) → same_seat (record { thread = u; xid = y }) (record { thread = t; xid = x }) ≡ false → own_state new u y ≡ own_state old u y
+  pub others : (u : ℕ) (y : Xid)
+      → same_seat (record { thread = u; xid = y }) (record { thread = t; xid = x }) ≡ false
+      → own_state new u y ≡ own_state old u y
   pub moved : moved_of new x + counts from ≡ moved_of old x + counts to
   pub moved_others : (y : Xid) → same x y ≡ false → moved_of new y ≡ moved_of old y
   pub active : active_of new t ≡ active_after (active_of old t) x from to
@@ -98,8 +100,8 @@ pub record Turns (old new : AssocList) (t : ℕ) (x : Xid) (from to : AssocState
   pub holders : (u : ℕ) → u ≢ t → is_holder new u ≡ is_holder old u
   pub migrates : new.migrates ≡ old.migrates
 
--- whether a thread is listed once one of its associations has turned: where it holds one. What belongs to nobody and
--- goes changes no thread
+-- whether a thread is listed once one of its associations has turned: where it holds one. What belongs to
+-- nobody and goes changes no thread
 abbrev pub listed_after : AssocList → AssocList → ℕ → AssocState → AssocState → Bool
 listed_after old new t M T0 = is_holder old t
 listed_after old new t from to = holds_any new t
@@ -130,6 +132,7 @@ pub record Recounts (old new : AssocList) (x : Xid) (n : ℕ) : Type 0 where
 abbrev pub Row : Type 0
 Row = AssocState × Code × AssocState
 
+-- a row of the table of associations: the state, the answer, and the state behind it
 abbrev pub row : AssocState → Code → AssocState → Result Row Code
 row from answer to = Ok (from, answer, to)
 
@@ -144,7 +147,8 @@ start_plan a t x =
     else if has_room a t then row T0 code.Ok T1
     else Err code.RmErr
 
--- what a resume finds of a branch that it has not suspended itself: the oldest migrated one, which belongs to nobody
+-- what a resume finds of a branch that it has not suspended itself: the oldest migrated one, which belongs to
+-- nobody
 abbrev pub moved_plan : AssocList → ℕ → Xid → Bool → Result Row Code
 moved_plan a t x lost =
     if moved_of a x == 0 then Err code.Proto

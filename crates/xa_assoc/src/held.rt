@@ -3,14 +3,14 @@
 use xa_xid::Xid;
 
 /// A branch that a thread has suspended.
-#[derive(Clone, Copy, Debug, PartialEq, Eq, Hash)]
+#[derive(Clone, Copy, PartialEq, Eq, Hash)]
 pub(crate) struct Seat {
     pub(crate) thread: u32,
     pub(crate) xid: Xid,
 }
 
 /// How a branch is held.
-#[derive(Clone, Copy, Debug, PartialEq, Eq)]
+#[derive(Clone, Copy, PartialEq, Eq)]
 pub struct OfBranch {
     /// A thread is active in it (T1).
     pub active: bool,

@@ -46,7 +46,8 @@ pub record Moves (old new : BranchList) (x : Xid) (s : BranchState) : Type 0 whe
 
 -- what a begin answers: the first that applies
 abbrev pub begin_answer : List (Xid × BranchState) → Xid → Code
-begin_answer bs x = if is_known bs x then code.DupId else if nat_lt (length bs) 1024 then code.Ok else code.RmErr
+begin_answer bs x = if is_known bs x then code.DupId else if nat_lt (length bs) 1024 then code.Ok
+    else code.RmErr
 
 -- a begin of a branch in a state made this answer, and changes nothing where it is refused
 pub record Begins (old new : BranchList) (x : Xid) (s : BranchState) (answer : Code) : Type 0 where
@@ -91,12 +92,14 @@ scan_refusal scans thread call =
 
 -- what a recover gives from: the branches in doubt where it begins a scan, else what the open scan has left
 abbrev pub scanned : BranchList → ℕ → Call → List Xid
-scanned b thread call = if starts_scan call then in_doubt b.branches else unwrap_or (scan_of b.scans thread) []
+scanned b thread call = if starts_scan call then in_doubt b.branches
+    else unwrap_or (scan_of b.scans thread) []
 
 -- a recover was not refused and gave these
 pub record Scans (old new : BranchList) (thread count : ℕ) (call : Call) (given : List Xid) : Type 0 where
   pub made : scan_refusal old.scans thread call ≡ None
   pub next : given ≡ take count (scanned old thread call)
-  pub left : Leaves old.scans new.scans thread (if ends_scan call then None else Some (drop count (scanned old thread call)))
+  pub left : Leaves old.scans new.scans thread (if ends_scan call then None
+      else Some (drop count (scanned old thread call)))
   pub branches : new.branches ≡ old.branches
   pub room : new.room ≡ old.room

@@ -8,6 +8,7 @@ use Rattle.xa_xid.specs.declared.xid.Xid.{Xid}
 abbrev pub ScanList : Type 0
 ScanList = List (ℕ × List Xid)
 
+-- what each open scan has still to give, by thread
 abbrev pub left_of : List (ℕ × Vec Xid) → ScanList
 left_of es = map (λ e. (e.0, e.1.items)) es
 

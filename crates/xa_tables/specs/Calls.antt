@@ -1,4 +1,5 @@
--- The calls of the interface: which flags are legal at a verb, and which call they make (after C193, chapter 5).
+-- The calls of the interface: which flags are legal at a verb, and which call they make (after C193, chapter
+-- 5).
 use Rattle.std.specs.Prelude.{ℕ, ◌+◌, ◌-◌, ◌||◌, ◌==◌, nat_lt, if◌then◌else◌, Option, Some, None, Result, Ok, Err}
 use Rattle.xa_codes.specs.declared.code.Code.{Code}
 use Rattle.xa_codes.specs.declared.code.Code.TheVariants.{Async, Inval}
@@ -109,11 +110,13 @@ abbrev pub refused_async : Option Call → Result Call Code
 refused_async None = Err Inval
 refused_async (Some call) = Err Async
 
--- flags that make no call by themselves: TMASYNC is named where it stands beside legal flags, and recover does not take it
+-- flags that make no call by themselves: TMASYNC is named where it stands beside legal flags, and recover
+-- does not take it
 abbrev pub refused : Verb → ℕ → Result Call Code
 refused verb.Recover flags = Err Inval
 refused verb flags = if nat_lt flags async then Err Inval else refused_async (call_of verb (flags - async))
 
+-- a call, or the answer that refuses it
 abbrev pub call_or : Option Call → Result Call Code → Result Call Code
 call_or None refusal = refusal
 call_or (Some call) refusal = Ok call

@@ -58,7 +58,8 @@ heuristic = (code.HeurHaz, S5) ∷ (code.HeurCom, S5) ∷ (code.HeurRb, S5) ∷ 
 abbrev pub votes : List (Code × BranchState)
 votes =
     (code.Ok, S3) ∷ (code.RdOnly, S0) ∷ (code.RbRollback, S0) ∷ (code.RbCommFail, S0) ∷ (code.RbDeadlock, S0)
-    ∷ (code.RbIntegrity, S0) ∷ (code.RbOther, S0) ∷ (code.RbProto, S0) ∷ (code.RbTimeout, S0) ∷ (code.RbTransient, S0) ∷ []
+    ∷ (code.RbIntegrity, S0) ∷ (code.RbOther, S0) ∷ (code.RbProto, S0) ∷ (code.RbTimeout, S0)
+    ∷ (code.RbTransient, S0) ∷ []
 
 -- what is done to a branch
 abbrev pub branch_rows : BranchState → Call → List (Code × BranchState)

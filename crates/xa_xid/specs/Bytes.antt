@@ -9,13 +9,15 @@ use Rattle.xa_xid.specs.Xids.{XidParts, null_xid, xid_fault}
 -- the bytes of an XID: its format, high byte first, the lengths of gtrid and bqual, gtrid, bqual
 abbrev pub xid_bytes : XidParts → List ℕ
 xid_bytes x =
-    to_be_bytes w32 (cast_unsigned w32 x.format) ++ (length x.gtrid ∷ length x.bqual ∷ []) ++ x.gtrid ++ x.bqual
+    to_be_bytes w32 (cast_unsigned w32 x.format) ++ (length x.gtrid ∷ length x.bqual ∷ []) ++ x.gtrid
+    ++ x.bqual
 
 -- the format that four bytes spell
 abbrev pub format_of : List ℕ → ℤ
 format_of bytes = cast_signed w32 (from_be_bytes w32 bytes)
 
--- why no XID begins these bytes: fewer than six of them, the format, the lengths, or what is there of the rest
+-- why no XID begins these bytes: fewer than six of them, the format, the lengths, or what is there of the
+-- rest
 abbrev pub front_fault : List ℕ → Option XidError
 front_fault (a ∷ b ∷ c ∷ d ∷ gtrid ∷ bqual ∷ rest) =
     option_or (xid_fault (format_of (a ∷ b ∷ c ∷ d ∷ [])) gtrid bqual)
@@ -25,7 +27,11 @@ front_fault _ = Some Truncated
 -- the parts of the XID that begins these bytes
 abbrev pub front_parts : List ℕ → XidParts
 front_parts (a ∷ b ∷ c ∷ d ∷ gtrid ∷ bqual ∷ rest) =
-    record { format = format_of (a ∷ b ∷ c ∷ d ∷ []); gtrid = take gtrid rest; bqual = take bqual (drop gtrid rest) }
+    record {
+      format = format_of (a ∷ b ∷ c ∷ d ∷ []);
+      gtrid = take gtrid rest;
+      bqual = take bqual (drop gtrid rest);
+    }
 front_parts _ = null_xid
 
 -- why these bytes are no XID: no XID begins them, or there is more behind it

@@ -5,4 +5,5 @@ use Rattle.std.specs.List.{position_or_len, before_first, after_first}
 -- the parts before and after the first such byte
 abbrev pub cut_at : ℕ → List ℕ → Option (List ℕ × List ℕ)
 cut_at c bs =
-    if nat_lt (position_or_len (λ b. b == c) bs) (length bs) then Some (before_first (λ b. b == c) bs, after_first (λ b. b == c) bs) else None
+    if nat_lt (position_or_len (λ b. b == c) bs) (length bs)
+    then Some (before_first (λ b. b == c) bs, after_first (λ b. b == c) bs) else None

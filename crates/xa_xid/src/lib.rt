@@ -12,6 +12,3 @@ mod xid;
 
 pub use error::XidError;
 pub use xid::{Xid, equal_by_parts};
-
-#[cfg(test)]
-mod tests;

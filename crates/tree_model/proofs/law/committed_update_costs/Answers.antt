@@ -2,4 +2,4 @@ use Rattle.tree_model.proofs.CostLaws.{committed_update_costs}
 use Rattle.tree_model.proofs.law.committed_update_costs.Goals as goal
 
 pub returns : goal.returns
-returns c = λ s n. committed_update_costs s n
+returns c = λ s. committed_update_costs s

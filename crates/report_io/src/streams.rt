@@ -1,0 +1,86 @@
+//! Reads all there is, and writes a text and nothing else.
+
+ghost use Rattle.std.specs.Prelude.{◌≡◌, ◌≢◌, OnOk, IfOk, IfErr, IfSome};
+ghost use Rattle.std.specs.Io.KnownBytes.{Appends, Keeps};
+ghost use Rattle.report_io.specs.Streams.{WritesFront};
+
+use std::alloc::{AllocError, AllocFailed, Global};
+use std::io::{Read, Write};
+use thiserror::Error;
+
+/// Why a run could not go on.
+#[derive(Clone, Copy, Debug, PartialEq, Eq, Error)]
+pub enum Failure {
+    /// A read failed, or was the 2^30th. Nothing was written.
+    #[error("reading failed")]
+    Read,
+    /// Memory was refused. Nothing was written.
+    #[error("out of memory")]
+    Memory,
+    /// A write failed, or took no byte. What was written is a beginning of the text.
+    #[error("writing failed")]
+    Write,
+}
+
+impl From<AllocError> for Failure {
+    ghost use Rattle.report_io.specs.declared.streams.Failure.TheVariants.{Memory};
+    ghost use Rattle.std.specs.Prelude.{◌≡◌};
+
+    ghost from_gives = { λ _ e. e ≡ Memory };
+
+    fn from(_e: AllocError) -> Failure {
+        Failure::Memory
+    }
+}
+
+impl<T: Drop> From<AllocFailed<T>> for Failure {
+    ghost use Rattle.report_io.specs.declared.streams.Failure.TheVariants.{Memory};
+    ghost use Rattle.std.specs.Prelude.{◌≡◌};
+
+    ghost from_gives = { λ _ e. e ≡ Memory };
+
+    fn from(_e: AllocFailed<T>) -> Failure {
+        Failure::Memory
+    }
+}
+
+/// The read call that is taken for a failure.
+const READ_LIMIT: u32 = 1 << 30;
+
+/// Reads all there is.
+pub fn read_all<R: Read>(alloc: Global, reader: &mut R) -> Result<Vec<u8>, Failure>
+    ensures all { IfOk result (λ v. IfSome (R.remaining reader.old) (λ input. v.items ≡ input)) }
+    ensures err { IfErr result (λ e. e ≢ Failure.Write) }
+{
+    let mut bytes = Vec::new(alloc);
+    let mut buffer = [0u8; 4096];
+    for _ in 1..READ_LIMIT {
+        let Ok(count) = reader.read(&mut buffer) else {
+            return Err(Failure::Read);
+        };
+        if count == 0 {
+            return Ok(bytes);
+        }
+        bytes.extend_from_slice(&buffer[..count])?;
+    }
+    Err(Failure::Read)
+}
+
+/// Writes these bytes. After a failure a front of them was written.
+pub fn write_all<W: Write>(writer: &mut W, text: &[u8]) -> Result<(), Failure>
+    ensures ok { OnOk result (Appends (W.contents writer.old) (W.contents writer.new) text.now) }
+    ensures err { IfErr result (λ e. (e ≡ Failure.Write) × WritesFront (W.contents writer.old) (W.contents writer.new) text.now) }
+{
+    let mut at = 0;
+    while at < text.len() {
+        match writer.write(&text[at..]) {
+            Ok(0) => return Err(Failure::Write),
+            Ok(count) => at += count,
+            Err(_) => return Err(Failure::Write),
+        }
+    }
+    if writer.flush().is_err() {
+        return Err(Failure::Write);
+    }
+    Ok(())
+}

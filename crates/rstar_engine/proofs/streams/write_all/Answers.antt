@@ -1,8 +1,0 @@
-use Rattle.rstar_engine.proofs.Bytes.{appends_next, front_length}
-use Rattle.rstar_engine.proofs.streams.write_all.Goals as goal
-
-pub loop-at-preserved : goal.loop-at-preserved
-loop-at-preserved g c = (
-  front_length _ _ _ c.loop-at.invariant.0 c.in-Ok.ensures.bound,
-  appends_next _ _ _ _ _ _ c.loop-at.invariant.1 c.in-Ok.ensures.bytes,
-)

@@ -1,0 +1,125 @@
+-- What a tree script's run writes.
+use Rattle.std.specs.Prelude.{◌≡◌, ◌+◌, ◌<◌, ◌^◌, ℕ, Option, Some, None, List, [], ◌∷◌, ◌++◌, codes}
+use Rattle.std.specs.List.{flat_map}
+use Rattle.std.specs.Fmt.{decimal}
+use Rattle.tree_model.specs.declared.trees.TreeEntry.{TreeEntry}
+use Rattle.tree_model.specs.declared.events.Event.{Event}
+use Rattle.tree_model.specs.declared.events.StepError.{StepError}
+use Rattle.tree_model.specs.Errors.{step_error_number}
+use Rattle.tree_model.specs.Trees.{root_of, tree_error_number}
+use Rattle.link_script.specs.declared.stage.Stage.TheVariants.{Flat}
+use Rattle.link_script.specs.declared.script.ScriptFault.{ScriptFault}
+use Rattle.link_script.specs.declared.script.ScriptFault.TheVariants.{Utf8, TreeText, Tree, TooLong, Line}
+use Rattle.link_script.specs.Inputs.{IsScript, IsScriptFault}
+use Rattle.link_script.specs.Trace.{entries_text}
+use Rattle.tree_model.specs.World.{IsRun, Made, World, journal_of}
+use Rattle.flat_law.specs.FlatWorlds.{FlatState, IsOpened, Leads, LeadsUntil}
+use Rattle.flat_law.specs.Ties.{IsModelled}
+use Rattle.report_io.specs.declared.status.Status.{Status}
+use Rattle.report_io.specs.declared.status.Status.TheVariants.{Ended, Refused, Stopped}
+
+-- the line of a process that opened an empty log
+abbrev pub opening_text : ℕ → List ℕ
+opening_text process = (codes "log " ++ decimal process ++ codes " ") ++ (codes "Opened 1 forced" ++ 10 ∷ [])
+
+-- those of all processes, in the order of the tree
+abbrev pub opened_text : List TreeEntry → List ℕ
+opened_text tree = flat_map (λ e. opening_text e.id.0) tree
+
+-- the lines of a flat tree's run, up to where it has come
+abbrev pub trace_of : List TreeEntry → FlatState → List ℕ
+trace_of tree w = opened_text tree ++ entries_text 0 w.entries
+
+-- the last line of a run that was refused an event, by the event's number from 1 and the refusal's
+abbrev pub refused_text : ℕ → ℕ → List ℕ
+refused_text event refusal = codes "refused " ++ decimal event ++ codes " " ++ decimal refusal ++ 10 ∷ []
+
+-- how many events were made, and why the next was refused; or none was
+abbrev pub Refusal : Type 0
+Refusal = Option (ℕ × StepError)
+
+-- the refused event has a number that can be printed
+abbrev pub IsNumbered : Refusal → Type 0
+IsNumbered None = Unit {0}
+IsNumbered (Some refused) = refused.0 + 1 < 2 ^ 64
+
+-- these events led one state to another: all of them, or those before the refused one
+abbrev pub LeadsTo : FlatState → List Event → Refusal → FlatState → Type 0
+LeadsTo start events None end = Leads start events end
+LeadsTo start events (Some refused) end = LeadsUntil start events refused.0 refused.1 end
+
+-- a flat tree opened, and these events led it, up to the refused one, to a state that stands for a run of the model
+pub record Plays (tree : List TreeEntry) (events : List Event) (refusal : Refusal) (end : FlatState) : Type 0 where
+  pub start : FlatState
+  pub opens : IsOpened start (root_of tree) tree
+  pub leads : LeadsTo start events refusal end
+  pub modelled : IsModelled (root_of tree) tree end
+
+-- the last line
+abbrev pub last_line : Refusal → List ℕ
+last_line None = codes "end" ++ 10 ∷ []
+last_line (Some refused) = refused_text (refused.0 + 1) (step_error_number refused.1)
+
+-- how a run ends
+abbrev pub ending : Refusal → Status
+ending None = Ended
+ending (Some refused) = Stopped
+
+-- the text is the trace of a flat tree's run of these events
+pub record RunsOver (tree : List TreeEntry) (events : List Event) (status : Status) (text : List ℕ) : Type 0 where
+  pub refusal : Refusal
+  pub end : FlatState
+  pub plays : Plays tree events refusal end
+  pub status_is : status ≡ ending refusal
+  pub text_is : text ≡ trace_of tree end ++ last_line refusal
+
+-- the line of a refused script
+abbrev pub fault_text : ScriptFault → List ℕ
+fault_text TreeText = codes "error 1" ++ 10 ∷ []
+fault_text (Tree cause) = codes "error 2 " ++ decimal (tree_error_number cause) ++ 10 ∷ []
+fault_text (Line n) = codes "error 3 " ++ decimal n ++ 10 ∷ []
+fault_text Utf8 = codes "error 4" ++ 10 ∷ []
+fault_text TooLong = codes "error 5" ++ 10 ∷ []
+
+-- the text is that of a run of the script that the input is
+pub record RunsScript (status : Status) (input text : List ℕ) : Type 0 where
+  pub tree : List TreeEntry
+  pub events : List Event
+  pub script : IsScript Flat input tree events
+  pub runs : RunsOver tree events status text
+
+-- the text is the line of the fault that is there
+pub record RefusesScript (input text : List ℕ) : Type 0 where
+  pub fault : ScriptFault
+  pub there : IsScriptFault Flat input fault
+  pub line : text ≡ fault_text fault
+
+-- what is written of an input, by how the run ends
+abbrev pub IsTreeReport : Status → List ℕ → List ℕ → Type 0
+IsTreeReport Ended input text = RunsScript Ended input text
+IsTreeReport Stopped input text = RunsScript Stopped input text
+IsTreeReport Refused input text = RefusesScript input text
+
+-- what a run of the model shows: the lines of its processes' opening, and those of its steps
+abbrev pub shown_text : List TreeEntry → List Made → List ℕ
+shown_text tree moves = opened_text tree ++ entries_text 0 (journal_of moves)
+
+-- the text is all that a run of the model shows, on the tree that the input describes, and the last line; and this holds
+-- of the run
+pub record TellsRun (Holds : List TreeEntry → World → Type 0) (status : Status) (input text : List ℕ) : Type 0 where
+  pub tree : List TreeEntry
+  pub events : List Event
+  pub script : IsScript Flat input tree events
+  pub moves : List Made
+  pub world : World
+  pub is_run : IsRun tree moves world
+  pub holds : Holds tree world
+  pub refusal : Refusal
+  pub status_is : status ≡ ending refusal
+  pub text_is : text ≡ shown_text tree moves ++ last_line refusal
+
+-- where a script is not refused, its text tells such a run
+abbrev pub TellsWhere : (List TreeEntry → World → Type 0) → Status → List ℕ → List ℕ → Type 0
+TellsWhere Holds Ended input text = TellsRun Holds Ended input text
+TellsWhere Holds Stopped input text = TellsRun Holds Stopped input text
+TellsWhere Holds Refused input text = Unit {0}

@@ -1,0 +1,7 @@
+pub mod Reactions
+pub mod Runs
+pub mod Spelled
+pub mod Checks
+pub mod Reached
+pub mod Outcomes
+pub mod Histories

@@ -1,0 +1,370 @@
+-- What comes of a call on a branch of an open manager: it is refused, it works on an association, or it ends the branch.
+use Rattle.std.proofs.Common.{◌≡◌, ℕ, ◌-◌, ◌^◌, Bool, true, false, not, List, [], ◌∷◌, length, Option, Some, None, Result, Ok, Err, inl, inr, refl, ap, sym, subst, ◌∙◌, arith, rules}
+use Rattle.std.specs.Prelude.{◌⊎◌, ◌||◌, ◌==◌, is_some, unwrap_or, nat_le, nat_lt, Contains, if◌then◌else◌}
+use Rattle.std.specs.Map.{lookup}
+use Rattle.std.specs.Option.{option_map_or}
+use Rattle.xa_codes.specs.declared.code.Code.{Code}
+use Rattle.xa_codes.specs.declared.code.Code.TheVariants as code
+use Rattle.xa_tables.specs.Tables.{assoc_rows, branch_rows}
+use Rattle.xa_tables.specs.declared.call.Call.{Call}
+use Rattle.xa_tables.specs.declared.call.Call.TheVariants as call
+use Rattle.xa_tables.specs.declared.states.AssocState.{AssocState}
+use Rattle.xa_tables.specs.declared.states.BranchState.{BranchState}
+use Rattle.xa_tables.specs.declared.states.BranchState.TheVariants.{S0, S1, S2, S3, S4, S5}
+use Rattle.xa_xid.specs.declared.xid.Xid.{Xid}
+use Rattle.xa_assoc.specs.Names.{same}
+use Rattle.xa_assoc.specs.Associations.{AssocList, IsRowOf, Moves as AssocMoves, Row, active_of, end_plan, has_active, has_room, has_seat, is_active, moved_of, own_part, own_state, resume_plan, start_plan, suspend_plan}
+use Rattle.xa_branch.specs.Branches.{Moves as BranchMoves, is_known, off_row}
+use Rattle.xa_engine.specs.declared.manager.Manager.{Manager}
+use Rattle.xa_engine.specs.Manager.{ByState, Does, Finishes, Reacts, Refuses, Same, is_held, left_state, start_reaction, state_at}
+use Rattle.xa_engine.specs.Reacting.{by_state, end_call, left_by, resumed, suspend_call}
+use Rattle.xa_engine.specs.Histories.{first_of, has_rows, is_at_limit, is_out_of_state, is_refusal, is_work, naming_check, state_checks}
+use Rattle.xa_engine.proofs.Checks.{Agrees, IsWork, Seen, begins, checks_by, ends, joins, own_by, resumes, suspends}
+use Rattle.xa_engine.proofs.Reached.{IsReached, IsTarget, IsWorkOr, work_at}
+
+pub record Stands (old new : Manager) (t : ℕ) (x : Xid) (c : Call) (answer : Code) : Type 0 where
+  pub code : Code
+  pub first : first_of (state_checks old c t x) ≡ Some code
+  pub refuses : is_refusal code ≡ true
+  pub answers : answer ≡ code
+  pub same : Same old new
+
+pub record Works (old new : Manager) (t : ℕ) (x : Xid) (c : Call) (answer : Code) : Type 0 where
+  pub from : AssocState
+  pub to : AssocState
+  pub state : BranchState
+  pub first : first_of (state_checks old c t x) ≡ None
+  pub answers : is_refusal answer ≡ false
+  pub work : is_work c ≡ true
+  pub row : Contains (assoc_rows from c) (answer, to)
+  pub leaves : own_part from ≡ own_state old.associations t x
+  pub target : IsTarget state
+  pub association : AssocMoves old.associations new.associations t x from to
+  pub listed : Contains (branch_rows (state_at old x) c) (answer, state)
+  pub branch : BranchMoves old.branches new.branches x state
+  pub init : new.init ≡ old.init
+
+pub record Finished (old new : Manager) (t : ℕ) (x : Xid) (c : Call) (answer : Code) : Type 0 where
+  pub first : first_of (state_checks old c t x) ≡ None
+  pub answers : is_refusal answer ≡ false
+  pub work : is_work c ≡ false
+  pub listed : Contains (branch_rows (state_at old x) c) (answer, S0)
+  pub branch : BranchMoves old.branches new.branches x S0
+  pub associations : new.associations ≡ old.associations
+  pub init : new.init ≡ old.init
+
+abbrev pub Outcome : Manager → Manager → ℕ → Xid → Call → Code → Type 0
+Outcome old new t x c answer = Stands old new t x c answer ⊎ (Works old new t x c answer ⊎ Finished old new t x c answer)
+
+abbrev state_of : Manager → Xid → Option BranchState
+state_of m x = lookup (same x) m.branches.branches
+
+abbrev seen_by : Manager → ℕ → Xid → Option BranchState → Seen
+seen_by m t x o = record {
+  state = o;
+  busy = is_some (active_of m.associations t);
+  active = is_active m.associations t x;
+  seat = has_seat m.associations t x;
+  unmoved = moved_of m.associations x == 0;
+  migrates = m.associations.migrates;
+  spare = nat_lt (moved_of m.associations x) (2 ^ 64 - 1);
+  room = has_room m.associations t;
+  full = nat_le 1024 (length m.branches.branches);
+  held = is_held m.associations x;
+}
+
+active_by : (o : Option Xid) (x : Xid) → is_some o ≡ false → option_map_or (λ y. same y x) o false ≡ false
+active_by None x e = refl
+active_by (Some y) x e = absurd cc
+
+idle : (m : Manager) (t : ℕ) (x : Xid) → is_some (active_of m.associations t) ≡ false → is_active m.associations t x ≡ false
+idle m t x e = active_by (active_of m.associations t) x e
+
+stands : (old new : Manager) (t : ℕ) (x : Xid) (c : Call) (code answer : Code) → first_of (state_checks old c t x) ≡ Some code → is_refusal code ≡ true → Refuses old new answer code
+    → Outcome old new t x c answer
+stands old new t x c code answer first refuses h = inl (record { code = code; first = first; refuses = refuses; answers = h.0; same = h.1 })
+
+reacted : (old new : Manager) (t : ℕ) (x : Xid) (c : Call) (plan : Result Row Code) (to : BranchState) (answer : Code) (s : Seen)
+    → first_of (state_checks old c t x) ≡ first_of (checks_by s c) → own_by s.active s.seat ≡ own_state old.associations t x
+    → Agrees s c plan → IsRowOf c plan → is_work c ≡ true → IsTarget to → Reacts old new t x c plan to answer → Outcome old new t x c answer
+reacted old new t x c (Ok r) to answer s same own agrees rows work target w = inr (inl (record {
+  from = r.0;
+  to = r.2;
+  state = to;
+  first = same ∙ agrees.first;
+  answers = ap is_refusal w.answers ∙ agrees.answers;
+  work = work;
+  row = subst (λ (a : Code). Contains (assoc_rows r.0 c) (a, r.2)) (sym w.answers) rows;
+  leaves = agrees.leaves ∙ own;
+  target = target;
+  association = w.association;
+  listed = w.listed;
+  branch = w.branch;
+  init = w.init;
+}))
+reacted old new t x c (Err e) to answer s same own agrees rows work target w =
+    stands old new t x c e answer (same ∙ agrees.first) agrees.refuses w
+
+begin_row : (m : Manager) (t : ℕ) (x : Xid) → IsRowOf call.Start (start_reaction m t x)
+begin_row m t x = search rules
+
+join_row : (a : AssocList) (t : ℕ) (x : Xid) → IsRowOf call.StartJoin (start_plan a t x)
+join_row a t x = search rules
+
+resume_row : (a : AssocList) (t : ℕ) (x : Xid) (lost : Bool) → IsRowOf call.StartResume (resume_plan a t x lost)
+resume_row a t x lost = search rules
+
+suspend_row : (a : AssocList) (t : ℕ) (x : Xid) (lost migrate : Bool) → IsRowOf (suspend_call migrate) (suspend_plan a t x lost migrate)
+suspend_row a t x lost migrate = search rules
+
+end_row : (a : AssocList) (t : ℕ) (x : Xid) (lost succeeds : Bool) → IsRowOf (end_call succeeds) (end_plan a t x lost succeeds)
+end_row a t x lost succeeds = search rules
+
+left_target : (lost active : Bool) → IsTarget (left_by lost active)
+left_target true active = tt
+left_target false true = tt
+left_target false false = tt
+
+pub start_out : (old new : Manager) (t : ℕ) (x : Xid) (answer : Code) → Does old new call.Start t x answer → Outcome old new t x call.Start answer
+start_out old new t x answer h =
+    let s = seen_by old t x (state_of old x) in
+    reacted old new t x call.Start (start_reaction old t x) S1 answer s refl refl
+    (begins s.state s.busy s.active s.seat s.unmoved s.migrates s.spare s.room s.full s.held (idle old t x)) (begin_row old t x) refl tt h
+
+join_by : (old new : Manager) (t : ℕ) (x : Xid) (answer : Code) (o : Option BranchState) → state_of old x ≡ o → IsWorkOr o
+    → Reacts old new t x call.StartJoin (by_state (unwrap_or o S0) (start_plan old.associations t x) (Err code.Proto)) S1 answer → Outcome old new t x call.StartJoin answer
+join_by old new t x answer None is w h =
+    stands old new t x call.StartJoin code.NotA answer (ap (λ q. first_of (checks_by (seen_by old t x q) call.StartJoin)) is) refl h
+join_by old new t x answer (Some S4) is w h =
+    stands old new t x call.StartJoin code.Proto answer (ap (λ q. first_of (checks_by (seen_by old t x q) call.StartJoin)) is) refl h
+join_by old new t x answer (Some S1) is w h =
+    let s = seen_by old t x (Some S1) in
+    reacted old new t x call.StartJoin (start_plan old.associations t x) S1 answer s (ap (λ q. first_of (checks_by (seen_by old t x q) call.StartJoin)) is) refl
+    (joins S1 s.busy s.active s.seat s.unmoved s.migrates s.spare s.room s.full s.held tt (idle old t x)) (join_row old.associations t x) refl tt h
+join_by old new t x answer (Some S2) is w h =
+    let s = seen_by old t x (Some S2) in
+    reacted old new t x call.StartJoin (start_plan old.associations t x) S1 answer s (ap (λ q. first_of (checks_by (seen_by old t x q) call.StartJoin)) is) refl
+    (joins S2 s.busy s.active s.seat s.unmoved s.migrates s.spare s.room s.full s.held tt (idle old t x)) (join_row old.associations t x) refl tt h
+join_by old new t x answer (Some S0) is w h = absurd w
+join_by old new t x answer (Some S3) is w h = absurd w
+join_by old new t x answer (Some S5) is w h = absurd w
+
+pub join_out : (old new : Manager) (t : ℕ) (x : Xid) (answer : Code) → IsReached old → Does old new call.StartJoin t x answer → Outcome old new t x call.StartJoin answer
+join_out old new t x answer ok h = join_by old new t x answer (state_of old x) refl (work_at old.branches.branches x ok.states) h
+
+-- what a call does that works on a branch, or is lost with it
+abbrev OnWork : Manager → Manager → ℕ → Xid → Call → (Bool → Result Row Code) → (Bool → BranchState) → Code → Bool → Type 0
+OnWork old new t x c plan to answer lost = Reacts old new t x c (plan lost) (to lost) answer
+
+by_work : (old new : Manager) (t : ℕ) (x : Xid) (c : Call) (plan : Bool → Result Row Code) (to : Bool → BranchState) (answer : Code) (o : Option BranchState)
+    → ((q : Option BranchState) → state_of old x ≡ q → first_of (state_checks old c t x) ≡ first_of (checks_by (seen_by old t x q) c))
+    → state_of old x ≡ o → IsWorkOr o → first_of (checks_by (seen_by old t x None) c) ≡ Some code.NotA
+    → Agrees (seen_by old t x (Some S1)) c (plan false) → Agrees (seen_by old t x (Some S2)) c (plan false) → Agrees (seen_by old t x (Some S4)) c (plan true)
+    → ((lost : Bool) → IsRowOf c (plan lost)) → is_work c ≡ true → ((lost : Bool) → IsTarget (to lost))
+    → ByState (unwrap_or o S0) (Refuses old new answer code.NotA) (OnWork old new t x c plan to answer) (Refuses old new answer code.Proto)
+    → Outcome old new t x c answer
+by_work old new t x c plan to answer None at is w none one two four rows work target h =
+    stands old new t x c code.NotA answer (at None is ∙ none) refl h
+by_work old new t x c plan to answer (Some S1) at is w none one two four rows work target h =
+    reacted old new t x c (plan false) (to false) answer (seen_by old t x (Some S1)) (at (Some S1) is) refl one (rows false) work (target false) h
+by_work old new t x c plan to answer (Some S2) at is w none one two four rows work target h =
+    reacted old new t x c (plan false) (to false) answer (seen_by old t x (Some S2)) (at (Some S2) is) refl two (rows false) work (target false) h
+by_work old new t x c plan to answer (Some S4) at is w none one two four rows work target h =
+    reacted old new t x c (plan true) (to true) answer (seen_by old t x (Some S4)) (at (Some S4) is) refl four (rows true) work (target true) h
+by_work old new t x c plan to answer (Some S0) at is w none one two four rows work target h = absurd w
+by_work old new t x c plan to answer (Some S3) at is w none one two four rows work target h = absurd w
+by_work old new t x c plan to answer (Some S5) at is w none one two four rows work target h = absurd w
+
+resumed_target : (lost : Bool) → IsTarget (resumed lost)
+resumed_target true = tt
+resumed_target false = tt
+
+pub resume_out : (old new : Manager) (t : ℕ) (x : Xid) (answer : Code) → IsReached old → Does old new call.StartResume t x answer → Outcome old new t x call.StartResume answer
+resume_out old new t x answer ok h =
+    let s = seen_by old t x None in
+    by_work old new t x call.StartResume (λ lost. resume_plan old.associations t x lost) resumed answer (state_of old x)
+    (λ q is. ap (λ p. first_of (checks_by (seen_by old t x p) call.StartResume)) is) refl (work_at old.branches.branches x ok.states) refl
+    (resumes false S1 tt s.busy s.active s.seat s.unmoved s.migrates s.spare s.room s.full s.held (idle old t x))
+    (resumes false S2 tt s.busy s.active s.seat s.unmoved s.migrates s.spare s.room s.full s.held (idle old t x))
+    (resumes true S4 tt s.busy s.active s.seat s.unmoved s.migrates s.spare s.room s.full s.held (idle old t x))
+    (resume_row old.associations t x) refl resumed_target h
+
+pub suspend_out : (old new : Manager) (t : ℕ) (x : Xid) (answer : Code) → IsReached old → Does old new call.EndSuspend t x answer → Outcome old new t x call.EndSuspend answer
+suspend_out old new t x answer ok h =
+    let s = seen_by old t x None in
+    by_work old new t x call.EndSuspend (λ lost. suspend_plan old.associations t x lost false) (λ lost. left_state new x lost) answer (state_of old x)
+    (λ q is. ap (λ p. first_of (checks_by (seen_by old t x p) call.EndSuspend)) is) refl (work_at old.branches.branches x ok.states) refl
+    (suspends false false S1 tt s.busy s.active s.seat s.unmoved s.migrates s.spare s.room s.full s.held)
+    (suspends false false S2 tt s.busy s.active s.seat s.unmoved s.migrates s.spare s.room s.full s.held)
+    (suspends true false S4 tt s.busy s.active s.seat s.unmoved s.migrates s.spare s.room s.full s.held)
+    (λ lost. suspend_row old.associations t x lost false) refl (λ lost. left_target lost (has_active new.associations x)) h
+
+pub migrate_out : (old new : Manager) (t : ℕ) (x : Xid) (answer : Code) → IsReached old → Does old new call.EndMigrate t x answer → Outcome old new t x call.EndMigrate answer
+migrate_out old new t x answer ok h =
+    let s = seen_by old t x None in
+    by_work old new t x call.EndMigrate (λ lost. suspend_plan old.associations t x lost true) (λ lost. left_state new x lost) answer (state_of old x)
+    (λ q is. ap (λ p. first_of (checks_by (seen_by old t x p) call.EndMigrate)) is) refl (work_at old.branches.branches x ok.states) refl
+    (suspends false true S1 tt s.busy s.active s.seat s.unmoved s.migrates s.spare s.room s.full s.held)
+    (suspends false true S2 tt s.busy s.active s.seat s.unmoved s.migrates s.spare s.room s.full s.held)
+    (suspends true true S4 tt s.busy s.active s.seat s.unmoved s.migrates s.spare s.room s.full s.held)
+    (λ lost. suspend_row old.associations t x lost true) refl (λ lost. left_target lost (has_active new.associations x)) h
+
+pub success_out : (old new : Manager) (t : ℕ) (x : Xid) (answer : Code) → IsReached old → Does old new call.EndSuccess t x answer → Outcome old new t x call.EndSuccess answer
+success_out old new t x answer ok h =
+    let s = seen_by old t x None in
+    by_work old new t x call.EndSuccess (λ lost. end_plan old.associations t x lost true) (λ lost. left_state new x (lost || false)) answer (state_of old x)
+    (λ q is. ap (λ p. first_of (checks_by (seen_by old t x p) call.EndSuccess)) is) refl (work_at old.branches.branches x ok.states) refl
+    (ends false true S1 tt s.busy s.active s.seat s.unmoved s.migrates s.spare s.room s.full s.held)
+    (ends false true S2 tt s.busy s.active s.seat s.unmoved s.migrates s.spare s.room s.full s.held)
+    (ends true true S4 tt s.busy s.active s.seat s.unmoved s.migrates s.spare s.room s.full s.held)
+    (λ lost. end_row old.associations t x lost true) refl (λ lost. left_target (lost || false) (has_active new.associations x)) h
+
+pub fail_out : (old new : Manager) (t : ℕ) (x : Xid) (answer : Code) → IsReached old → Does old new call.EndFail t x answer → Outcome old new t x call.EndFail answer
+fail_out old new t x answer ok h =
+    let s = seen_by old t x None in
+    by_work old new t x call.EndFail (λ lost. end_plan old.associations t x lost false) (λ lost. left_state new x (lost || true)) answer (state_of old x)
+    (λ q is. ap (λ p. first_of (checks_by (seen_by old t x p) call.EndFail)) is) refl (work_at old.branches.branches x ok.states) refl
+    (ends false false S1 tt s.busy s.active s.seat s.unmoved s.migrates s.spare s.room s.full s.held)
+    (ends false false S2 tt s.busy s.active s.seat s.unmoved s.migrates s.spare s.room s.full s.held)
+    (ends true false S4 tt s.busy s.active s.seat s.unmoved s.migrates s.spare s.room s.full s.held)
+    (λ lost. end_row old.associations t x lost false) refl (λ lost. left_target (lost || true) (has_active new.associations x)) h
+
+-- A prepare, commit, rollback or forget.
+
+abbrev plain_first : Bool → Bool → Option Code
+plain_first known out = if not known then Some code.NotA else if out then Some code.Proto else None
+
+plain_is : (known out : Bool) → first_of ((not known, code.NotA) ∷ (out, code.Proto) ∷ (false, code.RmErr) ∷ []) ≡ plain_first known out
+plain_is true true = refl
+plain_is true false = refl
+plain_is false out = refl
+
+plain_checks : (m : Manager) (c : Call) (t : ℕ) (x : Xid) (known out : Bool) → is_work c ≡ false
+    → first_of (naming_check c known ∷ (out, code.Proto) ∷ (is_at_limit m c t x, code.RmErr) ∷ []) ≡ plain_first known out
+plain_checks m call.Start t x known out w = absurd cc
+plain_checks m call.StartJoin t x known out w = absurd cc
+plain_checks m call.StartResume t x known out w = absurd cc
+plain_checks m call.EndSuspend t x known out w = absurd cc
+plain_checks m call.EndMigrate t x known out w = absurd cc
+plain_checks m call.EndSuccess t x known out w = absurd cc
+plain_checks m call.EndFail t x known out w = absurd cc
+plain_checks m call.Open t x known out w = plain_is known out
+plain_checks m call.Close t x known out w = plain_is known out
+plain_checks m call.Prepare t x known out w = plain_is known out
+plain_checks m call.Commit t x known out w = plain_is known out
+plain_checks m call.CommitOnePhase t x known out w = plain_is known out
+plain_checks m call.Rollback t x known out w = plain_is known out
+plain_checks m call.Forget t x known out w = plain_is known out
+plain_checks m call.Recover t x known out w = plain_is known out
+plain_checks m call.RecoverStart t x known out w = plain_is known out
+plain_checks m call.RecoverEnd t x known out w = plain_is known out
+plain_checks m call.RecoverWhole t x known out w = plain_is known out
+
+-- a branch in S1, S2 or S4 has no row for the call, or the one that ends it by this answer
+abbrev EndsOrNot : BranchState → Call → Code → Type 0
+EndsOrNot s c wanted = (branch_rows s c ≡ []) ⊎ (Contains (branch_rows s c) (wanted, S0) × (has_rows (branch_rows s c) ≡ true))
+
+or_true : (b : Bool) → (b || true) ≡ true
+or_true true = refl
+or_true false = refl
+
+out_is : (m : Manager) (c : Call) (t : ℕ) (x : Xid) → is_work c ≡ false → is_out_of_state m c t x ≡ (not (has_rows (branch_rows (state_at m x) c)) || is_held m.associations x)
+out_is m c t x w = rw w refl
+
+no_rows : (s : BranchState) (c : Call) (row : Code × BranchState) → branch_rows s c ≡ [] → Contains (branch_rows s c) row → ⊥
+no_rows s c row e h = let k : Contains [] row = subst (λ (rows : List (Code × BranchState)). Contains rows row) e h in absurd (let lt = k.1 in omega arith)
+
+finish_known : (old new : Manager) (t : ℕ) (x : Xid) (c : Call) (wanted answer : Code) (held : Bool) → is_work c ≡ false → is_known old.branches.branches x ≡ true → is_held old.associations x ≡ held
+    → is_refusal wanted ≡ false → off_row c ≡ code.Proto → EndsOrNot (state_at old x) c wanted → Finishes old new x c wanted answer → Outcome old new t x c answer
+finish_known old new t x c wanted answer true w known is answers off rows f =
+    let out = out_is old c t x w ∙ ap (λ b. not (has_rows (branch_rows (state_at old x) c)) || b) is ∙ or_true (not (has_rows (branch_rows (state_at old x) c))) in
+    stands old new t x c code.Proto answer
+    (plain_checks old c t x (is_known old.branches.branches x) (is_out_of_state old c t x) w ∙ ap (λ k. plain_first k (is_out_of_state old c t x)) known ∙ ap (λ b. plain_first true b) out)
+    refl (f.held known is)
+finish_known old new t x c wanted answer false w known is answers off (inl empty) f =
+    let out = out_is old c t x w ∙ ap (λ rows. not (has_rows rows) || is_held old.associations x) empty in
+    let refused = f.off known is (no_rows (state_at old x) c (wanted, S0) empty) in
+    stands old new t x c code.Proto answer
+    (plain_checks old c t x (is_known old.branches.branches x) (is_out_of_state old c t x) w ∙ ap (λ k. plain_first k (is_out_of_state old c t x)) known ∙ ap (λ b. plain_first true b) out)
+    refl (refused.0 ∙ off, refused.1)
+finish_known old new t x c wanted answer false w known is answers off (inr has) f =
+    let out = out_is old c t x w ∙ ap (λ b. not b || is_held old.associations x) has.1 ∙ is in
+    let made = f.row known is has.0 in
+    inr (inr (record {
+      first = plain_checks old c t x (is_known old.branches.branches x) (is_out_of_state old c t x) w ∙ ap (λ k. plain_first k (is_out_of_state old c t x)) known ∙ ap (λ b. plain_first true b) out;
+      answers = ap is_refusal made.0 ∙ answers;
+      work = w;
+      listed = subst (λ (a : Code). Contains (branch_rows (state_at old x) c) (a, S0)) (sym made.0) has.0;
+      branch = made.1;
+      associations = made.2;
+      init = made.3;
+    }))
+
+finish_by : (old new : Manager) (t : ℕ) (x : Xid) (c : Call) (wanted answer : Code) (o : Option BranchState) → state_of old x ≡ o → IsWorkOr o → is_work c ≡ false
+    → is_refusal wanted ≡ false → off_row c ≡ code.Proto → ((s : BranchState) → IsWork s → EndsOrNot s c wanted) → Finishes old new x c wanted answer → Outcome old new t x c answer
+finish_by old new t x c wanted answer None is work w answers off rows f =
+    stands old new t x c code.NotA answer
+    (plain_checks old c t x (is_known old.branches.branches x) (is_out_of_state old c t x) w ∙ ap (λ o. plain_first (is_some o) (is_out_of_state old c t x)) is)
+    refl (f.unknown (ap is_some is))
+finish_by old new t x c wanted answer (Some s) is work w answers off rows f =
+    let at : state_at old x ≡ s = ap (λ o. unwrap_or o S0) is in
+    finish_known old new t x c wanted answer (is_held old.associations x) w (ap is_some is) refl answers off
+    (subst (λ (q : BranchState). EndsOrNot q c wanted) (sym at) (rows s work)) f
+
+pub finish_out : (old new : Manager) (t : ℕ) (x : Xid) (c : Call) (wanted answer : Code) → IsReached old → is_work c ≡ false
+    → is_refusal wanted ≡ false → off_row c ≡ code.Proto → ((s : BranchState) → IsWork s → EndsOrNot s c wanted) → Finishes old new x c wanted answer → Outcome old new t x c answer
+finish_out old new t x c wanted answer ok w answers off rows f =
+    finish_by old new t x c wanted answer (state_of old x) refl (work_at old.branches.branches x ok.states) w answers off rows f
+
+none_at : (c : Call) (wanted : Code) → branch_rows S1 c ≡ [] → branch_rows S2 c ≡ [] → branch_rows S4 c ≡ [] → (s : BranchState) → IsWork s → EndsOrNot s c wanted
+none_at c wanted one two four S1 h = inl one
+none_at c wanted one two four S2 h = inl two
+none_at c wanted one two four S4 h = inl four
+none_at c wanted one two four S0 h = absurd h
+none_at c wanted one two four S3 h = absurd h
+none_at c wanted one two four S5 h = absurd h
+
+prepared : (s : BranchState) → IsWork s → EndsOrNot s call.Prepare code.RdOnly
+prepared S1 h = inl refl
+prepared S2 h = inr ((1, omega arith, refl), refl)
+prepared S4 h = inl refl
+prepared S0 h = absurd h
+prepared S3 h = absurd h
+prepared S5 h = absurd h
+
+one_phase : (s : BranchState) → IsWork s → EndsOrNot s call.CommitOnePhase code.Ok
+one_phase S1 h = inl refl
+one_phase S2 h = inr ((0, omega arith, refl), refl)
+one_phase S4 h = inl refl
+one_phase S0 h = absurd h
+one_phase S3 h = absurd h
+one_phase S5 h = absurd h
+
+rolled_back : (s : BranchState) → IsWork s → EndsOrNot s call.Rollback code.Ok
+rolled_back S1 h = inl refl
+rolled_back S2 h = inr ((0, omega arith, refl), refl)
+rolled_back S4 h = inr ((0, omega arith, refl), refl)
+rolled_back S0 h = absurd h
+rolled_back S3 h = absurd h
+rolled_back S5 h = absurd h
+
+-- what comes of any call
+pub comes : (old new : Manager) (c : Call) (t : ℕ) (x : Xid) (answer : Code) → IsReached old → Does old new c t x answer → Outcome old new t x c answer
+comes old new call.Start t x answer ok h = start_out old new t x answer h
+comes old new call.StartJoin t x answer ok h = join_out old new t x answer ok h
+comes old new call.StartResume t x answer ok h = resume_out old new t x answer ok h
+comes old new call.EndSuspend t x answer ok h = suspend_out old new t x answer ok h
+comes old new call.EndMigrate t x answer ok h = migrate_out old new t x answer ok h
+comes old new call.EndSuccess t x answer ok h = success_out old new t x answer ok h
+comes old new call.EndFail t x answer ok h = fail_out old new t x answer ok h
+comes old new call.Prepare t x answer ok h = finish_out old new t x call.Prepare code.RdOnly answer ok refl refl refl prepared h
+comes old new call.CommitOnePhase t x answer ok h = finish_out old new t x call.CommitOnePhase code.Ok answer ok refl refl refl one_phase h
+comes old new call.Rollback t x answer ok h = finish_out old new t x call.Rollback code.Ok answer ok refl refl refl rolled_back h
+comes old new call.Open t x answer ok h = finish_out old new t x call.Open code.Ok answer ok refl refl refl (none_at call.Open code.Ok refl refl refl) h
+comes old new call.Close t x answer ok h = finish_out old new t x call.Close code.Ok answer ok refl refl refl (none_at call.Close code.Ok refl refl refl) h
+comes old new call.Commit t x answer ok h = finish_out old new t x call.Commit code.Ok answer ok refl refl refl (none_at call.Commit code.Ok refl refl refl) h
+comes old new call.Forget t x answer ok h = finish_out old new t x call.Forget code.Ok answer ok refl refl refl (none_at call.Forget code.Ok refl refl refl) h
+comes old new call.Recover t x answer ok h = finish_out old new t x call.Recover code.Ok answer ok refl refl refl (none_at call.Recover code.Ok refl refl refl) h
+comes old new call.RecoverStart t x answer ok h = finish_out old new t x call.RecoverStart code.Ok answer ok refl refl refl (none_at call.RecoverStart code.Ok refl refl refl) h
+comes old new call.RecoverEnd t x answer ok h = finish_out old new t x call.RecoverEnd code.Ok answer ok refl refl refl (none_at call.RecoverEnd code.Ok refl refl refl) h
+comes old new call.RecoverWhole t x answer ok h = finish_out old new t x call.RecoverWhole code.Ok answer ok refl refl refl (none_at call.RecoverWhole code.Ok refl refl refl) h

@@ -1,0 +1,5 @@
+pub mod Reacting
+pub mod Manager
+pub mod Requests
+pub mod Runs
+pub mod Histories
