@@ -1,5 +1,8 @@
 -- What lasts at a process lasts through each of its steps.
-use Rattle.std.proofs.Common.{◌≡◌, ◌∙◌, ℕ, zero, suc, true, false, List, [], ◌∷◌, ◌++◌, take, refl, ap, arith}
+use Rattle.tree_model.specs.declared.names.ProcessId.{ProcessId}
+use Rattle.tree_model.specs.declared.messages.Envelope.{Envelope}
+use Rattle.tree_model.specs.declared.events.Input.{Input}
+use Rattle.std.proofs.Common.{◌≡◌, ◌∙◌, ℕ, zero, suc, true, false, List, [], ◌∷◌, ◌++◌, take, refl, ap, arith, Option, Some, None}
 use Rattle.std.specs.Prelude.{reverse}
 use Rattle.tree_model.specs.declared.names.Case.{Case}
 use Rattle.tree_model.specs.declared.names.Outcome.{Outcome}
@@ -11,7 +14,7 @@ use Rattle.tree_model.specs.Nodes.{Role, AtRoot, Below, AtLeaf, Place, Node, Hea
 use Rattle.tree_model.specs.Standings.{Unmarked}
 use Rattle.tree_model.specs.Restarts.{reopens, trim_fails}
 use Rattle.tree_model.specs.World.{Move}
-use Rattle.tree_turns.specs.Written.{is_coordinators, AtMostOne, wrote_none, wrote_one, Writes, writes_nothing, by_commit, by_abort, for_child, for_parent}
+use Rattle.tree_turns.specs.Written.{is_coordinators, AtMostOne, wrote_none, wrote_one, Writes, writes_nothing, for_act, for_child, for_parent, presumes, gives}
 use Rattle.tree_turns.specs.Steps.{StepOf, heard_in, handled, failed_in, passed, failed_passing, reopened, failed_reopening, trimmed as trims_log, failed_trimming, TurnAt, TurnOf}
 use Rattle.tree_turns.proofs.Steps.{turn_of}
 use Rattle.tree_turns.proofs.Operators.{reopens_none}
@@ -36,19 +39,20 @@ unfolding has
 one_fine c _ wrote_none = refl
 one_fine c _ (wrote_one r b of kind) = neither _ _ (coordinators_own r kind) refl
 
-writes_fine : (place : Place) (n : Node) (h : Heard) (ws : List Written) → Writes place n h.input ws
-    → has is_managers (entries_written ws) ≡ false
-writes_fine place n h ws (writes_nothing e) = ap (λ x. has is_managers (entries_written x)) e ∙ has-nil is_managers
-writes_fine place n h ws (by_commit x e one) = one_fine _ ws one
-writes_fine place n h ws (by_abort x e one) = one_fine _ ws one
-writes_fine place n h ws (for_child c x t e one) = one_fine c ws one
-writes_fine place n h ws (for_parent c k m e f one) = one_fine c ws one
+writes_fine : (place : Place) (parent : Option ProcessId) (n : Node) (i : Input) (ws : List Written) (ls : List Envelope)
+    → Writes place parent n i ws ls → has is_managers (entries_written ws) ≡ false
+writes_fine place parent n i ws ls (writes_nothing e f) = ap (λ x. has is_managers (entries_written x)) e ∙ has-nil is_managers
+writes_fine place parent n i ws ls (for_act a c e f one sent) = one_fine c ws one
+writes_fine place parent n i ws ls (for_child c x t e one sent) = one_fine c ws one
+writes_fine place parent n i ws ls (for_parent c k m e f one sent) = one_fine c ws one
+writes_fine place parent n i ws ls (presumes x t o e f) = ap (λ y. has is_managers (entries_written y)) e ∙ has-nil is_managers
+writes_fine place parent n i ws ls (gives p d t e f) = ap (λ x. has is_managers (entries_written x)) e ∙ has-nil is_managers
 
 fine_at : (role : Role) (place : Place) (n : Node) (h : Heard) (e : Effect) → RoleLasts role (logs_of n) → TurnAt role place n h e
     → FineAt role (logs_of n) e.written
 fine_at (AtLeaf p) place n h e l t = leaf_fine place p n h l e t
-fine_at AtRoot place n h e l t = writes_fine place n h e.written t
-fine_at (Below p) place n h e l t = writes_fine place n h e.written t
+fine_at AtRoot place n h e l t = writes_fine place None n h.input e.written e.messages t
+fine_at (Below p) place n h e l t = writes_fine place (Some p) n h.input e.written e.messages t
 
 -- The kinds of step.
 

@@ -5,3 +5,9 @@ pub mod Appends
 pub mod Managers
 pub mod Lasting
 pub mod Worlds
+pub mod Memories
+pub mod Cases
+pub mod Owning
+pub mod Addresses
+pub mod Promises
+pub mod Yesses

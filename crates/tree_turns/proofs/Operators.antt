@@ -1,5 +1,5 @@
 -- Operators' records are written for operators alone.
-use Rattle.std.proofs.Common.{◌≡◌, ◌||◌, ◌⊎◌, inl, inr, ℕ, zero, suc, Bool, true, false, List, [], ◌∷◌, ◌++◌, take, refl, ap, ◌∙◌, arith}
+use Rattle.std.proofs.Common.{◌≡◌, ◌||◌, ◌⊎◌, inl, inr, ℕ, zero, suc, Bool, true, false, Option, Some, None, List, [], ◌∷◌, ◌++◌, take, refl, ap, ◌∙◌, arith}
 use Rattle.std.specs.List.{list_any, flat_map}
 use Rattle.std.proofs.lemmas.List.Folds.{list_any-append}
 use Rattle.tree_model.specs.declared.names.Case.{Case}
@@ -7,6 +7,7 @@ use Rattle.tree_model.specs.declared.names.ProcessId.{ProcessId}
 use Rattle.tree_model.specs.declared.names.Ticket.{Ticket}
 use Rattle.tree_model.specs.declared.names.Outcome.{Outcome}
 use Rattle.tree_model.specs.declared.names.Outcome.TheVariants.{Committed as CommittedOutcome, Aborted as AbortedOutcome}
+use Rattle.tree_model.specs.declared.messages.Envelope.{Envelope}
 use Rattle.tree_model.specs.declared.records.Record.{Record}
 use Rattle.tree_model.specs.declared.records.Record.TheVariants.{Opened, Abort as AbortRecord}
 use Rattle.tree_model.specs.declared.standings.Standing.{Standing}
@@ -26,7 +27,7 @@ use Rattle.tree_model.specs.Restarts.{forced_all, reopens, aborts_collecting, re
 use Rattle.tree_model.specs.World.{World, Move, Made, IsRun, opens, makes}
 use Rattle.tree_model.proofs.RunLaws.{makes_at}
 use Rattle.tree_turns.specs.LeafTurns.{LeafTurn, does_nothing, gives_again, gives_fresh, votes_yes, votes_read, votes_no, repeats_yes, refuses, obeys, notes, acknowledges_told, acknowledges, drops, asks, decides, forgets}
-use Rattle.tree_turns.specs.Written.{is_coordinators, AtMostOne, wrote_none, wrote_one, Writes, writes_nothing, by_commit, by_abort, for_child, for_parent}
+use Rattle.tree_turns.specs.Written.{is_coordinators, AtMostOne, wrote_none, wrote_one, Writes, writes_nothing, for_act, for_child, for_parent, presumes, gives}
 use Rattle.tree_turns.specs.Steps.{StepOf, heard_in, handled, failed_in, passed, failed_passing, reopened, failed_reopening, trimmed, failed_trimming, TurnAt}
 use Rattle.tree_turns.proofs.Steps.{step_of, turn_of}
 
@@ -114,17 +115,19 @@ module _ (q : Record → Bool) (i : Input) (own : OperatorsOwn q i) where
   at_most_one c _ wrote_none = refl
   at_most_one c _ (wrote_one r b of kind) = rw (own.coordinators r kind) refl
 
-  wrote : (place : Place) (n : Node) (j : Input) (ws : List Written) → Writes place n j ws → any_written q ws ≡ false
-  wrote place n j ws (writes_nothing e) = rw e refl
-  wrote place n j ws (by_commit x e one) = at_most_one _ ws one
-  wrote place n j ws (by_abort x e one) = at_most_one _ ws one
-  wrote place n j ws (for_child c x t e one) = at_most_one c ws one
-  wrote place n j ws (for_parent c k m e f one) = at_most_one c ws one
+  wrote : (place : Place) (parent : Option ProcessId) (n : Node) (j : Input) (ws : List Written) (ls : List Envelope)
+      → Writes place parent n j ws ls → any_written q ws ≡ false
+  wrote place parent n j ws ls (writes_nothing e f) = rw e refl
+  wrote place parent n j ws ls (for_act a c e f one sent) = at_most_one c ws one
+  wrote place parent n j ws ls (for_child c x t e one sent) = at_most_one c ws one
+  wrote place parent n j ws ls (for_parent c k m e f one sent) = at_most_one c ws one
+  wrote place parent n j ws ls (presumes x t o e f) = rw e refl
+  wrote place parent n j ws ls (gives p d t e f) = rw e refl
 
   by_role : (role : Role) (place : Place) (n : Node) (h : Heard) (e : Effect) → TurnAt role place n h e
       → any_written q e.written ≡ true → h.input ≡ i
-  by_role AtRoot place n h e t f = absurd (let g = wrote place n h.input e.written t in cc)
-  by_role (Below p) place n h e t f = absurd (let g = wrote place n h.input e.written t in cc)
+  by_role AtRoot place n h e t f = absurd (let g = wrote place None n h.input e.written e.messages t in cc)
+  by_role (Below p) place n h e t f = absurd (let g = wrote place (Some p) n h.input e.written e.messages t in cc)
   by_role (AtLeaf p) place n h e t f = own.leaf place p n h e t f
 
   pub by_step : (place : Place) (n : Node) (m : Move) (e : Effect) (k : Node) → StepOf place n m e k

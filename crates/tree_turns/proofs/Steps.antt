@@ -13,6 +13,7 @@ use Rattle.tree_model.specs.Nodes.{Role, AtRoot, Below, AtLeaf, Place, Node, Hea
 use Rattle.tree_model.specs.Reactions.{Reacts, Refused, PassesOver, Does, reacts, handles, acts, hears, takes, act_is_listed, is_early_ack}
 use Rattle.tree_model.specs.World.{Move, Stepped, Refuses, Makes, input_makes, restart_makes, trim_makes, happening_makes, node_makes}
 use Rattle.tree_turns.specs.Steps.{StepOf, heard_in, handled, failed_in, passed, failed_passing, reopened, failed_reopening, trimmed, failed_trimming, TurnAt, TurnOf}
+use Rattle.tree_turns.specs.Written.{Writes}
 use Rattle.tree_turns.proofs.LeafInputs.{TurnsBy, act_turn, message_turn}
 use Rattle.tree_turns.proofs.CoordinatorInputs.{WritesBy, act_writes, child_writes, cascaded_writes}
 
@@ -73,28 +74,29 @@ module _ (place : Place) (n : Node) (h : Heard) where
   does_leaf : (p : ProcessId) (r : Reacts) → TurnsBy place p n h r → (e : Effect) → r ≡ Does e → TurnAt (AtLeaf p) place n h e
   does_leaf p r t e same = subst (λ (x : Reacts). TurnsBy place p n h x) same t
 
-  does_writes : (r : Reacts) → WritesBy place n h.input r → (e : Effect) → r ≡ Does e → TurnAt AtRoot place n h e
-  does_writes r t e same = subst (λ (x : Reacts). WritesBy place n h.input x) same t
+  does_writes : (parent : Option ProcessId) (r : Reacts) → WritesBy place parent n h.input r → (e : Effect) → r ≡ Does e
+      → Writes place parent n h.input e.written e.messages
+  does_writes parent r t e same = subst (λ (x : Reacts). WritesBy place parent n h.input x) same t
 
   act_at : (a : Act) → h.input ≡ ActInput a → (role : Role) (e : Effect) → acts role place n a ≡ Does e → TurnAt role place n h e
-  act_at a i AtRoot e same =
-      does_writes _ (subst (λ (x : Input). WritesBy place n x (acts AtRoot place n a)) (sym i) (act_writes place None n a)) e same
-  act_at a i (Below p) e same =
-      does_writes _ (subst (λ (x : Input). WritesBy place n x (acts (Below p) place n a)) (sym i) (act_writes place (Some p) n a)) e same
+  act_at a i AtRoot e same = does_writes None _
+      (subst (λ (x : Input). WritesBy place None n x (acts AtRoot place n a)) (sym i) (act_writes place None n a)) e same
+  act_at a i (Below p) e same = does_writes (Some p) _
+      (subst (λ (x : Input). WritesBy place (Some p) n x (acts (Below p) place n a)) (sym i) (act_writes place (Some p) n a)) e same
   act_at a i (AtLeaf p) e same = does_leaf p _ (act_turn place p n h a i) e same
 
   early : (p : ProcessId) (j : ℕ) (m : Message) → h.input ≡ MessageInput j m → (b : Bool)
-      → WritesBy place n h.input (if b then PassesOver else Does (hears (Below p) place n h.data_answer m))
+      → WritesBy place (Some p) n h.input (if b then PassesOver else Does (hears (Below p) place n h.data_answer m))
   early p j m i true = tt
   early p j m i false =
-      subst (λ (x : Input). WritesBy place n x (Does (hears (Below p) place n h.data_answer m))) (sym i)
+      subst (λ (x : Input). WritesBy place (Some p) n x (Does (hears (Below p) place n h.data_answer m))) (sym i)
       (cascaded_writes place p n j m)
 
   message_at : (j : ℕ) (m : Message) → h.input ≡ MessageInput j m → (role : Role) (e : Effect)
       → takes role place n h.data_answer m ≡ Does e → TurnAt role place n h e
-  message_at j m i AtRoot e same =
-      does_writes _ (subst (λ (x : Input). WritesBy place n x (takes AtRoot place n h.data_answer m)) (sym i) (child_writes place None n j m)) e same
-  message_at j m i (Below p) e same = does_writes _ (early p j m i (is_early_ack place n m)) e same
+  message_at j m i AtRoot e same = does_writes None _
+      (subst (λ (x : Input). WritesBy place None n x (takes AtRoot place n h.data_answer m)) (sym i) (child_writes place None n j m)) e same
+  message_at j m i (Below p) e same = does_writes (Some p) _ (early p j m i (is_early_ack place n m)) e same
   message_at j m i (AtLeaf p) e same = does_leaf p _ (message_turn place p n h j m i) e same
 
   act_up : (a : Act) → h.input ≡ ActInput a → (b : Bool) → n.failed ≡ b → A (if b then Refused Failed else acts place.role place n a)

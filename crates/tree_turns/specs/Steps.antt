@@ -1,9 +1,9 @@
 -- A step of one process: what it was, and what it left.
-use Rattle.std.specs.Prelude.{◌≡◌, ℕ, true, false}
+use Rattle.std.specs.Prelude.{◌≡◌, ℕ, true, false, None, Some}
 use Rattle.tree_model.specs.declared.events.Fault.{Fault}
 use Rattle.tree_model.specs.declared.events.Input.{Input}
 use Rattle.tree_model.specs.declared.events.Happening.TheVariants.{Input as Handles, Restart, Trim}
-use Rattle.tree_model.specs.Nodes.{Role, AtLeaf, Place, Node, Heard, Effect, no_effect, after, fails_in}
+use Rattle.tree_model.specs.Nodes.{Role, AtLeaf, Place, Node, Heard, Effect, no_effect, after, fails_in, AtRoot, Below}
 use Rattle.tree_model.specs.Reactions.{reacts, Does, PassesOver}
 use Rattle.tree_model.specs.Restarts.{restart_effect, restarted, restart_fails, trim_effect, trims, trim_fails}
 use Rattle.tree_model.specs.World.{Move, fault_effect}
@@ -33,7 +33,8 @@ pub data StepOf (place : Place) (n : Node) (m : Move) : Effect → Node → Type
 -- what an input leads to, by the role of the process
 abbrev pub TurnAt : Role → Place → Node → Heard → Effect → Type 0
 TurnAt (AtLeaf p) place n h e = LeafTurn place p n h e
-TurnAt _ place n h e = Writes place n h.input e.written
+TurnAt AtRoot place n h e = Writes place None n h.input e.written e.messages
+TurnAt (Below p) place n h e = Writes place (Some p) n h.input e.written e.messages
 
 -- A process that is up handles an input.
 pub record TurnOf (place : Place) (n : Node) (h : Heard) (e : Effect) : Type 0 where

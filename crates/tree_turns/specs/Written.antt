@@ -1,19 +1,25 @@
--- What a coordinator writes: at most one record, of one case.
-use Rattle.std.specs.Prelude.{◌≡◌, ℕ, Bool, true, false, Some, List, [], ◌∷◌}
+-- What a coordinator writes and sends: at most one record, of one case.
+use Rattle.std.specs.Prelude.{◌≡◌, ℕ, Bool, true, false, Some, List, [], ◌∷◌, ◌≢◌, Option}
 use Rattle.tree_model.specs.declared.names.Case.{Case}
+use Rattle.tree_model.specs.declared.names.Outcome.{Outcome}
+use Rattle.tree_model.specs.declared.names.ProcessId.{ProcessId}
 use Rattle.tree_model.specs.declared.names.Ticket.{Ticket}
 use Rattle.tree_model.specs.declared.names.Txn.{Txn}
 use Rattle.tree_model.specs.declared.messages.Message.{Message}
-use Rattle.tree_model.specs.declared.messages.Message.TheVariants.{Prepare, Commit, Abort}
+use Rattle.tree_model.specs.declared.messages.Message.TheVariants.{Join, Joined, Work, Prepare, Yes, No, Read, Commit, Abort, Ack, Inquire}
+use Rattle.tree_model.specs.declared.messages.Envelope.{Envelope}
 use Rattle.tree_model.specs.declared.records.Record.{Record}
 use Rattle.tree_model.specs.declared.records.Record.TheVariants.{Collecting, Prepare as PrepareRecord, Commit as CommitRecord, Abort as AbortRecord, End}
-use Rattle.tree_model.specs.declared.events.Act.TheVariants.{Commit as CommitAct, Abort as AbortAct}
+use Rattle.tree_model.specs.declared.standings.Standing.TheVariants.{Unknown}
+use Rattle.tree_model.specs.declared.events.Act.{Act}
 use Rattle.tree_model.specs.declared.events.Input.{Input}
 use Rattle.tree_model.specs.declared.events.Input.TheVariants.{Act as ActInput, Message as MessageInput}
-use Rattle.tree_model.specs.Names.{root_case}
+use Rattle.tree_model.specs.Names.{child_case}
 use Rattle.tree_model.specs.Records.{record_case}
 use Rattle.tree_model.specs.Nodes.{Place, Node, Written}
-use Rattle.tree_model.specs.Standings.{case_of_child}
+use Rattle.tree_model.specs.Standings.{case_of_child, coordinator_view}
+use Rattle.tree_model.specs.CoordinatorRows.{Seat, post, tells_outcome}
+use Rattle.tree_model.specs.Reactions.{seat_of}
 
 -- a coordinator's record
 abbrev pub is_coordinators : Record → Bool
@@ -30,17 +36,43 @@ pub data AtMostOne (c : Case) : List Written → Type 0 where
   wrote_one : (r : Record) (b : Bool) → record_case r ≡ Some c → is_coordinators r ≡ true
       → AtMostOne c (record { entry = r; is_forced = b } ∷ [])
 
--- a message that names the case for which it was sent
+-- a message that the case's parent sends
 abbrev pub IsForCase : Case → Message → Type 0
+IsForCase c (Work d k op) = d ≡ c
 IsForCase c (Prepare d k) = d ≡ c
 IsForCase c (Commit d) = d ≡ c
 IsForCase c (Abort d) = d ≡ c
 IsForCase c _ = ⊥
 
--- What an input lets a coordinator write: a record of the act's case, of the child's case, or of the parent's message's.
-pub data Writes (place : Place) (n : Node) (i : Input) (ws : List Written) : Type 0 where
-  writes_nothing : ws ≡ [] → Writes place n i ws
-  by_commit : (x : Txn) → i ≡ ActInput (CommitAct x) → AtMostOne (root_case x) ws → Writes place n i ws
-  by_abort : (x : Txn) → i ≡ ActInput (AbortAct x) → AtMostOne (root_case x) ws → Writes place n i ws
-  for_child : (c : Case) (x : Txn) (t : Ticket) → case_of_child place n x t ≡ Some c → AtMostOne c ws → Writes place n i ws
-  for_parent : (c : Case) (k : ℕ) (m : Message) → i ≡ MessageInput k m → IsForCase c m → AtMostOne c ws → Writes place n i ws
+-- a message that the case sends to its parent
+abbrev pub IsFromCase : Case → Message → Type 0
+IsFromCase c (Yes d) = d ≡ c
+IsFromCase c (No d) = d ≡ c
+IsFromCase c (Read d) = d ≡ c
+IsFromCase c (Ack d o) = d ≡ c
+IsFromCase c (Inquire d) = d ≡ c
+IsFromCase c _ = ⊥
+
+-- What a coordinator's case sends: to a child about the child's case, to the parent about its own, and JOIN.
+pub data Sends (s : Seat) : Envelope → Type 0 where
+  down : (t : Ticket) (m : Message) → IsForCase (child_case s.own.txn t) m → Sends s (post s.me t.child m)
+  upward : (p : ProcessId) (m : Message) → s.parent ≡ Some p → IsFromCase s.own m → Sends s (post s.me p m)
+  invites : (q : ProcessId) → Sends s (post s.me q (Join s.own))
+
+abbrev pub AllSent : Seat → List Envelope → Type 0
+AllSent s [] = Unit {0}
+AllSent s (l ∷ ls) = Sends s l × AllSent s ls
+
+-- What an input lets a coordinator write and send: a row of the act's case, which is known, of the child's case, or of the
+-- parent's message's; an answer to a stranger's inquiry; or a ticket.
+pub data Writes (place : Place) (parent : Option ProcessId) (n : Node) (i : Input) (ws : List Written) (ls : List Envelope) : Type 0 where
+  writes_nothing : ws ≡ [] → ls ≡ [] → Writes place parent n i ws ls
+  for_act : (a : Act) (c : Case) → i ≡ ActInput a → (coordinator_view place n c).standing ≢ Unknown → AtMostOne c ws
+      → AllSent (seat_of place parent c) ls → Writes place parent n i ws ls
+  for_child : (c : Case) (x : Txn) (t : Ticket) → case_of_child place n x t ≡ Some c → AtMostOne c ws
+      → AllSent (seat_of place parent c) ls → Writes place parent n i ws ls
+  for_parent : (c : Case) (k : ℕ) (m : Message) → i ≡ MessageInput k m → IsForCase c m → AtMostOne c ws
+      → AllSent (seat_of place parent c) ls → Writes place parent n i ws ls
+  presumes : (x : Txn) (t : Ticket) (o : Outcome) → ws ≡ [] → ls ≡ post place.me t.child (tells_outcome o (child_case x t)) ∷ []
+      → Writes place parent n i ws ls
+  gives : (p : ProcessId) (d : Case) (t : Ticket) → ws ≡ [] → ls ≡ post place.me p (Joined d t) ∷ [] → Writes place parent n i ws ls
