@@ -52,8 +52,8 @@ abbrev pub LeadsTo : FlatState → List Event → Refusal → FlatState → Type
 LeadsTo start events None end = Leads start events end
 LeadsTo start events (Some refused) end = LeadsUntil start events refused.0 refused.1 end
 
--- why the model refuses an event in a world: its act, whatever the data of its process answer, or a message that was not
--- sent, or is for no process of the tree
+-- why the model refuses an event in a world: its act, whatever the data of its process answer, or a message
+-- that was not sent, or is for no process of the tree
 abbrev pub RefusesEvent : List TreeEntry → World → Event → StepError → Type 0
 RefusesEvent tree w (ActOf a) e = RefusesSo (root_of tree) tree w a e
 RefusesEvent tree w (Deliver k) e = (e ≡ NoSuch) × IsForNobody tree (sent_as w.net k)
@@ -62,17 +62,20 @@ RefusesEvent tree w (Restart q k) e = ⊥
 RefusesEvent tree w (Trim q) e = ⊥
 
 -- the event behind those that were made is one that the model refuses by this number
-pub record RefusesNext (tree : List TreeEntry) (w : World) (events : List Event) (made : ℕ) (e : StepError) : Type 0 where
+pub record RefusesNext (tree : List TreeEntry) (w : World) (events : List Event) (made : ℕ)
+    (e : StepError) : Type 0 where
   pub event : Event
   pub next : slice_get events made ≡ Some event
   pub refused : RefusesEvent tree w event e
 
+-- the refused event, where there is one, is refused so
 abbrev pub RefusesIn : List TreeEntry → World → List Event → Refusal → Type 0
 RefusesIn tree w events None = Unit {0}
 RefusesIn tree w events (Some refused) = RefusesNext tree w events refused.0 refused.1
 
 -- a flat tree opened, and these events led it, up to the refused one, to this state
-pub record Plays (tree : List TreeEntry) (events : List Event) (refusal : Refusal) (end : FlatState) : Type 0 where
+pub record Plays (tree : List TreeEntry) (events : List Event) (refusal : Refusal)
+    (end : FlatState) : Type 0 where
   pub start : FlatState
   pub opens : IsOpened start (root_of tree) tree
   pub leads : LeadsTo start events refusal end
@@ -95,10 +98,11 @@ shown_text tree moves = opened_text tree ++ entries_text 0 (journal_of moves)
 abbrev pub Saying : Type 1
 Saying = List TreeEntry → List Made → World → Type 0
 
--- The text is that of the run of just these events: they led a flat tree to a state, the state stands for a run of the
--- model, of which this holds, and the text is all that this run shows, and the last line. A refused event is one that the
--- model refuses there by that number.
-pub record RunsOver (Holds : Saying) (tree : List TreeEntry) (events : List Event) (status : Status) (text : List ℕ) : Type 0 where
+-- The text is that of the run of just these events: they led a flat tree to a state, the state stands for a
+-- run of the model, of which this holds, and the text is all that this run shows, and the last line. A
+-- refused event is one that the model refuses there by that number.
+pub record RunsOver (Holds : Saying) (tree : List TreeEntry) (events : List Event) (status : Status)
+    (text : List ℕ) : Type 0 where
   pub refusal : Refusal
   pub end : FlatState
   pub plays : Plays tree events refusal end
