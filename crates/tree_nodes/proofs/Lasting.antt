@@ -164,8 +164,8 @@ module _ (place : Place) (n : Node) (h : Lasts place.role (logs_of n)) where
       }
 
   pub lasts : (m : Move) (e : Effect) (k : Node) → StepOf place n m e k → Stays (logs_of k)
-  lasts m _ _ (handled i g hp r) = appended (heard_in m i) g (turn_of place n (heard_in m i) g r)
-  lasts m _ _ (failed_in i f g hp r) = broken (heard_in m i) g f.appended f.forced (turn_of place n (heard_in m i) g r)
+  lasts m _ _ (handled i g hp np r) = appended (heard_in m i) g (turn_of place n (heard_in m i) g r)
+  lasts m _ _ (failed_in i f g hp np r) = broken (heard_in m i) g f.appended f.forced (turn_of place n (heard_in m i) g r)
   lasts m _ _ (passed i hp r) = h
   lasts m _ _ (failed_passing i hp r) =
       record { nested = nested_falls (logs_of n) h.nested; by_role = role_falls role (logs_of n) h.by_role }
