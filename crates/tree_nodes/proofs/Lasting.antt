@@ -61,19 +61,19 @@ grows_none : (l : Logs) (new : List Record) → Coordinates l → has is_manager
 grows_none l new h e = in_none is_managers (reverse new) l.life (has-reverse is_managers new ∙ e) h.no_managers_record
 
 role_forces : (role : Role) (l : Logs) (ws : List Written) → FineAt role l ws → RoleLasts role l → RoleLasts role (forces l (entries_written ws))
-role_forces (AtLeaf p) l ws f h = manages_forces l h (entries_written ws) f.order
+role_forces (AtLeaf p) l ws f h = manages_forces l h (entries_written ws) f.own f.order
 role_forces AtRoot l ws f h = record { no_managers_record = grows_none l (entries_written ws) h f }
 role_forces (Below p) l ws f h = record { no_managers_record = grows_none l (entries_written ws) h f }
 
 role_writes : (role : Role) (l : Logs) (ws : List Written) → is_any_forced ws ≡ false → FineAt role l ws → RoleLasts role l
     → RoleLasts role (writes l (entries_written ws))
-role_writes (AtLeaf p) l ws e f h = manages_writes l h (entries_written ws) f.order (f.unpromised e)
+role_writes (AtLeaf p) l ws e f h = manages_writes l h (entries_written ws) f.own f.order (f.unpromised e)
 role_writes AtRoot l ws e f h = record { no_managers_record = grows_none l (entries_written ws) h f }
 role_writes (Below p) l ws e f h = record { no_managers_record = grows_none l (entries_written ws) h f }
 
 role_breaks : (role : Role) (l : Logs) (ws : List Written) (a f : ℕ) → FineAt role l ws → RoleLasts role l
     → RoleLasts role (breaks l (entries_written ws) a f)
-role_breaks (AtLeaf p) l ws a f g h = manages_breaks l h (entries_written ws) a f g.order
+role_breaks (AtLeaf p) l ws a f g h = manages_breaks l h (entries_written ws) a f g.own g.order
 role_breaks AtRoot l ws a f g h =
     record { no_managers_record = grows_none l (take a (entries_written ws)) h (front_none is_managers a (entries_written ws) g) }
 role_breaks (Below p) l ws a f g h =
@@ -103,8 +103,12 @@ role_replaces (Below p) l n h =
 
 -- What a restart appends: Opened, and a coordinator's Aborts.
 
+reopens_leaf : (p : ProcessId) (rs : List Record) → has is_coordinators (reopens (AtLeaf p) rs) ≡ false
+unfolding has
+reopens_leaf p rs = refl
+
 role_reopens_forces : (role : Role) (l : Logs) (rs : List Record) → RoleLasts role l → RoleLasts role (forces l (reopens role rs))
-role_reopens_forces (AtLeaf p) l rs h = manages_forces l h (reopens (AtLeaf p) rs)
+role_reopens_forces (AtLeaf p) l rs h = manages_forces l h (reopens (AtLeaf p) rs) (reopens_leaf p rs)
     (λ d. order_then_others d Unmarked (standing l) (reopens (AtLeaf p) rs) (h.in_order d)
     (reopens_none (is_branch_record d) (λ c ts. refl) (λ k. refl) (AtLeaf p) rs))
 role_reopens_forces AtRoot l rs h = record {
@@ -117,7 +121,7 @@ role_reopens_forces (Below p) l rs h = record {
 }
 
 role_reopens_breaks : (role : Role) (l : Logs) (rs : List Record) (a f : ℕ) → RoleLasts role l → RoleLasts role (breaks l (reopens role rs) a f)
-role_reopens_breaks (AtLeaf p) l rs a f h = manages_breaks l h (reopens (AtLeaf p) rs) a f
+role_reopens_breaks (AtLeaf p) l rs a f h = manages_breaks l h (reopens (AtLeaf p) rs) a f (reopens_leaf p rs)
     (λ d. order_then_others d Unmarked (standing l) (reopens (AtLeaf p) rs) (h.in_order d)
     (reopens_none (is_branch_record d) (λ c ts. refl) (λ k. refl) (AtLeaf p) rs))
 role_reopens_breaks AtRoot l rs a f h = record {
@@ -164,8 +168,8 @@ module _ (place : Place) (n : Node) (h : Lasts place.role (logs_of n)) where
       }
 
   pub lasts : (m : Move) (e : Effect) (k : Node) → StepOf place n m e k → Stays (logs_of k)
-  lasts m _ _ (handled i g hp r) = appended (heard_in m i) g (turn_of place n (heard_in m i) g r)
-  lasts m _ _ (failed_in i f g hp r) = broken (heard_in m i) g f.appended f.forced (turn_of place n (heard_in m i) g r)
+  lasts m _ _ (handled i g hp np r) = appended (heard_in m i) g (turn_of place n (heard_in m i) g r)
+  lasts m _ _ (failed_in i f g hp np r) = broken (heard_in m i) g f.appended f.forced (turn_of place n (heard_in m i) g r)
   lasts m _ _ (passed i hp r) = h
   lasts m _ _ (failed_passing i hp r) =
       record { nested = nested_falls (logs_of n) h.nested; by_role = role_falls role (logs_of n) h.by_role }
@@ -197,6 +201,7 @@ no_decision d AbortedOutcome = refl
 opened_manager : Manages (logs_of opened_node)
 unfolding has in_order_from
 opened_manager = record {
+  no_coordinators_record = refl;
   in_order = λ d. refl;
   promise_is_forced = λ up d. refl;
   decision_stands = λ d o e. not_both (is_decided d o) (has (is_decided d o) (Opened 1 ∷ [])) e (no_decision d o);

@@ -11,3 +11,4 @@ pub mod Owning
 pub mod Addresses
 pub mod Promises
 pub mod Yesses
+pub mod PairOf

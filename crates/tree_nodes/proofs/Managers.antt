@@ -1,4 +1,5 @@
 -- A manager's log through each kind of step.
+use Rattle.tree_turns.specs.Written.{is_coordinators}
 use Rattle.std.proofs.Common.{◌≡◌, ◌∙◌, ◌||◌, ◌⊎◌, inl, inr, ℕ, Bool, true, false, Some, List, [], ◌∷◌, ◌++◌, take, drop, refl, sym, ap, subst, append_assoc, arith}
 use Rattle.std.specs.Prelude.{reverse}
 use Rattle.std.proofs.lemmas.List.{append-nil, take-append-drop}
@@ -18,9 +19,9 @@ use Rattle.tree_model.specs.Restarts.{data_records, trimmed}
 use Rattle.tree_turns.specs.LeafTurns.{LeafTurn, IsDecided, untold, told, mark_at, does_nothing, gives_again, gives_fresh, votes_yes, votes_read, votes_no, repeats_yes, refuses, obeys, notes, acknowledges_told, acknowledges, drops, asks, decides, forgets}
 use Rattle.tree_nodes.specs.Marks.{in_order_from, branch_is, may_follow}
 use Rattle.tree_nodes.specs.Lasts.{Logs, logs_of, standing, Nested, Manages}
-use Rattle.tree_nodes.proofs.Tests.{in_first, in_second, in_either, in_none, has-nil}
+use Rattle.tree_nodes.proofs.Tests.{in_first, in_second, in_either, in_none, has-nil, front_none, has-reverse}
 use Rattle.tree_nodes.proofs.Orders.{order_front, order_push}
-use Rattle.tree_nodes.proofs.Trims.{trim_order, trim_decision}
+use Rattle.tree_nodes.proofs.Trims.{trim_order, trim_decision, data_is_other}
 use Rattle.tree_nodes.proofs.Appends.{forces, writes, breaks, loses, falls, rises, replaces, breaks_keeps}
 
 module _ (l : Logs) (h : Manages l) where
@@ -34,8 +35,12 @@ module _ (l : Logs) (h : Manages l) where
     | inr forgot ↦ inr (in_second (is_forgot d) life l.life forgot)
   ]
 
-  pub manages_forces : (new : List Record) → ((d : Case) → in_order_from d Unmarked (standing l ++ new) ≡ true) → Manages (forces l new)
-  manages_forces new order = record {
+  grows_none : (new : List Record) → has is_coordinators new ≡ false → has is_coordinators (reverse new ++ l.life) ≡ false
+  grows_none new e = in_none is_coordinators (reverse new) l.life (has-reverse is_coordinators new ∙ e) h.no_coordinators_record
+
+  pub manages_forces : (new : List Record) → has is_coordinators new ≡ false → ((d : Case) → in_order_from d Unmarked (standing l ++ new) ≡ true) → Manages (forces l new)
+  manages_forces new own order = record {
+    no_coordinators_record = grows_none new own;
     in_order = λ d. ap (in_order_from d Unmarked) (append-nil (standing l ++ new)) ∙ order d;
     promise_is_forced = λ up d. has-nil (is_prepared d);
     decision_stands = λ d o e. elim (in_either (is_decided d o) new (standing l ++ l.durable) e) [
@@ -48,17 +53,19 @@ module _ (l : Logs) (h : Manages l) where
     ];
   }
 
-  pub manages_writes : (new : List Record) → ((d : Case) → in_order_from d Unmarked (standing l ++ new) ≡ true)
+  pub manages_writes : (new : List Record) → has is_coordinators new ≡ false → ((d : Case) → in_order_from d Unmarked (standing l ++ new) ≡ true)
       → ((d : Case) → has (is_prepared d) new ≡ false) → Manages (writes l new)
-  manages_writes new order none = record {
+  manages_writes new own order none = record {
+    no_coordinators_record = grows_none new own;
     in_order = λ d. ap (in_order_from d Unmarked) (sym (append_assoc l.forced l.unforced new)) ∙ order d;
     promise_is_forced = λ up d. in_none (is_prepared d) l.unforced new (h.promise_is_forced up d) (none d);
     decision_stands = λ d o e. stays_so d o l.forced (reverse new) (λ f. f) e;
   }
 
-  pub manages_breaks : (new : List Record) (a f : ℕ) → ((d : Case) → in_order_from d Unmarked (standing l ++ new) ≡ true)
+  pub manages_breaks : (new : List Record) (a f : ℕ) → has is_coordinators new ≡ false → ((d : Case) → in_order_from d Unmarked (standing l ++ new) ≡ true)
       → Manages (breaks l new a f)
-  manages_breaks new a f order = record {
+  manages_breaks new a f own order = record {
+    no_coordinators_record = grows_none (take a new) (front_none is_coordinators a new own);
     in_order = λ d. ap (in_order_from d Unmarked) (breaks_keeps l new a f)
         ∙ order_front d Unmarked (standing l ++ take a new) (drop a new)
         (ap (in_order_from d Unmarked) (append_assoc (standing l) (take a new) (drop a new)
@@ -73,6 +80,7 @@ module _ (l : Logs) (h : Manages l) where
 
   pub manages_loses : (k : ℕ) → Manages (loses l k)
   manages_loses k = record {
+    no_coordinators_record = h.no_coordinators_record;
     in_order = λ d. order_front d Unmarked (l.forced ++ take k l.unforced) (drop k l.unforced)
         (ap (in_order_from d Unmarked) (append_assoc l.forced (take k l.unforced) (drop k l.unforced)
         ∙ ap (λ x. l.forced ++ x) (take-append-drop k l.unforced)) ∙ h.in_order d);
@@ -82,6 +90,7 @@ module _ (l : Logs) (h : Manages l) where
 
   pub manages_falls : Manages (falls l)
   manages_falls = record {
+    no_coordinators_record = h.no_coordinators_record;
     in_order = h.in_order;
     promise_is_forced = λ up d. absurd (cc);
     decision_stands = h.decision_stands;
@@ -89,6 +98,8 @@ module _ (l : Logs) (h : Manages l) where
 
   pub manages_replaces : (p : ProcessId) → Nested l → Manages (replaces (AtLeaf p) l)
   manages_replaces p nested = record {
+    no_coordinators_record = grows_none (data_records (AtLeaf p) (standing l))
+        (data_is_other is_coordinators (λ k v. refl) (λ k. refl) (AtLeaf p) (standing l));
     in_order = λ d. ap (in_order_from d Unmarked) (append-nil (trimmed (AtLeaf p) (standing l)))
         ∙ trim_order p d (standing l) (h.in_order d);
     promise_is_forced = λ up d. has-nil (is_prepared d);
@@ -112,6 +123,7 @@ module _ (l : Logs) (h : Manages l) where
 -- a log that is forced whole
 pub manages_rises : (l : Logs) → Manages l → l.unforced ≡ [] → Manages (rises l)
 manages_rises l h e = record {
+  no_coordinators_record = h.no_coordinators_record;
   in_order = h.in_order;
   promise_is_forced = λ up d. ap (has (is_prepared d)) e ∙ has-nil (is_prepared d);
   decision_stands = h.decision_stands;
@@ -119,12 +131,17 @@ manages_rises l h e = record {
 
 -- What an input appends.
 
+no_record : (q : Record → Bool) (r : Record) → q r ≡ false → has q (r ∷ []) ≡ false
+unfolding has
+no_record q r e = rw e refl
+
 no_promise : (c : Case) (r : Record) → is_prepared c r ≡ false → has (is_prepared c) (r ∷ []) ≡ false
 unfolding has
 no_promise c r e = rw e refl
 
 pub record Fine (l : Logs) (ws : List Written) : Type 0 where
   pub order : (d : Case) → in_order_from d Unmarked (standing l ++ entries_written ws) ≡ true
+  pub own : has is_coordinators (entries_written ws) ≡ false
   pub unpromised : is_any_forced ws ≡ false → (d : Case) → has (is_prepared d) (entries_written ws) ≡ false
 
 module _ (place : Place) (p : ProcessId) (n : Node) (h : Heard) where
@@ -134,13 +151,15 @@ module _ (place : Place) (p : ProcessId) (n : Node) (h : Heard) where
   module _ (m : Manages l) where
     fine_none : Fine l []
     fine_none = record {
+      own = has-nil is_coordinators;
       order = λ d. ap (in_order_from d Unmarked) (append-nil (standing l)) ∙ m.in_order d;
       unpromised = λ e d. has-nil (is_prepared d);
     }
 
-    fine_one : (d : Case) (r : Record) (b : Bool) → record_branch r ≡ Some (CaseBranch d) → may_follow (mark_at n d) r ≡ true
+    fine_one : (d : Case) (r : Record) (b : Bool) → is_coordinators r ≡ false → record_branch r ≡ Some (CaseBranch d) → may_follow (mark_at n d) r ≡ true
         → (b ≡ false → (c : Case) → has (is_prepared c) (r ∷ []) ≡ false) → Fine l (record { entry = r; is_forced = b } ∷ [])
-    fine_one d r b of follows none = record {
+    fine_one d r b own of follows none = record {
+      own = no_record is_coordinators r own;
       order = λ c. order_push c (standing l) r (m.in_order c) (λ e. same c (ap (branch_is c) (sym of) ∙ e));
       unpromised = λ e c. none (not_forced b e) c;
     }
@@ -160,16 +179,16 @@ module _ (place : Place) (p : ProcessId) (n : Node) (h : Heard) where
 
     pub leaf_fine : (e : Effect) → LeafTurn place p n h e → Fine l e.written
     leaf_fine _ (votes_yes d k ws i a) =
-        fine_one d (Prepared (CaseBranch d) ws) true refl (rw a.unmarked refl) (λ e. absurd (cc))
-    leaf_fine _ (obeys d CommittedOutcome i e) = fine_one d (Committed (CaseBranch d)) _ refl (rw e refl) (λ f c. no_promise c (Committed (CaseBranch d)) refl)
-    leaf_fine _ (obeys d AbortedOutcome i e) = fine_one d (RolledBack (CaseBranch d)) _ refl (rw e refl) (λ f c. no_promise c (RolledBack (CaseBranch d)) refl)
-    leaf_fine _ (notes d o i e) = fine_one d (Told (CaseBranch d) o) _ refl (rw e refl) (λ f c. no_promise c (Told (CaseBranch d) o) refl)
+        fine_one d (Prepared (CaseBranch d) ws) true refl refl (rw a.unmarked refl) (λ e. absurd (cc))
+    leaf_fine _ (obeys d CommittedOutcome i e) = fine_one d (Committed (CaseBranch d)) _ refl refl (rw e refl) (λ f c. no_promise c (Committed (CaseBranch d)) refl)
+    leaf_fine _ (obeys d AbortedOutcome i e) = fine_one d (RolledBack (CaseBranch d)) _ refl refl (rw e refl) (λ f c. no_promise c (RolledBack (CaseBranch d)) refl)
+    leaf_fine _ (notes d o i e) = fine_one d (Told (CaseBranch d) o) _ refl refl (rw e refl) (λ f c. no_promise c (Told (CaseBranch d) o) refl)
     leaf_fine _ (decides d CommittedOutcome i e) =
-        fine_one d (HeurCommit (CaseBranch d)) true refl (rw e refl) (λ f. absurd (cc))
+        fine_one d (HeurCommit (CaseBranch d)) true refl refl (rw e refl) (λ f. absurd (cc))
     leaf_fine _ (decides d AbortedOutcome i e) =
-        fine_one d (HeurRollback (CaseBranch d)) true refl (rw e refl) (λ f. absurd (cc))
+        fine_one d (HeurRollback (CaseBranch d)) true refl refl (rw e refl) (λ f. absurd (cc))
     leaf_fine _ (forgets d i e) =
-        fine_one d (Forgot (CaseBranch d)) true refl (forget_follows (mark_at n d) (CaseBranch d) e) (λ f. absurd (cc))
+        fine_one d (Forgot (CaseBranch d)) true refl refl (forget_follows (mark_at n d) (CaseBranch d) e) (λ f. absurd (cc))
     leaf_fine _ does_nothing = fine_none
     leaf_fine _ (gives_again d t i a) = fine_none
     leaf_fine _ (gives_fresh d i a s) = fine_none

@@ -22,7 +22,7 @@ pub branch_tells : (d : Case) (b : Branch) → is_branch d b ≡ true → b ≡ 
 branch_tells d (CaseBranch c) e = ap (λ x. CaseBranch x) (let t = same_case_tells c d in grind (arith, t, e))
 branch_tells d (Foreign x) e = absurd (cc)
 
-same_is : (d : Case) (b : Branch) → same_branch b (CaseBranch d) ≡ is_branch d b
+pub same_is : (d : Case) (b : Branch) → same_branch b (CaseBranch d) ≡ is_branch d b
 unfolding same_branch
 same_is d (CaseBranch c) = refl
 same_is d (Foreign x) = refl

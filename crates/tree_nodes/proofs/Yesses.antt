@@ -90,11 +90,11 @@ module _ (place : Place) (n : Node) (h : Lasts place.role (logs_of n)) (net : Li
     trim_failed (suc k) = replaced
 
     own_life : (e : Effect) (k : Node) → StepOf place n m e k → has q k.life ≡ false
-    own_life _ _ (handled i g hp r) =
+    own_life _ _ (handled i g hp np r) =
         let new = entries_written g.written in
         let none = written i g hp (turn_of place n (heard_in m i) g r) in
         either_logs n new (is_any_forced g.written) (λ (l : Logs). has q l.life ≡ false) (λ b. grown new none) (λ b. grown new none)
-    own_life _ _ (failed_in i f g hp r) =
+    own_life _ _ (failed_in i f g hp np r) =
         let new = entries_written g.written in
         grown (take f.appended new) (front_none q f.appended new (written i g hp (turn_of place n (heard_in m i) g r)))
     own_life _ _ (passed i hp r) = own
@@ -123,8 +123,8 @@ module _ (place : Place) (n : Node) (h : Lasts place.role (logs_of n)) (net : Li
   turn_goes (AtLeaf p) r i e t = leaf_goes place p n i e (turn_at (AtLeaf p) r i e t)
 
   pub step_goes : (e : Effect) (k : Node) → StepOf place n m e k → AllGoToOwners e.messages
-  step_goes _ _ (handled i g hp r) = turn_goes place.role refl (heard_in m i) g (turn_of place n (heard_in m i) g r)
-  step_goes _ _ (failed_in i f g hp r) = tt
+  step_goes _ _ (handled i g hp np r) = turn_goes place.role refl (heard_in m i) g (turn_of place n (heard_in m i) g r)
+  step_goes _ _ (failed_in i f g hp np r) = tt
   step_goes _ _ (passed i hp r) = tt
   step_goes _ _ (failed_passing i hp r) = tt
   step_goes _ _ (reopened k hp) =
@@ -150,8 +150,8 @@ module _ (place : Place) (n : Node) (h : Lasts place.role (logs_of n)) (net : Li
 
   pub step_yes : Owns place.role place.me (logs_of n) → (e : Effect) (k : Node) → StepOf place n m e k
       → (c : Case) → sent (is_yes_message c) e.messages ≡ true → YesFine place.role place.me k c
-  step_yes o _ _ (handled i g hp r) c e = turn_yes place.role refl o i g hp (turn_of place n (heard_in m i) g r) c e
-  step_yes o _ _ (failed_in i f g hp r) c e = none_sent c e
+  step_yes o _ _ (handled i g hp np r) c e = turn_yes place.role refl o i g hp (turn_of place n (heard_in m i) g r) c e
+  step_yes o _ _ (failed_in i f g hp np r) c e = none_sent c e
   step_yes o _ _ (passed i hp r) c e = none_sent c e
   step_yes o _ _ (failed_passing i hp r) c e = none_sent c e
   step_yes o _ _ (reopened k hp) c e =

@@ -7,6 +7,7 @@ use Rattle.tree_model.specs.declared.records.Record.TheVariants.{Opened}
 use Rattle.tree_model.specs.Records.{has, is_decided, is_forgot, is_prepared}
 use Rattle.tree_model.specs.Nodes.{Role, AtLeaf, Node}
 use Rattle.tree_model.specs.Standings.{Unmarked}
+use Rattle.tree_turns.specs.Written.{is_coordinators}
 use Rattle.tree_nodes.specs.Marks.{in_order_from, is_managers}
 
 -- A process's log with its histories, and whether its device failed.
@@ -36,6 +37,7 @@ pub record Manages (l : Logs) : Type 0 where
   pub promise_is_forced : l.failed ≡ false → (d : Case) → has (is_prepared d) l.unforced ≡ false
   pub decision_stands : (d : Case) (o : Outcome) → has (is_decided d o) l.durable ≡ true
       → (has (is_decided d o) l.forced ≡ true) ⊎ (has (is_forgot d) l.life ≡ true)
+  pub no_coordinators_record : has is_coordinators l.life ≡ false
 
 -- A coordinator appends no manager's record.
 pub record Coordinates (l : Logs) : Type 0 where

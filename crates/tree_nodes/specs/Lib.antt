@@ -1,3 +1,5 @@
 pub mod Marks
 pub mod Lasts
 pub mod Owns
+pub mod WorldHolds
+pub mod ProcessSteps

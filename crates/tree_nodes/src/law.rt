@@ -1,6 +1,16 @@
 //! The laws of single processes.
-ghost use Rattle.std.specs.Prelude.{List};
-ghost use Rattle.tree_model.specs.Outcomes.{StandingMismatches, YesIsForced};
+ghost use Rattle.std.specs.Prelude.{◌≡◌, List, true};
+ghost use Rattle.tree_model.specs.Names.{child_case};
+ghost use Rattle.tree_model.specs.Nodes.{Below, is_listed, role_of};
+ghost use Rattle.tree_model.specs.Outcomes.{StandingMismatches, YesIsForced, cascaded_ends, is_commit_outcome, sent};
+ghost use Rattle.tree_model.specs.declared.names.Case.{Case};
+ghost use Rattle.tree_model.specs.declared.names.Outcome.TheVariants.{Committed};
+ghost use Rattle.tree_model.specs.declared.names.ProcessId.{ProcessId};
+ghost use Rattle.tree_model.specs.declared.names.Ticket.{Ticket};
+ghost use Rattle.tree_model.specs.declared.names.Txn.{Txn};
+ghost use Rattle.tree_nodes.specs.WorldHolds.{IsPair, WorldHolds, pair_reading};
+ghost use Rattle.tree_pairs.specs.Invariant.{Common};
+ghost use Rattle.tree_readings.specs.ReadingOf.{gives_case};
 ghost use Rattle.tree_model.specs.World.{IsRun, Made, World};
 ghost use Rattle.tree_model.specs.declared.trees.TreeEntry.{TreeEntry};
 
@@ -14,4 +24,15 @@ pub fn mismatches_stand()
 /// the forced front, move by move, a repeated YES too.
 pub fn promises_are_forced()
     ensures { (tree : List TreeEntry) (es : List Made) (w : World) → IsRun tree es w → YesIsForced tree es }
+{}
+
+/// Where the world's invariant holds, a case that JOINED gave is of a pair of the tree, which has the pair's
+/// invariant; so a cascaded coordinator that committed behind its promise did so by the outcome.
+pub fn given_cases_have_pairs()
+    ensures pair { (tree : List TreeEntry) (w : World) → WorldHolds tree w → (x : Txn) (t : Ticket)
+        → sent (gives_case (child_case x t)) w.net ≡ true
+        → (c : Case) × ((c.txn ≡ x) × (IsPair tree c t × Common (pair_reading tree w c t))) }
+    ensures commits { (tree : List TreeEntry) (w : World) → WorldHolds tree w → (x : Txn) (t : Ticket) (p : ProcessId)
+        → role_of tree t.child ≡ Below p → is_listed tree t.child ≡ true
+        → cascaded_ends (w.at t.child) (child_case x t) Committed ≡ true → is_commit_outcome w x ≡ true }
 {}

@@ -21,7 +21,7 @@ use Rattle.tree_model.specs.Standings.{ManagerView, unknown_branch, manager_view
 use Rattle.tree_model.specs.CoordinatorRows.{tells_outcome}
 use Rattle.tree_model.specs.ManagerRows.{Leaf, LeafRow, on_work, on_prepare, on_commit, on_abort, active_prepare_holding, replies, acknowledgement}
 use Rattle.tree_model.specs.ManagerRows as leaf
-use Rattle.tree_model.specs.Reactions.{Reacts, Refused, PassesOver, Does, leaf_effect, leaf_of, manager_acts, manager_hears, leaf_joins, childless_by, leaf_ask_by, decide_by, forget_by}
+use Rattle.tree_model.specs.Reactions.{Reacts, Refused, Does, leaf_effect, leaf_of, manager_acts, manager_hears, leaf_joins, childless_by, leaf_ask_by, decide_by, forget_by}
 use Rattle.tree_turns.specs.LeafTurns.{LeafTurn, IsActive, IsUnknown, IsOpenBranch, waits, by_operator, IsDecided, untold, told, Waits, promised, decided, Hears, mark_at, does_nothing, gives_again, gives_fresh, votes_yes, votes_read, votes_no, repeats_yes, refuses, obeys, notes, acknowledges_told, acknowledges, drops, asks, decides, forgets}
 
 -- the view is read off the records and what is remembered
@@ -33,7 +33,6 @@ viewed place n d = refl
 -- what an input leads to is a turn, unless it is refused
 abbrev pub TurnsBy : Place → ProcessId → Node → Heard → Reacts → Type 0
 TurnsBy place p n h (Refused x) = Unit {0}
-TurnsBy place p n h PassesOver = Unit {0}
 TurnsBy place p n h (Does e) = LeafTurn place p n h e
 
 module _ (place : Place) (p : ProcessId) (n : Node) (h : Heard) where

@@ -132,9 +132,9 @@ module _ (q : Record → Bool) (i : Input) (own : OperatorsOwn q i) where
 
   pub by_step : (place : Place) (n : Node) (m : Move) (e : Effect) (k : Node) → StepOf place n m e k
       → any_written q e.written ≡ true → m.step.happening ≡ Handles i
-  by_step place n m _ _ (handled j g hp r) f =
+  by_step place n m _ _ (handled j g hp np r) f =
       hp ∙ ap (λ x. Handles x) (by_role place.role place n (heard_in m j) g (turn_of place n (heard_in m j) g r).turn f)
-  by_step place n m _ _ (failed_in j ft g hp r) f =
+  by_step place n m _ _ (failed_in j ft g hp np r) f =
       hp ∙ ap (λ x. Handles x)
       (by_role place.role place n (heard_in m j) g (turn_of place n (heard_in m j) g r).turn (any_taken q ft.appended g.written f))
   by_step place n m _ _ (passed j hp r) f = absurd (cc)

@@ -10,8 +10,8 @@ use Rattle.tree_model.specs.declared.events.Input.{Input}
 use Rattle.tree_model.specs.declared.events.Input.TheVariants.{Act as ActInput, Message as MessageInput}
 use Rattle.tree_model.specs.declared.events.StepError.TheVariants.{Failed, NoSuch}
 use Rattle.tree_model.specs.Nodes.{Role, AtRoot, Below, AtLeaf, Place, Node, Heard, Effect}
-use Rattle.tree_model.specs.Reactions.{Reacts, Refused, PassesOver, Does, reacts, handles, acts, hears, takes, act_is_listed, is_early_ack}
-use Rattle.tree_model.specs.World.{Move, Stepped, Refuses, Makes, input_makes, restart_makes, trim_makes, happening_makes, node_makes}
+use Rattle.tree_model.specs.Reactions.{Reacts, Refused, Does, reacts, handles, acts, hears, is_passed_over, act_is_listed}
+use Rattle.tree_model.specs.World.{Move, Stepped, Refuses, Makes, input_makes, passes_over, restart_makes, trim_makes, happening_makes, node_makes}
 use Rattle.tree_turns.specs.Steps.{StepOf, heard_in, handled, failed_in, passed, failed_passing, reopened, failed_reopening, trimmed, failed_trimming, TurnAt, TurnOf}
 use Rattle.tree_turns.specs.Written.{Writes}
 use Rattle.tree_turns.proofs.LeafInputs.{TurnsBy, act_turn, message_turn}
@@ -22,14 +22,21 @@ module _ (place : Place) (n : Node) (m : Move) where
   S (Refuses x) = Unit {0}
   S (Makes e k) = StepOf place n m e k
 
-  by_reaction : (i : Input) → m.step.happening ≡ Handles i → (f : Option Fault) (r : Reacts)
+  by_reaction : (i : Input) → m.step.happening ≡ Handles i → is_passed_over place n i ≡ false → (f : Option Fault) (r : Reacts)
       → reacts place n (heard_in m i) ≡ r → S (input_makes n (heard_in m i) f r)
-  by_reaction i hp None (Refused x) e = tt
-  by_reaction i hp (Some f) (Refused x) e = tt
-  by_reaction i hp None PassesOver e = passed i hp e
-  by_reaction i hp (Some f) PassesOver e = failed_passing i hp e
-  by_reaction i hp None (Does g) e = handled i g hp e
-  by_reaction i hp (Some f) (Does g) e = failed_in i f g hp e
+  by_reaction i hp np None (Refused x) e = tt
+  by_reaction i hp np (Some f) (Refused x) e = tt
+  by_reaction i hp np None (Does g) e = handled i g hp np e
+  by_reaction i hp np (Some f) (Does g) e = failed_in i f g hp np e
+
+  by_passing : (i : Input) → m.step.happening ≡ Handles i → is_passed_over place n i ≡ true → (f : Option Fault) → S (passes_over n f)
+  by_passing i hp e None = passed i hp e
+  by_passing i hp e (Some f) = failed_passing i hp e
+
+  if_passed : (i : Input) → m.step.happening ≡ Handles i → (b : Bool) → is_passed_over place n i ≡ b
+      → S (if b then passes_over n m.step.fault else input_makes n (heard_in m i) m.step.fault (reacts place n (heard_in m i)))
+  if_passed i hp true e = by_passing i hp e m.step.fault
+  if_passed i hp false e = by_reaction i hp e m.step.fault (reacts place n (heard_in m i)) refl
 
   by_restart : (k : ℕ) → m.step.happening ≡ Restart k → (f : Option Fault) → S (restart_makes place n k f)
   by_restart k hp None = reopened k hp
@@ -44,7 +51,7 @@ module _ (place : Place) (n : Node) (m : Move) where
   if_up hp false e = by_trim hp e m.step.fault
 
   by_happening : (hp : Happening) → m.step.happening ≡ hp → S (happening_makes place n m hp)
-  by_happening (Handles i) e = by_reaction i e m.step.fault (reacts place n (heard_in m i)) refl
+  by_happening (Handles i) e = if_passed i e (is_passed_over place n i) refl
   by_happening (Restart k) e = by_restart k e m.step.fault
   by_happening Trim e = if_up e n.failed refl
 
@@ -59,7 +66,6 @@ step_of place n m e k made_so = subst (λ (x : Stepped). S place n m x) made_so 
 
 abbrev AllTurn : Place → Node → Heard → Reacts → Type 0
 AllTurn place n h (Refused x) = Unit {0}
-AllTurn place n h PassesOver = Unit {0}
 AllTurn place n h (Does e) = TurnOf place n h e
 
 module _ (place : Place) (n : Node) (h : Heard) where
@@ -68,7 +74,6 @@ module _ (place : Place) (n : Node) (h : Heard) where
 
   leaf_turns : n.failed ≡ false → (r : Reacts) → ((e : Effect) → r ≡ Does e → TurnAt place.role place n h e) → A r
   leaf_turns up (Refused x) f = tt
-  leaf_turns up PassesOver f = tt
   leaf_turns up (Does e) f = record { up = up; turn = f e refl }
 
   does_leaf : (p : ProcessId) (r : Reacts) → TurnsBy place p n h r → (e : Effect) → r ≡ Does e → TurnAt (AtLeaf p) place n h e
@@ -85,18 +90,12 @@ module _ (place : Place) (n : Node) (h : Heard) where
       (subst (λ (x : Input). WritesBy place (Some p) n x (acts (Below p) place n a)) (sym i) (act_writes place (Some p) n a)) e same
   act_at a i (AtLeaf p) e same = does_leaf p _ (act_turn place p n h a i) e same
 
-  early : (p : ProcessId) (j : ℕ) (m : Message) → h.input ≡ MessageInput j m → (b : Bool)
-      → WritesBy place (Some p) n h.input (if b then PassesOver else Does (hears (Below p) place n h.data_answer m))
-  early p j m i true = tt
-  early p j m i false =
-      subst (λ (x : Input). WritesBy place (Some p) n x (Does (hears (Below p) place n h.data_answer m))) (sym i)
-      (cascaded_writes place p n j m)
-
   message_at : (j : ℕ) (m : Message) → h.input ≡ MessageInput j m → (role : Role) (e : Effect)
-      → takes role place n h.data_answer m ≡ Does e → TurnAt role place n h e
+      → Does (hears role place n h.data_answer m) ≡ Does e → TurnAt role place n h e
   message_at j m i AtRoot e same = does_writes None _
-      (subst (λ (x : Input). WritesBy place None n x (takes AtRoot place n h.data_answer m)) (sym i) (child_writes place None n j m)) e same
-  message_at j m i (Below p) e same = does_writes (Some p) _ (early p j m i (is_early_ack place n m)) e same
+      (subst (λ (x : Input). WritesBy place None n x (Does (hears AtRoot place n h.data_answer m))) (sym i) (child_writes place None n j m)) e same
+  message_at j m i (Below p) e same = does_writes (Some p) _
+      (subst (λ (x : Input). WritesBy place (Some p) n x (Does (hears (Below p) place n h.data_answer m))) (sym i) (cascaded_writes place p n j m)) e same
   message_at j m i (AtLeaf p) e same = does_leaf p _ (message_turn place p n h j m i) e same
 
   act_up : (a : Act) → h.input ≡ ActInput a → (b : Bool) → n.failed ≡ b → A (if b then Refused Failed else acts place.role place n a)
@@ -104,9 +103,9 @@ module _ (place : Place) (n : Node) (h : Heard) where
   act_up a i false up = leaf_turns up (acts place.role place n a) (act_at a i place.role)
 
   message_up : (j : ℕ) (m : Message) → h.input ≡ MessageInput j m → (b : Bool) → n.failed ≡ b
-      → A (if b then Refused Failed else takes place.role place n h.data_answer m)
+      → A (if b then Refused Failed else Does (hears place.role place n h.data_answer m))
   message_up j m i true up = tt
-  message_up j m i false up = leaf_turns up (takes place.role place n h.data_answer m) (message_at j m i place.role)
+  message_up j m i false up = leaf_turns up (Does (hears place.role place n h.data_answer m)) (message_at j m i place.role)
 
   by_input : (i : Input) → h.input ≡ i → A (handles place n h i)
   by_input (ActInput a) e = act_up a e n.failed refl

@@ -4,7 +4,7 @@ use Rattle.tree_model.specs.declared.events.Fault.{Fault}
 use Rattle.tree_model.specs.declared.events.Input.{Input}
 use Rattle.tree_model.specs.declared.events.Happening.TheVariants.{Input as Handles, Restart, Trim}
 use Rattle.tree_model.specs.Nodes.{Role, AtLeaf, Place, Node, Heard, Effect, no_effect, after, fails_in, AtRoot, Below}
-use Rattle.tree_model.specs.Reactions.{reacts, Does, PassesOver}
+use Rattle.tree_model.specs.Reactions.{reacts, Does, is_passed_over}
 use Rattle.tree_model.specs.Restarts.{restart_effect, restarted, restart_fails, trim_effect, trims, trim_fails}
 use Rattle.tree_model.specs.World.{Move, fault_effect}
 use Rattle.tree_turns.specs.LeafTurns.{LeafTurn}
@@ -16,12 +16,14 @@ heard_in m i = record { input = i; data_answer = m.data_answer }
 
 -- What a move at a process was, with its effect and what it left of the process.
 pub data StepOf (place : Place) (n : Node) (m : Move) : Effect → Node → Type 0 where
-  handled : (i : Input) (g : Effect) → m.step.happening ≡ Handles i → reacts place n (heard_in m i) ≡ Does g
+  handled : (i : Input) (g : Effect) → m.step.happening ≡ Handles i → is_passed_over place n i ≡ false
+      → reacts place n (heard_in m i) ≡ Does g
       → StepOf place n m g (after n (heard_in m i) g)
-  failed_in : (i : Input) (f : Fault) (g : Effect) → m.step.happening ≡ Handles i → reacts place n (heard_in m i) ≡ Does g
+  failed_in : (i : Input) (f : Fault) (g : Effect) → m.step.happening ≡ Handles i → is_passed_over place n i ≡ false
+      → reacts place n (heard_in m i) ≡ Does g
       → StepOf place n m (fault_effect g f.appended) (fails_in n (heard_in m i) g f.appended f.forced)
-  passed : (i : Input) → m.step.happening ≡ Handles i → reacts place n (heard_in m i) ≡ PassesOver → StepOf place n m no_effect n
-  failed_passing : (i : Input) → m.step.happening ≡ Handles i → reacts place n (heard_in m i) ≡ PassesOver
+  passed : (i : Input) → m.step.happening ≡ Handles i → is_passed_over place n i ≡ true → StepOf place n m no_effect n
+  failed_passing : (i : Input) → m.step.happening ≡ Handles i → is_passed_over place n i ≡ true
       → StepOf place n m no_effect (record n { failed = true })
   reopened : (k : ℕ) → m.step.happening ≡ Restart k → StepOf place n m (restart_effect place n k) (restarted place n k)
   failed_reopening : (k : ℕ) (f : Fault) → m.step.happening ≡ Restart k
