@@ -1,5 +1,5 @@
 -- What a flat tree refuses, the model refuses so.
-use Rattle.std.proofs.Common.{◌≡◌, ◌∙◌, ap, sym, subst, ℕ, Bool, true, false, Option, Some, None, is_some, List, refl, if◌then◌else◌}
+use Rattle.std.proofs.Common.{◌≡◌, ◌∙◌, ap, sym, subst, ℕ, zero, suc, Bool, true, false, inl, inr, Option, Some, None, is_some, List, refl, if◌then◌else◌}
 use Rattle.tree_model.specs.declared.names.Case.{Case}
 use Rattle.tree_model.specs.declared.names.ProcessId.{ProcessId}
 use Rattle.tree_model.specs.declared.messages.Envelope.{Envelope}
@@ -20,7 +20,7 @@ use Rattle.tree_model.specs.Plays.{process_of_act, move_of, sent_as}
 use Rattle.tree_model.specs.Views.{root_place, leaf_place, hears_act}
 use Rattle.tree_model.specs.World.{World, Made, node_makes, input_makes, passes_over}
 use Rattle.flat_law.specs.Leaves.{LeafState, childless, act_refusal}
-use Rattle.flat_law.specs.FlatWorlds.{FlatState, RefusesAct, leaf_refusal, IsLost}
+use Rattle.flat_law.specs.FlatWorlds.{FlatState, RefusesAct, leaf_refusal, IsLost, SettleStops, stops_by, least_open}
 use Rattle.flat_law.specs.Ties.{is_application_act}
 use Rattle.flat_law.specs.Ties.{LeafFollows, Follows, refusal_in, model_refusal, RefusesSo, IsForNobody}
 use Rattle.flat_law.proofs.Trees.{is_one, same_process-refl}
@@ -146,3 +146,25 @@ module _ (me : ProcessId) (tree : List TreeEntry) (es : List Made) (w : World) (
 
   pub lost_messages : (k : ℕ) → IsLost s (sent_as s.net k) → IsForNobody tree (sent_as w.net k)
   lost_messages k h = subst (λ net. IsForNobody tree (sent_as net k)) f.net (for_nobody (sent_as s.net k) h)
+
+-- a settle that stops leaves a tree in which a message is lost
+record IsStuck (s : FlatState) : Type 0 where
+  number : ℕ
+  lost : IsLost s (sent_as s.net number)
+
+stuck_by : (s s' : FlatState) (again : FlatState → Type 0) (o : Option ℕ) → ((mid : FlatState) → again mid → IsStuck s')
+    → stops_by s s' again o → IsStuck s'
+stuck_by s s' again None f made = absurd made
+stuck_by s s' again (Some k) f (inl here) =
+    subst IsStuck (sym here.0) (record { number = k; lost = here.1 })
+stuck_by s s' again (Some k) f (inr later) = f later.0 later.2
+
+stuck : (n : ℕ) (s s' : FlatState) → SettleStops n s s' → IsStuck s'
+stuck zero s s' made = absurd made
+stuck (suc n) s s' made = stuck_by s s' (λ mid. SettleStops n mid s') (least_open 1 s.delivered) (λ mid g. stuck n mid s' g) made
+
+-- where a settle stops, a message that was sent is for no process of the tree
+pub stopped_settle : (me : ProcessId) (tree : List TreeEntry) (es : List Made) (w : World) (s s' : FlatState)
+    → Follows me tree es w s' → SettleStops 10000 s s' → (k : ℕ) × IsForNobody tree (sent_as w.net k)
+stopped_settle me tree es w s s' f made =
+    let at = stuck 10000 s s' made in (at.number, lost_messages me tree es w s' f at.number at.lost)

@@ -22,7 +22,7 @@ use Rattle.tree_model.specs.declared.trees.TreeEntry.{TreeEntry}
 use Rattle.link_script.specs.declared.stage.Stage.{Stage}
 use Rattle.link_script.specs.Documents.{IsTreeText}
 use Rattle.link_script.specs.Inputs.{HasTreeText}
-use Rattle.link_script.specs.Trace.{line_text, lines_text}
+use Rattle.trace_lines.specs.Trace.{line_text, lines_text}
 
 abbrev pub with_fronts : List (List ℕ) → Option (List (List ℕ) × List (List ℕ)) → Option (List (List ℕ) × List (List ℕ))
 with_fronts fronts found = option_map (λ p. (fronts ++ p.0, p.1)) found

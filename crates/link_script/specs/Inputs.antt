@@ -1,5 +1,5 @@
 -- Which bytes are a script, and what is wrong with others.
-use Rattle.std.specs.Prelude.{◌≡◌, ℕ, ◌+◌, ◌<◌, ◌≤◌, List, length, Option, Some, Result, Ok, Err}
+use Rattle.std.specs.Prelude.{◌≡◌, ℕ, ◌+◌, ◌<◌, ◌≤◌, List, length, Some, Result, Ok, Err}
 use Rattle.std.specs.Str.{IsUtf8}
 use Rattle.std.specs.Str.Lines.{lines_of_parts}
 use Rattle.tree_model.specs.declared.trees.TreeEntry.{TreeEntry}
@@ -14,7 +14,7 @@ use Rattle.link_script.specs.Stages.{reading}
 use Rattle.link_script.specs.Documents.{IsTreeText}
 use Rattle.link_script.specs.Rules.{pieces, around_rule}
 use Rattle.link_script.specs.Script.{asked_in, events_at}
-use Rattle.link_script.specs.Trace.{lines_text}
+use Rattle.trace_lines.specs.Trace.{lines_text}
 
 -- bytes that are text, with a tree text before the first line of three dashes
 pub record HasTreeText (stage : Stage) (bytes : List ℕ) (fronts behind : List (List ℕ))

@@ -3,7 +3,6 @@ pub mod Stages
 pub mod Events
 pub mod Spellings
 pub mod Documents
-pub mod Trace
 pub mod Rules
 pub mod Script
 pub mod Inputs

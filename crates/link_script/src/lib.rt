@@ -1,4 +1,4 @@
-//! Scripts of events over a tree of processes, and the text of a trace.
+//! Scripts of events over a tree of processes.
 #![tactic(auto)]
 
 mod document;
@@ -8,8 +8,6 @@ mod lines;
 mod names;
 mod script;
 mod stage;
-mod trace;
 
 pub use script::{MOST_EVENTS, ScriptError, ScriptFault, read};
 pub use stage::Stage;
-pub use trace::{case_text, push_entry, trace_text};

@@ -3,7 +3,7 @@
 ghost use Rattle.std.specs.Prelude.{◌≡◌, ◌+◌, ◌<◌, ◌≤◌, ◌^◌, IfOk, IfErr, MatchOption, List, ℕ, Some, None, Ok, Err, length, map};
 ghost use Rattle.std.specs.Str.Lines.{lines as lines_in, lines_of_parts};
 ghost use Rattle.link_script.specs.Rules.{pieces, is_rule as is_rule_at, around_rule};
-ghost use Rattle.link_script.specs.Trace.{lines_text};
+ghost use Rattle.trace_lines.specs.Trace.{lines_text};
 ghost use Rattle.link_script.specs.Stages.{reading};
 ghost use Rattle.link_script.specs.Script.{is_skipped, asked_in, events_at, IsLineFault};
 

@@ -29,7 +29,7 @@ enum Asked {
 const EXAMPLES: &str = "\
 Examples:
   rstar tree < examples/commit.tree
-  rstar xa < examples/branch.xa
+  rstar xa < examples/migrate.xa
 
 Exit status: 0 the script was run to its end, 1 it was refused, 2 an event was refused,
 4 reading, writing or memory failed.";
@@ -49,7 +49,7 @@ In: a call of the XA interface a line: open, close, start, end, prepare, commit,
 forget, recover. Out: the answer of each call by its name in XA, a line each, and 'end';
 'error ..' where the script is refused.
 
-Example: rstar xa < examples/branch.xa";
+Example: rstar xa < examples/migrate.xa";
 
 /// The words after the program's name, and what help says of them.
 fn grammar<'a>(alloc: Global) -> Result<Command<'a>, Error> {

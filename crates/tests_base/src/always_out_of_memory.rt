@@ -1,10 +1,11 @@
 //! Each public call of these layers once, with ample memory: none of them answers want of memory.
 
-use link_script::{Stage, case_text, read};
+use link_script::{Stage, read};
 use list_log::RecLog;
 use root_core::Root;
 use std::alloc::{AllocError, Global};
 use std::test::Fail;
+use trace_lines::case_text;
 use tree_model::{
     Act, Bytes, Case, Envelope, Event, Input, Kind, Message, Op, Outcome, Presumption, ProcessId,
     Reaction, Record, Sequence, StepError, Subject, Ticket, Tree, TreeEntry, Txn, Write,

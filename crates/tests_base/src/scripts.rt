@@ -2,9 +2,10 @@
 
 ghost use Rattle.std.specs.Prelude.{◌≡◌, IfOk, length};
 
-use link_script::{ScriptError, ScriptFault, Stage, case_text, push_entry, read, trace_text};
+use link_script::{ScriptError, ScriptFault, Stage, read};
 use std::alloc::{AllocError, Global};
 use std::test::Fail;
+use trace_lines::{case_text, push_entry, trace_text};
 use tree_model::{
     Act, Case, Entry, Envelope, Envelopes, Event, Happening, Kind, Logged, Message, Op, Outcome,
     Presumption, ProcessId, Reaction, RecordKind, Sequence, Step, Subject, Ticket, Txn,

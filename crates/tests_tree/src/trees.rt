@@ -16,7 +16,7 @@ const FLAT_PA_COMMIT: &str =
      join a1.1 2\njoin a1.1 3\nsettle\nwork a1.1 2 put x 1\nwork a1.1 3 put y 2\nsettle\n\
      commit a1.1\nsettle\n";
 
-const ROWS: [Row; 30] = [
+const ROWS: [Row; 31] = [
     (
         "flat_pa_commit",
         FLAT_PA_COMMIT,
@@ -30,6 +30,19 @@ const ROWS: [Row; 30] = [
          log 2 Committed a1.1@2.1.1 forced\n13 2->1 ACK a1.1@2.1.1 commit\n\
          log 3 Committed a1.1@3.1.1 forced\n14 3->1 ACK a1.1@3.1.1 commit\nlog 1 End a1.1 plain\n\
          end\n",
+        Status::Ended,
+    ),
+    (
+        "one_manager_commits",
+        "[[process]]\nid = 1\nkind = \"coordinator\"\n[[process]]\nid = 2\n\
+         kind = \"manager\"\nparent = 1\n---\nbegin pa\njoin a1.1 2\nsettle\n\
+         work a1.1 2 put x 1\nsettle\ncommit a1.1\nsettle\n",
+        "log 1 Opened 1 forced\nlog 2 Opened 1 forced\nbegin a1.1\n1 1->2 JOIN a1.1\n\
+         2 2->1 JOINED a1.1 2.1.1\n3 1->2 WORK a1.1@2.1.1 1 put x 1\n\
+         4 1->2 PREPARE a1.1@2.1.1 1\nlog 2 Prepared a1.1@2.1.1 forced\n\
+         5 2->1 YES a1.1@2.1.1\nlog 1 Commit a1.1 forced\ntold a1.1 committed\n\
+         6 1->2 COMMIT a1.1@2.1.1\nlog 2 Committed a1.1@2.1.1 forced\n\
+         7 2->1 ACK a1.1@2.1.1 commit\nlog 1 End a1.1 plain\nend\n",
         Status::Ended,
     ),
     (

@@ -3,20 +3,20 @@
 ghost use Rattle.std.specs.Prelude.{◌≡◌, ◌++◌, ℕ, List, IfOk, IfErr, OnOk, string_bytes};
 ghost use Rattle.tree_model.specs.Trees.{root_of};
 ghost use Rattle.std.specs.Io.KnownBytes.{Appends, Keeps};
-ghost use Rattle.link_script.specs.Trace.{entries_text};
-ghost use Rattle.tree_model.specs.Outcomes.{Agreement, CommitRule};
+ghost use Rattle.trace_lines.specs.Trace.{entries_text};
 ghost use Rattle.flat_law.specs.FlatWorlds.{IsOpened};
 ghost use Rattle.flat_law.specs.Ties.{IsFlatTree, IsModelled};
 ghost use Rattle.flat_world.specs.Worlds.{state};
 ghost use Rattle.report_io.specs.declared.status.Status.{Status as AnyStatus};
 ghost use Rattle.report_io.specs.Streams.{IsInput, WritesFront};
-ghost use Rattle.tree_engine.specs.Trees.{IsNumbered, IsTreeReport, Plays, TellsWhere, ending, fault_text, last_line, opened_text, opening_text, refused_text, trace_of};
+ghost use Rattle.tree_engine.specs.Trees.{Agrees, AgreesAndConsents, Consents, IsNumbered, IsOne, IsTreeReport, Plays, ending, fault_text, last_line, opened_text, opening_text, refused_text, trace_of};
 
 use flat_world::FlatWorld;
-use link_script::{ScriptError, ScriptFault, Stage, push_entry, read};
+use link_script::{ScriptError, ScriptFault, Stage, read};
 use report_io::{Failure, Status, read_all, write_all};
 use std::alloc::{AllocError, Global};
 use std::io::{Read, Write};
+use trace_lines::push_entry;
 use tree_model::{Entry, Event, StepError, Tree, TreeEntry};
 
 /// How many events were made, and why the next was refused; or none was.
@@ -25,8 +25,9 @@ type Refusal = Option<(usize, StepError)>;
 /// Reads a tree script, makes its events, and writes the trace; or one line that says why the script is refused. A refused
 /// event ends the trace by its number and why it was refused.
 ///
-/// The trace is that of a run of the model, in which no two processes end one transaction differently, and commit is
-/// decided only where every participant voted yes or read-only (R*). After a failed read, or where memory is refused,
+/// The trace is that of the run of just the script's events in the model; a refused event is one that the model refuses by
+/// that number. In this run no two processes end one transaction differently, and commit is decided only where every
+/// participant voted yes or read-only (R*). After a failed read, or where memory is refused,
 /// nothing was written; after a failed write, a beginning of the text.
 pub fn run_tree<R: Read, W: Write>(
     alloc: Global,
@@ -34,16 +35,16 @@ pub fn run_tree<R: Read, W: Write>(
     writer: &mut W,
 ) -> Result<Status, Failure>
     ensures written { IfOk result (λ status. (input : List ℕ) × (text : List ℕ)
-        × IsInput (R.remaining reader.old) input × IsTreeReport status input text
+        × IsInput (R.remaining reader.old) input × IsTreeReport IsOne status input text
         × Appends (W.contents writer.old) (W.contents writer.new) text) }
     ensures agreement { IfOk result (λ status. (input : List ℕ) × (text : List ℕ)
-        × IsInput (R.remaining reader.old) input × TellsWhere Agreement status input text
+        × IsInput (R.remaining reader.old) input × IsTreeReport Agrees status input text
         × Appends (W.contents writer.old) (W.contents writer.new) text) }
     ensures commit_rule { IfOk result (λ status. (input : List ℕ) × (text : List ℕ)
-        × IsInput (R.remaining reader.old) input × TellsWhere CommitRule status input text
+        × IsInput (R.remaining reader.old) input × IsTreeReport Consents status input text
         × Appends (W.contents writer.old) (W.contents writer.new) text) }
     ensures cut { IfErr result (λ e. e ≡ Failure.Write → (input : List ℕ) × (text : List ℕ) × (status : AnyStatus)
-        × IsInput (R.remaining reader.old) input × IsTreeReport status input text
+        × IsInput (R.remaining reader.old) input × IsTreeReport AgreesAndConsents status input text
         × WritesFront (W.contents writer.old) (W.contents writer.new) text) }
     ensures unread { IfErr result (λ e. e ≡ Failure.Read → Keeps (W.contents writer.old) (W.contents writer.new)) }
     ensures memory { IfErr result (λ e. e ≡ Failure.Memory → Keeps (W.contents writer.old) (W.contents writer.new)) }
@@ -58,7 +59,7 @@ pub fn run_tree<R: Read, W: Write>(
 
 /// The answer to an input.
 fn report(alloc: Global, input: &[u8]) -> Result<(Vec<u8>, Status), Failure>
-    ensures report { IfOk result (λ r. IsTreeReport r.1 input.now r.0.items) }
+    ensures report { IfOk result (λ r. IsTreeReport AgreesAndConsents r.1 input.now r.0.items) }
     ensures memory { IfErr result (λ e. e ≡ Failure.Memory) }
 {
     match read(alloc, Stage::Flat, input) {
@@ -113,6 +114,7 @@ fn opened(alloc: Global, tree: Tree) -> Result<FlatWorld, AllocError>
 fn play(alloc: Global, tree: Tree, events: &[Event]) -> Result<(FlatWorld, Refusal), Failure>
     requires { IsFlatTree (root_of tree) tree }
     ensures plays { IfOk result (λ r. Plays tree events.now r.1 (state r.0)) }
+    ensures modelled { IfOk result (λ r. IsModelled (root_of tree) tree (state r.0)) }
     ensures numbered { IfOk result (λ r. IsNumbered r.1) }
     ensures memory { IfErr result (λ e. e ≡ Failure.Memory) }
 {

@@ -1,7 +1,7 @@
 use Rattle.std.proofs.Common.{◌≡◌, ℕ, List, ◌++◌, length}
 use Rattle.std.specs.Str.{IsUtf8}
 use Rattle.link_script.specs.Rules.{pieces, around_rule}
-use Rattle.link_script.specs.Trace.{lines_text}
+use Rattle.trace_lines.specs.Trace.{lines_text}
 use Rattle.link_script.proofs.Rest.{with_fronts}
 use Rattle.link_script.proofs.lines.around.Given as goal
 

@@ -1,5 +1,5 @@
 use Rattle.std.proofs.Common.{◌≡◌, ◌++◌, drop}
-use Rattle.link_script.specs.Trace.{entries_text}
+use Rattle.trace_lines.specs.Trace.{entries_text}
 use Rattle.tree_engine.proofs.tree.push_entries.Given as goal
 
 abbrev pub invariant-loop-entry : goal.invariant-loop-entry

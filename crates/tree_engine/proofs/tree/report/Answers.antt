@@ -8,4 +8,4 @@ play-requires c = let script = c.in-Ok.ensures.ok in read_trees_are_flat _ c.in-
 
 pub returns-in_ok-world-in-Ok-clause-report : goal.returns-in_ok-world-in-Ok-clause-report
 returns-in_ok-world-in-Ok-clause-report c =
-    reported (λ r. r.0.items) c.args.input.now _ c.in-Ok.events.items c.in_ok-world-in-Ok.refusal (state c.in_ok-world-in-Ok.world) _ c.in-Ok.ensures.ok (rw c.deref.ensures.value at c.in_ok-world-in-Ok.ensures.plays) c.trace.ensures.text c.trace.ensures.status
+    reported (λ r. r.0.items) c.args.input.now _ c.in-Ok.events.items c.in_ok-world-in-Ok.refusal (state c.in_ok-world-in-Ok.world) _ c.in-Ok.ensures.ok (rw c.deref.ensures.value at c.in_ok-world-in-Ok.ensures.plays) c.in_ok-world-in-Ok.ensures.modelled c.trace.ensures.text c.trace.ensures.status

@@ -1,7 +1,7 @@
 use Rattle.std.proofs.Common.{◌≡◌, ◌++◌, drop}
 use Rattle.tree_model.specs.Texts.{logged_lines}
-use Rattle.link_script.specs.Trace.{lines_text}
-use Rattle.link_script.proofs.trace.push_written.Given as goal
+use Rattle.trace_lines.specs.Trace.{lines_text}
+use Rattle.trace_lines.proofs.trace.push_written.Given as goal
 
 abbrev pub invariant-loop-logged : goal.invariant-loop-logged
 invariant-loop-logged l =

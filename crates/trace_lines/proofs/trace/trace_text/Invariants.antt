@@ -1,6 +1,6 @@
 use Rattle.std.proofs.Common.{◌≡◌, ◌+◌, ◌++◌, drop}
-use Rattle.link_script.specs.Trace.{entries_text, messages_in}
-use Rattle.link_script.proofs.trace.trace_text.Given as goal
+use Rattle.trace_lines.specs.Trace.{entries_text, messages_in}
+use Rattle.trace_lines.proofs.trace.trace_text.Given as goal
 
 abbrev pub invariant-loop-entry : goal.invariant-loop-entry
 invariant-loop-entry l =

@@ -20,7 +20,7 @@ ghost use Rattle.tree_model.specs.Texts.{
   envelope_lines,
   kept_lines,
 };
-ghost use Rattle.link_script.specs.Trace.{lines_text, entry_text, entries_text, messages_in};
+ghost use Rattle.trace_lines.specs.Trace.{lines_text, entry_text, entries_text, messages_in};
 
 use itoa::Buffer;
 use std::alloc::{AllocError, Global};
