@@ -169,9 +169,9 @@ module _ (place : Place) (n : Node) (h : Lasts place.role (logs_of n)) where
 
   pub lasts : (m : Move) (e : Effect) (k : Node) → StepOf place n m e k → Stays (logs_of k)
   lasts m _ _ (handled i g hp np r) = appended (heard_in m i) g (turn_of place n (heard_in m i) g r)
-  lasts m _ _ (failed_in i f g hp np r) = broken (heard_in m i) g f.appended f.forced (turn_of place n (heard_in m i) g r)
+  lasts m _ _ (failed_in i f g fl hp np r) = broken (heard_in m i) g f.appended f.forced (turn_of place n (heard_in m i) g r)
   lasts m _ _ (passed i hp r) = h
-  lasts m _ _ (failed_passing i hp r) =
+  lasts m _ _ (failed_passing i f fl hp r) =
       record { nested = nested_falls (logs_of n) h.nested; by_role = role_falls role (logs_of n) h.by_role }
   lasts m _ _ (reopened k hp) =
       let l = loses (logs_of n) k in
@@ -180,7 +180,7 @@ module _ (place : Place) (n : Node) (h : Lasts place.role (logs_of n)) where
         nested = nested_rises (forces l new) (nested_forces l new (nested_loses (logs_of n) k h.nested));
         by_role = role_rises role (forces l new) refl (role_reopens_forces role l (standing l) (role_loses role (logs_of n) k h.by_role));
       }
-  lasts m _ _ (failed_reopening k f hp) =
+  lasts m _ _ (failed_reopening k f fl hp) =
       let l = loses (logs_of n) k in
       let new = reopens role (standing l) in
       record {
@@ -189,7 +189,7 @@ module _ (place : Place) (n : Node) (h : Lasts place.role (logs_of n)) where
       }
   lasts m _ _ (trims_log hp up) =
       record { nested = nested_replaces role (logs_of n) h.nested; by_role = role_replaces role (logs_of n) h.nested h.by_role }
-  lasts m _ _ (failed_trimming f hp up) = trim_failed f.appended
+  lasts m _ _ (failed_trimming f fl hp up) = trim_failed f.appended
 
 -- A process that opened an empty log.
 

@@ -74,7 +74,7 @@ decided_is_open : (k : Mark) → IsDecided k → is_open k ≡ true
 decided_is_open _ untold = refl
 decided_is_open _ (told o) = refl
 
-open_mark : (k : Mark) → IsOpenBranch k → is_open k ≡ true
+pub open_mark : (k : Mark) → IsOpenBranch k → is_open k ≡ true
 open_mark _ waits = refl
 open_mark _ (by_operator k d) = decided_is_open k d
 

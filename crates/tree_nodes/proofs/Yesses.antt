@@ -94,16 +94,16 @@ module _ (place : Place) (n : Node) (h : Lasts place.role (logs_of n)) (net : Li
         let new = entries_written g.written in
         let none = written i g hp (turn_of place n (heard_in m i) g r) in
         either_logs n new (is_any_forced g.written) (λ (l : Logs). has q l.life ≡ false) (λ b. grown new none) (λ b. grown new none)
-    own_life _ _ (failed_in i f g hp np r) =
+    own_life _ _ (failed_in i f g fl hp np r) =
         let new = entries_written g.written in
         grown (take f.appended new) (front_none q f.appended new (written i g hp (turn_of place n (heard_in m i) g r)))
     own_life _ _ (passed i hp r) = own
-    own_life _ _ (failed_passing i hp r) = own
+    own_life _ _ (failed_passing i f fl hp r) = own
     own_life _ _ (reopened k hp) = grown (reopens place.role (left_of n k)) (again k)
-    own_life _ _ (failed_reopening k f hp) =
+    own_life _ _ (failed_reopening k f fl hp) =
         grown (take f.appended (reopens place.role (left_of n k))) (front_none q f.appended (reopens place.role (left_of n k)) (again k))
     own_life _ _ (trims_log hp up) = replaced
-    own_life _ _ (failed_trimming f hp up) = trim_failed f.appended
+    own_life _ _ (failed_trimming f fl hp up) = trim_failed f.appended
 
   owns_by : (role : Role) → place.role ≡ role → Owns role place.me (logs_of n) → (e : Effect) (k : Node) → StepOf place n m e k
       → Owns role place.me (logs_of k)
@@ -124,14 +124,14 @@ module _ (place : Place) (n : Node) (h : Lasts place.role (logs_of n)) (net : Li
 
   pub step_goes : (e : Effect) (k : Node) → StepOf place n m e k → AllGoToOwners e.messages
   step_goes _ _ (handled i g hp np r) = turn_goes place.role refl (heard_in m i) g (turn_of place n (heard_in m i) g r)
-  step_goes _ _ (failed_in i f g hp np r) = tt
+  step_goes _ _ (failed_in i f g fl hp np r) = tt
   step_goes _ _ (passed i hp r) = tt
-  step_goes _ _ (failed_passing i hp r) = tt
+  step_goes _ _ (failed_passing i f fl hp r) = tt
   step_goes _ _ (reopened k hp) =
       resumes_goes place.role place.me (left_of n k ++ reopens place.role (left_of n k))
-  step_goes _ _ (failed_reopening k f hp) = tt
+  step_goes _ _ (failed_reopening k f fl hp) = tt
   step_goes _ _ (trims_log hp up) = tt
-  step_goes _ _ (failed_trimming f hp up) = tt
+  step_goes _ _ (failed_trimming f fl hp up) = tt
 
   turn_yes : (role : Role) → place.role ≡ role → Owns role place.me (logs_of n) → (i : Input) (g : Effect)
       → m.step.happening ≡ Handles i → TurnOf place n (heard_in m i) g
@@ -151,14 +151,14 @@ module _ (place : Place) (n : Node) (h : Lasts place.role (logs_of n)) (net : Li
   pub step_yes : Owns place.role place.me (logs_of n) → (e : Effect) (k : Node) → StepOf place n m e k
       → (c : Case) → sent (is_yes_message c) e.messages ≡ true → YesFine place.role place.me k c
   step_yes o _ _ (handled i g hp np r) c e = turn_yes place.role refl o i g hp (turn_of place n (heard_in m i) g r) c e
-  step_yes o _ _ (failed_in i f g hp np r) c e = none_sent c e
+  step_yes o _ _ (failed_in i f g fl hp np r) c e = none_sent c e
   step_yes o _ _ (passed i hp r) c e = none_sent c e
-  step_yes o _ _ (failed_passing i hp r) c e = none_sent c e
+  step_yes o _ _ (failed_passing i f fl hp r) c e = none_sent c e
   step_yes o _ _ (reopened k hp) c e =
       not_so _ (quiet_resumes c place.role place.me (left_of n k ++ reopens place.role (left_of n k))) e
-  step_yes o _ _ (failed_reopening k f hp) c e = none_sent c e
+  step_yes o _ _ (failed_reopening k f fl hp) c e = none_sent c e
   step_yes o _ _ (trims_log hp up) c e = none_sent c e
-  step_yes o _ _ (failed_trimming f hp up) c e = none_sent c e
+  step_yes o _ _ (failed_trimming f fl hp up) c e = none_sent c e
 
 -- Runs.
 
@@ -190,7 +190,11 @@ holds tree _ _ (makes es w m e w' run stands step) =
           (step_goes (place_of tree q) (w.at q) last w.net before.goes m stands e at.node s));
     }
 
-own_process : (me : ProcessId) (x : Txn) (t : Option Ticket) → is_given_by me t ≡ true → owner_of t x ≡ me
+-- in every run a parent's messages go to their cases' owners
+pub nets_go : (tree : List TreeEntry) (es : List Made) (w : World) → IsRun tree es w → AllGoToOwners w.net
+nets_go tree es w run = (holds tree es w run).goes
+
+pub own_process : (me : ProcessId) (x : Txn) (t : Option Ticket) → is_given_by me t ≡ true → owner_of t x ≡ me
 own_process me x None e = absurd (cc)
 own_process me x (Some t) e = elim (same_process_tells t.child me) [ inl k ↦ k.1 | inr f ↦ absurd (let g = f.0 in cc) ]
 

@@ -134,23 +134,23 @@ module _ (q : Record → Bool) (i : Input) (own : OperatorsOwn q i) where
       → any_written q e.written ≡ true → m.step.happening ≡ Handles i
   by_step place n m _ _ (handled j g hp np r) f =
       hp ∙ ap (λ x. Handles x) (by_role place.role place n (heard_in m j) g (turn_of place n (heard_in m j) g r).turn f)
-  by_step place n m _ _ (failed_in j ft g hp np r) f =
+  by_step place n m _ _ (failed_in j ft g fl hp np r) f =
       hp ∙ ap (λ x. Handles x)
       (by_role place.role place n (heard_in m j) g (turn_of place n (heard_in m j) g r).turn (any_taken q ft.appended g.written f))
   by_step place n m _ _ (passed j hp r) f = absurd (cc)
-  by_step place n m _ _ (failed_passing j hp r) f = absurd (cc)
+  by_step place n m _ _ (failed_passing j ft fl hp r) f = absurd (cc)
   by_step place n m _ _ (reopened k hp) f = absurd (reopened_so _ (any_forced q (reopens place.role _) ∙ reopens_none q own.aborted own.opened place.role _) f)
     where
       reopened_so : (b : Bool) → b ≡ false → b ≡ true → ⊥
       reopened_so b e f = cc
-  by_step place n m _ _ (failed_reopening k ft hp) f =
+  by_step place n m _ _ (failed_reopening k ft fl hp) f =
       absurd (not_both _ (any_forced q (reopens place.role _) ∙ reopens_none q own.aborted own.opened place.role _)
       (any_taken q ft.appended (forced_all (reopens place.role _)) f))
     where
       not_both : (b : Bool) → b ≡ false → b ≡ true → ⊥
       not_both b e f = cc
   by_step place n m _ _ (trimmed hp up) f = absurd (cc)
-  by_step place n m _ _ (failed_trimming ft hp up) f = absurd (cc)
+  by_step place n m _ _ (failed_trimming ft fl hp up) f = absurd (cc)
 
 -- An operator's decision.
 

@@ -22,37 +22,38 @@ module _ (place : Place) (n : Node) (m : Move) where
   S (Refuses x) = Unit {0}
   S (Makes e k) = StepOf place n m e k
 
-  by_reaction : (i : Input) → m.step.happening ≡ Handles i → is_passed_over place n i ≡ false → (f : Option Fault) (r : Reacts)
-      → reacts place n (heard_in m i) ≡ r → S (input_makes n (heard_in m i) f r)
-  by_reaction i hp np None (Refused x) e = tt
-  by_reaction i hp np (Some f) (Refused x) e = tt
-  by_reaction i hp np None (Does g) e = handled i g hp np e
-  by_reaction i hp np (Some f) (Does g) e = failed_in i f g hp np e
+  by_reaction : (i : Input) → m.step.happening ≡ Handles i → is_passed_over place n i ≡ false → (f : Option Fault)
+      → m.step.fault ≡ f → (r : Reacts) → reacts place n (heard_in m i) ≡ r → S (input_makes n (heard_in m i) f r)
+  by_reaction i hp np None ft (Refused x) e = tt
+  by_reaction i hp np (Some f) ft (Refused x) e = tt
+  by_reaction i hp np None ft (Does g) e = handled i g hp np e
+  by_reaction i hp np (Some f) ft (Does g) e = failed_in i f g ft hp np e
 
-  by_passing : (i : Input) → m.step.happening ≡ Handles i → is_passed_over place n i ≡ true → (f : Option Fault) → S (passes_over n f)
-  by_passing i hp e None = passed i hp e
-  by_passing i hp e (Some f) = failed_passing i hp e
+  by_passing : (i : Input) → m.step.happening ≡ Handles i → is_passed_over place n i ≡ true → (f : Option Fault)
+      → m.step.fault ≡ f → S (passes_over n f)
+  by_passing i hp e None ft = passed i hp e
+  by_passing i hp e (Some f) ft = failed_passing i f ft hp e
 
   if_passed : (i : Input) → m.step.happening ≡ Handles i → (b : Bool) → is_passed_over place n i ≡ b
       → S (if b then passes_over n m.step.fault else input_makes n (heard_in m i) m.step.fault (reacts place n (heard_in m i)))
-  if_passed i hp true e = by_passing i hp e m.step.fault
-  if_passed i hp false e = by_reaction i hp e m.step.fault (reacts place n (heard_in m i)) refl
+  if_passed i hp true e = by_passing i hp e m.step.fault refl
+  if_passed i hp false e = by_reaction i hp e m.step.fault refl (reacts place n (heard_in m i)) refl
 
-  by_restart : (k : ℕ) → m.step.happening ≡ Restart k → (f : Option Fault) → S (restart_makes place n k f)
-  by_restart k hp None = reopened k hp
-  by_restart k hp (Some f) = failed_reopening k f hp
+  by_restart : (k : ℕ) → m.step.happening ≡ Restart k → (f : Option Fault) → m.step.fault ≡ f → S (restart_makes place n k f)
+  by_restart k hp None ft = reopened k hp
+  by_restart k hp (Some f) ft = failed_reopening k f ft hp
 
-  by_trim : m.step.happening ≡ Trim → n.failed ≡ false → (f : Option Fault) → S (trim_makes place n f)
-  by_trim hp up None = trimmed hp up
-  by_trim hp up (Some f) = failed_trimming f hp up
+  by_trim : m.step.happening ≡ Trim → n.failed ≡ false → (f : Option Fault) → m.step.fault ≡ f → S (trim_makes place n f)
+  by_trim hp up None ft = trimmed hp up
+  by_trim hp up (Some f) ft = failed_trimming f ft hp up
 
   if_up : m.step.happening ≡ Trim → (b : Bool) → n.failed ≡ b → S (if b then Refuses Failed else trim_makes place n m.step.fault)
   if_up hp true e = tt
-  if_up hp false e = by_trim hp e m.step.fault
+  if_up hp false e = by_trim hp e m.step.fault refl
 
   by_happening : (hp : Happening) → m.step.happening ≡ hp → S (happening_makes place n m hp)
   by_happening (Handles i) e = if_passed i e (is_passed_over place n i) refl
-  by_happening (Restart k) e = by_restart k e m.step.fault
+  by_happening (Restart k) e = by_restart k e m.step.fault refl
   by_happening Trim e = if_up e n.failed refl
 
   made : S (node_makes place n m)

@@ -1,0 +1,9 @@
+pub mod Tables
+pub mod LeafWrites
+pub mod Wires
+pub mod Readings
+pub mod Opens
+pub mod Doubts
+pub mod Moves
+pub mod Rows
+pub mod ManagerRows

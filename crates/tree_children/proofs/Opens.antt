@@ -1,0 +1,169 @@
+-- Whether a branch is open behind an input, by its last record and the phase that is remembered.
+use Rattle.std.proofs.Common.{◌≡◌, ◌∙◌, ◌⊎◌, inl, inr, ◌&&◌, ◌==◌, ◌+◌, ℕ, Bool, true, false, List, refl, sym, ap, if◌then◌else◌}
+use Rattle.std.specs.Prelude.{not}
+use Rattle.tree_model.specs.declared.names.Case.{Case}
+use Rattle.tree_model.specs.declared.names.ProcessId.{ProcessId}
+use Rattle.tree_model.specs.declared.messages.Message.{Message}
+use Rattle.tree_model.specs.declared.messages.Message.TheVariants.{Join, Joined, Work, Prepare, Yes, No, Read, Commit, Abort, Ack, Inquire}
+use Rattle.tree_model.specs.declared.records.Branch.TheVariants.{Case as CaseBranch}
+use Rattle.tree_model.specs.declared.standings.Standing.{Standing}
+use Rattle.tree_model.specs.declared.standings.Standing.TheVariants.{Unknown}
+use Rattle.tree_model.specs.declared.events.Input.{Input}
+use Rattle.tree_model.specs.declared.events.Input.TheVariants.{Act as ActInput, Message as MessageInput}
+use Rattle.tree_model.specs.declared.trees.TreeEntry.{TreeEntry}
+use Rattle.tree_model.specs.Names.{same_case}
+use Rattle.tree_model.specs.NameLaws.{same_case-refl}
+use Rattle.tree_model.specs.Records.{boot_of}
+use Rattle.tree_model.specs.Nodes.{Place, AtLeaf, Node, Heard, DataAnswer, Effect, kept, after}
+use Rattle.tree_model.specs.Memory.{Memory, Phase, Idle, Open, Asked, Over, memory_of, manager_remembers, works, closes, retires}
+use Rattle.tree_model.specs.Standings.{ManagerView, manager_view, marked_branch, heard_branch, Mark, Unmarked, Promised, Decided, ToldOf, Finished, mark_of}
+use Rattle.tree_pairs.specs.Reading.{is_live}
+use Rattle.tree_readings.specs.ReadingOf.{phase_by}
+use Rattle.tree_turns.proofs.LeafInputs.{viewed}
+use Rattle.tree_nodes.proofs.Orders.{IsMarked}
+use Rattle.tree_children.specs.ManagerSteps.{IsNoJoin, IsRow}
+
+abbrev pub opens : Bool → ManagerView → Bool
+opens f v = is_live (phase_by f v.standing)
+
+closed_marked : (f : Bool) (m : Memory) (k : Mark) → IsMarked k → opens f (marked_branch m k) ≡ false
+closed_marked true m k e = refl
+closed_marked false m Promised e = refl
+closed_marked false m Decided e = refl
+closed_marked false m (ToldOf o) e = refl
+closed_marked false m Finished e = refl
+closed_marked false m Unmarked e = absurd e
+
+closed_phase : (f : Bool) (m : Memory) (k : Mark) → m.phase ≡ Over → opens f (marked_branch m k) ≡ false
+closed_phase true m k e = refl
+closed_phase false m Promised e = refl
+closed_phase false m Decided e = refl
+closed_phase false m (ToldOf o) e = refl
+closed_phase false m Finished e = refl
+closed_phase false m Unmarked e = ap (λ (x : Phase). opens false (heard_branch m x)) e
+
+heard_alike : (f : Bool) (m m' : Memory) (x : Phase) → opens f (heard_branch m' x) ≡ opens f (heard_branch m x)
+heard_alike f m m' Idle = refl
+heard_alike f m m' Open = refl
+heard_alike f m m' Asked = refl
+heard_alike f m m' Over = refl
+
+alike : (f : Bool) (m m' : Memory) (k : Mark) → m'.phase ≡ m.phase → opens f (marked_branch m' k) ≡ opens f (marked_branch m k)
+alike f m m' Unmarked e = ap (λ (x : Phase). opens f (heard_branch m' x)) e ∙ heard_alike f m m' m.phase
+alike f m m' Promised e = refl
+alike f m m' Decided e = refl
+alike f m m' (ToldOf o) e = refl
+alike f m m' Finished e = refl
+
+-- An input that gives no ticket leaves the phase, or ends it.
+
+abbrev Left : Memory → Memory → Type 0
+Left m m' = (m'.phase ≡ m.phase) ⊎ (m'.phase ≡ Over)
+
+works_left : (m u v : Memory) (a b : Bool) → u.phase ≡ m.phase → v.phase ≡ m.phase → Left m (if a then (if b then u else v) else m)
+works_left m u v true true e f = inl e
+works_left m u v true false e f = inl f
+works_left m u v false b e f = inl refl
+
+worked_left : (m : Memory) (i : ℕ) (does : Bool) (ph : Phase) → Left m (works m i does ph)
+worked_left m i does Open = works_left m _ _ ((i == m.done + 1) && not m.spoiled) does refl refl
+worked_left m i does Idle = inl refl
+worked_left m i does Asked = inl refl
+worked_left m i does Over = inl refl
+
+closes_left : (m k : Memory) (ph : Phase) → k.phase ≡ m.phase → Left m (closes k ph)
+closes_left m k Idle e = inl e
+closes_left m k Open e = inr refl
+closes_left m k Asked e = inr refl
+closes_left m k Over e = inr refl
+
+if_left : (m u v : Memory) (b : Bool) → Left m u → Left m v → Left m (if b then v else u)
+if_left m u v true e f = f
+if_left m u v false e f = e
+
+message_left : (me : ProcessId) (boot : ℕ) (d : Case) (m : Memory) (a : DataAnswer) (j : ℕ) (x : Message) → IsNoJoin x
+    → Left m (manager_remembers me boot d m a (MessageInput j x))
+message_left me boot d m a j (Work o i op) r = if_left m m _ (same_case o d) (inl refl) (worked_left m i a.does m.phase)
+message_left me boot d m a j (Prepare o k) r =
+    if_left m (retires m o) _ (same_case o d) (inl refl) (closes_left m (retires m o) m.phase refl)
+message_left me boot d m a j (Abort o) r =
+    if_left m (retires m o) _ (same_case o d) (inl refl) (closes_left m (retires m o) m.phase refl)
+message_left me boot d m a j (Join o) r = absurd r
+message_left me boot d m a j (Joined o t) r = inl refl
+message_left me boot d m a j (Yes o) r = inl refl
+message_left me boot d m a j (No o) r = inl refl
+message_left me boot d m a j (Read o) r = inl refl
+message_left me boot d m a j (Commit o) r = inl refl
+message_left me boot d m a j (Ack o u) r = inl refl
+message_left me boot d m a j (Inquire o) r = inl refl
+
+row_left : (me : ProcessId) (boot : ℕ) (d : Case) (m : Memory) (a : DataAnswer) (i : Input) → IsRow i
+    → Left m (manager_remembers me boot d m a i)
+row_left me boot d m a (ActInput b) r = inl refl
+row_left me boot d m a (MessageInput j x) r = message_left me boot d m a j x r
+
+-- What an input makes of the branch.
+
+module _ (me p : ProcessId) (tree : List TreeEntry) (n : Node) (h : Heard) (e : Effect) (d : Case) where
+  abbrev place : Place
+  place = record { me = me; role = AtLeaf p; tree = tree }
+
+  module _ (remembers : memory_of place (after n h e) d
+      ≡ manager_remembers me (boot_of (kept n)) d (memory_of place n d) h.data_answer h.input) where
+    -- the branch is as open as before, or closed
+    pub fall : IsRow h.input → mark_of (CaseBranch d) (kept (after n h e)) ≡ mark_of (CaseBranch d) (kept n)
+        → (opens n.failed (manager_view place (after n h e) d) ≡ opens n.failed (manager_view place n d))
+        ⊎ (opens n.failed (manager_view place (after n h e) d) ≡ false)
+    fall row mark = elim (row_left me (boot_of (kept n)) d (memory_of place n d) h.data_answer h.input row) [
+      | inl same ↦ inl
+          (ap (opens n.failed) (viewed place (after n h e) d)
+          ∙ (ap (λ k. opens n.failed (marked_branch (memory_of place (after n h e) d) k)) mark
+          ∙ (alike n.failed (memory_of place n d) (memory_of place (after n h e) d) (mark_of (CaseBranch d) (kept n))
+          (ap (λ (m : Memory). m.phase) remembers ∙ same)
+          ∙ ap (opens n.failed) (sym (viewed place n d)))))
+      | inr over ↦ inr
+          (ap (opens n.failed) (viewed place (after n h e) d)
+          ∙ closed_phase n.failed (memory_of place (after n h e) d) (mark_of (CaseBranch d) (kept (after n h e)))
+          (ap (λ (m : Memory). m.phase) remembers ∙ over))
+    ]
+
+    -- PREPARE and ABORT close an Active branch
+    pub closes_prepared : (k j : ℕ) → h.input ≡ MessageInput j (Prepare d k) → (memory_of place n d).phase ≡ Open
+        → opens n.failed (manager_view place (after n h e) d) ≡ false
+    closes_prepared k j i ph =
+        ap (opens n.failed) (viewed place (after n h e) d)
+        ∙ closed_phase n.failed (memory_of place (after n h e) d) (mark_of (CaseBranch d) (kept (after n h e)))
+        (ap (λ (m : Memory). m.phase) remembers ∙ rw (i, same_case-refl d, ph) refl)
+
+    pub closes_aborted : (j : ℕ) → h.input ≡ MessageInput j (Abort d) → (memory_of place n d).phase ≡ Open
+        → opens n.failed (manager_view place (after n h e) d) ≡ false
+    closes_aborted j i ph =
+        ap (opens n.failed) (viewed place (after n h e) d)
+        ∙ closed_phase n.failed (memory_of place (after n h e) d) (mark_of (CaseBranch d) (kept (after n h e)))
+        (ap (λ (m : Memory). m.phase) remembers ∙ rw (i, same_case-refl d, ph) refl)
+
+  -- a branch with a record is closed
+  pub marked_is_closed : IsMarked (mark_of (CaseBranch d) (kept (after n h e))) → opens n.failed (manager_view place (after n h e) d) ≡ false
+  marked_is_closed k =
+      ap (opens n.failed) (viewed place (after n h e) d)
+      ∙ closed_marked n.failed (memory_of place (after n h e) d) (mark_of (CaseBranch d) (kept (after n h e))) k
+
+pub closed_where_marked : (place : Place) (n : Node) (d : Case) → IsMarked (mark_of (CaseBranch d) (kept n))
+    → opens n.failed (manager_view place n d) ≡ false
+closed_where_marked place n d k =
+    ap (opens n.failed) (viewed place n d) ∙ closed_marked n.failed (memory_of place n d) (mark_of (CaseBranch d) (kept n)) k
+
+pub open_where_active : (place : Place) (n : Node) (d : Case) → n.failed ≡ false → mark_of (CaseBranch d) (kept n) ≡ Unmarked
+    → (memory_of place n d).phase ≡ Open → opens n.failed (manager_view place n d) ≡ true
+open_where_active place n d up mark ph =
+    ap (opens n.failed) (viewed place n d)
+    ∙ (ap (λ k. opens n.failed (marked_branch (memory_of place n d) k)) mark
+    ∙ (ap (λ (x : Phase). opens n.failed (heard_branch (memory_of place n d) x)) ph ∙ rw up refl))
+
+pub closed_where_unknown : (place : Place) (n : Node) (d : Case) → (manager_view place n d).standing ≡ Unknown
+    → opens n.failed (manager_view place n d) ≡ false
+closed_where_unknown place n d e = by_fault n.failed (manager_view place n d).standing e
+  where
+    by_fault : (f : Bool) (s : Standing) → s ≡ Unknown → is_live (phase_by f s) ≡ false
+    by_fault true s e = refl
+    by_fault false s e = rw e refl
