@@ -1,5 +1,5 @@
 -- What a longer list says of a test, a fold and a message.
-use Rattle.std.proofs.Common.{◌≡◌, ◌∙◌, ap, sym, Bool, true, false, ◌||◌, List, [], ◌∷◌, ◌++◌, append_assoc, if◌then◌else◌, refl, arith}
+use Rattle.std.proofs.Common.{◌≡◌, ◌∙◌, ap, sym, Bool, true, false, ◌||◌, List, [], ◌∷◌, ◌++◌, append_assoc, if◌then◌else◌, reverse, reverse_aux, refl, arith}
 use Rattle.std.proofs.lemmas.List.{append-nil}
 use Rattle.std.proofs.lemmas.List.Folds.{list_any-append}
 use Rattle.std.proofs.lemmas.Grind.{fold-append}
@@ -44,6 +44,18 @@ pub has-history : (q : Record → Bool) (f l d : List Record)
     → has q ((f ++ l) ++ d) ≡ (has q (f ++ l) || has q d)
 unfolding has
 has-history q f l d = list_any-append q (f ++ l) d
+
+or-second : (a b c : Bool) → (a || (b || c)) ≡ ((a || b) || c)
+or-second a b c = grind arith
+
+has-onto : (q : Record → Bool) (xs acc : List Record) → has q (reverse_aux xs acc) ≡ (has q acc || has q xs)
+unfolding has
+has-onto q [] acc = grind arith
+has-onto q (x ∷ xs) acc = has-onto q xs (x ∷ acc) ∙ grind arith
+
+-- the newest records stand first in a history
+pub has-reversed : (q : Record → Bool) (xs ys : List Record) → has q (reverse xs ++ ys) ≡ (has q ys || has q xs)
+has-reversed q xs ys = has-append q (reverse xs) ys ∙ ap (λ b. has q ys || b) (has-onto q xs [] ∙ refl)
 
 pub ruleset lists = (has-push, has-push_behind, has-nil, has-nil_behind, has-cons, has-history)
 

@@ -2,6 +2,7 @@ pub mod RowLaws
 pub mod RunLaws
 pub mod BranchLaws
 pub mod ListLaws
+pub mod LogNameLaws
 pub mod ManagerViewLaws
 pub mod TicketLaws
 pub mod StandingLaws

@@ -14,12 +14,9 @@ use Rattle.tree_model.specs.declared.standings.Standing.{Standing}
 use Rattle.tree_model.specs.declared.standings.Standing.TheVariants.{Unknown, Collecting, Prepared, Committing, Aborting, Heuristic}
 use Rattle.tree_model.specs.declared.names.Outcome.{Outcome}
 use Rattle.tree_model.specs.declared.events.Told.{Told}
-use Rattle.tree_model.specs.declared.events.Act.TheVariants.{Begin}
-use Rattle.tree_model.specs.declared.events.Input.{Input}
-use Rattle.tree_model.specs.declared.events.Input.TheVariants.{Act as ActInput, Message as MessageInput}
 use Rattle.tree_model.specs.Names.{same_txn, root_case}
 use Rattle.tree_model.specs.Records.{has, is_commit, record_case, record_branch, prepares_branch, cases_in, boot_of}
-use Rattle.tree_model.specs.Nodes.{Role, AtRoot, Below, AtLeaf, Place, Node, kept, Heard, Written, Effect, fails_with}
+use Rattle.tree_model.specs.Nodes.{Role, AtRoot, Below, AtLeaf, Place, Node, kept, Written, Effect, fails_with}
 use Rattle.tree_model.specs.Memory.{fresh_memory}
 use Rattle.tree_model.specs.Standings.{CoordinatorView, ManagerView, coordinator_standing, view_at, marked_branch, Mark, Unmarked, Finished, mark_of}
 use Rattle.tree_model.specs.CoordinatorRows.{Seat, each, up, post}

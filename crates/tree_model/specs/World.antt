@@ -1,5 +1,5 @@
 -- The whole tree: every process, and every message ever sent. A step is made at one process.
-use Rattle.std.specs.Prelude.{◌≡◌, ◌≤◌, ◌-◌, ℕ, if◌then◌else◌, Option, Some, None, List, [], ◌∷◌, ◌++◌, slice_get, take, filter, ⊤}
+use Rattle.std.specs.Prelude.{◌≡◌, ◌≤◌, ◌-◌, ℕ, true, if◌then◌else◌, Option, Some, None, List, [], ◌∷◌, ◌++◌, slice_get, take, filter, ⊤}
 use Rattle.tree_model.specs.declared.names.ProcessId.{ProcessId}
 use Rattle.tree_model.specs.declared.messages.Message.{Message}
 use Rattle.tree_model.specs.declared.messages.Envelope.{Envelope}
@@ -16,7 +16,7 @@ use Rattle.tree_model.specs.declared.events.StepError.TheVariants.{Failed}
 use Rattle.tree_model.specs.declared.trees.TreeEntry.{TreeEntry}
 use Rattle.tree_model.specs.Names.{same_process}
 use Rattle.tree_model.specs.Nodes.{Place, place_of, is_listed, Node, opened_node, Heard, DataAnswer, Effect, no_effect, after, fails_in, reaction_of}
-use Rattle.tree_model.specs.Reactions.{Reacts, Refused, Does, reacts}
+use Rattle.tree_model.specs.Reactions.{Reacts, Refused, PassesOver, Does, reacts}
 use Rattle.tree_model.specs.Restarts.{restart_effect, restarted, restart_fails, trim_effect, trims, trim_fails}
 
 -- One process.

@@ -6,8 +6,8 @@ use Rattle.tree_model.specs.declared.events.Input.TheVariants.{Message as Messag
 use Rattle.tree_model.specs.declared.events.StepError.TheVariants.{Failed}
 use Rattle.tree_model.specs.declared.events.Fault.{Fault}
 use Rattle.tree_model.specs.declared.trees.TreeEntry.{TreeEntry}
-use Rattle.tree_model.specs.Nodes.{Heard, DataAnswer, Effect, Place, Role, fails_in, place_of, role_of, is_listed}
-use Rattle.tree_model.specs.Reactions.{Refused, Does, reacts, hears}
+use Rattle.tree_model.specs.Nodes.{Heard, DataAnswer, Effect, Node, Place, Role, fails_in, place_of, role_of, is_listed}
+use Rattle.tree_model.specs.Reactions.{Reacts, Refused, Does, reacts, hears, takes}
 use Rattle.tree_model.specs.World.{World, Refuses, world_makes, world_stepped, node_makes, input_makes, restart_makes, trim_makes, fault_effect}
 use Rattle.tree_model.specs.Restarts.{restarted, restart_effect, trims, trim_effect}
 use Rattle.tree_readings.specs.Steps.{handled, made_at, delivers, fails_at, restarts_at, trims_at}
@@ -26,28 +26,38 @@ delivered_by true false w q h made e w' s =
 delivered_by true true w q h made e w' s = absurd (cc)
 delivered_by false f w q h made e w' s = absurd (cc)
 
+-- the message is one that the process takes
+abbrev Takes : Role → Place → Node → DataAnswer → Message → Type 0
+Takes role place n a message = takes role place n a message ≡ Does (hears role place n a message)
+
 -- the process was up, and did what its role hears
-pub delivered : (tree : List TreeEntry) (w : World) (q : ProcessId) (i : ℕ) (message : Message)
+delivered : (tree : List TreeEntry) (w : World) (q : ProcessId) (i : ℕ) (message : Message)
     (a : DataAnswer) (e : Effect) (w' : World)
+    → Takes (role_of tree q) (place_of tree q) (w.at q) a message
     → world_makes tree w (delivers q i message a) ≡ Some (e, w')
     → ((w.at q).failed ≡ false) × (w' ≡ handled w q
     (record { input = MessageInput i message; data_answer = a })
     (hears (role_of tree q) (place_of tree q) (w.at q) a message))
 unfolding world_makes node_makes reacts
-delivered tree w q i message a e w' s =
-    delivered_by (is_listed tree q) (w.at q).failed w q
-    (record { input = MessageInput i message; data_answer = a })
-    (hears (role_of tree q) (place_of tree q) (w.at q) a message) e w' s
+delivered tree w q i message a e w' taken s =
+    let h : Heard = record { input = MessageInput i message; data_answer = a } in
+    delivered_by (is_listed tree q) (w.at q).failed w q h
+    (hears (role_of tree q) (place_of tree q) (w.at q) a message) e w'
+    (subst (λ (r : Reacts). (if is_listed tree q then world_stepped w q (input_makes (w.at q) h None
+    (if (w.at q).failed then Refused Failed else r)) else None) ≡ Some (e, w')) taken s)
 
 -- the same, where the process's role is known
 pub delivered_as : (tree : List TreeEntry) (w : World) (q : ProcessId) (role : Role) (i : ℕ)
     (message : Message) (a : DataAnswer) (e : Effect) (w' : World)
     → role_of tree q ≡ role → world_makes tree w (delivers q i message a) ≡ Some (e, w')
+    → Takes role (record { me = q; role = role; tree = tree }) (w.at q) a message
     → ((w.at q).failed ≡ false) × (w' ≡ handled w q
     (record { input = MessageInput i message; data_answer = a })
     (hears role (record { me = q; role = role; tree = tree }) (w.at q) a message))
-delivered_as tree w q role i message a e w' known s =
-    let both = delivered tree w q i message a e w' s in (
+delivered_as tree w q role i message a e w' known s taken =
+    let taken' = subst (λ (r : Role). Takes r (record { me = q; role = r; tree = tree }) (w.at q) a message)
+    (sym known) taken in
+    let both = delivered tree w q i message a e w' taken' s in (
       both.0,
       subst (λ (r : Role). w' ≡ handled w q
           (record { input = MessageInput i message; data_answer = a })
@@ -72,27 +82,33 @@ failed_by false u w q h made f e w' s = absurd (cc)
 
 failed_in : (tree : List TreeEntry) (w : World) (q : ProcessId) (i : ℕ) (message : Message)
     (a : DataAnswer) (f : Fault) (e : Effect) (w' : World)
+    → Takes (role_of tree q) (place_of tree q) (w.at q) a message
     → world_makes tree w (fails_at q i message a f) ≡ Some (e, w')
     → ((w.at q).failed ≡ false) × (w' ≡ made_at w q
     (fails_in (w.at q) (record { input = MessageInput i message; data_answer = a })
     (hears (role_of tree q) (place_of tree q) (w.at q) a message) f.appended f.forced)
     (fault_effect (hears (role_of tree q) (place_of tree q) (w.at q) a message) f.appended))
 unfolding world_makes node_makes reacts
-failed_in tree w q i message a f e w' s =
-    failed_by (is_listed tree q) (w.at q).failed w q
-    (record { input = MessageInput i message; data_answer = a })
-    (hears (role_of tree q) (place_of tree q) (w.at q) a message) f e w' s
+failed_in tree w q i message a f e w' taken s =
+    let h : Heard = record { input = MessageInput i message; data_answer = a } in
+    failed_by (is_listed tree q) (w.at q).failed w q h
+    (hears (role_of tree q) (place_of tree q) (w.at q) a message) f e w'
+    (subst (λ (r : Reacts). (if is_listed tree q then world_stepped w q (input_makes (w.at q) h (Some f)
+    (if (w.at q).failed then Refused Failed else r)) else None) ≡ Some (e, w')) taken s)
 
 pub failed_as : (tree : List TreeEntry) (w : World) (q : ProcessId) (role : Role) (i : ℕ)
     (message : Message) (a : DataAnswer) (f : Fault) (e : Effect) (w' : World)
     → role_of tree q ≡ role → world_makes tree w (fails_at q i message a f) ≡ Some (e, w')
+    → Takes role (record { me = q; role = role; tree = tree }) (w.at q) a message
     → ((w.at q).failed ≡ false) × (w' ≡ made_at w q
     (fails_in (w.at q) (record { input = MessageInput i message; data_answer = a })
     (hears role (record { me = q; role = role; tree = tree }) (w.at q) a message) f.appended f.forced)
     (fault_effect (hears role (record { me = q; role = role; tree = tree }) (w.at q) a message)
     f.appended))
-failed_as tree w q role i message a f e w' known s =
-    let both = failed_in tree w q i message a f e w' s in (
+failed_as tree w q role i message a f e w' known s taken =
+    let taken' = subst (λ (r : Role). Takes r (record { me = q; role = r; tree = tree }) (w.at q) a message)
+    (sym known) taken in
+    let both = failed_in tree w q i message a f e w' taken' s in (
       both.0,
       subst (λ (r : Role). w' ≡ made_at w q
           (fails_in (w.at q) (record { input = MessageInput i message; data_answer = a })

@@ -177,7 +177,7 @@ manager_votes_elsewhere tree w w' above c t p o i n a ws e pair other ready made
     let k = w.at t.child in
     let d = child_case c.txn t in
     let h : Heard = record { input = MessageInput i (Prepare o n); data_answer = a } in
-    let both = delivered_as tree w t.child (AtLeaf p) i (Prepare o n) a e w' pair.leaf made in
+    let both = delivered_as tree w t.child (AtLeaf p) i (Prepare o n) a e w' pair.leaf made refl in
     let ready' : IsReady (manager_view place k o) n a ws = subst
     (λ (r : Role). IsReady (manager_view (record { me = t.child; role = r; tree = tree }) k o) n a ws)
     pair.leaf ready in

@@ -44,7 +44,7 @@ manager_votes_yes tree w w' above c t p i n a ws e pair ready made =
     let k = w.at t.child in
     let d = child_case c.txn t in
     let h : Heard = record { input = MessageInput i (Prepare d n); data_answer = a } in
-    let both = delivered_as tree w t.child (AtLeaf p) i (Prepare d n) a e w' pair.leaf made in
+    let both = delivered_as tree w t.child (AtLeaf p) i (Prepare d n) a e w' pair.leaf made refl in
     let ready' : IsReady (manager_view place k d) n a ws = subst
     (λ (r : Role). IsReady (manager_view (record { me = t.child; role = r; tree = tree }) k d) n a ws)
     pair.leaf ready in
@@ -81,7 +81,7 @@ cascaded_passes_abort tree w w' above c t p i a e pair pa stands promised made =
     let place : Place = record { me = process_of c; role = Below p; tree = tree } in
     let n = w.at (process_of c) in
     let h : Heard = record { input = MessageInput i (Abort c); data_answer = a } in
-    let both = delivered_as tree w (process_of c) (Below p) i (Abort c) a e w' pair.below made in
+    let both = delivered_as tree w (process_of c) (Below p) i (Abort c) a e w' pair.below made refl in
     let stands' : (coordinator_view place n c).standing ≡ Prepared = subst
     (λ (r : Role). (coordinator_view (record { me = process_of c; role = r; tree = tree }) n
     c).standing ≡ Prepared) pair.below stands in

@@ -21,8 +21,8 @@ use Rattle.tree_pairs.specs.Invariant.{Common}
 use Rattle.tree_readings.specs.ReadingOf.{reading_of, reading_from, parent_half, parent_half_at, child_half, wire, ParentHalf, ChildHalf, Wire, phase_by}
 use Rattle.tree_readings.specs.Halves.{trimmed_parent}
 use Rattle.tree_readings.specs.StepLaws.{RootTrims}
-use Rattle.tree_readings.proofs.Lists.{has-nil, has-append}
-use Rattle.tree_readings.proofs.Trimmed.{Gone, gone, follows-none, boot_trimmed}
+use Rattle.tree_readings.proofs.Lists.{has-nil, has-none, has-append}
+use Rattle.tree_readings.proofs.Trimmed.{Gone, gone, boot_trimmed}
 use Rattle.tree_readings.proofs.Delivered.{trimmed_as}
 use Rattle.tree_readings.proofs.ReadingSteps.{at_root, before_root}
 use Rattle.tree_readings.proofs.CoordinatorHalves.{standing-by_records}
@@ -31,12 +31,14 @@ use Rattle.tree_readings.proofs.FaultStep.{wire-quiet}
 or-false : (a : Bool) → (a || false) ≡ a
 or-false a = grind arith
 
-half_trims : (s s' : Standing) (m : Memory) (place : Place) (n : Node) (c : Case) (t : Ticket)
-    → place.role ≡ AtRoot → Gone c t (trimmed AtRoot (kept n))
+half_trims : (s s' : Standing) (m : Memory) (me : ProcessId) (tree : List TreeEntry) (n : Node) (c : Case)
+    (t : Ticket)
+    → Gone c t (trimmed AtRoot (kept n))
     → phase_by n.failed s' ≡ phase_by n.failed s
-    → parent_half_at s' m (trims place n) c t ≡ trimmed_parent (parent_half_at s m n c t)
-half_trims s s' m place n c t role g same =
-    rw (role, same)
+    → parent_half_at s' m (trims (record { me = me; role = AtRoot; tree = tree }) n) c t
+    ≡ trimmed_parent (parent_half_at s m n c t)
+half_trims s s' m me tree n c t g same =
+    rw same
     (simp (
       has-nil,
       has-append,
@@ -49,8 +51,7 @@ half_trims s s' m place n c t role g same =
       g.names_it,
       g.owes,
       or-false,
-      follows-none (is_abort c) (is_prepare c) (trimmed AtRoot (kept n)) n.life
-          g.abort,
+      has-none (is_commit c),
     ))
 
 memory_trims : (me : ProcessId) (tree : List TreeEntry) (n : Node) (c : Case)
@@ -132,7 +133,7 @@ root_trims tree w w' above x t a e pair inv unknown agrees made =
     ap (λ (m : Memory). parent_half_at (coordinator_view place (trims place n) c).standing m
     (trims place n) c t) same
     ∙ half_trims (coordinator_view place n c).standing
-    (coordinator_view place (trims place n) c).standing (memory_of place n c) place n c t refl g
+    (coordinator_view place (trims place n) c).standing (memory_of place n c) x.root tree n c t g
     (ap (phase_by n.failed) stands) in
     ap (λ (y : World). reading_of tree y above c t) both.1
     ∙ (at_root tree w above x t pair (trims place n) (trim_effect place n)
