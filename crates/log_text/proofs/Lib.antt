@@ -1,0 +1,2 @@
+pub mod NameReading
+pub mod Lists
