@@ -2,3 +2,4 @@ pub mod Frames
 pub mod Payloads
 pub mod Parts
 pub mod Reading
+pub mod Made

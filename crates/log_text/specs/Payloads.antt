@@ -1,6 +1,6 @@
 -- The payload that a record is written as, and its kind's byte.
-use Rattle.std.specs.Prelude.{ℕ, List, [], ◌∷◌, ◌++◌, Option, Some, None, length}
-use Rattle.std.specs.List.{flat_map}
+use Rattle.std.specs.Prelude.{◌<◌, ⊤, ℕ, List, [], ◌∷◌, ◌++◌, Option, Some, None, length}
+use Rattle.std.specs.List.{flat_map, All}
 use Rattle.byteorder.specs.Endian.{big_bytes}
 use Rattle.xa_xid.specs.Bytes.{xid_bytes}
 use Rattle.tree_model.specs.declared.names.ProcessId.{ProcessId}
@@ -96,3 +96,27 @@ record_text l = frame_text (kind_byte l.entry) (payload_text l.parent l.entry)
 -- records, one behind the other
 unfoldable pub records_text : List LogRecord → List ℕ
 records_text ls = flat_map record_text ls
+
+-- Sizes that the bytes before a list, a key and a value can tell.
+
+abbrev pub SizedValue : Option (List ℕ) → Type 0
+SizedValue None = ⊤
+SizedValue (Some v) = length v < 65536
+
+abbrev pub SizedWrite : Write → Type 0
+SizedWrite w = (length w.key < 256) × SizedValue w.value
+
+abbrev pub IsSized : Record → Type 0
+IsSized (Collecting c ts) = length ts < 256
+IsSized (Prepare c ts) = length ts < 256
+IsSized (Commit c ts) = length ts < 256
+IsSized (Abort c ts) = length ts < 256
+IsSized (Prepared b ws) = (length ws < 256) × All SizedWrite ws
+IsSized (Direct b ws) = (length ws < 256) × All SizedWrite ws
+IsSized (Pair k v) = (length k < 256) × (length v < 65536)
+IsSized _ = ⊤
+
+-- a record fits a frame
+pub record FitsFrame (l : LogRecord) : Type 0 where
+  pub sized : IsSized l.entry
+  pub short : length (payload_text l.parent l.entry) < 65536
