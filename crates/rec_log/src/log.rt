@@ -1,0 +1,119 @@
+//! A log as its records.
+
+ghost use Rattle.std.specs.Prelude.{◌≡◌, ◌≤◌, ◌<◌, ◌+◌, ◌++◌, ◌∷◌, [], true, false, IfOk, IfErr, OnOk, OnErr, length};
+ghost use Rattle.log_text.specs.Made.{frame_record};
+ghost use Rattle.log_text.specs.Payloads.{record_text};
+ghost use Rattle.rec_log.specs.Sights.{Appended, Breaks, Forced, IsRecord, body, records_of};
+ghost use Rattle.rec_log.specs.Texts.{records_in};
+
+use log_store::LogStore;
+use log_text::{Frame, HEADER, ReadFault, first_frame, read_record};
+use std::alloc::{AllocError, Global};
+use std::marker::Model;
+use tree_model::{Kind, LogRecord};
+
+/// Why a log did not do what it was asked.
+#[derive(Clone, Copy, Debug, PartialEq, Eq)]
+pub enum LogError {
+    /// There was no memory; nothing changed.
+    Memory,
+    /// The device failed. The log has failed until it is restarted or opened.
+    Device,
+}
+
+/// The log of a process. What it keeps of its records is their bytes alone.
+#[derive(Drop)]
+pub struct RecLog<L: LogStore> {
+    kind: Kind,
+    store: L,
+    failed: bool,
+}
+
+impl<L: LogStore> Model for RecLog<L> {
+    ghost use Rattle.rec_log.specs.Sights.{LogState, IsLogText, log_state};
+
+    ghost Value = { LogState };
+
+    ghost view = { λ l. log_state l.kind (L.bytes l.store) (L.forced l.store) (L.failures l.store) (L.room l.store) l.failed };
+
+    ghost invariant = { λ l. IsLogText l.kind (L.bytes l.store) (L.forced l.store) l.failed };
+}
+
+/// The bytes behind the header.
+fn body(bytes: &[u8]) -> &[u8]
+    requires { 5 ≤ length bytes.now }
+    ensures { result.now ≡ body bytes.now }
+{
+    let (_, body) = bytes.split_at(HEADER.len());
+    body
+}
+
+/// The records at the front of the bytes behind a header.
+fn records_in(kind: Kind, bytes: &[u8], alloc: Global) -> Result<Vec<LogRecord>, AllocError>
+    ensures { IfOk result (λ records. records.items ≡ records_in kind 0 bytes.now) }
+{
+    let mut records = Vec::new(alloc);
+    let mut rest = bytes;
+    while let Some((frame_kind, payload, behind)) = first_frame(rest) {
+        match read_record(kind, frame_kind, payload, alloc) {
+            Ok(record) => records.push(record)?,
+            Err(ReadFault::Malformed) => return Ok(records),
+            Err(ReadFault::Memory) => return Err(AllocError),
+        }
+        rest = behind;
+    }
+    Ok(records)
+}
+
+impl<L: LogStore> RecLog<L> {
+    /// Whether the device failed under it.
+    pub fn failed(&self) -> bool
+        ensures { result ≡ self.now.sight.failed }
+    {
+        self.failed
+    }
+
+    /// Makes room for so many bytes of frames. A refusal changes nothing.
+    pub fn reserve(&mut self, more: usize) -> Result<(), AllocError>
+        ensures stays { self.new.sight ≡ self.old.sight }
+        ensures kind { self.new.kind ≡ self.old.kind }
+        ensures room { OnOk result (more ≤ self.new.room) }
+    {
+        self.store.reserve(more)
+    }
+
+    /// Appends a record, where there is room for its frame; it is not forced.
+    pub fn append(&mut self, frame: &Frame) -> Result<(), LogError>
+        requires room { length (record_text (frame_record frame.now)) ≤ self.old.room }
+        requires works { self.old.sight.failed ≡ false }
+        requires sound { IsRecord self.old.kind (frame_record frame.now) }
+        ensures ok { OnOk result (Appended self.old self.new (frame_record frame.now)) }
+        ensures err { IfErr result (λ e. (e ≡ LogError.Device) × Breaks self.old self.new (frame_record frame.now ∷ [])) }
+    {
+        if let Err(_) = self.store.append(frame.bytes()) {
+            self.failed = true;
+            return Err(LogError::Device);
+        }
+        Ok(())
+    }
+
+    /// Forces all the records.
+    pub fn force(&mut self) -> Result<(), LogError>
+        requires { self.old.sight.failed ≡ false }
+        ensures ok { OnOk result (Forced self.old self.new) }
+        ensures err { IfErr result (λ e. (e ≡ LogError.Device) × Breaks self.old self.new []) }
+    {
+        if let Err(_) = self.store.force() {
+            self.failed = true;
+            return Err(LogError::Device);
+        }
+        Ok(())
+    }
+
+    /// The records that stand, as a list made anew.
+    pub fn records(&self, alloc: Global) -> Result<Vec<LogRecord>, AllocError>
+        ensures { IfOk result (λ records. records.items ≡ records_of self.now.sight.kept) }
+    {
+        records_in(self.kind, body(self.store.bytes()), alloc)
+    }
+}
