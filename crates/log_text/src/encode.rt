@@ -31,16 +31,16 @@ use tree_model::{
 };
 use xa_xid::Xid;
 
-/// The XID that a log writes for a name.
-fn name_xid(parent: Option<ProcessId>, branch: &Branch) -> Xid
-    ensures { result ≡ name_xid parent branch.now }
+/// The XID that a log writes for a name: a branch, and the parent of a case below the root. It takes no memory.
+pub fn name_xid(parent: Option<ProcessId>, branch: Branch) -> Xid
+    ensures { result ≡ name_xid parent branch }
 {
     match branch {
         Branch::Case(case) => match (case.ticket, parent) {
             (Some(ticket), Some(parent)) => branch_xid(case.txn, Some((parent, ticket))),
             _ => branch_xid(case.txn, None),
         },
-        Branch::Foreign(xid) => *xid,
+        Branch::Foreign(xid) => xid,
     }
 }
 
@@ -52,7 +52,7 @@ fn push_name(
 ) -> Result<(), AllocError>
     ensures { OnOk result (text.new.items ≡ text.old.items ++ name_text parent branch.now) }
 {
-    let bytes = name_xid(parent, branch).to_bytes(alloc)?;
+    let bytes = name_xid(parent, *branch).to_bytes(alloc)?;
     text.extend_from_slice(&bytes)
 }
 

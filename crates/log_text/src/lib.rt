@@ -7,6 +7,6 @@ mod names;
 mod parts;
 mod records;
 
-pub use encode::Frame;
+pub use encode::{Frame, name_xid};
 pub use frames::{HEADER, first_frame};
 pub use records::{ReadFault, read_record};
