@@ -27,10 +27,10 @@ cuts_by : (b : Bool) (kind size : ℕ) (rest : List ℕ) (c : Cut) → nat_lt (l
 cuts_by true kind size rest c t e = absurd (cc)
 cuts_by false kind size rest c t e = record { fits = grind (arith, nat_tests); is = cc }
 
-cuts : (kind size : ℕ) (rest : List ℕ) (c : Cut) → cut_at kind size rest ≡ Some c → Cuts kind size rest c
+pub cuts : (kind size : ℕ) (rest : List ℕ) (c : Cut) → cut_at kind size rest ≡ Some c → Cuts kind size rest c
 cuts kind size rest c e = cuts_by (nat_lt (length rest) size) kind size rest c refl e
 
-cut_there : (kind size : ℕ) (rest : List ℕ) → size ≤ length rest → cut_at kind size rest ≡ Some (kind, take size rest, drop size rest)
+pub cut_there : (kind size : ℕ) (rest : List ℕ) → size ≤ length rest → cut_at kind size rest ≡ Some (kind, take size rest, drop size rest)
 cut_there kind size rest le =
     let t : nat_lt (length rest) size ≡ false = grind (arith, nat_tests) in ap (λ b. if b then None else Some (kind, take size rest, drop size rest)) t
 
@@ -65,7 +65,7 @@ passed_whole p zero xs h = refl
 passed_whole p (suc k) [] h = absurd (omega arith)
 passed_whole p (suc k) (b ∷ bs) h = passed_whole p k bs (omega arith)
 
-taken : (size : ℕ) (rest : List ℕ) → size ≤ length rest → length (take size rest) ≡ size
+pub taken : (size : ℕ) (rest : List ℕ) → size ≤ length rest → length (take size rest) ≡ size
 taken size rest h = omega (arith, length-take size rest)
 
 -- the records are that of the first frame and those behind it
@@ -202,11 +202,11 @@ unfolding record_text
 own_whole p l ys is =
     step_whole p (record_text l ++ ys) _ (own_frame (kind_byte l.entry) (payload_text l.parent l.entry) ys is.fits.short) ∙ ap (λ o. whole_if o (is_whole p 0 ys)) is.again
 
-nothing_whole : (p : Kind) → is_whole p 0 [] ≡ true
+pub nothing_whole : (p : Kind) → is_whole p 0 [] ≡ true
 unfolding is_whole
 nothing_whole p = refl
 
-no_records : (p : Kind) → records_in p 0 [] ≡ []
+pub no_records : (p : Kind) → records_in p 0 [] ≡ []
 unfolding records_in
 no_records p = refl
 

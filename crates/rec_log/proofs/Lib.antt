@@ -1,2 +1,5 @@
 pub mod Frames
 pub mod Turns
+pub mod Openings
+pub mod Keys
+pub mod Settling

@@ -73,7 +73,6 @@ text_goes_on p text text' forced forced' l failed ok record_is is le e f =
       header_forced = omega (arith, f, is.header_forced);
       whole = λ _. ap (λ t. is_whole p 0 (body t)) e ∙ ap (is_whole p 0) (body_more text (record_text l) (omega (arith, is.header_forced)))
           ∙ more_whole p 0 (body text) (record_text l) (is.whole ok) (one_whole p l record_is);
-      whole_front = λ _. ap (is_whole p 0) same ∙ is.whole_front ok;
     }
 
 -- a text whose header is forced, whatever else came of a fault
@@ -83,7 +82,6 @@ text_failed p text text' more forced forced' failed is le e f = record {
   begins = ap (take 5) e ∙ take-append-le 5 text more (omega (arith, is.header_forced)) ∙ is.begins;
   header_forced = omega (arith, f, is.header_forced);
   whole = λ h. absurd (cc);
-  whole_front = λ h. absurd (cc);
 }
 
 pub append_breaks : (p : Kind) (text text' : List ℕ) (forced forced' failures failures' room room' came : ℕ) (l : LogRecord) (failed : Bool) → failed ≡ false → IsRecord p l
@@ -135,7 +133,6 @@ text_forced p text text' forced forced' failed ok is le e f =
       begins = ap (take 5) e ∙ is.begins;
       header_forced = omega (arith, f, le, is.header_forced);
       whole = λ _. whole;
-      whole_front = λ _. ap (is_whole p 0) all ∙ whole;
     }
 
 front_grows : (p : Kind) (text : List ℕ) (n m : ℕ) → n ≤ m → length (records_in p 0 (front text n)) ≤ length (records_in p 0 (front text m))

@@ -56,12 +56,11 @@ log_state p text forced failures room failed = record {
   room = room - length text;
 }
 
--- the header is forced; where the log has not failed, its bytes and those of its forced front are whole records
+-- the header is forced; where the log has not failed, its bytes are whole records
 pub record IsLogText (p : Kind) (text : List ℕ) (forced : ℕ) (failed : Bool) : Type 0 where
   pub begins : take 5 text ≡ header
   pub header_forced : 5 ≤ forced
   pub whole : failed ≡ false → is_whole p 0 (body text) ≡ true
-  pub whole_front : failed ≡ false → is_whole p 0 (front text forced) ≡ true
 
 -- a record that can stand in such a log: it fits a frame, and the frame reads as this record
 pub record IsRecord (p : Kind) (l : LogRecord) : Type 0 where

@@ -2,5 +2,7 @@
 #![tactic(auto)]
 
 mod log;
+mod opening;
 
 pub use log::{LogError, RecLog};
+pub use opening::OpenError;

@@ -1,12 +1,15 @@
 //! A log as its records.
 
-ghost use Rattle.std.specs.Prelude.{◌≡◌, ◌≤◌, ◌<◌, ◌+◌, ◌++◌, ◌∷◌, [], true, false, IfOk, IfErr, OnOk, OnErr, length};
+ghost use Rattle.std.specs.Prelude.{◌≡◌, ◌≤◌, ◌<◌, ◌+◌, ◌++◌, ◌∷◌, [], true, false, IfOk, IfErr, OnOk, OnErr, length, take};
 ghost use Rattle.log_text.specs.Made.{frame_record};
 ghost use Rattle.log_text.specs.Payloads.{record_text};
 ghost use Rattle.rec_log.specs.Sights.{Appended, Breaks, Forced, IsRecord, body, records_of};
+ghost use Rattle.log_store.specs.Stores.{Replaces};
+ghost use Rattle.rec_log.specs.Openings.{IsRefused, NotOpened, Opens, Settles};
 ghost use Rattle.rec_log.specs.Texts.{records_in};
 
-use log_store::LogStore;
+use crate::opening::{Found, OpenError, find};
+use log_store::{LogStore, StoreError};
 use log_text::{Frame, HEADER, ReadFault, first_frame, read_record};
 use std::alloc::{AllocError, Global};
 use std::marker::Model;
@@ -63,6 +66,65 @@ fn records_in(kind: Kind, bytes: &[u8], alloc: Global) -> Result<Vec<LogRecord>,
         rest = behind;
     }
     Ok(records)
+}
+
+/// The first bytes, as a list of their own.
+fn front_of(bytes: &[u8], size: usize, alloc: Global) -> Result<Vec<u8>, AllocError>
+    requires { size ≤ length bytes.now }
+    ensures { IfOk result (λ front. front.items ≡ take size bytes.now) }
+{
+    let (front, _) = bytes.split_at(size);
+    Vec::from_slice(alloc, front)
+}
+
+/// A store in which this text stands, forced, in place of what stood there.
+fn replaced<L: LogStore + Drop>(store: L, text: &[u8]) -> Result<L, (OpenError, L)>
+    ensures ok { IfOk result (λ new. Replaces L.bytes L.forced L.failures store new text.now) }
+    ensures err { IfErr result (λ e. IsRefused L.bytes L.forced L.failures store e.1 e.0) }
+{
+    let mut store = store;
+    match store.replace(text) {
+        Ok(()) => Ok(store),
+        Err(StoreError::Memory) => Err((OpenError::Memory, store)),
+        Err(StoreError::Device) => Err((OpenError::Device, store)),
+    }
+}
+
+/// A store in which a log of whole frames stands that begins with these bytes.
+fn settled<L: LogStore + Drop>(kind: Kind, store: L, alloc: Global) -> Result<L, (OpenError, L)>
+    ensures ok { IfOk result (λ new. Settles kind (L.bytes store) (L.failures store) (L.bytes new) (L.forced new) (L.failures new)) }
+    ensures err { IfErr result (λ e. NotOpened L.bytes L.forced L.failures kind store e.1 e.0) }
+{
+    let torn = match find(kind, store.bytes(), alloc) {
+        Err(error) => return Err((error, store)),
+        Ok(Found::Empty) => return replaced(store, &HEADER),
+        Ok(Found::Sound(torn)) => torn,
+    };
+    let forced = store.forced();
+    if torn == 0 && HEADER.len() <= forced {
+        return Ok(store);
+    }
+    let size = store.bytes().len() - torn;
+    match front_of(store.bytes(), size, alloc) {
+        Ok(front) => replaced(store, &front),
+        Err(_) => Err((OpenError::Memory, store)),
+    }
+}
+
+impl<L: LogStore + Drop> RecLog<L> {
+    /// A log over a store. A torn tail is removed, and an empty log is given its header, by one `replace`; otherwise
+    /// the store is left as it is. A refusal hands the store back.
+    pub fn open(store: L, kind: Kind, alloc: Global) -> Result<RecLog<L>, (OpenError, L)>
+        ensures ok { IfOk result (λ log. Opens kind (L.bytes store) (L.failures store) log) }
+        ensures err { IfErr result (λ e. NotOpened L.bytes L.forced L.failures kind store e.1 e.0) }
+    {
+        let store = settled(kind, store, alloc)?;
+        Ok(RecLog {
+            kind,
+            store,
+            failed: false,
+        })
+    }
 }
 
 impl<L: LogStore> RecLog<L> {
