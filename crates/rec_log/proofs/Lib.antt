@@ -3,3 +3,4 @@ pub mod Turns
 pub mod Openings
 pub mod Keys
 pub mod Settling
+pub mod Written

@@ -19,7 +19,7 @@ records_stand p text forced =
     subst (λ all. records_in p 0 (front text forced) ++ drop (length (records_in p 0 (front text forced))) all ≡ all) (sym e.1)
     (ap (λ t. records_in p 0 (front text forced) ++ t) (drop-append_seam (records_in p 0 (front text forced)) e.0))
 
-take_within : (n m : ℕ) (xs : List ℕ) → n ≤ m → take n (take m xs) ≡ take n xs
+pub take_within : (n m : ℕ) (xs : List ℕ) → n ≤ m → take n (take m xs) ≡ take n xs
 take_within zero m xs h = refl
 take_within (suc n) zero xs h = absurd (omega arith)
 take_within (suc n) (suc m) [] h = refl

@@ -1,9 +1,9 @@
 -- What is seen of a log: its records, a front of which is forced.
-use Rattle.std.specs.Prelude.{◌≡◌, ◌≤◌, ◌<◌, ◌+◌, ◌-◌, ℕ, Bool, true, false, List, [], ◌∷◌, ◌++◌, length, take, drop, Some}
+use Rattle.std.specs.Prelude.{◌≡◌, ◌≤◌, ◌<◌, ◌+◌, ◌-◌, ⊤, ℕ, Bool, true, false, List, [], ◌∷◌, ◌++◌, length, take, drop, Some}
 use Rattle.tree_model.specs.declared.names.Kind.{Kind}
 use Rattle.tree_model.specs.declared.records.LogRecord.{LogRecord}
 use Rattle.log_text.specs.Frames.{header}
-use Rattle.log_text.specs.Payloads.{FitsFrame, kind_byte, payload_text, record_text}
+use Rattle.log_text.specs.Payloads.{FitsFrame, kind_byte, payload_text, record_text, records_text}
 use Rattle.log_text.specs.Reading.{read_record}
 use Rattle.rec_log.specs.Texts.{records_in, is_whole, whole_size}
 use Rattle.rec_log.specs.declared.log.LogError.{LogError}
@@ -93,3 +93,17 @@ pub record Breaks (old new : LogState) (ls : List LogRecord) : Type 0 where
   pub no_less : length old.sight.kept.forced ≤ length new.sight.kept.forced
   pub failed : new.sight.failed ≡ true
   pub cause : old.sight.failures < new.sight.failures
+
+-- records that can all stand in such a log
+abbrev pub AreRecords : Kind → List LogRecord → Type 0
+AreRecords p [] = ⊤
+AreRecords p (l ∷ ls) = IsRecord p l × AreRecords p ls
+
+-- what is written is read: the text of records reads as these records, and is whole
+abbrev pub WrittenIsRead : Type 0
+WrittenIsRead = (p : Kind) (ls : List LogRecord) → AreRecords p ls → (records_in p 0 (records_text ls) ≡ ls) × (is_whole p 0 (records_text ls) ≡ true)
+
+-- what a crash leaves: the forced records and a front of the others
+pub record Leaves (k : Kept) (left : List LogRecord) : Type 0 where
+  pub some : ℕ
+  pub is : left ≡ k.forced ++ take some k.loose

@@ -1,6 +1,7 @@
 //! The log of a process: records over a store of bytes.
 #![tactic(auto)]
 
+pub mod law;
 mod log;
 mod opening;
 

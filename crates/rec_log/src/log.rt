@@ -3,7 +3,7 @@
 ghost use Rattle.std.specs.Prelude.{◌≡◌, ◌≤◌, ◌<◌, ◌+◌, ◌++◌, ◌∷◌, [], true, false, IfOk, IfErr, OnOk, OnErr, length, take};
 ghost use Rattle.log_text.specs.Made.{frame_record};
 ghost use Rattle.log_text.specs.Payloads.{record_text};
-ghost use Rattle.rec_log.specs.Sights.{Appended, Breaks, Forced, IsRecord, body, records_of};
+ghost use Rattle.rec_log.specs.Sights.{Appended, Breaks, Forced, IsRecord, Leaves, body, records_of};
 ghost use Rattle.log_store.specs.Stores.{Replaces};
 ghost use Rattle.rec_log.specs.Openings.{IsRefused, NotOpened, Opens, Settles};
 ghost use Rattle.rec_log.specs.Texts.{records_in};
@@ -49,6 +49,19 @@ fn body(bytes: &[u8]) -> &[u8]
 {
     let (_, body) = bytes.split_at(HEADER.len());
     body
+}
+
+/// The forced bytes and so many more, where they are there.
+fn left_by(bytes: &[u8], forced: usize, keep: usize) -> &[u8]
+    requires { forced ≤ length bytes.now }
+    ensures left { result.now ≡ take (forced + keep) bytes.now }
+    ensures no_less { forced ≤ length result.now }
+{
+    if keep < bytes.len() - forced {
+        &bytes[..forced + keep]
+    } else {
+        bytes
+    }
 }
 
 /// The records at the front of the bytes behind a header.
@@ -177,5 +190,15 @@ impl<L: LogStore> RecLog<L> {
         ensures { IfOk result (λ records. records.items ≡ records_of self.now.sight.kept) }
     {
         records_in(self.kind, body(self.store.bytes()), alloc)
+    }
+
+    /// The records that a crash would leave which keeps so many bytes behind the forced front, as a list made anew: the
+    /// forced records and a front of the others.
+    pub fn kept(&self, keep: usize, alloc: Global) -> Result<Vec<LogRecord>, AllocError>
+        ensures { IfOk result (λ records. Leaves self.now.sight.kept records.items) }
+    {
+        let forced = self.store.forced();
+        let left = left_by(self.store.bytes(), forced, keep);
+        records_in(self.kind, body(left), alloc)
     }
 }
