@@ -4,3 +4,4 @@ pub mod Openings
 pub mod Keys
 pub mod Settling
 pub mod Written
+pub mod Restarting

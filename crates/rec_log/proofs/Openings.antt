@@ -72,11 +72,11 @@ drop_all zero (x ∷ xs) h = absurd (omega arith)
 drop_all (suc n) (x ∷ xs) h = drop_all n xs (omega arith)
 
 -- a frame and what is behind it
-record Frame (xs : List ℕ) (c : Cut) : Type 0 where
-  frame : List ℕ
-  split : xs ≡ frame ++ c.2
-  alone : first_frame frame ≡ Some (c.0, c.1, [])
-  size : length frame ≡ 3 + length c.1
+pub record Frame (xs : List ℕ) (c : Cut) : Type 0 where
+  pub frame : List ℕ
+  pub split : xs ≡ frame ++ c.2
+  pub alone : first_frame frame ≡ Some (c.0, c.1, [])
+  pub size : length frame ≡ 3 + length c.1
 
 frame_by_cut : (a b d : ℕ) (rest : List ℕ) (c : Cut) → Cuts a (b * 256 + d) rest c → Frame (a ∷ b ∷ d ∷ rest) c
 frame_by_cut a b d rest c k =
@@ -91,7 +91,7 @@ frame_by_cut a b d rest c k =
       size = omega (arith, n, ap (λ z. length z.1) k.is);
     }
 
-frame_at : (xs : List ℕ) (c : Cut) → first_frame xs ≡ Some c → Frame xs c
+pub frame_at : (xs : List ℕ) (c : Cut) → first_frame xs ≡ Some c → Frame xs c
 frame_at [] c e = absurd (cc)
 frame_at (a ∷ []) c e = absurd (cc)
 frame_at (a ∷ b ∷ []) c e = absurd (cc)

@@ -103,10 +103,10 @@ append_breaks p text text' forced forced' failures failures' room room' came l f
 
 -- Forces.
 
-all_front : (text : List ℕ) (forced : ℕ) → forced ≡ length text → front text forced ≡ body text
+pub all_front : (text : List ℕ) (forced : ℕ) → forced ≡ length text → front text forced ≡ body text
 all_front text forced e = take_all (forced - 5) (drop 5 text) (omega (arith, length-drop 5 text, e))
 
-drop_all : (xs : List LogRecord) → drop (length xs) xs ≡ []
+pub drop_all : (xs : List LogRecord) → drop (length xs) xs ≡ []
 drop_all [] = refl
 drop_all (x ∷ xs) = drop_all xs
 

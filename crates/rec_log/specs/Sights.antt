@@ -107,3 +107,43 @@ WrittenIsRead = (p : Kind) (ls : List LogRecord) → AreRecords p ls → (record
 pub record Leaves (k : Kept) (left : List LogRecord) : Type 0 where
   pub some : ℕ
   pub is : left ≡ k.forced ++ take some k.loose
+
+-- the first so many bytes are whole frames of records, and behind them no whole frame of a record begins
+pub record Sounds (p : Kind) (bytes : List ℕ) (size : ℕ) : Type 0 where
+  pub sound : List ℕ
+  pub tail : List ℕ
+  pub split : bytes ≡ sound ++ tail
+  pub sound_size : length sound ≡ size
+  pub whole : is_whole p 0 sound ≡ true
+  pub all : records_in p 0 bytes ≡ records_in p 0 sound
+
+-- what a restart writes: what is left without a torn tail, and new records
+pub record LeavesText (p : Kind) (left : List ℕ) (rs : List LogRecord) (text : List ℕ) : Type 0 where
+  pub size : ℕ
+  pub sounds : Sounds p (body left) size
+  pub is : text ≡ take (5 + size) left ++ records_text rs
+
+-- a log of what a crash left and of these new records, all of them forced
+pub record Restarts (old new : LogState) (rs : List LogRecord) : Type 0 where
+  pub kind : new.kind ≡ old.kind
+  pub left : List LogRecord
+  pub leaves : Leaves old.sight.kept left
+  pub forced : new.sight.kept.forced ≡ left ++ rs
+  pub loose : new.sight.kept.loose ≡ []
+  pub works : new.sight.failed ≡ false
+  pub failures : new.sight.failures ≡ old.sight.failures
+
+-- the crash took place, the device failed, and the new records stand or do not
+pub record RestartBreaks (old new : LogState) (rs : List LogRecord) : Type 0 where
+  pub kind : new.kind ≡ old.kind
+  pub left : List LogRecord
+  pub leaves : Leaves old.sight.kept left
+  pub came : ℕ
+  pub stand : records_of new.sight.kept ≡ left ++ take came rs
+  pub failed : new.sight.failed ≡ true
+  pub cause : old.sight.failures < new.sight.failures
+
+-- a restart that failed: for memory nothing changed
+abbrev pub NotRestarted : LogState → LogState → List LogRecord → LogError → Type 0
+NotRestarted old new rs Memory = new.sight ≡ old.sight
+NotRestarted old new rs Device = RestartBreaks old new rs

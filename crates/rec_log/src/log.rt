@@ -1,9 +1,10 @@
 //! A log as its records.
 
-ghost use Rattle.std.specs.Prelude.{◌≡◌, ◌≤◌, ◌<◌, ◌+◌, ◌++◌, ◌∷◌, [], true, false, IfOk, IfErr, OnOk, OnErr, length, take};
+ghost use Rattle.std.specs.Prelude.{◌≡◌, ◌≤◌, ◌<◌, ◌+◌, ◌++◌, ◌∷◌, [], true, false, IfOk, IfErr, OnOk, OnErr, is_some, length, map, take};
+ghost use Rattle.log_text.specs.Reading.{read_record};
 ghost use Rattle.log_text.specs.Made.{frame_record};
-ghost use Rattle.log_text.specs.Payloads.{record_text};
-ghost use Rattle.rec_log.specs.Sights.{Appended, Breaks, Forced, IsRecord, Leaves, body, records_of};
+ghost use Rattle.log_text.specs.Payloads.{record_text, records_text};
+ghost use Rattle.rec_log.specs.Sights.{Appended, Breaks, Forced, AreRecords, IsRecord, Leaves, LeavesText, NotRestarted, Restarts, Sounds, body, records_of};
 ghost use Rattle.log_store.specs.Stores.{Replaces};
 ghost use Rattle.rec_log.specs.Openings.{IsRefused, NotOpened, Opens, Settles};
 ghost use Rattle.rec_log.specs.Texts.{records_in};
@@ -88,6 +89,53 @@ fn front_of(bytes: &[u8], size: usize, alloc: Global) -> Result<Vec<u8>, AllocEr
 {
     let (front, _) = bytes.split_at(size);
     Vec::from_slice(alloc, front)
+}
+
+/// Whether a frame is a record.
+fn is_record(kind: Kind, frame_kind: u8, payload: &[u8], alloc: Global) -> Result<bool, AllocError>
+    ensures { IfOk result (λ is. is ≡ is_some (read_record kind frame_kind payload.now)) }
+{
+    match read_record(kind, frame_kind, payload, alloc) {
+        Ok(_) => Ok(true),
+        Err(ReadFault::Malformed) => Ok(false),
+        Err(ReadFault::Memory) => Err(AllocError),
+    }
+}
+
+/// How many bytes the whole frames of records at the front are.
+fn sound_size(kind: Kind, bytes: &[u8], alloc: Global) -> Result<usize, AllocError>
+    ensures { IfOk result (λ size. Sounds kind bytes.now size) }
+{
+    let mut rest = bytes;
+    while let Some((frame_kind, payload, behind)) = first_frame(rest) {
+        if !is_record(kind, frame_kind, payload, alloc)? {
+            return Ok(bytes.len() - rest.len());
+        }
+        rest = behind;
+    }
+    Ok(bytes.len() - rest.len())
+}
+
+/// Adds the bytes of these frames.
+#[tactic(auto, unfolding(log_text::specs::Payloads::records_text))]
+fn push_frames(text: &mut Vec<u8>, frames: &[Frame]) -> Result<(), AllocError>
+    ensures { OnOk result (text.new.items ≡ text.old.items ++ records_text (map frame_record frames.now)) }
+{
+    for frame in frames {
+        text.extend_from_slice(frame.bytes())?;
+    }
+    Ok(())
+}
+
+/// The text that a restart writes.
+fn text_left(kind: Kind, left: &[u8], new: &[Frame], alloc: Global) -> Result<Vec<u8>, AllocError>
+    requires { 5 ≤ length left.now }
+    ensures { IfOk result (λ text. LeavesText kind left.now (map frame_record new.now) text.items) }
+{
+    let size = sound_size(kind, body(left), alloc)?;
+    let mut text = front_of(left, HEADER.len() + size, alloc)?;
+    push_frames(&mut text, new)?;
+    Ok(text)
 }
 
 /// A store in which this text stands, forced, in place of what stood there.
@@ -200,5 +248,35 @@ impl<L: LogStore> RecLog<L> {
         let forced = self.store.forced();
         let left = left_by(self.store.bytes(), forced, keep);
         records_in(self.kind, body(left), alloc)
+    }
+
+    /// After a crash that kept so many bytes behind the forced front: the records of what is left, a torn tail gone, and
+    /// these new ones behind them, all of them forced by one `replace`. All memory is taken before the crash. Memory:
+    /// nothing changed. Device: the new records stand or do not, and the log has failed.
+    pub fn restart(&mut self, keep: usize, new: &[Frame], alloc: Global) -> Result<(), LogError>
+        requires { AreRecords self.old.kind (map frame_record new.now) }
+        ensures ok { OnOk result (Restarts self.old self.new (map frame_record new.now)) }
+        ensures err { IfErr result (λ e. NotRestarted self.old self.new (map frame_record new.now) e) }
+    {
+        let forced = self.store.forced();
+        let left = left_by(self.store.bytes(), forced, keep);
+        let text = match text_left(self.kind, left, new, alloc) {
+            Ok(text) => text,
+            Err(_) => return Err(LogError::Memory),
+        };
+        if let Err(_) = self.store.reserve(text.len()) {
+            return Err(LogError::Memory);
+        }
+        self.store.crash(keep);
+        match self.store.replace(&text) {
+            Ok(()) => {
+                self.failed = false;
+                Ok(())
+            }
+            Err(_) => {
+                self.failed = true;
+                Err(LogError::Device)
+            }
+        }
     }
 }
