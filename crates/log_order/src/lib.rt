@@ -1,0 +1,6 @@
+//! The order of the records in a log.
+#![tactic(auto)]
+
+mod seen;
+
+pub use seen::Seen;

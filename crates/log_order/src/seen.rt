@@ -1,0 +1,373 @@
+//! What the records of a log have said so far, and which may follow.
+
+ghost use Rattle.std.specs.Prelude.{◌≡◌, IfOk, IfErr, OnOk, OnErr, None, Some, length, option_map};
+ghost use Rattle.tree_model.specs.Records.{same_bytes};
+ghost use Rattle.tree_model.specs.Store.{key_below};
+ghost use Rattle.log_order.specs.Orders.{
+  IsPlain,
+  after,
+  decided,
+  direct,
+  followed,
+  found,
+  forgot,
+  holds,
+  key_open,
+  keys_free,
+  keys_once,
+  names_key,
+  nothing_seen,
+  opened,
+  paired,
+  prepared,
+  promises,
+  ranked,
+  settled,
+  told,
+  with_promise,
+};
+
+use indexmap::IndexMap;
+use log_text::{ReadFault, name_xid};
+use std::alloc::Global;
+use std::marker::Model;
+use tree_model::{Branch, Bytes, LogRecord, ProcessId, Record, Sequence, Write, Writes};
+use xa_xid::Xid;
+
+/// What the last record of a branch that is open or heuristic leaves it as.
+#[derive(Clone, Copy, Debug, PartialEq, Eq)]
+pub enum Mark {
+    /// It promised.
+    Open,
+    /// An operator decided it.
+    Decided,
+    /// It was told the outcome behind an operator's decision.
+    Told,
+}
+
+/// A branch that is open or heuristic, and what it promised while it is open.
+#[derive(Drop)]
+pub struct Promise {
+    mark: Mark,
+    writes: Writes,
+}
+
+/// What the last record says of the data behind a Base.
+#[derive(Drop)]
+pub enum Data {
+    /// Nothing.
+    Other,
+    /// They are empty.
+    Base,
+    /// They have this key.
+    Pair(Bytes),
+}
+
+/// What the records of a log have said so far.
+#[derive(Drop)]
+pub struct Seen {
+    alloc: Global,
+    boot: Option<u64>,
+    before: Data,
+    ranks: IndexMap<Xid, u8>,
+    live: IndexMap<Xid, Promise>,
+}
+
+impl Model for Seen {
+    ghost use Rattle.log_order.specs.Orders.{SeenLog};
+
+    ghost Value = { SeenLog };
+
+    ghost view = { λ s. record { boot = s.boot; before = s.before; ranks = s.ranks.entries; live = s.live.entries } };
+}
+
+/// The most branches that are open or heuristic at a time.
+const BRANCHES: usize = 1024;
+
+#[tactic(auto, using(crate::proofs::Keys::same_bytes_is_equality))]
+fn same_key(one: &[u8], other: &[u8]) -> bool
+    ensures { result ≡ same_bytes one.now other.now }
+{
+    one == other
+}
+
+/// Whether a write is of this key.
+#[tactic(auto, unfolding(crate::specs::Orders::names_key))]
+fn names_key(writes: &[Write], key: &[u8]) -> bool
+    ensures { result ≡ names_key writes.now key.now }
+{
+    let mut rest = writes;
+    while let [write, behind @ ..] = rest {
+        if same_key(write.key.as_slice(), key) {
+            return true;
+        }
+        rest = behind;
+    }
+    false
+}
+
+/// Whether no key is named twice.
+#[tactic(auto, unfolding(crate::specs::Orders::keys_once))]
+fn keys_once(writes: &[Write]) -> bool
+    ensures { result ≡ keys_once writes.now }
+{
+    let mut rest = writes;
+    while let [write, behind @ ..] = rest {
+        if names_key(behind, write.key.as_slice()) {
+            return false;
+        }
+        rest = behind;
+    }
+    true
+}
+
+/// Whether a key comes before another, by their bytes.
+#[tactic(auto, unfolding(tree_model::specs::Store::key_below))]
+fn key_below(one: &[u8], other: &[u8]) -> bool
+    ensures { result ≡ key_below one.now other.now }
+{
+    let [b, rights @ ..] = other else {
+        return false;
+    };
+    let [a, lefts @ ..] = one else {
+        return true;
+    };
+    if *a == *b {
+        key_below(lefts, rights)
+    } else {
+        *a < *b
+    }
+}
+
+impl Promise {
+    /// Whether it is open, with a write of this key.
+    fn holds(&self, key: &[u8]) -> bool
+        ensures { result ≡ holds self.now key.now }
+    {
+        matches!(self.mark, Mark::Open) && names_key(self.writes.as_slice(), key)
+    }
+}
+
+impl Seen {
+    /// Nothing. It takes no memory.
+    pub fn new(alloc: Global) -> Self
+        ensures { result ≡ nothing_seen }
+    {
+        Seen {
+            alloc,
+            boot: None,
+            before: Data::Other,
+            ranks: IndexMap::new(alloc),
+            live: IndexMap::new(alloc),
+        }
+    }
+
+    /// Whether an open branch promised a write of this key.
+    #[tactic(auto, unfolding(crate::specs::Orders::key_open))]
+    fn key_open(&self, key: &[u8]) -> bool
+        ensures { result ≡ key_open (promises self.now) key.now }
+    {
+        for promise in self.live.values() {
+            if promise.holds(key) {
+                return true;
+            }
+        }
+        false
+    }
+
+    /// Whether no open branch promised a write of a key of these.
+    #[tactic(auto, unfolding(crate::specs::Orders::keys_free))]
+    fn keys_free(&self, writes: &[Write]) -> bool
+        ensures { result ≡ keys_free (promises self.now) writes.now }
+    {
+        let mut rest = writes;
+        while let [write, behind @ ..] = rest {
+            if self.key_open(write.key.as_slice()) {
+                return false;
+            }
+            rest = behind;
+        }
+        true
+    }
+
+    fn opened(&mut self, boot: u64) -> Result<(), ReadFault>
+        ensures ok { OnOk result (opened self.old boot ≡ Some self.new) }
+        ensures err { IfErr result (λ e. e ≡ ReadFault.Malformed → opened self.old boot ≡ None) }
+    {
+        if self.boot.is_some_and(|last| boot <= last) {
+            return Err(ReadFault::Malformed);
+        }
+        self.boot = Some(boot);
+        self.before = Data::Other;
+        Ok(())
+    }
+
+    fn ranked(&mut self, xid: Xid, rank: u8) -> Result<(), ReadFault>
+        ensures ok { OnOk result (ranked self.old xid rank ≡ Some self.new) }
+        ensures err { IfErr result (λ e. e ≡ ReadFault.Malformed → ranked self.old xid rank ≡ None) }
+    {
+        if self.ranks.get(&xid).copied().unwrap_or(0) >= rank {
+            return Err(ReadFault::Malformed);
+        }
+        self.ranks.insert(xid, rank)?;
+        self.before = Data::Other;
+        Ok(())
+    }
+
+    fn mark(&self, xid: &Xid) -> Option<Mark>
+        ensures { result ≡ option_map (λ p. p.mark) (found self.now xid.now) }
+    {
+        self.live.get(xid).map(|promise| promise.mark)
+    }
+
+    fn set_mark(&mut self, xid: Xid, mark: Mark, writes: Writes) -> Result<(), ReadFault>
+        ensures ok { OnOk result (self.new ≡ with_promise self.old xid (record { mark = mark; writes = writes })) }
+        ensures err { IfErr result (λ e. e ≡ ReadFault.Memory) }
+    {
+        self.live.insert(xid, Promise { mark, writes })?;
+        self.before = Data::Other;
+        Ok(())
+    }
+
+    fn prepared(&mut self, xid: Xid, writes: Writes) -> Result<(), ReadFault>
+        ensures ok { OnOk result (prepared self.old xid writes ≡ Some self.new) }
+        ensures err { IfErr result (λ e. e ≡ ReadFault.Malformed → prepared self.old xid writes ≡ None) }
+    {
+        let room = !self.live.contains_key(&xid) && self.live.len() < BRANCHES;
+        if room && keys_once(writes.as_slice()) && self.keys_free(writes.as_slice()) {
+            self.set_mark(xid, Mark::Open, writes)
+        } else {
+            Err(ReadFault::Malformed)
+        }
+    }
+
+    fn direct(&mut self, xid: Xid) -> Result<(), ReadFault>
+        ensures ok { OnOk result (direct self.old xid ≡ Some self.new) }
+        ensures err { IfErr result (λ e. e ≡ ReadFault.Malformed → direct self.old xid ≡ None) }
+    {
+        if self.live.contains_key(&xid) {
+            return Err(ReadFault::Malformed);
+        }
+        self.before = Data::Other;
+        Ok(())
+    }
+
+    fn settled(&mut self, xid: Xid) -> Result<(), ReadFault>
+        ensures ok { OnOk result (settled self.old xid ≡ Some self.new) }
+        ensures err { IfErr result (λ e. e ≡ ReadFault.Malformed → settled self.old xid ≡ None) }
+    {
+        match self.mark(&xid) {
+            Some(Mark::Open) => {
+                let _ = self.live.shift_remove(&xid);
+                self.before = Data::Other;
+                Ok(())
+            }
+            _ => Err(ReadFault::Malformed),
+        }
+    }
+
+    fn decided(&mut self, xid: Xid) -> Result<(), ReadFault>
+        ensures ok { OnOk result (decided self.old xid ≡ Some self.new) }
+        ensures err { IfErr result (λ e. e ≡ ReadFault.Malformed → decided self.old xid ≡ None) }
+    {
+        match self.mark(&xid) {
+            Some(Mark::Open) => self.set_mark(xid, Mark::Decided, Sequence::new(self.alloc)),
+            _ => Err(ReadFault::Malformed),
+        }
+    }
+
+    fn told(&mut self, xid: Xid) -> Result<(), ReadFault>
+        ensures ok { OnOk result (told self.old xid ≡ Some self.new) }
+        ensures err { IfErr result (λ e. e ≡ ReadFault.Malformed → told self.old xid ≡ None) }
+    {
+        match self.mark(&xid) {
+            Some(Mark::Decided) => self.set_mark(xid, Mark::Told, Sequence::new(self.alloc)),
+            _ => Err(ReadFault::Malformed),
+        }
+    }
+
+    fn forgot(&mut self, xid: Xid) -> Result<(), ReadFault>
+        ensures ok { OnOk result (forgot self.old xid ≡ Some self.new) }
+        ensures err { IfErr result (λ e. e ≡ ReadFault.Malformed → forgot self.old xid ≡ None) }
+    {
+        match self.mark(&xid) {
+            Some(Mark::Decided) | Some(Mark::Told) => {
+                let _ = self.live.shift_remove(&xid);
+                self.before = Data::Other;
+                Ok(())
+            }
+            _ => Err(ReadFault::Malformed),
+        }
+    }
+
+    fn paired(&mut self, key: Bytes) -> Result<(), ReadFault>
+        ensures ok { OnOk result (paired self.old key ≡ Some self.new) }
+        ensures err { IfErr result (λ e. e ≡ ReadFault.Malformed → paired self.old key ≡ None) }
+    {
+        let rises = match &self.before {
+            Data::Other => false,
+            Data::Base => true,
+            Data::Pair(last) => key_below(last.as_slice(), key.as_slice()),
+        };
+        if !rises {
+            return Err(ReadFault::Malformed);
+        }
+        self.before = Data::Pair(key);
+        Ok(())
+    }
+
+    /// Sees a record that is not one of a promise or a pair.
+    fn plain(&mut self, parent: Option<ProcessId>, entry: &Record) -> Result<(), ReadFault>
+        requires { IsPlain entry.now }
+        ensures ok { OnOk result (followed self.old parent entry.now ≡ Some self.new) }
+        ensures err { IfErr result (λ e. e ≡ ReadFault.Malformed → followed self.old parent entry.now ≡ None) }
+    {
+        match entry {
+            Record::Opened(boot) => self.opened(*boot),
+            Record::Collecting(case, _) => self.ranked(name_xid(parent, Branch::Case(*case)), 1),
+            Record::Prepare(case, _) => self.ranked(name_xid(parent, Branch::Case(*case)), 2),
+            Record::Commit(case, _) | Record::Abort(case, _) => {
+                self.ranked(name_xid(parent, Branch::Case(*case)), 3)
+            }
+            Record::End(case) => self.ranked(name_xid(parent, Branch::Case(*case)), 4),
+            Record::Committed(branch) | Record::RolledBack(branch) => {
+                self.settled(name_xid(parent, *branch))
+            }
+            Record::Direct(branch, _) => self.direct(name_xid(parent, *branch)),
+            Record::HeurCommit(branch) | Record::HeurRollback(branch) => {
+                self.decided(name_xid(parent, *branch))
+            }
+            Record::Told(branch, _) => self.told(name_xid(parent, *branch)),
+            Record::Forgot(branch) => self.forgot(name_xid(parent, *branch)),
+            Record::Base(_) => {
+                self.before = Data::Base;
+                Ok(())
+            }
+            Record::Prepared(..) | Record::Pair(..) => unreachable!(),
+        }
+    }
+
+    fn followed(&mut self, parent: Option<ProcessId>, entry: Record) -> Result<(), ReadFault>
+        ensures ok { OnOk result (followed self.old parent entry ≡ Some self.new) }
+        ensures err { IfErr result (λ e. e ≡ ReadFault.Malformed → followed self.old parent entry ≡ None) }
+    {
+        match entry {
+            Record::Prepared(branch, writes) => self.prepared(name_xid(parent, branch), writes),
+            Record::Pair(key, _value) => self.paired(key),
+            entry => self.plain(parent, &entry),
+        }
+    }
+
+    /// Takes the next record of the log. Malformed comes exactly where it may not follow the records so far. Behind an
+    /// error nothing more is known.
+    #[tactic(auto, unfolding(crate::specs::Orders::after))]
+    pub fn take(&mut self, next: LogRecord) -> Result<(), ReadFault>
+        ensures ok { OnOk result (after self.old next ≡ Some self.new) }
+        ensures err { IfErr result (λ e. e ≡ ReadFault.Malformed → after self.old next ≡ None) }
+    {
+        if self.boot.is_none() && !matches!(next.entry, Record::Opened(_)) {
+            return Err(ReadFault::Malformed);
+        }
+        self.followed(next.parent, next.entry)
+    }
+}

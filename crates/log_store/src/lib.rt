@@ -1,0 +1,8 @@
+//! Where the bytes of a log stand: a store that may lose what is not forced, and one in memory.
+#![tactic(auto)]
+
+mod memory;
+mod store;
+
+pub use memory::MemoryStore;
+pub use store::{LogStore, StoreError};

@@ -1,0 +1,5 @@
+pub mod Frames
+pub mod Payloads
+pub mod Parts
+pub mod Reading
+pub mod Made

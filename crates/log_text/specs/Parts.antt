@@ -1,0 +1,129 @@
+-- The parts of a payload, as they are read from its front: each with the bytes behind it.
+use Rattle.std.specs.Prelude.{ℕ, zero, suc, ℤ, pos, ◌+◌, ◌*◌, ◌^◌, ◌&&◌, nat_le, nat_lt, ◌==◌, Bool, true, false, if◌then◌else◌, is_some, List, [], ◌∷◌, Option, Some, None, length, take, drop, option_map}
+use Rattle.std.specs.Ordering.{int_eq}
+use Rattle.byteorder.specs.Endian.{big_number}
+use Rattle.xa_xid.specs.Xids.{XidParts}
+use Rattle.xa_xid.specs.Bytes.{xid_bytes, front_fault, front_parts}
+use Rattle.tree_model.specs.declared.names.Case.{Case}
+use Rattle.tree_model.specs.declared.names.ProcessId.{ProcessId}
+use Rattle.tree_model.specs.declared.names.Presumption.{Presumption}
+use Rattle.tree_model.specs.declared.names.Presumption.TheVariants.{PresumeAbort, PresumeCommit}
+use Rattle.tree_model.specs.declared.names.Ticket.{Ticket}
+use Rattle.tree_model.specs.declared.names.Txn.{Txn}
+use Rattle.tree_model.specs.declared.records.Branch.{Branch}
+use Rattle.tree_model.specs.declared.records.Branch.TheVariants.{Case as CaseBranch, Foreign}
+use Rattle.tree_model.specs.declared.records.Write.{Write}
+use Rattle.tree_model.specs.Branches.{branch_parts}
+use Rattle.tree_model.specs.Records.{same_xid}
+
+-- what is read of a payload's front, and the bytes behind it
+abbrev pub Front : Type 0 → Type 0
+Front A = Option (A × List ℕ)
+
+-- Names.
+
+-- the XID at the front
+unfoldable pub xid_at : List ℕ → Front XidParts
+xid_at bytes =
+    if is_some (front_fault bytes) then None else Some (front_parts bytes, drop (length (xid_bytes (front_parts bytes))) bytes)
+
+-- the transaction that a gtrid of 20 bytes names
+abbrev pub txn_in : Presumption → List ℕ → Txn
+txn_in p name =
+    record { root = record { 0 = big_number 4 name }; boot = big_number 8 (drop 4 name); sequence = big_number 8 (drop 12 name); presumption = p }
+
+-- the parent and the ticket that a bqual of 24 bytes names; none that is empty
+abbrev pub below_in : List ℕ → Option (ProcessId × Ticket)
+below_in [] = None
+below_in (b ∷ bs) =
+    Some (record { 0 = big_number 4 (b ∷ bs) }, record { child = record { 0 = big_number 4 (drop 4 (b ∷ bs)) }; boot = big_number 8 (drop 8 (b ∷ bs)); number = big_number 8 (drop 16 (b ∷ bs)) })
+
+abbrev pub presumption_in : ℤ → Presumption
+presumption_in format = if int_eq format (pos 4002) then PresumeCommit else PresumeAbort
+
+-- a name: the branch, and the parent of a case below the root
+abbrev pub Name : Type 0
+Name = Option ProcessId × Branch
+
+abbrev pub case_name : Txn → Option (ProcessId × Ticket) → Name
+case_name x None = (None, CaseBranch (record { txn = x; ticket = None }))
+case_name x (Some b) = (Some b.0, CaseBranch (record { txn = x; ticket = Some b.1 }))
+
+abbrev pub name_by : XidParts → Txn → Option (ProcessId × Ticket) → Name
+name_by xid x b = if same_xid (branch_parts x b) xid then case_name x b else (None, Foreign xid)
+
+-- the name that an XID is: the case that has this XID, or else the XID itself
+unfoldable pub name_in : XidParts → Name
+name_in xid = name_by xid (txn_in (presumption_in xid.format) xid.gtrid) (below_in xid.bqual)
+
+unfoldable pub name_at : List ℕ → Front Name
+name_at bytes = option_map (λ p. (name_in p.0, p.1)) (xid_at bytes)
+
+-- Tickets.
+
+-- the ticket in 20 bytes
+abbrev pub ticket_in : List ℕ → Ticket
+ticket_in bytes = record { child = record { 0 = big_number 4 bytes }; boot = big_number 8 (drop 4 bytes); number = big_number 8 (drop 12 bytes) }
+
+abbrev pub fits_ticket : Ticket → Bool
+fits_ticket t = nat_lt t.boot (2 ^ 63) && nat_lt t.number (2 ^ 63)
+
+-- the ticket at the front: its numbers are below 2^63
+unfoldable pub ticket_at : List ℕ → Front Ticket
+ticket_at bytes = if nat_le 20 (length bytes) && fits_ticket (ticket_in bytes) then Some (ticket_in bytes, drop 20 bytes) else None
+
+-- Keys, values and writes.
+
+abbrev pub piece_at : ℕ → ℕ → ℕ → List ℕ → Front (List ℕ)
+piece_at least most size rest =
+    if nat_le least size && nat_le size most && nat_le size (length rest) then Some (take size rest, drop size rest) else None
+
+-- the key at the front, behind its length: 1 to 64 bytes
+abbrev pub key_at : List ℕ → Front (List ℕ)
+key_at [] = None
+key_at (size ∷ rest) = piece_at 1 64 size rest
+
+-- the value at the front, behind its length: at most 256 bytes
+abbrev pub value_at : List ℕ → Front (List ℕ)
+value_at (high ∷ low ∷ rest) = piece_at 0 256 (high * 256 + low) rest
+value_at _ = None
+
+abbrev pub put_of : List ℕ → Front (List ℕ) → Front Write
+put_of key None = None
+put_of key (Some p) = Some (record { key = key; value = Some p.0 }, p.1)
+
+-- what a write leaves: 0 where nothing, else 1 and the value
+abbrev pub left_at : List ℕ → List ℕ → Front Write
+left_at key [] = None
+left_at key (how ∷ rest) =
+    if how == 0 then Some (record { key = key; value = None }, rest) else if how == 1 then put_of key (value_at rest) else None
+
+abbrev pub write_by : Front (List ℕ) → Front Write
+write_by None = None
+write_by (Some p) = left_at p.0 p.1
+
+-- the write at the front
+unfoldable pub write_at : List ℕ → Front Write
+write_at bytes = write_by (key_at bytes)
+
+-- Lists.
+
+-- so many of a kind, one behind the other, and nothing behind them
+abbrev pub and_more : {A : Type 0} → Front A → (List ℕ → Option (List A)) → Option (List A)
+and_more None more = None
+and_more (Some p) more = option_map (λ xs. p.0 ∷ xs) (more p.1)
+
+unfoldable pub all_of : {A : Type 0} → (List ℕ → Front A) → ℕ → List ℕ → Option (List A)
+all_of at zero [] = Some []
+all_of at zero (b ∷ bs) = None
+all_of at (suc n) bytes = and_more (at bytes) (all_of at n)
+
+-- tickets behind their number
+abbrev pub tickets_of : List ℕ → Option (List Ticket)
+tickets_of [] = None
+tickets_of (count ∷ rest) = all_of ticket_at count rest
+
+-- writes behind their number: 1 to 64
+abbrev pub writes_of : List ℕ → Option (List Write)
+writes_of [] = None
+writes_of (count ∷ rest) = if nat_le 1 count && nat_le count 64 then all_of write_at count rest else None

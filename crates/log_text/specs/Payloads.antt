@@ -1,0 +1,122 @@
+-- The payload that a record is written as, and its kind's byte.
+use Rattle.std.specs.Prelude.{◌<◌, ⊤, ℕ, List, [], ◌∷◌, ◌++◌, Option, Some, None, length}
+use Rattle.std.specs.List.{flat_map, All}
+use Rattle.byteorder.specs.Endian.{big_bytes}
+use Rattle.xa_xid.specs.Bytes.{xid_bytes}
+use Rattle.tree_model.specs.declared.names.ProcessId.{ProcessId}
+use Rattle.tree_model.specs.declared.names.Outcome.{Outcome}
+use Rattle.tree_model.specs.declared.names.Outcome.TheVariants.{Committed as CommittedOutcome, Aborted as AbortedOutcome}
+use Rattle.tree_model.specs.declared.names.Ticket.{Ticket}
+use Rattle.tree_model.specs.declared.records.Branch.{Branch}
+use Rattle.tree_model.specs.declared.records.Branch.TheVariants.{Case as CaseBranch}
+use Rattle.tree_model.specs.declared.records.LogRecord.{LogRecord}
+use Rattle.tree_model.specs.declared.records.Record.{Record}
+use Rattle.tree_model.specs.declared.records.Record.TheVariants.{Opened, Collecting, Prepare, Commit, Abort, End, Prepared, Committed, RolledBack, Direct, HeurCommit, HeurRollback, Told, Forgot, Base, Pair}
+use Rattle.tree_model.specs.declared.records.Write.{Write}
+use Rattle.tree_model.specs.LogNames.{name_xid}
+use Rattle.log_text.specs.Frames.{frame_text}
+
+-- the byte of a record's kind
+abbrev pub kind_byte : Record → ℕ
+kind_byte (Opened n) = 1
+kind_byte (Collecting c ts) = 2
+kind_byte (Prepare c ts) = 3
+kind_byte (Commit c ts) = 4
+kind_byte (Abort c ts) = 5
+kind_byte (End c) = 6
+kind_byte (Prepared b ws) = 17
+kind_byte (Committed b) = 18
+kind_byte (RolledBack b) = 19
+kind_byte (Direct b ws) = 20
+kind_byte (HeurCommit b) = 21
+kind_byte (HeurRollback b) = 22
+kind_byte (Told b o) = 23
+kind_byte (Forgot b) = 24
+kind_byte (Base n) = 25
+kind_byte (Pair k v) = 26
+
+-- a ticket: the child, its boot, the number
+unfoldable pub ticket_text : Ticket → List ℕ
+ticket_text t = big_bytes 4 t.child.0 ++ (big_bytes 8 t.boot ++ big_bytes 8 t.number)
+
+-- tickets: how many, and each
+abbrev pub tickets_text : List Ticket → List ℕ
+tickets_text ts = length ts ∷ flat_map ticket_text ts
+
+-- a key behind its length
+abbrev pub key_text : List ℕ → List ℕ
+key_text k = length k ∷ k
+
+-- a value behind its length in two bytes
+unfoldable pub value_text : List ℕ → List ℕ
+value_text v = big_bytes 2 (length v) ++ v
+
+-- what a write leaves at its key: 0 where nothing, else 1 and the value
+abbrev pub left_text : Option (List ℕ) → List ℕ
+left_text None = 0 ∷ []
+left_text (Some v) = 1 ∷ value_text v
+
+unfoldable pub write_text : Write → List ℕ
+write_text w = key_text w.key ++ left_text w.value
+
+-- writes: how many, and each
+abbrev pub writes_text : List Write → List ℕ
+writes_text ws = length ws ∷ flat_map write_text ws
+
+abbrev pub outcome_byte : Outcome → ℕ
+outcome_byte CommittedOutcome = 1
+outcome_byte AbortedOutcome = 0
+
+-- a name: the XID of the branch
+abbrev pub name_text : Option ProcessId → Branch → List ℕ
+name_text p b = xid_bytes (name_xid p b)
+
+abbrev pub payload_text : Option ProcessId → Record → List ℕ
+payload_text p (Opened n) = big_bytes 8 n
+payload_text p (Collecting c ts) = name_text p (CaseBranch c) ++ tickets_text ts
+payload_text p (Prepare c ts) = name_text p (CaseBranch c) ++ tickets_text ts
+payload_text p (Commit c ts) = name_text p (CaseBranch c) ++ tickets_text ts
+payload_text p (Abort c ts) = name_text p (CaseBranch c) ++ tickets_text ts
+payload_text p (End c) = name_text p (CaseBranch c)
+payload_text p (Prepared b ws) = name_text p b ++ writes_text ws
+payload_text p (Committed b) = name_text p b
+payload_text p (RolledBack b) = name_text p b
+payload_text p (Direct b ws) = name_text p b ++ writes_text ws
+payload_text p (HeurCommit b) = name_text p b
+payload_text p (HeurRollback b) = name_text p b
+payload_text p (Told b o) = name_text p b ++ outcome_byte o ∷ []
+payload_text p (Forgot b) = name_text p b
+payload_text p (Base n) = big_bytes 8 n
+payload_text p (Pair k v) = key_text k ++ value_text v
+
+-- a record as it stands in a log
+unfoldable pub record_text : LogRecord → List ℕ
+record_text l = frame_text (kind_byte l.entry) (payload_text l.parent l.entry)
+
+-- records, one behind the other
+unfoldable pub records_text : List LogRecord → List ℕ
+records_text ls = flat_map record_text ls
+
+-- Sizes that the bytes before a list, a key and a value can tell.
+
+abbrev pub SizedValue : Option (List ℕ) → Type 0
+SizedValue None = ⊤
+SizedValue (Some v) = length v < 65536
+
+abbrev pub SizedWrite : Write → Type 0
+SizedWrite w = (length w.key < 256) × SizedValue w.value
+
+abbrev pub IsSized : Record → Type 0
+IsSized (Collecting c ts) = length ts < 256
+IsSized (Prepare c ts) = length ts < 256
+IsSized (Commit c ts) = length ts < 256
+IsSized (Abort c ts) = length ts < 256
+IsSized (Prepared b ws) = (length ws < 256) × All SizedWrite ws
+IsSized (Direct b ws) = (length ws < 256) × All SizedWrite ws
+IsSized (Pair k v) = (length k < 256) × (length v < 65536)
+IsSized _ = ⊤
+
+-- a record fits a frame
+pub record FitsFrame (l : LogRecord) : Type 0 where
+  pub sized : IsSized l.entry
+  pub short : length (payload_text l.parent l.entry) < 65536

@@ -1,0 +1,233 @@
+//! Records written as bytes.
+
+ghost use Rattle.std.specs.Prelude.{◌≡◌, ◌<◌, ◌++◌, ◌∷◌, [], OnOk, IfOk, length};
+ghost use Rattle.std.specs.List.{All};
+ghost use Rattle.byteorder.specs.Endian.{big_bytes};
+ghost use Rattle.xa_xid.specs.Bytes.{xid_bytes};
+ghost use Rattle.tree_model.specs.LogNames.{name_xid};
+ghost use Rattle.tree_model.specs.declared.records.Branch.TheVariants.{Case as CaseBranch};
+ghost use Rattle.log_text.specs.Payloads.{
+  FitsFrame,
+  IsSized,
+  SizedValue,
+  SizedWrite,
+  key_text,
+  kind_byte,
+  left_text,
+  name_text,
+  payload_text,
+  record_text,
+  ticket_text,
+  tickets_text,
+  value_text,
+  write_text,
+  writes_text,
+};
+
+use std::alloc::{AllocError, Global};
+use tree_model::{
+    Branch, Bytes, LogRecord, Outcome, ProcessId, Record, Ticket, Tickets, Write, Writes,
+    branch_xid,
+};
+use xa_xid::Xid;
+
+/// The XID that a log writes for a name: a branch, and the parent of a case below the root. It takes no memory.
+pub fn name_xid(parent: Option<ProcessId>, branch: Branch) -> Xid
+    ensures { result ≡ name_xid parent branch }
+{
+    match branch {
+        Branch::Case(case) => match (case.ticket, parent) {
+            (Some(ticket), Some(parent)) => branch_xid(case.txn, Some((parent, ticket))),
+            _ => branch_xid(case.txn, None),
+        },
+        Branch::Foreign(xid) => xid,
+    }
+}
+
+fn push_name(
+    text: &mut Vec<u8>,
+    parent: Option<ProcessId>,
+    branch: &Branch,
+    alloc: Global,
+) -> Result<(), AllocError>
+    ensures { OnOk result (text.new.items ≡ text.old.items ++ name_text parent branch.now) }
+{
+    let bytes = name_xid(parent, *branch).to_bytes(alloc)?;
+    text.extend_from_slice(&bytes)
+}
+
+#[tactic(auto, unfolding(crate::specs::Payloads::ticket_text), using(crate::proofs::Texts::joined3))]
+fn push_ticket(text: &mut Vec<u8>, ticket: &Ticket) -> Result<(), AllocError>
+    ensures { OnOk result (text.new.items ≡ text.old.items ++ ticket_text ticket.now) }
+{
+    text.extend_from_slice(&ticket.child.0.to_be_bytes())?;
+    text.extend_from_slice(&ticket.boot.to_be_bytes())?;
+    text.extend_from_slice(&ticket.number.to_be_bytes())
+}
+
+fn push_tickets(text: &mut Vec<u8>, tickets: &Tickets) -> Result<(), AllocError>
+    requires { length tickets.now < 256 }
+    ensures { OnOk result (text.new.items ≡ text.old.items ++ tickets_text tickets.now) }
+{
+    text.push(tickets.len() as u8)?;
+    for ticket in tickets.as_slice() {
+        push_ticket(text, ticket)?;
+    }
+    Ok(())
+}
+
+fn push_key(text: &mut Vec<u8>, key: &Bytes) -> Result<(), AllocError>
+    requires { length key.now < 256 }
+    ensures { OnOk result (text.new.items ≡ text.old.items ++ key_text key.now) }
+{
+    text.push(key.len() as u8)?;
+    text.extend_from_slice(key.as_slice())
+}
+
+#[tactic(auto, unfolding(crate::specs::Payloads::value_text))]
+fn push_value(text: &mut Vec<u8>, value: &Bytes) -> Result<(), AllocError>
+    requires { length value.now < 65536 }
+    ensures { OnOk result (text.new.items ≡ text.old.items ++ value_text value.now) }
+{
+    text.extend_from_slice(&(value.len() as u16).to_be_bytes())?;
+    text.extend_from_slice(value.as_slice())
+}
+
+#[tactic(auto, unfolding(crate::specs::Payloads::write_text))]
+fn push_write(text: &mut Vec<u8>, write: &Write) -> Result<(), AllocError>
+    requires { SizedWrite write.now }
+    ensures { OnOk result (text.new.items ≡ text.old.items ++ write_text write.now) }
+{
+    push_key(text, &write.key)?;
+    match &write.value {
+        None => {
+            text.push(0)?;
+            Ok(())
+        }
+        Some(value) => {
+            text.push(1)?;
+            push_value(text, value)
+        }
+    }
+}
+
+fn push_writes(text: &mut Vec<u8>, writes: &Writes) -> Result<(), AllocError>
+    requires count { length writes.now < 256 }
+    requires each { All SizedWrite writes.now }
+    ensures { OnOk result (text.new.items ≡ text.old.items ++ writes_text writes.now) }
+{
+    text.push(writes.len() as u8)?;
+    for write in writes.as_slice() {
+        push_write(text, write)?;
+    }
+    Ok(())
+}
+
+fn push_payload(
+    text: &mut Vec<u8>,
+    parent: Option<ProcessId>,
+    entry: &Record,
+    alloc: Global,
+) -> Result<(), AllocError>
+    requires { IsSized entry.now }
+    ensures { OnOk result (text.new.items ≡ text.old.items ++ payload_text parent entry.now) }
+{
+    match entry {
+        Record::Opened(number) | Record::Base(number) => text.extend_from_slice(
+            &number.to_be_bytes(),
+        ),
+        Record::Collecting(case, tickets)
+        | Record::Prepare(case, tickets)
+        | Record::Commit(case, tickets)
+        | Record::Abort(case, tickets) => {
+            push_name(text, parent, &Branch::Case(*case), alloc)?;
+            push_tickets(text, tickets)
+        }
+        Record::End(case) => push_name(text, parent, &Branch::Case(*case), alloc),
+        Record::Prepared(branch, writes) | Record::Direct(branch, writes) => {
+            push_name(text, parent, branch, alloc)?;
+            push_writes(text, writes)
+        }
+        Record::Committed(branch)
+        | Record::RolledBack(branch)
+        | Record::HeurCommit(branch)
+        | Record::HeurRollback(branch)
+        | Record::Forgot(branch) => push_name(text, parent, branch, alloc),
+        Record::Told(branch, outcome) => {
+            push_name(text, parent, branch, alloc)?;
+            text.push(matches!(outcome, Outcome::Committed) as u8)?;
+            Ok(())
+        }
+        Record::Pair(key, value) => {
+            push_key(text, key)?;
+            push_value(text, value)
+        }
+    }
+}
+
+/// The byte of a record's kind.
+fn kind_byte(entry: &Record) -> u8
+    ensures { result ≡ kind_byte entry.now }
+{
+    match entry {
+        Record::Opened(_) => 0x01,
+        Record::Collecting(..) => 0x02,
+        Record::Prepare(..) => 0x03,
+        Record::Commit(..) => 0x04,
+        Record::Abort(..) => 0x05,
+        Record::End(_) => 0x06,
+        Record::Prepared(..) => 0x11,
+        Record::Committed(_) => 0x12,
+        Record::RolledBack(_) => 0x13,
+        Record::Direct(..) => 0x14,
+        Record::HeurCommit(_) => 0x15,
+        Record::HeurRollback(_) => 0x16,
+        Record::Told(..) => 0x17,
+        Record::Forgot(_) => 0x18,
+        Record::Base(_) => 0x19,
+        Record::Pair(..) => 0x1a,
+    }
+}
+
+/// The record as it stands in a log.
+#[tactic(auto, unfolding(crate::specs::Payloads::record_text, crate::specs::Frames::frame_text))]
+fn record_bytes(entry: &LogRecord, alloc: Global) -> Result<Vec<u8>, AllocError>
+    requires { FitsFrame entry.now }
+    ensures { IfOk result (λ text. text.items ≡ record_text entry.now) }
+{
+    let mut payload = Vec::new(alloc);
+    push_payload(&mut payload, entry.parent, &entry.entry, alloc)?;
+    let mut text = Vec::with_capacity(alloc, 3 + payload.len())?;
+    text.push(kind_byte(&entry.entry))?;
+    text.extend_from_slice(&(payload.len() as u16).to_be_bytes())?;
+    text.extend_from_slice(&payload)?;
+    Ok(text)
+}
+
+/// A record and the frame that it is in a log. It is made before anything is written, as it takes memory.
+#[derive(Drop)]
+pub struct Frame {
+    entry: LogRecord,
+    bytes: Vec<u8>,
+    ghost spells: { bytes.items ≡ record_text entry },
+}
+
+impl Frame {
+    ghost use Rattle.log_text.specs.Made.{frame_record};
+
+    /// The frame of a record.
+    pub fn new(entry: LogRecord, alloc: Global) -> Result<Frame, AllocError>
+        requires { FitsFrame entry }
+        ensures { IfOk result (λ frame. frame_record frame ≡ entry) }
+    {
+        let bytes = record_bytes(&entry, alloc)?;
+        Ok(Frame { entry, bytes })
+    }
+
+    /// The bytes that stand in the log.
+    pub fn bytes(&self) -> &[u8]
+        ensures { result.now ≡ record_text (frame_record self.now) }
+    {
+        &self.bytes
+    }
+}

@@ -1,0 +1,12 @@
+//! Records in bytes.
+#![tactic(auto)]
+
+mod encode;
+mod frames;
+mod names;
+mod parts;
+mod records;
+
+pub use encode::{Frame, name_xid};
+pub use frames::{HEADER, first_frame};
+pub use records::{ReadFault, read_record};

@@ -1,0 +1,168 @@
+//! The parts of payloads, as they are read from the front.
+
+ghost use Rattle.std.specs.Prelude.{◌≡◌, option_map, IfOk, IfErr, None, Some, OnErr};
+ghost use Rattle.log_text.specs.Parts.{all_of, key_at, left_at, piece_at, ticket_at, tickets_of, value_at, write_at, writes_of};
+
+use crate::records::ReadFault;
+use byteorder::{BigEndian, ByteOrder};
+use std::alloc::{AllocError, Global};
+use tree_model::{Bytes, ProcessId, Sequence, Ticket, Tickets, Write, Writes};
+
+/// Numbers of boots and tickets are below this.
+pub const LIMIT: u64 = 1 << 63;
+
+/// The ticket at the front, and the bytes behind it.
+#[tactic(auto, unfolding(crate::specs::Parts::ticket_at))]
+fn ticket_at(bytes: &[u8]) -> Option<(Ticket, &[u8])>
+    ensures { option_map (λ p. (p.0, p.1.now)) result ≡ ticket_at bytes.now }
+{
+    if bytes.len() < 20 {
+        return None;
+    }
+    let ticket = Ticket {
+        child: ProcessId(BigEndian::read_u32(bytes)),
+        boot: BigEndian::read_u64(&bytes[4..]),
+        number: BigEndian::read_u64(&bytes[12..]),
+    };
+    if ticket.boot < LIMIT && ticket.number < LIMIT {
+        Some((ticket, &bytes[20..]))
+    } else {
+        None
+    }
+}
+
+/// So many tickets, with nothing behind them.
+fn tickets_in(count: u8, bytes: &[u8], alloc: Global) -> Result<Tickets, ReadFault>
+    ensures ok { IfOk result (λ tickets. all_of ticket_at count bytes.now ≡ Some tickets) }
+    ensures err { IfErr result (λ e. e ≡ ReadFault.Malformed → all_of ticket_at count bytes.now ≡ None) }
+{
+    let mut tickets = Vec::new(alloc);
+    let mut rest = bytes;
+    for _ in 0..count {
+        let Some((ticket, behind)) = ticket_at(rest) else {
+            return Err(ReadFault::Malformed);
+        };
+        tickets.push(ticket)?;
+        rest = behind;
+    }
+    if rest.is_empty() {
+        Ok(Sequence::from_vec(tickets))
+    } else {
+        Err(ReadFault::Malformed)
+    }
+}
+
+/// Tickets behind their number, with nothing behind them.
+pub fn tickets_of(bytes: &[u8], alloc: Global) -> Result<Tickets, ReadFault>
+    ensures ok { IfOk result (λ tickets. tickets_of bytes.now ≡ Some tickets) }
+    ensures err { IfErr result (λ e. e ≡ ReadFault.Malformed → tickets_of bytes.now ≡ None) }
+{
+    match bytes {
+        [count, rest @ ..] => tickets_in(*count, rest, alloc),
+        [] => Err(ReadFault::Malformed),
+    }
+}
+
+/// The first so many bytes, where there are as many, and the bytes behind them.
+fn piece_at(least: usize, most: usize, size: usize, rest: &[u8]) -> Option<(&[u8], &[u8])>
+    ensures { option_map (λ p. (p.0.now, p.1.now)) result ≡ piece_at least most size rest.now }
+{
+    if least <= size && size <= most && size <= rest.len() {
+        Some(rest.split_at(size))
+    } else {
+        None
+    }
+}
+
+/// The key at the front, behind its length, and the bytes behind it.
+pub fn key_at(bytes: &[u8]) -> Option<(&[u8], &[u8])>
+    ensures { option_map (λ p. (p.0.now, p.1.now)) result ≡ key_at bytes.now }
+{
+    match bytes {
+        [size, rest @ ..] => piece_at(1, 64, usize::from(*size), rest),
+        [] => None,
+    }
+}
+
+/// The value at the front, behind its length, and the bytes behind it.
+pub fn value_at(bytes: &[u8]) -> Option<(&[u8], &[u8])>
+    ensures { option_map (λ p. (p.0.now, p.1.now)) result ≡ value_at bytes.now }
+{
+    match bytes {
+        [high, low, rest @ ..] => {
+            piece_at(0, 256, usize::from(*high) * 256 + usize::from(*low), rest)
+        }
+        _ => None,
+    }
+}
+
+/// The bytes, as keys and values hold them.
+pub fn bytes_of(bytes: &[u8], alloc: Global) -> Result<Bytes, AllocError>
+    ensures { IfOk result (λ copy. copy ≡ bytes.now) }
+{
+    Ok(Sequence::from_vec(Vec::from_slice(alloc, bytes)?))
+}
+
+/// What a write leaves at its key: nothing, or the value.
+fn left_at<'a>(key: &[u8], bytes: &'a [u8], alloc: Global) -> Result<(Write, &'a [u8]), ReadFault>
+    ensures ok { IfOk result (λ p. left_at key.now bytes.now ≡ Some (p.0, p.1.now)) }
+    ensures err { IfErr result (λ e. e ≡ ReadFault.Malformed → left_at key.now bytes.now ≡ None) }
+{
+    match bytes {
+        [0, rest @ ..] => {
+            let key = bytes_of(key, alloc)?;
+            Ok((Write { key, value: None }, rest))
+        }
+        [1, rest @ ..] => {
+            let Some((value, rest)) = value_at(rest) else {
+                return Err(ReadFault::Malformed);
+            };
+            let key = bytes_of(key, alloc)?;
+            let value = Some(bytes_of(value, alloc)?);
+            Ok((Write { key, value }, rest))
+        }
+        _ => Err(ReadFault::Malformed),
+    }
+}
+
+/// The write at the front, and the bytes behind it.
+#[tactic(auto, unfolding(crate::specs::Parts::write_at))]
+fn write_at(bytes: &[u8], alloc: Global) -> Result<(Write, &[u8]), ReadFault>
+    ensures ok { IfOk result (λ p. write_at bytes.now ≡ Some (p.0, p.1.now)) }
+    ensures err { IfErr result (λ e. e ≡ ReadFault.Malformed → write_at bytes.now ≡ None) }
+{
+    let Some((key, rest)) = key_at(bytes) else {
+        return Err(ReadFault::Malformed);
+    };
+    left_at(key, rest, alloc)
+}
+
+/// So many writes, with nothing behind them.
+fn writes_in(count: u8, bytes: &[u8], alloc: Global) -> Result<Writes, ReadFault>
+    ensures ok { IfOk result (λ writes. all_of write_at count bytes.now ≡ Some writes) }
+    ensures err { IfErr result (λ e. e ≡ ReadFault.Malformed → all_of write_at count bytes.now ≡ None) }
+{
+    let mut writes = Vec::new(alloc);
+    let mut rest = bytes;
+    for _ in 0..count {
+        let (write, behind) = write_at(rest, alloc)?;
+        writes.push(write)?;
+        rest = behind;
+    }
+    if rest.is_empty() {
+        Ok(Sequence::from_vec(writes))
+    } else {
+        Err(ReadFault::Malformed)
+    }
+}
+
+/// Writes behind their number, with nothing behind them.
+pub fn writes_of(bytes: &[u8], alloc: Global) -> Result<Writes, ReadFault>
+    ensures ok { IfOk result (λ writes. writes_of bytes.now ≡ Some writes) }
+    ensures err { IfErr result (λ e. e ≡ ReadFault.Malformed → writes_of bytes.now ≡ None) }
+{
+    match bytes {
+        [count, rest @ ..] if *count >= 1 && *count <= 64 => writes_in(*count, rest, alloc),
+        _ => Err(ReadFault::Malformed),
+    }
+}

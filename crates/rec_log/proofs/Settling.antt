@@ -1,0 +1,87 @@
+-- The text that a log opens with.
+use Rattle.std.proofs.Common.{◌≡◌, ◌≤◌, ◌-◌, ◌+◌, ℕ, zero, suc, Bool, true, false, List, [], ◌∷◌, ◌++◌, length, take, drop, refl, sym, ap, subst, ◌∙◌, arith, append_assoc, append-nil, take-append-drop, length-append, nat_lt, nat_eq, if◌then◌else◌}
+use Rattle.std.proofs.Math.Seq.{take-append_seam}
+use Rattle.std.proofs.lemmas.Bool.Decides.{nat_tests}
+use Rattle.tree_model.specs.declared.names.Kind.{Kind}
+use Rattle.tree_model.specs.Records.{same_bytes}
+use Rattle.log_text.specs.Frames.{header}
+use Rattle.log_order.specs.Orders.{nothing_seen}
+use Rattle.log_order.specs.Logs.{LogReading, Whole, Damaged, read_frames, read_log}
+use Rattle.rec_log.specs.Texts.{is_whole, records_in}
+use Rattle.rec_log.specs.Sights.{LogState, log_state}
+use Rattle.rec_log.specs.Openings.{Ends, IsFound, Opens, Settles}
+use Rattle.rec_log.specs.declared.opening.Found.TheVariants.{Empty, Sound}
+use Rattle.rec_log.proofs.Frames.{no_records, nothing_whole}
+use Rattle.rec_log.proofs.Turns.{records_stand}
+
+same_bytes_is : (xs ys : List ℕ) → same_bytes xs ys ≡ true → xs ≡ ys
+unfolding same_bytes
+same_bytes_is [] [] h = refl
+same_bytes_is [] (y ∷ ys) h = cc
+same_bytes_is (x ∷ xs) [] h = cc
+same_bytes_is (x ∷ xs) (y ∷ ys) h = grind (arith, same_bytes_is xs ys)
+
+read_by : (p : Kind) (bytes : List ℕ) (short begins : Bool) (e : LogReading) → nat_lt (length bytes) 5 ≡ short → same_bytes (take 5 bytes) header ≡ begins → short ≡ false → begins ≡ true
+    → read_log p bytes ≡ read_frames p 5 nothing_seen 0 (drop 5 bytes)
+unfolding read_log
+read_by p bytes short begins e s b f g = rw (s, b, f, g) refl
+
+pub found_sound : (p : Kind) (bytes : List ℕ) (torn : ℕ) → 5 ≤ length bytes → same_bytes (take 5 bytes) header ≡ true → Ends p (drop 5 bytes) torn → IsFound p bytes (Sound torn)
+found_sound p bytes torn h b e =
+    (same_bytes_is (take 5 bytes) header b, h, e, read_by p bytes false true (Damaged 0) (grind (arith, nat_tests)) b refl refl)
+
+pub settles_empty : (p : Kind) (bytes text : List ℕ) (failures forced failures' : ℕ) → IsFound p bytes Empty → text ≡ header → forced ≡ length header → failures' ≡ failures
+    → Settles p bytes failures text forced failures'
+settles_empty p bytes text failures forced failures' found e f g = record {
+  begins = ap (take 5) e;
+  header_forced = omega (arith, f);
+  whole = ap (λ t. is_whole p 0 (drop 5 t)) e ∙ nothing_whole p;
+  torn = 0;
+  read = found ∙ ap (λ ls. Whole ls 0) (sym (ap (λ t. records_in p 0 (drop 5 t)) e ∙ no_records p));
+  failures_stay = g;
+}
+
+settles_sound : (p : Kind) (bytes text sound : List ℕ) (failures forced failures' torn : ℕ) → text ≡ header ++ sound → is_whole p 0 sound ≡ true
+    → read_log p bytes ≡ Whole (records_in p 0 sound) torn → 5 ≤ forced → failures' ≡ failures → Settles p bytes failures text forced failures'
+settles_sound p bytes text sound failures forced failures' torn e w r f g = record {
+  begins = ap (take 5) e;
+  header_forced = f;
+  whole = ap (λ t. is_whole p 0 (drop 5 t)) e ∙ w;
+  torn = torn;
+  read = r ∙ ap (λ ls. Whole ls torn) (sym (ap (λ t. records_in p 0 (drop 5 t)) e));
+  failures_stay = g;
+}
+
+joined : (p : Kind) (bytes : List ℕ) (torn : ℕ) (e : Ends p (drop 5 bytes) torn) → take 5 bytes ≡ header → bytes ≡ (header ++ e.sound) ++ e.tail
+joined p bytes torn e h =
+    sym (take-append-drop 5 bytes) ∙ ap (λ t. t ++ drop 5 bytes) h ∙ ap (λ t. header ++ t) e.split ∙ sym (append_assoc header e.sound e.tail)
+
+pub settles_front : (p : Kind) (bytes text : List ℕ) (failures forced failures' torn : ℕ) → IsFound p bytes (Sound torn) → text ≡ take (length bytes - torn) bytes
+    → forced ≡ length text → failures' ≡ failures → Settles p bytes failures text forced failures'
+settles_front p bytes text failures forced failures' torn found e f g =
+    let n = found.2 in
+    let j = joined p bytes torn n found.0 in
+    let size : length bytes - torn ≡ length (header ++ n.sound) = omega (arith, ap length j, length-append (header ++ n.sound) n.tail, n.size) in
+    let text_is : text ≡ header ++ n.sound = e ∙ ap (λ k. take k bytes) size ∙ ap (take (length (header ++ n.sound))) j ∙ take-append_seam (header ++ n.sound) n.tail in
+    settles_sound p bytes text n.sound failures forced failures' torn text_is n.whole (found.3 ∙ n.read) (omega (arith, f, ap length text_is, length-append header n.sound)) g
+
+no_tail : (xs tail : List ℕ) → length tail ≡ 0 → xs ++ tail ≡ xs
+no_tail xs [] h = append-nil xs
+no_tail xs (b ∷ bs) h = absurd (omega arith)
+
+pub settles_same : (p : Kind) (bytes text : List ℕ) (failures forced failures' torn : ℕ) → IsFound p bytes (Sound torn) → torn ≡ 0 → text ≡ bytes
+    → 5 ≤ forced → failures' ≡ failures → Settles p bytes failures text forced failures'
+settles_same p bytes text failures forced failures' torn found z e f g =
+    let n = found.2 in
+    let j = joined p bytes torn n found.0 ∙ no_tail (header ++ n.sound) n.tail (n.size ∙ z) in
+    settles_sound p bytes text n.sound failures forced failures' torn (e ∙ j) n.whole (found.3 ∙ n.read) f g
+
+pub opens : (p : Kind) (bytes text : List ℕ) (failures forced failures' room : ℕ) → Settles p bytes failures text forced failures'
+    → Opens p bytes failures (log_state p text forced failures' room false)
+opens p bytes text failures forced failures' room s = record {
+  kind = refl;
+  torn = s.torn;
+  read = s.read ∙ ap (λ ls. Whole ls s.torn) (sym (records_stand p text forced));
+  works = refl;
+  failures_stay = s.failures_stay;
+}

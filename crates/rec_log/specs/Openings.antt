@@ -1,0 +1,69 @@
+-- Opening a log over a store.
+use Rattle.std.specs.Prelude.{◌≡◌, ◌<◌, ◌≤◌, ⊤, ℕ, true, false, List, [], ◌++◌, length, take, drop}
+use Rattle.tree_model.specs.declared.names.Kind.{Kind}
+use Rattle.log_store.specs.Stores.{SameStore}
+use Rattle.log_order.specs.Logs.{LogReading, Whole, Damaged, read_frames, read_log, with_first}
+use Rattle.log_order.specs.Orders.{nothing_seen}
+use Rattle.rec_log.specs.Texts.{is_whole, records_in}
+use Rattle.rec_log.specs.Sights.{LogState, records_of}
+use Rattle.log_text.specs.Frames.{header}
+use Rattle.rec_log.specs.declared.opening.Found.{Found}
+use Rattle.rec_log.specs.declared.opening.Found.TheVariants.{Empty, Sound}
+use Rattle.rec_log.specs.declared.opening.OpenError.{OpenError}
+use Rattle.rec_log.specs.declared.opening.OpenError.TheVariants.{Memory, Device, Damaged as DamagedError}
+
+-- the frames in these bytes are sound, but for a torn tail of so many bytes
+pub record Ends (p : Kind) (bytes : List ℕ) (torn : ℕ) : Type 0 where
+  pub sound : List ℕ
+  pub tail : List ℕ
+  pub split : bytes ≡ sound ++ tail
+  pub size : length tail ≡ torn
+  pub whole : is_whole p 0 sound ≡ true
+  pub read : read_frames p 5 nothing_seen 0 bytes ≡ Whole (records_in p 0 sound) torn
+
+-- the frames in these bytes are damaged there
+abbrev pub IsFault : Kind → List ℕ → OpenError → Type 0
+IsFault p bytes Memory = ⊤
+IsFault p bytes Device = ⊥
+IsFault p bytes (DamagedError place) = read_frames p 5 nothing_seen 0 bytes ≡ Damaged place
+
+-- the bytes are an empty log without its header; or a header and sound frames, and a torn tail of so many bytes
+abbrev pub IsFound : Kind → List ℕ → Found → Type 0
+IsFound p bytes Empty = read_log p bytes ≡ Whole [] 0
+IsFound p bytes (Sound torn) =
+    (take 5 bytes ≡ header) × (5 ≤ length bytes) × Ends p (drop 5 bytes) torn × (read_log p bytes ≡ read_frames p 5 nothing_seen 0 (drop 5 bytes))
+
+-- the bytes are no log
+abbrev pub IsNoLog : Kind → List ℕ → OpenError → Type 0
+IsNoLog p bytes Memory = ⊤
+IsNoLog p bytes Device = ⊥
+IsNoLog p bytes (DamagedError place) = read_log p bytes ≡ Damaged place
+
+-- the log of these bytes: their records, a torn tail gone
+pub record Opens (p : Kind) (bytes : List ℕ) (failures : ℕ) (log : LogState) : Type 0 where
+  pub kind : log.kind ≡ p
+  pub torn : ℕ
+  pub read : read_log p bytes ≡ Whole (records_of log.sight.kept) torn
+  pub works : log.sight.failed ≡ false
+  pub failures_stay : log.sight.failures ≡ failures
+
+-- why no log is opened, and what store is handed back
+abbrev pub NotOpened : {S : Type 0} → (S → List ℕ) → (S → ℕ) → (S → ℕ) → Kind → S → S → OpenError → Type 0
+NotOpened bytes forced failures p old new Memory = SameStore bytes forced failures old new
+NotOpened bytes forced failures p old new Device = failures old < failures new
+NotOpened bytes forced failures p old new (DamagedError place) = (new ≡ old) × (read_log p (bytes old) ≡ Damaged place)
+
+-- a text was not put in place
+abbrev pub IsRefused : {S : Type 0} → (S → List ℕ) → (S → ℕ) → (S → ℕ) → S → S → OpenError → Type 0
+IsRefused bytes forced failures old new Memory = SameStore bytes forced failures old new
+IsRefused bytes forced failures old new Device = failures old < failures new
+IsRefused bytes forced failures old new (DamagedError place) = ⊥
+
+-- a text of the records that these bytes are, whole, with its header forced
+pub record Settles (p : Kind) (bytes : List ℕ) (failures : ℕ) (text : List ℕ) (forced failures' : ℕ) : Type 0 where
+  pub begins : take 5 text ≡ header
+  pub header_forced : 5 ≤ forced
+  pub whole : is_whole p 0 (drop 5 text) ≡ true
+  pub torn : ℕ
+  pub read : read_log p bytes ≡ Whole (records_in p 0 (drop 5 text)) torn
+  pub failures_stay : failures' ≡ failures

@@ -1,0 +1,149 @@
+-- What is seen of a log: its records, a front of which is forced.
+use Rattle.std.specs.Prelude.{◌≡◌, ◌≤◌, ◌<◌, ◌+◌, ◌-◌, ⊤, ℕ, Bool, true, false, List, [], ◌∷◌, ◌++◌, length, take, drop, Some}
+use Rattle.tree_model.specs.declared.names.Kind.{Kind}
+use Rattle.tree_model.specs.declared.records.LogRecord.{LogRecord}
+use Rattle.log_text.specs.Frames.{header}
+use Rattle.log_text.specs.Payloads.{FitsFrame, kind_byte, payload_text, record_text, records_text}
+use Rattle.log_text.specs.Reading.{read_record}
+use Rattle.rec_log.specs.Texts.{records_in, is_whole, whole_size}
+use Rattle.rec_log.specs.declared.log.LogError.{LogError}
+use Rattle.rec_log.specs.declared.log.LogError.TheVariants.{Memory, Device}
+
+-- the records that are forced, and those behind them
+pub record Kept : Type 0 where
+  pub forced : List LogRecord
+  pub loose : List LogRecord
+
+pub record LogSight : Type 0 where
+  pub kept : Kept
+  pub behind : ℕ
+  pub failed : Bool
+  pub failures : ℕ
+
+-- what a contract sees: the sight, the sort of process, and how many more bytes are not refused for memory
+pub record LogState : Type 0 where
+  pub kind : Kind
+  pub sight : LogSight
+  pub room : ℕ
+
+abbrev pub records_of : Kept → List LogRecord
+records_of k = k.forced ++ k.loose
+
+-- the bytes behind the header
+abbrev pub body : List ℕ → List ℕ
+body text = drop 5 text
+
+-- the bytes of the forced front behind the header
+abbrev pub front : List ℕ → ℕ → List ℕ
+front text forced = take (forced - 5) (body text)
+
+-- the records of a text so many bytes of which are forced
+abbrev pub kept_of : Kind → List ℕ → ℕ → Kept
+kept_of p text forced = record {
+  forced = records_in p 0 (front text forced);
+  loose = drop (length (records_in p 0 (front text forced))) (records_in p 0 (body text));
+}
+
+abbrev pub log_state : Kind → List ℕ → ℕ → ℕ → ℕ → Bool → LogState
+log_state p text forced failures room failed = record {
+  kind = p;
+  sight = record {
+    kept = kept_of p text forced;
+    behind = length (front text forced) - whole_size p 0 (front text forced);
+    failed = failed;
+    failures = failures;
+  };
+  room = room - length text;
+}
+
+-- the header is forced; where the log has not failed, its bytes are whole records
+pub record IsLogText (p : Kind) (text : List ℕ) (forced : ℕ) (failed : Bool) : Type 0 where
+  pub begins : take 5 text ≡ header
+  pub header_forced : 5 ≤ forced
+  pub whole : failed ≡ false → is_whole p 0 (body text) ≡ true
+
+-- a record that can stand in such a log: it fits a frame, and the frame reads as this record
+pub record IsRecord (p : Kind) (l : LogRecord) : Type 0 where
+  pub fits : FitsFrame l
+  pub again : read_record p (kind_byte l.entry) (payload_text l.parent l.entry) ≡ Some l
+
+-- one record more, not forced
+pub record Appended (old new : LogState) (l : LogRecord) : Type 0 where
+  pub kind : new.kind ≡ old.kind
+  pub forced : new.sight.kept.forced ≡ old.sight.kept.forced
+  pub loose : new.sight.kept.loose ≡ old.sight.kept.loose ++ l ∷ []
+  pub works : new.sight.failed ≡ false
+  pub failures : new.sight.failures ≡ old.sight.failures
+  pub room : old.room ≤ new.room + length (record_text l)
+
+-- all the records are forced
+pub record Forced (old new : LogState) : Type 0 where
+  pub kind : new.kind ≡ old.kind
+  pub forced : new.sight.kept.forced ≡ records_of old.sight.kept
+  pub loose : new.sight.kept.loose ≡ []
+  pub works : new.sight.failed ≡ false
+  pub failures : new.sight.failures ≡ old.sight.failures
+  pub room : old.room ≤ new.room
+
+-- the device failed: of these records a front was appended, and the forced front holds at least the old one
+pub record Breaks (old new : LogState) (ls : List LogRecord) : Type 0 where
+  pub kind : new.kind ≡ old.kind
+  pub appended : ℕ
+  pub stand : records_of new.sight.kept ≡ records_of old.sight.kept ++ take appended ls
+  pub no_less : length old.sight.kept.forced ≤ length new.sight.kept.forced
+  pub failed : new.sight.failed ≡ true
+  pub cause : old.sight.failures < new.sight.failures
+
+-- records that can all stand in such a log
+abbrev pub AreRecords : Kind → List LogRecord → Type 0
+AreRecords p [] = ⊤
+AreRecords p (l ∷ ls) = IsRecord p l × AreRecords p ls
+
+-- what is written is read: the text of records reads as these records, and is whole
+abbrev pub WrittenIsRead : Type 0
+WrittenIsRead = (p : Kind) (ls : List LogRecord) → AreRecords p ls → (records_in p 0 (records_text ls) ≡ ls) × (is_whole p 0 (records_text ls) ≡ true)
+
+-- what a crash leaves: the forced records and a front of the others
+pub record Leaves (k : Kept) (left : List LogRecord) : Type 0 where
+  pub some : ℕ
+  pub is : left ≡ k.forced ++ take some k.loose
+
+-- the first so many bytes are whole frames of records, and behind them no whole frame of a record begins
+pub record Sounds (p : Kind) (bytes : List ℕ) (size : ℕ) : Type 0 where
+  pub sound : List ℕ
+  pub tail : List ℕ
+  pub split : bytes ≡ sound ++ tail
+  pub sound_size : length sound ≡ size
+  pub whole : is_whole p 0 sound ≡ true
+  pub all : records_in p 0 bytes ≡ records_in p 0 sound
+
+-- what a restart writes: what is left without a torn tail, and new records
+pub record LeavesText (p : Kind) (left : List ℕ) (rs : List LogRecord) (text : List ℕ) : Type 0 where
+  pub size : ℕ
+  pub sounds : Sounds p (body left) size
+  pub is : text ≡ take (5 + size) left ++ records_text rs
+
+-- a log of what a crash left and of these new records, all of them forced
+pub record Restarts (old new : LogState) (rs : List LogRecord) : Type 0 where
+  pub kind : new.kind ≡ old.kind
+  pub left : List LogRecord
+  pub leaves : Leaves old.sight.kept left
+  pub forced : new.sight.kept.forced ≡ left ++ rs
+  pub loose : new.sight.kept.loose ≡ []
+  pub works : new.sight.failed ≡ false
+  pub failures : new.sight.failures ≡ old.sight.failures
+
+-- the crash took place, the device failed, and the new records stand or do not
+pub record RestartBreaks (old new : LogState) (rs : List LogRecord) : Type 0 where
+  pub kind : new.kind ≡ old.kind
+  pub left : List LogRecord
+  pub leaves : Leaves old.sight.kept left
+  pub came : ℕ
+  pub stand : records_of new.sight.kept ≡ left ++ take came rs
+  pub failed : new.sight.failed ≡ true
+  pub cause : old.sight.failures < new.sight.failures
+
+-- a restart that failed: for memory nothing changed
+abbrev pub NotRestarted : LogState → LogState → List LogRecord → LogError → Type 0
+NotRestarted old new rs Memory = new.sight ≡ old.sight
+NotRestarted old new rs Device = RestartBreaks old new rs

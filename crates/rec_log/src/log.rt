@@ -1,0 +1,282 @@
+//! A log as its records.
+
+ghost use Rattle.std.specs.Prelude.{◌≡◌, ◌≤◌, ◌<◌, ◌+◌, ◌++◌, ◌∷◌, [], true, false, IfOk, IfErr, OnOk, OnErr, is_some, length, map, take};
+ghost use Rattle.log_text.specs.Reading.{read_record};
+ghost use Rattle.log_text.specs.Made.{frame_record};
+ghost use Rattle.log_text.specs.Payloads.{record_text, records_text};
+ghost use Rattle.rec_log.specs.Sights.{Appended, Breaks, Forced, AreRecords, IsRecord, Leaves, LeavesText, NotRestarted, Restarts, Sounds, body, records_of};
+ghost use Rattle.log_store.specs.Stores.{Replaces};
+ghost use Rattle.rec_log.specs.Openings.{IsRefused, NotOpened, Opens, Settles};
+ghost use Rattle.rec_log.specs.Texts.{records_in};
+
+use crate::opening::{Found, OpenError, find};
+use log_store::{LogStore, StoreError};
+use log_text::{Frame, HEADER, ReadFault, first_frame, read_record};
+use std::alloc::{AllocError, Global};
+use std::marker::Model;
+use tree_model::{Kind, LogRecord};
+
+/// Why a log did not do what it was asked.
+#[derive(Clone, Copy, Debug, PartialEq, Eq)]
+pub enum LogError {
+    /// There was no memory; nothing changed.
+    Memory,
+    /// The device failed. The log has failed until it is restarted or opened.
+    Device,
+}
+
+/// The log of a process. What it keeps of its records is their bytes alone.
+#[derive(Drop)]
+pub struct RecLog<L: LogStore> {
+    kind: Kind,
+    store: L,
+    failed: bool,
+}
+
+impl<L: LogStore> Model for RecLog<L> {
+    ghost use Rattle.rec_log.specs.Sights.{LogState, IsLogText, log_state};
+
+    ghost Value = { LogState };
+
+    ghost view = { λ l. log_state l.kind (L.bytes l.store) (L.forced l.store) (L.failures l.store) (L.room l.store) l.failed };
+
+    ghost invariant = { λ l. IsLogText l.kind (L.bytes l.store) (L.forced l.store) l.failed };
+}
+
+/// The bytes behind the header.
+fn body(bytes: &[u8]) -> &[u8]
+    requires { 5 ≤ length bytes.now }
+    ensures { result.now ≡ body bytes.now }
+{
+    let (_, body) = bytes.split_at(HEADER.len());
+    body
+}
+
+/// The forced bytes and so many more, where they are there.
+fn left_by(bytes: &[u8], forced: usize, keep: usize) -> &[u8]
+    requires { forced ≤ length bytes.now }
+    ensures left { result.now ≡ take (forced + keep) bytes.now }
+    ensures no_less { forced ≤ length result.now }
+{
+    if keep < bytes.len() - forced {
+        &bytes[..forced + keep]
+    } else {
+        bytes
+    }
+}
+
+/// The records at the front of the bytes behind a header.
+fn records_in(kind: Kind, bytes: &[u8], alloc: Global) -> Result<Vec<LogRecord>, AllocError>
+    ensures { IfOk result (λ records. records.items ≡ records_in kind 0 bytes.now) }
+{
+    let mut records = Vec::new(alloc);
+    let mut rest = bytes;
+    while let Some((frame_kind, payload, behind)) = first_frame(rest) {
+        match read_record(kind, frame_kind, payload, alloc) {
+            Ok(record) => records.push(record)?,
+            Err(ReadFault::Malformed) => return Ok(records),
+            Err(ReadFault::Memory) => return Err(AllocError),
+        }
+        rest = behind;
+    }
+    Ok(records)
+}
+
+/// The first bytes, as a list of their own.
+fn front_of(bytes: &[u8], size: usize, alloc: Global) -> Result<Vec<u8>, AllocError>
+    requires { size ≤ length bytes.now }
+    ensures { IfOk result (λ front. front.items ≡ take size bytes.now) }
+{
+    let (front, _) = bytes.split_at(size);
+    Vec::from_slice(alloc, front)
+}
+
+/// Whether a frame is a record.
+fn is_record(kind: Kind, frame_kind: u8, payload: &[u8], alloc: Global) -> Result<bool, AllocError>
+    ensures { IfOk result (λ is. is ≡ is_some (read_record kind frame_kind payload.now)) }
+{
+    match read_record(kind, frame_kind, payload, alloc) {
+        Ok(_) => Ok(true),
+        Err(ReadFault::Malformed) => Ok(false),
+        Err(ReadFault::Memory) => Err(AllocError),
+    }
+}
+
+/// How many bytes the whole frames of records at the front are.
+fn sound_size(kind: Kind, bytes: &[u8], alloc: Global) -> Result<usize, AllocError>
+    ensures { IfOk result (λ size. Sounds kind bytes.now size) }
+{
+    let mut rest = bytes;
+    while let Some((frame_kind, payload, behind)) = first_frame(rest) {
+        if !is_record(kind, frame_kind, payload, alloc)? {
+            return Ok(bytes.len() - rest.len());
+        }
+        rest = behind;
+    }
+    Ok(bytes.len() - rest.len())
+}
+
+/// Adds the bytes of these frames.
+#[tactic(auto, unfolding(log_text::specs::Payloads::records_text))]
+fn push_frames(text: &mut Vec<u8>, frames: &[Frame]) -> Result<(), AllocError>
+    ensures { OnOk result (text.new.items ≡ text.old.items ++ records_text (map frame_record frames.now)) }
+{
+    for frame in frames {
+        text.extend_from_slice(frame.bytes())?;
+    }
+    Ok(())
+}
+
+/// The text that a restart writes.
+fn text_left(kind: Kind, left: &[u8], new: &[Frame], alloc: Global) -> Result<Vec<u8>, AllocError>
+    requires { 5 ≤ length left.now }
+    ensures { IfOk result (λ text. LeavesText kind left.now (map frame_record new.now) text.items) }
+{
+    let size = sound_size(kind, body(left), alloc)?;
+    let mut text = front_of(left, HEADER.len() + size, alloc)?;
+    push_frames(&mut text, new)?;
+    Ok(text)
+}
+
+/// A store in which this text stands, forced, in place of what stood there.
+fn replaced<L: LogStore + Drop>(store: L, text: &[u8]) -> Result<L, (OpenError, L)>
+    ensures ok { IfOk result (λ new. Replaces L.bytes L.forced L.failures store new text.now) }
+    ensures err { IfErr result (λ e. IsRefused L.bytes L.forced L.failures store e.1 e.0) }
+{
+    let mut store = store;
+    match store.replace(text) {
+        Ok(()) => Ok(store),
+        Err(StoreError::Memory) => Err((OpenError::Memory, store)),
+        Err(StoreError::Device) => Err((OpenError::Device, store)),
+    }
+}
+
+/// A store in which a log of whole frames stands that begins with these bytes.
+fn settled<L: LogStore + Drop>(kind: Kind, store: L, alloc: Global) -> Result<L, (OpenError, L)>
+    ensures ok { IfOk result (λ new. Settles kind (L.bytes store) (L.failures store) (L.bytes new) (L.forced new) (L.failures new)) }
+    ensures err { IfErr result (λ e. NotOpened L.bytes L.forced L.failures kind store e.1 e.0) }
+{
+    let torn = match find(kind, store.bytes(), alloc) {
+        Err(error) => return Err((error, store)),
+        Ok(Found::Empty) => return replaced(store, &HEADER),
+        Ok(Found::Sound(torn)) => torn,
+    };
+    let forced = store.forced();
+    if torn == 0 && HEADER.len() <= forced {
+        return Ok(store);
+    }
+    let size = store.bytes().len() - torn;
+    match front_of(store.bytes(), size, alloc) {
+        Ok(front) => replaced(store, &front),
+        Err(_) => Err((OpenError::Memory, store)),
+    }
+}
+
+impl<L: LogStore + Drop> RecLog<L> {
+    /// A log over a store. A torn tail is removed, and an empty log is given its header, by one `replace`; otherwise
+    /// the store is left as it is. A refusal hands the store back.
+    pub fn open(store: L, kind: Kind, alloc: Global) -> Result<RecLog<L>, (OpenError, L)>
+        ensures ok { IfOk result (λ log. Opens kind (L.bytes store) (L.failures store) log) }
+        ensures err { IfErr result (λ e. NotOpened L.bytes L.forced L.failures kind store e.1 e.0) }
+    {
+        let store = settled(kind, store, alloc)?;
+        Ok(RecLog {
+            kind,
+            store,
+            failed: false,
+        })
+    }
+}
+
+impl<L: LogStore> RecLog<L> {
+    /// Whether the device failed under it.
+    pub fn failed(&self) -> bool
+        ensures { result ≡ self.now.sight.failed }
+    {
+        self.failed
+    }
+
+    /// Makes room for so many bytes of frames. A refusal changes nothing.
+    pub fn reserve(&mut self, more: usize) -> Result<(), AllocError>
+        ensures stays { self.new.sight ≡ self.old.sight }
+        ensures kind { self.new.kind ≡ self.old.kind }
+        ensures room { OnOk result (more ≤ self.new.room) }
+    {
+        self.store.reserve(more)
+    }
+
+    /// Appends a record, where there is room for its frame; it is not forced.
+    pub fn append(&mut self, frame: &Frame) -> Result<(), LogError>
+        requires room { length (record_text (frame_record frame.now)) ≤ self.old.room }
+        requires works { self.old.sight.failed ≡ false }
+        requires sound { IsRecord self.old.kind (frame_record frame.now) }
+        ensures ok { OnOk result (Appended self.old self.new (frame_record frame.now)) }
+        ensures err { IfErr result (λ e. (e ≡ LogError.Device) × Breaks self.old self.new (frame_record frame.now ∷ [])) }
+    {
+        if let Err(_) = self.store.append(frame.bytes()) {
+            self.failed = true;
+            return Err(LogError::Device);
+        }
+        Ok(())
+    }
+
+    /// Forces all the records.
+    pub fn force(&mut self) -> Result<(), LogError>
+        requires { self.old.sight.failed ≡ false }
+        ensures ok { OnOk result (Forced self.old self.new) }
+        ensures err { IfErr result (λ e. (e ≡ LogError.Device) × Breaks self.old self.new []) }
+    {
+        if let Err(_) = self.store.force() {
+            self.failed = true;
+            return Err(LogError::Device);
+        }
+        Ok(())
+    }
+
+    /// The records that stand, as a list made anew.
+    pub fn records(&self, alloc: Global) -> Result<Vec<LogRecord>, AllocError>
+        ensures { IfOk result (λ records. records.items ≡ records_of self.now.sight.kept) }
+    {
+        records_in(self.kind, body(self.store.bytes()), alloc)
+    }
+
+    /// The records that a crash would leave which keeps so many bytes behind the forced front, as a list made anew: the
+    /// forced records and a front of the others.
+    pub fn kept(&self, keep: usize, alloc: Global) -> Result<Vec<LogRecord>, AllocError>
+        ensures { IfOk result (λ records. Leaves self.now.sight.kept records.items) }
+    {
+        let forced = self.store.forced();
+        let left = left_by(self.store.bytes(), forced, keep);
+        records_in(self.kind, body(left), alloc)
+    }
+
+    /// After a crash that kept so many bytes behind the forced front: the records of what is left, a torn tail gone, and
+    /// these new ones behind them, all of them forced by one `replace`. All memory is taken before the crash. Memory:
+    /// nothing changed. Device: the new records stand or do not, and the log has failed.
+    pub fn restart(&mut self, keep: usize, new: &[Frame], alloc: Global) -> Result<(), LogError>
+        requires { AreRecords self.old.kind (map frame_record new.now) }
+        ensures ok { OnOk result (Restarts self.old self.new (map frame_record new.now)) }
+        ensures err { IfErr result (λ e. NotRestarted self.old self.new (map frame_record new.now) e) }
+    {
+        let forced = self.store.forced();
+        let left = left_by(self.store.bytes(), forced, keep);
+        let text = match text_left(self.kind, left, new, alloc) {
+            Ok(text) => text,
+            Err(_) => return Err(LogError::Memory),
+        };
+        if let Err(_) = self.store.reserve(text.len()) {
+            return Err(LogError::Memory);
+        }
+        self.store.crash(keep);
+        match self.store.replace(&text) {
+            Ok(()) => {
+                self.failed = false;
+                Ok(())
+            }
+            Err(_) => {
+                self.failed = true;
+                Err(LogError::Device)
+            }
+        }
+    }
+}

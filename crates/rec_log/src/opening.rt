@@ -1,0 +1,85 @@
+//! Opening a log over the bytes of a store.
+
+ghost use Rattle.std.specs.Prelude.{◌≡◌, ◌≤◌, ◌-◌, IfOk, IfErr, OnOk, length, take, drop};
+ghost use Rattle.log_text.specs.Frames.{header};
+ghost use Rattle.rec_log.specs.Openings.{Ends, IsFault, IsFound, IsNoLog};
+ghost use Rattle.tree_model.specs.Records.{same_bytes};
+
+use log_order::Seen;
+use log_text::{HEADER, ReadFault, first_frame, read_record};
+use std::alloc::Global;
+use thiserror::Error;
+use tree_model::Kind;
+
+/// Why a log was not opened.
+#[derive(Clone, Copy, Debug, PartialEq, Eq, Error)]
+pub enum OpenError {
+    /// There was no memory; the store is as it was.
+    #[error("no memory")]
+    Memory,
+    /// The device failed, as a torn tail was removed or an empty log was given its header.
+    #[error("the device failed")]
+    Device,
+    /// The bytes are no log: the first byte of the first frame that is wrong, 0 for the header.
+    #[error("damaged at byte {0}")]
+    Damaged(usize),
+}
+
+/// How many bytes of a torn tail stand behind the sound frames in the bytes behind a header.
+pub fn torn_tail(kind: Kind, bytes: &[u8], alloc: Global) -> Result<usize, OpenError>
+    ensures ok { IfOk result (λ torn. Ends kind bytes.now torn) }
+    ensures err { IfErr result (λ e. IsFault kind bytes.now e) }
+{
+    let mut seen = Seen::new(alloc);
+    let mut rest = bytes;
+    while let Some((frame_kind, payload, behind)) = first_frame(rest) {
+        let place = HEADER.len() + (bytes.len() - rest.len());
+        let entry = match read_record(kind, frame_kind, payload, alloc) {
+            Ok(entry) => entry,
+            Err(ReadFault::Malformed) => return Err(OpenError::Damaged(place)),
+            Err(ReadFault::Memory) => return Err(OpenError::Memory),
+        };
+        match seen.take(entry) {
+            Ok(()) => rest = behind,
+            Err(ReadFault::Malformed) => return Err(OpenError::Damaged(place)),
+            Err(ReadFault::Memory) => return Err(OpenError::Memory),
+        }
+    }
+    Ok(rest.len())
+}
+
+/// What a store's bytes are to a log that opens.
+pub enum Found {
+    /// No header yet: an empty log.
+    Empty,
+    /// A header and sound frames, and a torn tail of so many bytes.
+    Sound(usize),
+}
+
+/// What these bytes are.
+#[tactic(auto, unfolding(log_order::specs::Logs::read_log))]
+pub fn find(kind: Kind, bytes: &[u8], alloc: Global) -> Result<Found, OpenError>
+    ensures ok { IfOk result (λ found. IsFound kind bytes.now found) }
+    ensures err { IfErr result (λ e. IsNoLog kind bytes.now e) }
+{
+    if bytes.len() < HEADER.len() {
+        return if is_same(bytes, &HEADER[..bytes.len()]) {
+            Ok(Found::Empty)
+        } else {
+            Err(OpenError::Damaged(0))
+        };
+    }
+    let (header, frames) = bytes.split_at(HEADER.len());
+    if !is_same(header, &HEADER) {
+        return Err(OpenError::Damaged(0));
+    }
+    let torn = torn_tail(kind, frames, alloc)?;
+    Ok(Found::Sound(torn))
+}
+
+#[tactic(auto, using(crate::proofs::Keys::same_bytes_is_equality))]
+fn is_same(one: &[u8], other: &[u8]) -> bool
+    ensures { result ≡ same_bytes one.now other.now }
+{
+    one == other
+}

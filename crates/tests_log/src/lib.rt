@@ -1,0 +1,5 @@
+//! Tests of the log of bytes.
+#![tactic(auto)]
+
+#[cfg(test)]
+mod damage;
