@@ -27,7 +27,8 @@ first_false a b e = grind arith
 second_false : (a b : Bool) → (a || b) ≡ false → b ≡ false
 second_false a b e = grind arith
 
-none_by : (q r : Record → Bool) (xs : List Record) → ((x : Record) → q x ≡ true → r x ≡ true) → has r xs ≡ false → has q xs ≡ false
+none_by : (q r : Record → Bool) (xs : List Record) → ((x : Record) → q x ≡ true → r x ≡ true)
+    → has r xs ≡ false → has q xs ≡ false
 none_by q r xs f e = by_test (has q xs) refl
   where
     by_test : (b : Bool) → has q xs ≡ b → has q xs ≡ false
@@ -37,7 +38,8 @@ none_by q r xs f e = by_test (has q xs) refl
 abort_is : (d : Case) (x : Record) → is_abort d x ≡ true → is_coordinators x ≡ true
 abort_is d x e = grind arith
 
-promise_is : (d : Case) (x : Record) → is_promise d x ≡ true → (is_branch_record d x || is_coordinators x) ≡ true
+promise_is : (d : Case) (x : Record) → is_promise d x ≡ true
+    → (is_branch_record d x || is_coordinators x) ≡ true
 promise_is d x e = grind arith
 
 prepared_is : (d : Case) (x : Record) → is_prepared d x ≡ true → is_promise d x ≡ true
@@ -49,13 +51,15 @@ commit_is d x e = grind arith
 rolled_is : (d : Case) (x : Record) → is_rolled_back d x ≡ true → is_learnt_abort d x ≡ true
 rolled_is d x e = grind arith
 
-has_none : (d : Case) (xs : List Record) → has (is_branch_record d) xs ≡ false → has is_coordinators xs ≡ false
+has_none : (d : Case) (xs : List Record) → has (is_branch_record d) xs ≡ false
+    → has is_coordinators xs ≡ false
     → has (λ x. is_branch_record d x || is_coordinators x) xs ≡ false
 unfolding has
 has_none d [] f g = refl
 has_none d (x ∷ xs) f g =
     neither _ _
-    (neither (is_branch_record d x) (is_coordinators x) (first_false (is_branch_record d x) (has (is_branch_record d) xs) f)
+    (neither (is_branch_record d x) (is_coordinators x)
+    (first_false (is_branch_record d x) (has (is_branch_record d) xs) f)
     (first_false (is_coordinators x) (has is_coordinators xs) g))
     (has_none d xs (second_false (is_branch_record d x) (has (is_branch_record d) xs) f)
     (second_false (is_coordinators x) (has is_coordinators xs) g))
@@ -64,8 +68,10 @@ decided_is : (d : Case) (x : Record) → is_decided d CommittedOutcome x ≡ tru
 decided_is d x e = grind arith
 
 -- where no operator's decision stands, or ever was forced, there is none by commit
-pub none_ever : (n : Node) (d : Case) → has (is_heuristic d) (kept n) ≡ false → has (is_heuristic d) n.durable ≡ false
-    → (has (is_decided d CommittedOutcome) (kept n) || has (is_decided d CommittedOutcome) n.durable) ≡ false
+pub none_ever : (n : Node) (d : Case) → has (is_heuristic d) (kept n) ≡ false
+    → has (is_heuristic d) n.durable ≡ false
+    → (has (is_decided d CommittedOutcome) (kept n) || has (is_decided d CommittedOutcome) n.durable) ≡
+    false
 none_ever n d e f =
     neither _ _ (none_by (is_decided d CommittedOutcome) (is_heuristic d) (kept n) (decided_is d) e)
     (none_by (is_decided d CommittedOutcome) (is_heuristic d) n.durable (decided_is d) f)
@@ -76,7 +82,8 @@ module _ (n : Node) (nested : Nested (logs_of n)) (m : Manages (logs_of n)) (d :
     where
       by_test : (b : Bool) → has is_coordinators (kept n) ≡ b → has is_coordinators (kept n) ≡ false
       by_test true g =
-          not_both is_coordinators (has is_coordinators n.life) (nested.kept_was_written is_coordinators (λ k. refl) g) m.no_coordinators_record
+          not_both is_coordinators (has is_coordinators n.life)
+          (nested.kept_was_written is_coordinators (λ k. refl) g) m.no_coordinators_record
       by_test false g = g
 
   abbrev last : Mark
@@ -89,13 +96,15 @@ module _ (n : Node) (nested : Nested (logs_of n)) (m : Manages (logs_of n)) (d :
   no_abort_record = rw (none_by (is_abort d) is_coordinators (kept n) (abort_is d) no_coordinators) refl
 
   learnt_no_abort : has (is_learnt_abort d) (kept n) ≡ false
-      → (has (is_learnt_abort d) (kept n) || (has (is_abort d) (kept n) && has (is_prepare d) (kept n))) ≡ false
+      → (has (is_learnt_abort d) (kept n) || (has (is_abort d) (kept n) && has (is_prepare d) (kept n))) ≡
+      false
   learnt_no_abort e = neither _ _ e no_abort_record
 
   -- what waits for an outcome
   pub record Doubt : Type 0 where
     pub no_commit : has (is_learnt_commit d) (kept n) ≡ false
-    pub no_abort : (has (is_learnt_abort d) (kept n) || (has (is_abort d) (kept n) && has (is_prepare d) (kept n))) ≡ false
+    pub no_abort : (has (is_learnt_abort d) (kept n) ||
+        (has (is_abort d) (kept n) && has (is_prepare d) (kept n))) ≡ false
     pub not_forgotten : has (is_forgot d) (kept n) ≡ false
 
   untold_mark : (k : Mark) → Waits k → IsTold d k → ⊥
@@ -117,14 +126,16 @@ module _ (n : Node) (nested : Nested (logs_of n)) (m : Manages (logs_of n)) (d :
       (open_promised d (kept n) (m.in_order d) (ap is_open (sym last_is) ∙ open_mark (mark_at n d) k))
 
   pub plain_so : mark_at n d ≡ Promised → has (is_heuristic d) (kept n) ≡ false
-  plain_so e = no_heuristic d (kept n) (m.in_order d) no_coordinators (λ l. subst (IsLate d) (sym last_is ∙ e) l)
+  plain_so e = no_heuristic d (kept n) (m.in_order d) no_coordinators
+      (λ l. subst (IsLate d) (sym last_is ∙ e) l)
 
   decided_mark : (k : Mark) → IsDecided k → IsDecidedMark k
   decided_mark _ untold = tt
   decided_mark _ (told o) = tt
 
   pub heuristic_so : IsDecided (mark_at n d) → has (is_heuristic d) (kept n) ≡ true
-  heuristic_so k = has_heuristic d (kept n) (m.in_order d) (subst IsDecidedMark last_is (decided_mark (mark_at n d) k))
+  heuristic_so k = has_heuristic d (kept n) (m.in_order d)
+      (subst IsDecidedMark last_is (decided_mark (mark_at n d) k))
 
   not_last : (k : Mark) → IsDecided k → IsLast d k → ⊥
   not_last _ untold l = l
@@ -141,7 +152,8 @@ module _ (n : Node) (nested : Nested (logs_of n)) (m : Manages (logs_of n)) (d :
       (has_told d CommittedOutcome (kept n) (m.in_order d) (sym last_is ∙ e))
 
   pub told_abort_so : mark_at n d ≡ ToldOf AbortedOutcome
-      → (has (is_learnt_abort d) (kept n) || (has (is_abort d) (kept n) && has (is_prepare d) (kept n))) ≡ true
+      → (has (is_learnt_abort d) (kept n) || (has (is_abort d) (kept n) && has (is_prepare d) (kept n))) ≡
+      true
   told_abort_so e =
       left _ _
       (has_other (is_told_of d AbortedOutcome) (is_learnt_abort d) (kept n) (λ x f. right _ _ f)
@@ -153,7 +165,8 @@ module _ (n : Node) (nested : Nested (logs_of n)) (m : Manages (logs_of n)) (d :
       ⊎ ((has (is_forgot d) (kept n) ≡ true)
       ⊎ ((has (is_heuristic d) (kept n) ≡ false)
       × ((has (is_learnt_commit d) (kept n) ≡ true)
-      ⊎ ((has (is_learnt_abort d) (kept n) || (has (is_abort d) (kept n) && has (is_prepare d) (kept n))) ≡ true))))
+      ⊎ ((has (is_learnt_abort d) (kept n) || (has (is_abort d) (kept n) && has (is_prepare d) (kept n))) ≡
+      true))))
 
   none_promised : last ≡ Unmarked → has (is_promise d) (kept n) ≡ false
   none_promised e = by_test (has (is_promise d) (kept n)) refl
@@ -161,11 +174,13 @@ module _ (n : Node) (nested : Nested (logs_of n)) (m : Manages (logs_of n)) (d :
       by_test : (b : Bool) → has (is_promise d) (kept n) ≡ b → has (is_promise d) (kept n) ≡ false
       by_test true g =
           not_both (is_promise d) _
-          (has_other (is_promise d) (λ x. is_branch_record d x || is_coordinators x) (kept n) (promise_is d) g)
+          (has_other (is_promise d) (λ x. is_branch_record d x || is_coordinators x) (kept n) (promise_is d)
+          g)
           (has_none d (kept n) (no_record d (kept n) (m.in_order d) no_coordinators e) no_coordinators)
       by_test false g = g
 
-  unknown_at : (k : Mark) → mark_at n d ≡ k → (place : Place) → (marked_branch (memory_of place n d) k).standing ≡ Unknown → Nothing
+  unknown_at : (k : Mark) → mark_at n d ≡ k → (place : Place)
+      → (marked_branch (memory_of place n d) k).standing ≡ Unknown → Nothing
   unknown_at Unmarked e place s = inl (none_promised (sym last_is ∙ e))
   unknown_at Finished e place s = elim (finished d (kept n) (m.in_order d) (sym last_is ∙ e)) [
     | inl forgot ↦ inr (inl forgot)
@@ -183,4 +198,5 @@ module _ (n : Node) (nested : Nested (logs_of n)) (m : Manages (logs_of n)) (d :
 
   pub nothing_known : (place : Place) → IsUnknown place n d → Nothing
   nothing_known place u =
-      unknown_at (mark_at n d) refl place (sym (ap (λ (v : ManagerView). v.standing) (viewed place n d)) ∙ u)
+      unknown_at (mark_at n d) refl place
+      (sym (ap (λ (v : ManagerView). v.standing) (viewed place n d)) ∙ u)

@@ -73,7 +73,8 @@ half_plain s s' k h e d r one b = rw one
     (simp (has-push_behind, has-cons, b.no_abort, b.no_prepare, middle))
 
 -- a record of another branch changes nothing of this one
-pub unrelated : (d : Case) (r : Record) (k : ChildHalf) → is_branch_record d r ≡ false → is_coordinators r ≡ false → wrote r d k ≡ k
+pub unrelated : (d : Case) (r : Record) (k : ChildHalf) → is_branch_record d r ≡ false
+    → is_coordinators r ≡ false → wrote r d k ≡ k
 unrelated d (Prepared b ws) k e f = rw e refl
 unrelated d (Committed b) k e f = rw e refl
 unrelated d (RolledBack b) k e f = rw e refl

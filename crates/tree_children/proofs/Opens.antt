@@ -42,13 +42,15 @@ closed_phase false m (ToldOf o) e = refl
 closed_phase false m Finished e = refl
 closed_phase false m Unmarked e = ap (λ (x : Phase). opens false (heard_branch m x)) e
 
-heard_alike : (f : Bool) (m m' : Memory) (x : Phase) → opens f (heard_branch m' x) ≡ opens f (heard_branch m x)
+heard_alike : (f : Bool) (m m' : Memory) (x : Phase)
+    → opens f (heard_branch m' x) ≡ opens f (heard_branch m x)
 heard_alike f m m' Idle = refl
 heard_alike f m m' Open = refl
 heard_alike f m m' Asked = refl
 heard_alike f m m' Over = refl
 
-alike : (f : Bool) (m m' : Memory) (k : Mark) → m'.phase ≡ m.phase → opens f (marked_branch m' k) ≡ opens f (marked_branch m k)
+alike : (f : Bool) (m m' : Memory) (k : Mark) → m'.phase ≡ m.phase
+    → opens f (marked_branch m' k) ≡ opens f (marked_branch m k)
 alike f m m' Unmarked e = ap (λ (x : Phase). opens f (heard_branch m' x)) e ∙ heard_alike f m m' m.phase
 alike f m m' Promised e = refl
 alike f m m' Decided e = refl
@@ -60,7 +62,8 @@ alike f m m' Finished e = refl
 abbrev Left : Memory → Memory → Type 0
 Left m m' = (m'.phase ≡ m.phase) ⊎ (m'.phase ≡ Over)
 
-works_left : (m u v : Memory) (a b : Bool) → u.phase ≡ m.phase → v.phase ≡ m.phase → Left m (if a then (if b then u else v) else m)
+works_left : (m u v : Memory) (a b : Bool) → u.phase ≡ m.phase → v.phase ≡ m.phase
+    → Left m (if a then (if b then u else v) else m)
 works_left m u v true true e f = inl e
 works_left m u v true false e f = inl f
 works_left m u v false b e f = inl refl
@@ -81,9 +84,11 @@ if_left : (m u v : Memory) (b : Bool) → Left m u → Left m v → Left m (if b
 if_left m u v true e f = f
 if_left m u v false e f = e
 
-message_left : (me : ProcessId) (boot : ℕ) (d : Case) (m : Memory) (a : DataAnswer) (j : ℕ) (x : Message) → IsNoJoin x
+message_left : (me : ProcessId) (boot : ℕ) (d : Case) (m : Memory) (a : DataAnswer) (j : ℕ) (x : Message)
+    → IsNoJoin x
     → Left m (manager_remembers me boot d m a (MessageInput j x))
-message_left me boot d m a j (Work o i op) r = if_left m m _ (same_case o d) (inl refl) (worked_left m i a.does m.phase)
+message_left me boot d m a j (Work o i op) r = if_left m m _ (same_case o d) (inl refl)
+    (worked_left m i a.does m.phase)
 message_left me boot d m a j (Prepare o k) r =
     if_left m (retires m o) _ (same_case o d) (inl refl) (closes_left m (retires m o) m.phase refl)
 message_left me boot d m a j (Abort o) r =
@@ -118,49 +123,59 @@ module _ (me p : ProcessId) (tree : List TreeEntry) (n : Node) (h : Heard) (e : 
       | inl same ↦ inl
           (ap (opens n.failed) (viewed place (after n h e) d)
           ∙ (ap (λ k. opens n.failed (marked_branch (memory_of place (after n h e) d) k)) mark
-          ∙ (alike n.failed (memory_of place n d) (memory_of place (after n h e) d) (mark_of (CaseBranch d) (kept n))
+          ∙ (alike n.failed (memory_of place n d) (memory_of place (after n h e) d)
+          (mark_of (CaseBranch d) (kept n))
           (ap (λ (m : Memory). m.phase) remembers ∙ same)
           ∙ ap (opens n.failed) (sym (viewed place n d)))))
       | inr over ↦ inr
           (ap (opens n.failed) (viewed place (after n h e) d)
-          ∙ closed_phase n.failed (memory_of place (after n h e) d) (mark_of (CaseBranch d) (kept (after n h e)))
+          ∙ closed_phase n.failed (memory_of place (after n h e) d)
+          (mark_of (CaseBranch d) (kept (after n h e)))
           (ap (λ (m : Memory). m.phase) remembers ∙ over))
     ]
 
     -- PREPARE and ABORT close an Active branch
-    pub closes_prepared : (k j : ℕ) → h.input ≡ MessageInput j (Prepare d k) → (memory_of place n d).phase ≡ Open
+    pub closes_prepared : (k j : ℕ) → h.input ≡ MessageInput j (Prepare d k)
+        → (memory_of place n d).phase ≡ Open
         → opens n.failed (manager_view place (after n h e) d) ≡ false
     closes_prepared k j i ph =
         ap (opens n.failed) (viewed place (after n h e) d)
-        ∙ closed_phase n.failed (memory_of place (after n h e) d) (mark_of (CaseBranch d) (kept (after n h e)))
+        ∙ closed_phase n.failed (memory_of place (after n h e) d)
+        (mark_of (CaseBranch d) (kept (after n h e)))
         (ap (λ (m : Memory). m.phase) remembers ∙ rw (i, same_case-refl d, ph) refl)
 
     pub closes_aborted : (j : ℕ) → h.input ≡ MessageInput j (Abort d) → (memory_of place n d).phase ≡ Open
         → opens n.failed (manager_view place (after n h e) d) ≡ false
     closes_aborted j i ph =
         ap (opens n.failed) (viewed place (after n h e) d)
-        ∙ closed_phase n.failed (memory_of place (after n h e) d) (mark_of (CaseBranch d) (kept (after n h e)))
+        ∙ closed_phase n.failed (memory_of place (after n h e) d)
+        (mark_of (CaseBranch d) (kept (after n h e)))
         (ap (λ (m : Memory). m.phase) remembers ∙ rw (i, same_case-refl d, ph) refl)
 
   -- a branch with a record is closed
-  pub marked_is_closed : IsMarked (mark_of (CaseBranch d) (kept (after n h e))) → opens n.failed (manager_view place (after n h e) d) ≡ false
+  pub marked_is_closed : IsMarked (mark_of (CaseBranch d) (kept (after n h e)))
+      → opens n.failed (manager_view place (after n h e) d) ≡ false
   marked_is_closed k =
       ap (opens n.failed) (viewed place (after n h e) d)
-      ∙ closed_marked n.failed (memory_of place (after n h e) d) (mark_of (CaseBranch d) (kept (after n h e))) k
+      ∙ closed_marked n.failed (memory_of place (after n h e) d)
+      (mark_of (CaseBranch d) (kept (after n h e))) k
 
 pub closed_where_marked : (place : Place) (n : Node) (d : Case) → IsMarked (mark_of (CaseBranch d) (kept n))
     → opens n.failed (manager_view place n d) ≡ false
 closed_where_marked place n d k =
-    ap (opens n.failed) (viewed place n d) ∙ closed_marked n.failed (memory_of place n d) (mark_of (CaseBranch d) (kept n)) k
+    ap (opens n.failed) (viewed place n d) ∙ closed_marked n.failed (memory_of place n d)
+    (mark_of (CaseBranch d) (kept n)) k
 
-pub open_where_active : (place : Place) (n : Node) (d : Case) → n.failed ≡ false → mark_of (CaseBranch d) (kept n) ≡ Unmarked
+pub open_where_active : (place : Place) (n : Node) (d : Case) → n.failed ≡ false
+    → mark_of (CaseBranch d) (kept n) ≡ Unmarked
     → (memory_of place n d).phase ≡ Open → opens n.failed (manager_view place n d) ≡ true
 open_where_active place n d up mark ph =
     ap (opens n.failed) (viewed place n d)
     ∙ (ap (λ k. opens n.failed (marked_branch (memory_of place n d) k)) mark
     ∙ (ap (λ (x : Phase). opens n.failed (heard_branch (memory_of place n d) x)) ph ∙ rw up refl))
 
-pub closed_where_unknown : (place : Place) (n : Node) (d : Case) → (manager_view place n d).standing ≡ Unknown
+pub closed_where_unknown : (place : Place) (n : Node) (d : Case)
+    → (manager_view place n d).standing ≡ Unknown
     → opens n.failed (manager_view place n d) ≡ false
 closed_where_unknown place n d e = by_fault n.failed (manager_view place n d).standing e
   where

@@ -44,7 +44,8 @@ module _ (root outcome above : Bool) (p : ParentHalf) (k : ChildHalf) (v : Wire)
   abbrev R : ChildHalf → Wire → Reading
   R h w = reading_from root true outcome above p h w
 
-  pub reading-read : k.is_open ≡ true → R (stands_so false k) (record v { read = true }) ≡ move.votes_read (R k v)
+  pub reading-read : k.is_open ≡ true
+      → R (stands_so false k) (record v { read = true }) ≡ move.votes_read (R k v)
   reading-read e = rw e (simp (and-false, dead-live, dead-read))
 
   -- the branch is open and has said and promised nothing
@@ -55,16 +56,20 @@ module _ (root outcome above : Bool) (p : ParentHalf) (k : ChildHalf) (v : Wire)
     none_ever : k.prepared_ever ≡ false
     no_read : v.read ≡ false
 
-  pub reading-no : k.is_open ≡ true → v.issued ≡ true → k.prepared_kept ≡ false → k.prepared_ever ≡ false → v.read ≡ false
+  pub reading-no : k.is_open ≡ true → v.issued ≡ true → k.prepared_kept ≡ false → k.prepared_ever ≡ false
+      → v.read ≡ false
       → R (stands_so false k) (record v { no = true }) ≡ move.votes_no (R k v)
   reading-no a b c d e = rw (c, d, b, e, dead-now) (simp (and-false, or-true))
 
-  pub reading-dropped : k.is_open ≡ true → v.issued ≡ true → k.prepared_kept ≡ false → k.prepared_ever ≡ false → v.read ≡ false
+  pub reading-dropped : k.is_open ≡ true → v.issued ≡ true → k.prepared_kept ≡ false
+      → k.prepared_ever ≡ false → v.read ≡ false
       → R (stands_so false k) v ≡ move.drops (R k v)
   reading-dropped a b c d e = rw (c, d, b, e, dead-now) (simp (and-false, or-true))
 
-  pub reading-dropped_acknowledged : k.is_open ≡ true → v.issued ≡ true → k.prepared_kept ≡ false → k.prepared_ever ≡ false
-      → v.read ≡ false → R (stands_so false k) (record v { ack = true }) ≡ move.drops_and_acknowledges (R k v)
+  pub reading-dropped_acknowledged : k.is_open ≡ true → v.issued ≡ true → k.prepared_kept ≡ false
+      → k.prepared_ever ≡ false
+      → v.read ≡ false → R (stands_so false k) (record v { ack = true }) ≡ move.drops_and_acknowledges
+      (R k v)
   reading-dropped_acknowledged a b c d e = rw (c, d, b, e, dead-now) (simp (and-false, or-true))
 
   pub reading-closed : k.is_open ≡ false → R (stands_so false k) v ≡ R k v
@@ -77,34 +82,48 @@ module _ (root outcome above : Bool) (p : ParentHalf) (k : ChildHalf) (v : Wire)
   reading-hardened = simp (or_twice)
 
   -- a record of the branch behind the promise
-  module _ (d : Case) (r : Record) (closed : k.is_open ≡ false) (kept : k.prepared_kept ≡ true) (plain : is_promise d r ≡ false) where
-    module _ (commit : is_learnt_commit d r ≡ true) (abort : is_learnt_abort d r ≡ false) (h : is_heuristic d r ≡ false)
-        (x : is_decided d CommittedOutcome r ≡ false) (f : is_forgot d r ≡ false) (b : is_committing d r ≡ not k.heuristic_kept) where
+  module _ (d : Case) (r : Record) (closed : k.is_open ≡ false) (kept : k.prepared_kept ≡ true)
+      (plain : is_promise d r ≡ false) where
+    module _ (commit : is_learnt_commit d r ≡ true) (abort : is_learnt_abort d r ≡ false)
+        (h : is_heuristic d r ≡ false)
+        (x : is_decided d CommittedOutcome r ≡ false) (f : is_forgot d r ≡ false)
+        (b : is_committing d r ≡ not k.heuristic_kept) where
       pub reading-commit_forced : R (stands_so false (hardens (wrote r d k))) (record v { ack = true })
           ≡ move.commits_forced (move.hardens_child (R k v))
-      reading-commit_forced = rw (closed, kept, plain, commit, abort, h, x, f, b) (simp (or_twice, and-false, dead-promised))
+      reading-commit_forced = rw (closed, kept, plain, commit, abort, h, x, f, b)
+          (simp (or_twice, and-false, dead-promised))
 
       pub reading-commit_plain : R (stands_so false (wrote r d k)) v ≡ move.commits (R k v)
-      reading-commit_plain = rw (closed, kept, plain, commit, abort, h, x, f, b) (simp (or_twice, and-false, dead-promised))
+      reading-commit_plain = rw (closed, kept, plain, commit, abort, h, x, f, b)
+          (simp (or_twice, and-false, dead-promised))
 
-    module _ (commit : is_learnt_commit d r ≡ false) (abort : is_learnt_abort d r ≡ true) (h : is_heuristic d r ≡ false)
-        (x : is_decided d CommittedOutcome r ≡ false) (f : is_forgot d r ≡ false) (b : is_committing d r ≡ false) where
+    module _ (commit : is_learnt_commit d r ≡ false) (abort : is_learnt_abort d r ≡ true)
+        (h : is_heuristic d r ≡ false)
+        (x : is_decided d CommittedOutcome r ≡ false) (f : is_forgot d r ≡ false)
+        (b : is_committing d r ≡ false) where
       pub reading-abort_plain : R (stands_so false (wrote r d k)) v ≡ move.rolls_back (R k v)
-      reading-abort_plain = rw (closed, kept, plain, commit, abort, h, x, f, b) (simp (or_twice, and-false, dead-promised))
+      reading-abort_plain = rw (closed, kept, plain, commit, abort, h, x, f, b)
+          (simp (or_twice, and-false, dead-promised))
 
       pub reading-abort_forced : R (stands_so false (hardens (wrote r d k))) (record v { ack = true })
           ≡ move.rolls_back_forced (move.hardens_child (R k v))
-      reading-abort_forced = rw (closed, kept, plain, commit, abort, h, x, f, b) (simp (or_twice, and-false, dead-promised))
+      reading-abort_forced = rw (closed, kept, plain, commit, abort, h, x, f, b)
+          (simp (or_twice, and-false, dead-promised))
 
-    pub reading-decided : (o : Bool) → is_learnt_commit d r ≡ false → is_learnt_abort d r ≡ false → is_heuristic d r ≡ true
-        → is_decided d CommittedOutcome r ≡ o → is_forgot d r ≡ false → is_committing d r ≡ false → k.heuristic_commits ≡ false
+    pub reading-decided : (o : Bool) → is_learnt_commit d r ≡ false → is_learnt_abort d r ≡ false
+        → is_heuristic d r ≡ true
+        → is_decided d CommittedOutcome r ≡ o → is_forgot d r ≡ false → is_committing d r ≡ false
+        → k.heuristic_commits ≡ false
         → R (stands_so false (hardens (wrote r d k))) v ≡ move.decides_alone o (move.hardens_child (R k v))
-    reading-decided o a b h x f g e = rw (closed, kept, plain, a, b, h, x, f, g, e) (simp (or_twice, or-false, and-false, dead-promised))
+    reading-decided o a b h x f g e = rw (closed, kept, plain, a, b, h, x, f, g, e)
+        (simp (or_twice, or-false, and-false, dead-promised))
 
-    pub reading-forgotten : is_learnt_commit d r ≡ false → is_learnt_abort d r ≡ false → is_heuristic d r ≡ false
+    pub reading-forgotten : is_learnt_commit d r ≡ false → is_learnt_abort d r ≡ false
+        → is_heuristic d r ≡ false
         → is_decided d CommittedOutcome r ≡ false → is_forgot d r ≡ true → is_committing d r ≡ false
         → R (stands_so false (hardens (wrote r d k))) v ≡ move.forgets (move.hardens_child (R k v))
-    reading-forgotten a b h x f g = rw (closed, kept, plain, a, b, h, x, f, g) (simp (or_twice, and-false, dead-promised))
+    reading-forgotten a b h x f g = rw (closed, kept, plain, a, b, h, x, f, g)
+        (simp (or_twice, and-false, dead-promised))
 
 -- a ticket that was never given is not open
 dead-unissued : (a b c : Bool) → is_dead a b false c ≡ false
@@ -113,14 +132,18 @@ dead-unissued true b c = refl
 dead-unissued false true c = refl
 dead-unissued false false c = refl
 
-pub reading-unissued : (root outcome above : Bool) (p : ParentHalf) (k : ChildHalf) (v : Wire) (o : Bool) → v.issued ≡ false
+pub reading-unissued : (root outcome above : Bool) (p : ParentHalf) (k : ChildHalf) (v : Wire) (o : Bool)
+    → v.issued ≡ false
     → reading_from root true outcome above p (stands_so o k) v ≡ reading_from root true outcome above p k v
 reading-unissued root outcome above p k v o e = rw e (simp (dead-unissued))
 
-pub reading-yes : (root outcome above : Bool) (p : ParentHalf) (k : ChildHalf) (v : Wire) (d : Case) (r : Record) → k.is_open ≡ true
-    → is_promise d r ≡ true → is_learnt_commit d r ≡ false → is_learnt_abort d r ≡ false → is_heuristic d r ≡ false
+pub reading-yes : (root outcome above : Bool) (p : ParentHalf) (k : ChildHalf) (v : Wire) (d : Case)
+    (r : Record) → k.is_open ≡ true
+    → is_promise d r ≡ true → is_learnt_commit d r ≡ false → is_learnt_abort d r ≡ false
+    → is_heuristic d r ≡ false
     → is_decided d CommittedOutcome r ≡ false → is_forgot d r ≡ false → is_committing d r ≡ false
-    → reading_from root true outcome above p (stands_so false (hardens (wrote r d k))) (record v { yes = true })
+    → reading_from root true outcome above p (stands_so false (hardens (wrote r d k)))
+    (record v { yes = true })
     ≡ move.votes_yes (move.hardens_child (reading_from root true outcome above p k v))
 reading-yes root outcome above p k v d r o a b c e f g h =
     rw (o, a, b, c, e, f, g, h) (simp (or_twice, and-false, dead-live, dead-promised))

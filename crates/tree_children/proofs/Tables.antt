@@ -33,7 +33,9 @@ module _ (d : Case) where
   MayStand m r = (not (is_branch_record d r) || may_follow m r) ≡ true
 
   -- A set of marks that no record leaves.
-  module _ (P : Mark → Type 0) (closed : (m : Mark) (r : Record) → P m → is_branch_record d r ≡ true → may_follow m r ≡ true → P (after m r)) where
+  module _ (P : Mark → Type 0)
+      (closed : (m : Mark) (r : Record) → P m → is_branch_record d r ≡ true → may_follow m r ≡ true → P
+      (after m r)) where
     one_more : (m : Mark) (r : Record) → P m → MayStand m r → P (after m r)
     one_more m r k f = by_record (is_branch_record d r) refl
       where
@@ -47,8 +49,10 @@ module _ (d : Case) where
     stays_in m (r ∷ rs) k e = let b = both _ _ e in stays_in (after m r) rs (one_more m r k b.0) b.1
 
     -- a list with a record that leads into it ends in it
-    ends_in : (q : Record → Bool) → ((m : Mark) (r : Record) → is_coordinators r ≡ false → q r ≡ true → P (after m r))
-        → (m : Mark) (rs : List Record) → in_order_from d m rs ≡ true → has is_coordinators rs ≡ false → has q rs ≡ true
+    ends_in : (q : Record → Bool)
+        → ((m : Mark) (r : Record) → is_coordinators r ≡ false → q r ≡ true → P (after m r))
+        → (m : Mark) (rs : List Record) → in_order_from d m rs ≡ true → has is_coordinators rs ≡ false
+        → has q rs ≡ true
         → P (mark_behind d m rs)
     unfolding in_order_from has
     ends_in q enters m [] e f g = absurd (cc)
@@ -66,7 +70,8 @@ module _ (d : Case) where
   IsLate Promised = ⊥
   IsLate _ = Unit {0}
 
-  late_stays : (m : Mark) (r : Record) → IsLate m → is_branch_record d r ≡ true → may_follow m r ≡ true → IsLate (after m r)
+  late_stays : (m : Mark) (r : Record) → IsLate m → is_branch_record d r ≡ true → may_follow m r ≡ true
+      → IsLate (after m r)
   late_stays Decided (Told b o) k e f = rw (same_is d b ∙ e) tt
   late_stays Decided (Forgot b) k e f = rw (same_is d b ∙ e) tt
   late_stays (ToldOf o) (Forgot b) k e f = rw (same_is d b ∙ e) tt
@@ -83,7 +88,8 @@ module _ (d : Case) where
   IsTold Finished = Unit {0}
   IsTold _ = ⊥
 
-  told_stays : (m : Mark) (r : Record) → IsTold m → is_branch_record d r ≡ true → may_follow m r ≡ true → IsTold (after m r)
+  told_stays : (m : Mark) (r : Record) → IsTold m → is_branch_record d r ≡ true → may_follow m r ≡ true
+      → IsTold (after m r)
   told_stays (ToldOf o) (Forgot b) k e f = rw (same_is d b ∙ e) tt
   told_stays (ToldOf o) r k e f = absurd (cc)
   told_stays Finished r k e f = absurd (cc)
@@ -97,24 +103,28 @@ module _ (d : Case) where
   or_one : (b : Bool) → (b || false) ≡ true → b ≡ true
   or_one b e = grind arith
 
-  told_commit : (m : Mark) (r : Record) → is_coordinators r ≡ false → is_learnt_commit d r ≡ true → IsTold (after m r)
+  told_commit : (m : Mark) (r : Record) → is_coordinators r ≡ false → is_learnt_commit d r ≡ true
+      → IsTold (after m r)
   told_commit m (Committed b) n e = rw (same_is d b ∙ or_none (is_branch d b) e) tt
   told_commit m (Told b CommittedOutcome) n e = rw (same_is d b ∙ e) tt
   told_commit m (Told b AbortedOutcome) n e = absurd (cc)
   told_commit m (Commit c ts) n e = absurd (cc)
   told_commit m r n e = absurd (cc)
 
-  told_abort : (m : Mark) (r : Record) → is_coordinators r ≡ false → is_learnt_abort d r ≡ true → IsTold (after m r)
+  told_abort : (m : Mark) (r : Record) → is_coordinators r ≡ false → is_learnt_abort d r ≡ true
+      → IsTold (after m r)
   told_abort m (RolledBack b) n e = rw (same_is d b ∙ or_one (is_branch d b) e) tt
   told_abort m (Told b AbortedOutcome) n e = rw (same_is d b ∙ e) tt
   told_abort m (Told b CommittedOutcome) n e = absurd (cc)
   told_abort m r n e = absurd (cc)
 
-  told_forgot : (m : Mark) (r : Record) → is_coordinators r ≡ false → is_forgot d r ≡ true → IsTold (after m r)
+  told_forgot : (m : Mark) (r : Record) → is_coordinators r ≡ false → is_forgot d r ≡ true
+      → IsTold (after m r)
   told_forgot m (Forgot b) n e = rw (same_is d b ∙ e) tt
   told_forgot m r n e = absurd (cc)
 
-  late_decided : (m : Mark) (r : Record) → is_coordinators r ≡ false → is_heuristic d r ≡ true → IsLate (after m r)
+  late_decided : (m : Mark) (r : Record) → is_coordinators r ≡ false → is_heuristic d r ≡ true
+      → IsLate (after m r)
   late_decided m (HeurCommit b) n e = rw (same_is d b ∙ e) tt
   late_decided m (HeurRollback b) n e = rw (same_is d b ∙ e) tt
   late_decided m r n e = absurd (cc)
@@ -125,23 +135,27 @@ module _ (d : Case) where
   IsLast Finished = Unit {0}
   IsLast _ = ⊥
 
-  last_stays : (m : Mark) (r : Record) → IsLast m → is_branch_record d r ≡ true → may_follow m r ≡ true → IsLast (after m r)
+  last_stays : (m : Mark) (r : Record) → IsLast m → is_branch_record d r ≡ true → may_follow m r ≡ true
+      → IsLast (after m r)
   last_stays Finished r k e f = absurd (cc)
   last_stays (ToldOf o) r k e f = absurd k
   last_stays Unmarked r k e f = absurd k
   last_stays Promised r k e f = absurd k
   last_stays Decided r k e f = absurd k
 
-  last_forgot : (m : Mark) (r : Record) → is_coordinators r ≡ false → is_forgot d r ≡ true → IsLast (after m r)
+  last_forgot : (m : Mark) (r : Record) → is_coordinators r ≡ false → is_forgot d r ≡ true
+      → IsLast (after m r)
   last_forgot m (Forgot b) n e = rw (same_is d b ∙ e) tt
   last_forgot m r n e = absurd (cc)
 
-  marked_stays : (m : Mark) (r : Record) → IsMarked m → is_branch_record d r ≡ true → may_follow m r ≡ true → IsMarked (after m r)
+  marked_stays : (m : Mark) (r : Record) → IsMarked m → is_branch_record d r ≡ true
+      → may_follow m r ≡ true → IsMarked (after m r)
   marked_stays m r k e f = marks d m r e
 
   -- So a mark tells what is not there.
 
-  module _ (rs : List Record) (order : in_order_from d Unmarked rs ≡ true) (own : has is_coordinators rs ≡ false) where
+  module _ (rs : List Record) (order : in_order_from d Unmarked rs ≡ true)
+      (own : has is_coordinators rs ≡ false) where
     abbrev last : Mark
     last = mark_behind d Unmarked rs
 
@@ -152,7 +166,8 @@ module _ (d : Case) where
         by_test true e = absurd (f e)
         by_test false e = e
 
-    pub not_told : (q : Record → Bool) → ((m : Mark) (r : Record) → is_coordinators r ≡ false → q r ≡ true → IsTold (after m r))
+    pub not_told : (q : Record → Bool)
+        → ((m : Mark) (r : Record) → is_coordinators r ≡ false → q r ≡ true → IsTold (after m r))
         → (IsTold last → ⊥) → has q rs ≡ false
     not_told q enters f = none_if q (λ e. f (ends_in IsTold told_stays q enters Unmarked rs order own e))
 
@@ -166,49 +181,64 @@ module _ (d : Case) where
     no_forgot f = not_told (is_forgot d) told_forgot f
 
     pub no_heuristic : (IsLate last → ⊥) → has (is_heuristic d) rs ≡ false
-    no_heuristic f = none_if (is_heuristic d) (λ e. f (ends_in IsLate late_stays (is_heuristic d) late_decided Unmarked rs order own e))
+    no_heuristic f = none_if (is_heuristic d)
+        (λ e. f (ends_in IsLate late_stays (is_heuristic d) late_decided Unmarked rs order own e))
 
     pub not_forgotten : (IsLast last → ⊥) → has (is_forgot d) rs ≡ false
-    not_forgotten f = none_if (is_forgot d) (λ e. f (ends_in IsLast last_stays (is_forgot d) last_forgot Unmarked rs order own e))
+    not_forgotten f = none_if (is_forgot d)
+        (λ e. f (ends_in IsLast last_stays (is_forgot d) last_forgot Unmarked rs order own e))
 
     pub no_record : last ≡ Unmarked → has (is_branch_record d) rs ≡ false
     no_record f = none_if (is_branch_record d)
-        (λ e. subst IsMarked f (ends_in IsMarked marked_stays (is_branch_record d) (λ m r n g. marks d m r g) Unmarked rs order own e))
+        (λ e. subst IsMarked f
+        (ends_in IsMarked marked_stays (is_branch_record d) (λ m r n g. marks d m r g) Unmarked rs order
+        own e))
 
   -- And what is there.
 
-  own_decides : (m : Mark) (r : Record) → is_branch_record d r ≡ true → may_follow m r ≡ true → IsDecidedMark (after m r)
+  own_decides : (m : Mark) (r : Record) → is_branch_record d r ≡ true → may_follow m r ≡ true
+      → IsDecidedMark (after m r)
       → IsDecidedMark m ⊎ (is_heuristic d r ≡ true)
   own_decides Promised (HeurCommit b) e f k = inr e
   own_decides Promised (HeurRollback b) e f k = inr e
-  own_decides Promised (Committed b) e f k = absurd (subst IsDecidedMark (ap (λ x. if x then Finished else Promised) (same_is d b ∙ e)) k)
-  own_decides Promised (RolledBack b) e f k = absurd (subst IsDecidedMark (ap (λ x. if x then Finished else Promised) (same_is d b ∙ e)) k)
-  own_decides Unmarked (Prepared b ws) e f k = absurd (subst IsDecidedMark (ap (λ x. if x then Promised else Unmarked) (same_is d b ∙ e)) k)
+  own_decides Promised (Committed b) e f k = absurd
+      (subst IsDecidedMark (ap (λ x. if x then Finished else Promised) (same_is d b ∙ e)) k)
+  own_decides Promised (RolledBack b) e f k = absurd
+      (subst IsDecidedMark (ap (λ x. if x then Finished else Promised) (same_is d b ∙ e)) k)
+  own_decides Unmarked (Prepared b ws) e f k = absurd
+      (subst IsDecidedMark (ap (λ x. if x then Promised else Unmarked) (same_is d b ∙ e)) k)
   own_decides Decided r e f k = inl tt
   own_decides (ToldOf o) r e f k = inl tt
   own_decides Promised r e f k = absurd (cc)
   own_decides Unmarked r e f k = absurd (cc)
   own_decides Finished r e f k = absurd (cc)
 
-  decided_one : (m : Mark) (r : Record) → MayStand m r → IsDecidedMark (after m r) → IsDecidedMark m ⊎ (is_heuristic d r ≡ true)
+  decided_one : (m : Mark) (r : Record) → MayStand m r → IsDecidedMark (after m r)
+      → IsDecidedMark m ⊎ (is_heuristic d r ≡ true)
   decided_one m r f k = by_record (is_branch_record d r) refl
     where
       by_record : (b : Bool) → is_branch_record d r ≡ b → IsDecidedMark m ⊎ (is_heuristic d r ≡ true)
       by_record true e = own_decides m r e (follows_so (is_branch_record d r) _ f e) k
       by_record false e = inl (subst IsDecidedMark (other_leaves d m r e) k)
 
-  has_decided : (m : Mark) (rs : List Record) → in_order_from d m rs ≡ true → IsDecidedMark (mark_behind d m rs)
+  has_decided : (m : Mark) (rs : List Record) → in_order_from d m rs ≡ true
+      → IsDecidedMark (mark_behind d m rs)
       → IsDecidedMark m ⊎ (has (is_heuristic d) rs ≡ true)
   unfolding in_order_from has
   has_decided m [] e k = inl k
   has_decided m (r ∷ rs) e k =
       let b = both _ _ e in
       elim (has_decided (after m r) rs b.1 k) [
-        | inl here ↦ elim (decided_one m r b.0 here) [ inl before ↦ inl before | inr now ↦ inr (left _ _ now) ]
+        | inl here ↦ elim (decided_one m r b.0 here) [
+          | inl before ↦ inl before
+          | inr now ↦ inr
+              (left _ _ now)
+        ]
         | inr rest ↦ inr (right _ _ rest)
       ]
 
-  pub has_heuristic : (rs : List Record) → in_order_from d Unmarked rs ≡ true → IsDecidedMark (mark_behind d Unmarked rs)
+  pub has_heuristic : (rs : List Record) → in_order_from d Unmarked rs ≡ true
+      → IsDecidedMark (mark_behind d Unmarked rs)
       → has (is_heuristic d) rs ≡ true
   has_heuristic rs e k = elim (has_decided Unmarked rs e k) [ inl none ↦ absurd none | inr there ↦ there ]
 
@@ -218,7 +248,8 @@ module _ (d : Case) where
   unfolding in_order_from has
   none_behind [] e = refl
   none_behind (r ∷ rs) e =
-      let b = both _ _ e in neither _ _ (none_now r b.0) (none_behind rs (ap (λ m. in_order_from d m rs) (sym (still r b.0)) ∙ b.1))
+      let b = both _ _ e in neither _ _ (none_now r b.0)
+      (none_behind rs (ap (λ m. in_order_from d m rs) (sym (still r b.0)) ∙ b.1))
     where
       none_now : (r : Record) → MayStand Finished r → is_heuristic d r ≡ false
       none_now (HeurCommit b) f = not_own (is_branch d b) f
@@ -237,10 +268,12 @@ module _ (d : Case) where
       still r f = by_record (is_branch_record d r) refl
         where
           by_record : (b : Bool) → is_branch_record d r ≡ b → after Finished r ≡ Finished
-          by_record true e = absurd (let g = follows_so (is_branch_record d r) (may_follow Finished r) f e in cc)
+          by_record true e = absurd
+              (let g = follows_so (is_branch_record d r) (may_follow Finished r) f e in cc)
           by_record false e = other_leaves d Finished r e
 
-  decided_next : (m : Mark) (r : Record) → IsDecidedMark m → is_branch_record d r ≡ true → may_follow m r ≡ true
+  decided_next : (m : Mark) (r : Record) → IsDecidedMark m → is_branch_record d r ≡ true
+      → may_follow m r ≡ true
       → IsDecidedMark (after m r) ⊎ (is_forgot d r ≡ true)
   decided_next Decided (Told b o) k e f = inl (rw (same_is d b ∙ e) tt)
   decided_next Decided (Forgot b) k e f = inr e
@@ -251,14 +284,16 @@ module _ (d : Case) where
   decided_next Promised r k e f = absurd k
   decided_next Finished r k e f = absurd k
 
-  decided_then : (m : Mark) (r : Record) → IsDecidedMark m → MayStand m r → IsDecidedMark (after m r) ⊎ (is_forgot d r ≡ true)
+  decided_then : (m : Mark) (r : Record) → IsDecidedMark m → MayStand m r
+      → IsDecidedMark (after m r) ⊎ (is_forgot d r ≡ true)
   decided_then m r k f = by_record (is_branch_record d r) refl
     where
       by_record : (b : Bool) → is_branch_record d r ≡ b → IsDecidedMark (after m r) ⊎ (is_forgot d r ≡ true)
       by_record true e = decided_next m r k e (follows_so (is_branch_record d r) _ f e)
       by_record false e = inl (subst IsDecidedMark (sym (other_leaves d m r e)) k)
 
-  forgotten : (m : Mark) (rs : List Record) → IsDecidedMark m → in_order_from d m rs ≡ true → mark_behind d m rs ≡ Finished
+  forgotten : (m : Mark) (rs : List Record) → IsDecidedMark m → in_order_from d m rs ≡ true
+      → mark_behind d m rs ≡ Finished
       → has (is_forgot d) rs ≡ true
   unfolding in_order_from has
   forgotten m [] k e f = absurd (subst IsDecidedMark f k)
@@ -301,17 +336,20 @@ module _ (d : Case) where
   not_heuristic : (r : Record) → is_branch_record d r ≡ false → is_heuristic d r ≡ false
   not_heuristic r e = grind arith
 
-  early_then : (m : Mark) (r : Record) → IsEarly m → MayStand m r → Goes m r ⊎ (IsDecidedMark (after m r) ⊎ Obeys r)
+  early_then : (m : Mark) (r : Record) → IsEarly m → MayStand m r
+      → Goes m r ⊎ (IsDecidedMark (after m r) ⊎ Obeys r)
   early_then m r k f = by_record (is_branch_record d r) refl
     where
       by_record : (b : Bool) → is_branch_record d r ≡ b → Goes m r ⊎ (IsDecidedMark (after m r) ⊎ Obeys r)
       by_record true e = early_next m r k e (follows_so (is_branch_record d r) _ f e)
-      by_record false e = inl (record { early = subst IsEarly (sym (other_leaves d m r e)) k; plain = not_heuristic r e })
+      by_record false e = inl
+          (record { early = subst IsEarly (sym (other_leaves d m r e)) k; plain = not_heuristic r e })
 
   -- the branch was forgotten, or obeyed an outcome
   abbrev pub IsOver : List Record → Type 0
   IsOver rs = (has (is_forgot d) rs ≡ true)
-      ⊎ ((has (is_heuristic d) rs ≡ false) × ((has (is_committed d) rs ≡ true) ⊎ (has (is_rolled_back d) rs ≡ true)))
+      ⊎ ((has (is_heuristic d) rs ≡ false) ×
+      ((has (is_committed d) rs ≡ true) ⊎ (has (is_rolled_back d) rs ≡ true)))
 
   over_more : (r : Record) (rs : List Record) → is_heuristic d r ≡ false → IsOver rs → IsOver (r ∷ rs)
   unfolding has
@@ -321,9 +359,11 @@ module _ (d : Case) where
 
   over_now : (r : Record) (rs : List Record) → Obeys r → has (is_heuristic d) rs ≡ false → IsOver (r ∷ rs)
   unfolding has
-  over_now r rs o h = inr (neither _ _ o.plain h, elim o.obeyed [ inl c ↦ inl (left _ _ c) | inr a ↦ inr (left _ _ a) ])
+  over_now r rs o h = inr
+      (neither _ _ o.plain h, elim o.obeyed [ inl c ↦ inl (left _ _ c) | inr a ↦ inr (left _ _ a) ])
 
-  finished_from : (m : Mark) (rs : List Record) → IsEarly m → in_order_from d m rs ≡ true → mark_behind d m rs ≡ Finished → IsOver rs
+  finished_from : (m : Mark) (rs : List Record) → IsEarly m → in_order_from d m rs ≡ true
+      → mark_behind d m rs ≡ Finished → IsOver rs
   unfolding in_order_from has
   finished_from m [] k e f = absurd (subst IsEarly f k)
   finished_from m (r ∷ rs) k e f =
@@ -331,30 +371,41 @@ module _ (d : Case) where
       elim (early_then m r k b.0) [
         | inl goes ↦ over_more r rs goes.plain (finished_from (after m r) rs goes.early b.1 f)
         | inr (inl decided) ↦ inl (right _ _ (forgotten (after m r) rs decided b.1 f))
-        | inr (inr obeys) ↦ over_now r rs obeys (none_behind rs (ap (λ x. in_order_from d x rs) (sym (obeys.finishes m)) ∙ b.1))
+        | inr (inr obeys) ↦ over_now r rs obeys
+            (none_behind rs (ap (λ x. in_order_from d x rs) (sym (obeys.finishes m)) ∙ b.1))
       ]
 
-  pub finished : (rs : List Record) → in_order_from d Unmarked rs ≡ true → mark_behind d Unmarked rs ≡ Finished → IsOver rs
+  pub finished : (rs : List Record) → in_order_from d Unmarked rs ≡ true
+      → mark_behind d Unmarked rs ≡ Finished → IsOver rs
   finished rs e f = finished_from Unmarked rs tt e f
 
   -- What it was told stands.
 
-  own_told : (o : Outcome) (m : Mark) (r : Record) → is_branch_record d r ≡ true → may_follow m r ≡ true → after m r ≡ ToldOf o
+  own_told : (o : Outcome) (m : Mark) (r : Record) → is_branch_record d r ≡ true → may_follow m r ≡ true
+      → after m r ≡ ToldOf o
       → (m ≡ ToldOf o) ⊎ (is_told_of d o r ≡ true)
   own_told CommittedOutcome Decided (Told b CommittedOutcome) e f g = inr e
   own_told AbortedOutcome Decided (Told b AbortedOutcome) e f g = inr e
   own_told CommittedOutcome Decided (Told b AbortedOutcome) e f g =
-      absurd (let x = sym (ap (λ y. if y then ToldOf AbortedOutcome else Decided) (same_is d b ∙ e)) ∙ g in cc)
+      absurd (let x = sym (ap (λ y. if y then ToldOf AbortedOutcome else Decided) (same_is d b ∙ e)) ∙ g in
+      cc)
   own_told AbortedOutcome Decided (Told b CommittedOutcome) e f g =
-      absurd (let x = sym (ap (λ y. if y then ToldOf CommittedOutcome else Decided) (same_is d b ∙ e)) ∙ g in cc)
-  own_told o Decided (Forgot b) e f g = absurd (let x = sym (ap (λ y. if y then Finished else Decided) (same_is d b ∙ e)) ∙ g in cc)
-  own_told o (ToldOf u) (Forgot b) e f g = absurd (let x = sym (ap (λ y. if y then Finished else ToldOf u) (same_is d b ∙ e)) ∙ g in cc)
+      absurd (let x = sym (ap (λ y. if y then ToldOf CommittedOutcome else Decided) (same_is d b ∙ e)) ∙ g
+      in cc)
+  own_told o Decided (Forgot b) e f g = absurd
+      (let x = sym (ap (λ y. if y then Finished else Decided) (same_is d b ∙ e)) ∙ g in cc)
+  own_told o (ToldOf u) (Forgot b) e f g = absurd
+      (let x = sym (ap (λ y. if y then Finished else ToldOf u) (same_is d b ∙ e)) ∙ g in cc)
   own_told o Unmarked (Prepared b ws) e f g =
       absurd (let x = sym (ap (λ y. if y then Promised else Unmarked) (same_is d b ∙ e)) ∙ g in cc)
-  own_told o Promised (Committed b) e f g = absurd (let x = sym (ap (λ y. if y then Finished else Promised) (same_is d b ∙ e)) ∙ g in cc)
-  own_told o Promised (RolledBack b) e f g = absurd (let x = sym (ap (λ y. if y then Finished else Promised) (same_is d b ∙ e)) ∙ g in cc)
-  own_told o Promised (HeurCommit b) e f g = absurd (let x = sym (ap (λ y. if y then Decided else Promised) (same_is d b ∙ e)) ∙ g in cc)
-  own_told o Promised (HeurRollback b) e f g = absurd (let x = sym (ap (λ y. if y then Decided else Promised) (same_is d b ∙ e)) ∙ g in cc)
+  own_told o Promised (Committed b) e f g = absurd
+      (let x = sym (ap (λ y. if y then Finished else Promised) (same_is d b ∙ e)) ∙ g in cc)
+  own_told o Promised (RolledBack b) e f g = absurd
+      (let x = sym (ap (λ y. if y then Finished else Promised) (same_is d b ∙ e)) ∙ g in cc)
+  own_told o Promised (HeurCommit b) e f g = absurd
+      (let x = sym (ap (λ y. if y then Decided else Promised) (same_is d b ∙ e)) ∙ g in cc)
+  own_told o Promised (HeurRollback b) e f g = absurd
+      (let x = sym (ap (λ y. if y then Decided else Promised) (same_is d b ∙ e)) ∙ g in cc)
   own_told o Unmarked r e f g = absurd (cc)
   own_told o Promised r e f g = absurd (cc)
   own_told CommittedOutcome Decided r e f g = absurd (cc)
@@ -362,24 +413,30 @@ module _ (d : Case) where
   own_told o (ToldOf u) r e f g = absurd (cc)
   own_told o Finished r e f g = absurd (cc)
 
-  told_one : (o : Outcome) (m : Mark) (r : Record) → MayStand m r → after m r ≡ ToldOf o → (m ≡ ToldOf o) ⊎ (is_told_of d o r ≡ true)
+  told_one : (o : Outcome) (m : Mark) (r : Record) → MayStand m r → after m r ≡ ToldOf o
+      → (m ≡ ToldOf o) ⊎ (is_told_of d o r ≡ true)
   told_one o m r f k = by_record (is_branch_record d r) refl
     where
       by_record : (b : Bool) → is_branch_record d r ≡ b → (m ≡ ToldOf o) ⊎ (is_told_of d o r ≡ true)
       by_record true e = own_told o m r e (follows_so (is_branch_record d r) _ f e) k
       by_record false e = inl (sym (other_leaves d m r e) ∙ k)
 
-  told_from : (o : Outcome) (m : Mark) (rs : List Record) → in_order_from d m rs ≡ true → mark_behind d m rs ≡ ToldOf o
+  told_from : (o : Outcome) (m : Mark) (rs : List Record) → in_order_from d m rs ≡ true
+      → mark_behind d m rs ≡ ToldOf o
       → (m ≡ ToldOf o) ⊎ (has (is_told_of d o) rs ≡ true)
   unfolding in_order_from has
   told_from o m [] e k = inl k
   told_from o m (r ∷ rs) e k =
       let b = both _ _ e in
       elim (told_from o (after m r) rs b.1 k) [
-        | inl here ↦ elim (told_one o m r b.0 here) [ inl before ↦ inl before | inr now ↦ inr (left _ _ now) ]
+        | inl here ↦ elim (told_one o m r b.0 here) [
+          | inl before ↦ inl before
+          | inr now ↦ inr (left _ _ now)
+        ]
         | inr rest ↦ inr (right _ _ rest)
       ]
 
-  pub has_told : (o : Outcome) (rs : List Record) → in_order_from d Unmarked rs ≡ true → mark_behind d Unmarked rs ≡ ToldOf o
+  pub has_told : (o : Outcome) (rs : List Record) → in_order_from d Unmarked rs ≡ true
+      → mark_behind d Unmarked rs ≡ ToldOf o
       → has (is_told_of d o) rs ≡ true
   has_told o rs e k = elim (told_from o Unmarked rs e k) [ inl none ↦ absurd (cc) | inr there ↦ there ]

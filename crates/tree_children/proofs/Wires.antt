@@ -16,20 +16,24 @@ module _ (c : Case) (t : Ticket) (q p : ProcessId) (net : List Envelope) where
   pub wire-none : wire c t (net ++ []) ≡ wire c t net
   wire-none = simp (sent-nil)
 
-  pub wire-yes : wire c t (net ++ post q p (Yes (child_case c.txn t)) ∷ []) ≡ record (wire c t net) { yes = true }
+  pub wire-yes : wire c t (net ++ post q p (Yes (child_case c.txn t)) ∷ []) ≡ record (wire c t net)
+      { yes = true }
   wire-yes = simp (sent-push, same_case-refl)
 
-  pub wire-no : wire c t (net ++ post q p (No (child_case c.txn t)) ∷ []) ≡ record (wire c t net) { no = true }
+  pub wire-no : wire c t (net ++ post q p (No (child_case c.txn t)) ∷ []) ≡ record (wire c t net)
+      { no = true }
   wire-no = simp (sent-push, same_case-refl)
 
   pub wire-read : same_case (child_case c.txn t) c ≡ false
       → wire c t (net ++ post q p (Read (child_case c.txn t)) ∷ []) ≡ record (wire c t net) { read = true }
   wire-read e = simp (sent-push, same_case-refl, e)
 
-  pub wire-ack : (o : Outcome) → wire c t (net ++ post q p (Ack (child_case c.txn t) o) ∷ []) ≡ record (wire c t net) { ack = true }
+  pub wire-ack : (o : Outcome)
+      → wire c t (net ++ post q p (Ack (child_case c.txn t) o) ∷ []) ≡ record (wire c t net) { ack = true }
   wire-ack o = simp (sent-push, same_case-refl)
 
-  pub wire-inquire : wire c t (net ++ post q p (Inquire (child_case c.txn t)) ∷ []) ≡ record (wire c t net) { inquire = true }
+  pub wire-inquire : wire c t (net ++ post q p (Inquire (child_case c.txn t)) ∷ []) ≡ record (wire c t net)
+      { inquire = true }
   wire-inquire = simp (sent-push, same_case-refl)
 
   module _ (d : Case) (other : same_case d (child_case c.txn t) ≡ false) where

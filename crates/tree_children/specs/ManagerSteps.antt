@@ -31,12 +31,14 @@ abbrev pub IsRowStep : Happening → Type 0
 IsRowStep (Handles i) = IsRow i
 IsRowStep _ = ⊥
 
--- In every run, each input of a manager but JOIN, where the device does not fail, keeps the invariant of each pair of
+-- In every run, each input of a manager but JOIN, where the device does not fail, keeps the invariant of
+-- each pair of
 -- the manager, whatever the parent's process and the pair above say.
 abbrev pub ManagerRows : Type 0
 ManagerRows = (tree : List TreeEntry) (es : List Made) (w : World) → IsRun tree es w
     → (c : Case) (t : Ticket) (p : ProcessId) → IsLeafPair tree c t p → (above : Bool)
-    → (m : Move) (e : Effect) (w' : World) → m.step.process ≡ t.child → m.step.fault ≡ None → IsRowStep m.step.happening
+    → (m : Move) (e : Effect) (w' : World) → m.step.process ≡ t.child → m.step.fault ≡ None
+    → IsRowStep m.step.happening
     → Stands w.net m.step.process m.step.happening → world_makes tree w m ≡ Some (e, w')
     → InvariantOf c.txn.presumption (reading_of tree w above c t)
     → Follows (InvariantOf c.txn.presumption) (reading_of tree w above c t) (reading_of tree w' above c t)

@@ -33,8 +33,10 @@ use Rattle.tree_nodes.proofs.Owning.{goes_both}
 -- Addresses.
 
 goes_down : (c : Case) (t : Ticket) (m : Message) → IsForCase (child_case c.txn t) m → GoesToOwner t.child m
-goes_down c t (Work d k op) e = subst (λ (x : Case). is_own_case t.child x ≡ true) (sym e) (same_self t.child)
-goes_down c t (Prepare d k) e = subst (λ (x : Case). is_own_case t.child x ≡ true) (sym e) (same_self t.child)
+goes_down c t (Work d k op) e = subst (λ (x : Case). is_own_case t.child x ≡ true) (sym e)
+    (same_self t.child)
+goes_down c t (Prepare d k) e = subst (λ (x : Case). is_own_case t.child x ≡ true) (sym e)
+    (same_self t.child)
 goes_down c t (Commit d) e = subst (λ (x : Case). is_own_case t.child x ≡ true) (sym e) (same_self t.child)
 goes_down c t (Abort d) e = subst (λ (x : Case). is_own_case t.child x ≡ true) (sym e) (same_self t.child)
 goes_down c t (Join d) e = tt
@@ -67,25 +69,30 @@ all_go : (s : Seat) (ls : List Envelope) → AllSent s ls → AllGoToOwners ls
 all_go s [] a = tt
 all_go s (l ∷ ls) a = (sends_goes s l a.0, all_go s ls a.1)
 
-told_goes : (c : Case) (t : Ticket) (o : Outcome) → GoesToOwner t.child (tells_outcome o (child_case c.txn t))
+told_goes : (c : Case) (t : Ticket) (o : Outcome)
+    → GoesToOwner t.child (tells_outcome o (child_case c.txn t))
 told_goes c t CommittedOutcome = same_self t.child
 told_goes c t AbortedOutcome = same_self t.child
 
-pub written_goes : (place : Place) (parent : Option ProcessId) (n : Node) (i : Input) (ws : List Written) (ls : List Envelope)
+pub written_goes : (place : Place) (parent : Option ProcessId) (n : Node) (i : Input) (ws : List Written)
+    (ls : List Envelope)
     → Writes place parent n i ws ls → AllGoToOwners ls
 written_goes place parent n i ws ls (writes_nothing e f) = subst AllGoToOwners (sym f) tt
 written_goes place parent n i ws ls (for_act a c e f one sent) = all_go (seat_of place parent c) ls sent
 written_goes place parent n i ws ls (for_child c x t e one sent) = all_go (seat_of place parent c) ls sent
-written_goes place parent n i ws ls (for_parent c k m e f one sent) = all_go (seat_of place parent c) ls sent
+written_goes place parent n i ws ls (for_parent c k m e f one sent) = all_go (seat_of place parent c) ls
+    sent
 written_goes place parent n i ws ls (presumes x t o e f) =
     subst AllGoToOwners (sym f) (told_goes (record { txn = x; ticket = None }) t o, tt)
 written_goes place parent n i ws ls (gives p d t e f) = subst AllGoToOwners (sym f) (tt, tt)
 
-acknowledged : (l : Leaf) (o : Outcome) (b : Bool) → AllGoToOwners (if b then post l.me l.parent (Ack l.own o) ∷ [] else [])
+acknowledged : (l : Leaf) (o : Outcome) (b : Bool)
+    → AllGoToOwners (if b then post l.me l.parent (Ack l.own o) ∷ [] else [])
 acknowledged l o true = (tt, tt)
 acknowledged l o false = tt
 
-pub leaf_goes : (place : Place) (p : ProcessId) (n : Node) (h : Heard) (e : Effect) → LeafTurn place p n h e → AllGoToOwners e.messages
+pub leaf_goes : (place : Place) (p : ProcessId) (n : Node) (h : Heard) (e : Effect)
+    → LeafTurn place p n h e → AllGoToOwners e.messages
 leaf_goes place p n h _ does_nothing = tt
 leaf_goes place p n h _ (gives_again d t i a) = (tt, tt)
 leaf_goes place p n h _ (gives_fresh d i a s) = (tt, tt)
@@ -94,11 +101,16 @@ leaf_goes place p n h _ (votes_read d k i a) = (tt, tt)
 leaf_goes place p n h _ (votes_no d k i a) = (tt, tt)
 leaf_goes place p n h _ (repeats_yes d k i a) = (tt, tt)
 leaf_goes place p n h _ (refuses d k i a) = (tt, tt)
-leaf_goes place p n h _ (obeys d o i k) = acknowledged (leaf_of place p d) o (is_acknowledged d.txn.presumption o)
-leaf_goes place p n h _ (notes d o i k) = acknowledged (leaf_of place p d) o (is_acknowledged d.txn.presumption o)
-leaf_goes place p n h _ (acknowledges_told d o i k) = acknowledged (leaf_of place p d) o (is_acknowledged d.txn.presumption o)
-leaf_goes place p n h _ (acknowledges d o i k) = acknowledged (leaf_of place p d) o (is_acknowledged d.txn.presumption o)
-leaf_goes place p n h _ (drops d i a) = acknowledged (leaf_of place p d) AbortedOutcome (is_acknowledged d.txn.presumption AbortedOutcome)
+leaf_goes place p n h _ (obeys d o i k) = acknowledged (leaf_of place p d) o
+    (is_acknowledged d.txn.presumption o)
+leaf_goes place p n h _ (notes d o i k) = acknowledged (leaf_of place p d) o
+    (is_acknowledged d.txn.presumption o)
+leaf_goes place p n h _ (acknowledges_told d o i k) = acknowledged (leaf_of place p d) o
+    (is_acknowledged d.txn.presumption o)
+leaf_goes place p n h _ (acknowledges d o i k) = acknowledged (leaf_of place p d) o
+    (is_acknowledged d.txn.presumption o)
+leaf_goes place p n h _ (drops d i a) = acknowledged (leaf_of place p d) AbortedOutcome
+    (is_acknowledged d.txn.presumption AbortedOutcome)
 leaf_goes place p n h _ (asks d i k) = (tt, tt)
 leaf_goes place p n h _ (decides d o i k) = tt
 leaf_goes place p n h _ (forgets d i k) = tt
@@ -106,7 +118,8 @@ leaf_goes place p n h _ (forgets d i k) = tt
 -- Restarts.
 
 module _ (s : Seat) where
-  resent_up : (m : Message) → IsFromCase s.own m → (o : Option ProcessId) → s.parent ≡ o → AllSent s (posted_up s.me o m)
+  resent_up : (m : Message) → IsFromCase s.own m → (o : Option ProcessId) → s.parent ≡ o
+      → AllSent s (posted_up s.me o m)
   resent_up m f None e = tt
   resent_up m f (Some p) e = (upward p m e f, tt)
 
@@ -131,7 +144,8 @@ untold : (me p : ProcessId) (c : Case) (o : Option Outcome) → AllGoToOwners (u
 untold me p c None = (tt, tt)
 untold me p c (Some o) = tt
 
-inquired : (me p : ProcessId) (c : Case) (v : ManagerView) (st : Standing) → AllGoToOwners (inquires_by me p c v st)
+inquired : (me p : ProcessId) (c : Case) (v : ManagerView) (st : Standing)
+    → AllGoToOwners (inquires_by me p c v st)
 inquired me p c v Prepared = (tt, tt)
 inquired me p c v Heuristic = untold me p c v.told
 inquired me p c v Unknown = tt
@@ -140,7 +154,8 @@ inquired me p c v Collecting = tt
 inquired me p c v Committing = tt
 inquired me p c v Aborting = tt
 
-flat_goes : (f : Case → List Envelope) → ((c : Case) → AllGoToOwners (f c)) → (cs : List Case) → AllGoToOwners (flat_map f cs)
+flat_goes : (f : Case → List Envelope) → ((c : Case) → AllGoToOwners (f c)) → (cs : List Case)
+    → AllGoToOwners (flat_map f cs)
 flat_goes f g [] = tt
 flat_goes f g (c ∷ cs) = goes_both (f c) (flat_map f cs) (g c) (flat_goes f g cs)
 
@@ -152,10 +167,13 @@ coordinator_goes me parent rs c =
     all_go s (resumes_by s v v.standing) (resumed s v v.standing)
 
 pub resumes_goes : (role : Role) (me : ProcessId) (rs : List Record) → AllGoToOwners (resumes role me rs)
-resumes_goes AtRoot me rs = flat_goes (coordinator_resumes me None rs) (coordinator_goes me None rs) (cases_in rs)
-resumes_goes (Below p) me rs = flat_goes (coordinator_resumes me (Some p) rs) (coordinator_goes me (Some p) rs) (cases_in rs)
+resumes_goes AtRoot me rs = flat_goes (coordinator_resumes me None rs) (coordinator_goes me None rs)
+    (cases_in rs)
+resumes_goes (Below p) me rs = flat_goes (coordinator_resumes me (Some p) rs)
+    (coordinator_goes me (Some p) rs) (cases_in rs)
 resumes_goes (AtLeaf p) me rs =
-    flat_goes (manager_resumes me p rs) (λ c. let v = recorded_branch rs c in inquired me p c v v.standing) (cases_in rs)
+    flat_goes (manager_resumes me p rs) (λ c. let v = recorded_branch rs c in inquired me p c v v.standing)
+    (cases_in rs)
 
 -- YES.
 
@@ -197,12 +215,15 @@ pub record SaysYes (s : Seat) (c : Case) : Type 0 where
 pub not_so : {A : Type 0} (b : Bool) → b ≡ false → b ≡ true → A
 not_so b e f = absurd (cc)
 
-said_yes : (s : Seat) (c : Case) (l : Envelope) → Sends s l → is_yes_message c l.message ≡ true → SaysYes s c
-said_yes s c _ (down t m f) e = not_so (is_yes_message c m) (down_is_no_yes c (child_case s.own.txn t) m f) e
+said_yes : (s : Seat) (c : Case) (l : Envelope) → Sends s l → is_yes_message c l.message ≡ true
+    → SaysYes s c
+said_yes s c _ (down t m f) e = not_so (is_yes_message c m) (down_is_no_yes c (child_case s.own.txn t) m f)
+    e
 said_yes s c _ (upward p m g f) e = record { parent = p; has_parent = g; same = yes_is c m s.own f e }
 said_yes s c _ (invites q) e = absurd (cc)
 
-pub any_yes : (s : Seat) (c : Case) (ls : List Envelope) → AllSent s ls → sent (is_yes_message c) ls ≡ true → SaysYes s c
+pub any_yes : (s : Seat) (c : Case) (ls : List Envelope) → AllSent s ls
+    → sent (is_yes_message c) ls ≡ true → SaysYes s c
 unfolding sent
 any_yes s c [] a e = absurd (cc)
 any_yes s c (l ∷ ls) a e = elim (either (is_yes_message c l.message) (sent (is_yes_message c) ls) e) [

@@ -23,11 +23,13 @@ use Rattle.tree_nodes.proofs.Memories.{Own, memory_owns, own_both}
 -- Records.
 
 module _ (me : ProcessId) where
-  own_if : (b : Bool) (cs : List Case) (c : Case) → AllOwn me cs → is_own_case me c ≡ true → AllOwn me (if b then cs else cs ++ c ∷ [])
+  own_if : (b : Bool) (cs : List Case) (c : Case) → AllOwn me cs → is_own_case me c ≡ true
+      → AllOwn me (if b then cs else cs ++ c ∷ [])
   own_if true cs c a o = a
   own_if false cs c a o = own_both me cs (c ∷ []) a (o, tt)
 
-  own_with : (cs : List Case) (o : Option Case) → AllOwn me cs → is_foreign_case me o ≡ false → AllOwn me (with_case cs o)
+  own_with : (cs : List Case) (o : Option Case) → AllOwn me cs → is_foreign_case me o ≡ false
+      → AllOwn me (with_case cs o)
   own_with cs None a e = a
   own_with cs (Some c) a e = own_if (has_case cs c) cs c a (is_so (is_own_case me c) e)
     where
@@ -35,11 +37,13 @@ module _ (me : ProcessId) where
       is_so true f = refl
       is_so false f = absurd (cc)
 
-  own_recorded : (cs : List Case) (rs : List Record) → AllOwn me cs → has (is_foreign me) rs ≡ false → AllOwn me (fold with_record cs rs)
+  own_recorded : (cs : List Case) (rs : List Record) → AllOwn me cs → has (is_foreign me) rs ≡ false
+      → AllOwn me (fold with_record cs rs)
   unfolding has
   own_recorded cs [] a e = a
   own_recorded cs (r ∷ rs) a e =
-      own_recorded (with_record cs r) rs (own_with cs (record_case r) a (first_false _ _ e)) (second_false _ _ e)
+      own_recorded (with_record cs r) rs (own_with cs (record_case r) a (first_false _ _ e))
+      (second_false _ _ e)
     where
       first_false : (a b : Bool) → (a || b) ≡ false → a ≡ false
       first_false a b e = grind arith
@@ -59,17 +63,20 @@ module _ (me : ProcessId) where
       by_test true e k = rw e (a.0, k)
       by_test false e k = rw e k
 
-  own_found : (f : Case → Bool) (cs : List Case) (c : Case) → AllOwn me cs → find f cs ≡ Some c → is_own_case me c ≡ true
+  own_found : (f : Case → Bool) (cs : List Case) (c : Case) → AllOwn me cs → find f cs ≡ Some c
+      → is_own_case me c ≡ true
   own_found f [] c a e = absurd (cc)
   own_found f (d ∷ cs) c a e = by_test (f d) (find f cs) e (own_found f cs c a.1)
     where
-      by_test : (b : Bool) (o : Option Case) → (if b then Some d else o) ≡ Some c → (o ≡ Some c → is_own_case me c ≡ true)
+      by_test : (b : Bool) (o : Option Case) → (if b then Some d else o) ≡ Some c
+          → (o ≡ Some c → is_own_case me c ≡ true)
           → is_own_case me c ≡ true
       by_test true o g k = subst (λ (x : Case). is_own_case me x ≡ true) (let h : d ≡ c = cc in h) a.0
       by_test false o g k = k g
 
 -- the case of a child
-pub child_of_own : (place : Place) (p : ProcessId) → place.role ≡ Below p → (n : Node) → has (is_foreign place.me) (kept n) ≡ false
+pub child_of_own : (place : Place) (p : ProcessId) → place.role ≡ Below p → (n : Node)
+    → has (is_foreign place.me) (kept n) ≡ false
     → (x : Txn) (t : Ticket) (c : Case) → case_of_child place n x t ≡ Some c → is_own_case place.me c ≡ true
 child_of_own place p e n none x t c found =
     own_found place.me _ (own_cases place.role place n x) c
@@ -81,12 +88,14 @@ child_of_own place p e n none x t c found =
 
 -- A case that is known.
 
-none_of_it : (q r : Record → Bool) (xs : List Record) → ((x : Record) → q x ≡ true → r x ≡ true) → has r xs ≡ false → has q xs ≡ false
+none_of_it : (q r : Record → Bool) (xs : List Record) → ((x : Record) → q x ≡ true → r x ≡ true)
+    → has r xs ≡ false → has q xs ≡ false
 unfolding has
 none_of_it q r [] f e = refl
 none_of_it q r (x ∷ xs) f e = none_in (q x) (r x) (has q xs) (has r xs) (f x) (none_of_it q r xs f) e
   where
-    none_in : (a b c d : Bool) → (a ≡ true → b ≡ true) → (d ≡ false → c ≡ false) → (b || d) ≡ false → (a || c) ≡ false
+    none_in : (a b c d : Bool) → (a ≡ true → b ≡ true) → (d ≡ false → c ≡ false) → (b || d) ≡ false
+        → (a || c) ≡ false
     none_in true b c d f g e = absurd (let h = f refl in grind arith)
     none_in false b c d f g e = g (rest b d e)
       where
@@ -124,7 +133,8 @@ module _ (me : ProcessId) (c : Case) (other : is_own_case me c ≡ false) where
   idle_is_unknown PresumeAbort ph e = rw e refl
   idle_is_unknown PresumeCommit ph e = rw e refl
 
-  unknown_of : (rs : List Record) (m : Memory) → has (is_foreign me) rs ≡ false → Own me c m → coordinator_standing rs c m ≡ Unknown
+  unknown_of : (rs : List Record) (m : Memory) → has (is_foreign me) rs ≡ false → Own me c m
+      → coordinator_standing rs c m ≡ Unknown
   unknown_of rs m none o =
       rw (
         none_of_it (is_end c) (is_foreign me) rs of_end none,
@@ -139,7 +149,8 @@ module _ (me : ProcessId) (c : Case) (other : is_own_case me c ≡ false) where
       idle (inl a) = a
       idle (inr own) = absurd (cc)
 
-view_standing : (st : Standing) (rs : List Record) (c : Case) (m : Memory) → (view_at st rs c m).standing ≡ st
+view_standing : (st : Standing) (rs : List Record) (c : Case) (m : Memory)
+    → (view_at st rs c m).standing ≡ st
 view_standing Unknown rs c m = refl
 view_standing Active rs c m = refl
 view_standing Collecting rs c m = refl
@@ -151,12 +162,16 @@ view_standing Heuristic rs c m = refl
 viewed : (place : Place) (n : Node) (c : Case)
     → (coordinator_view place n c).standing ≡ coordinator_standing (kept n) c (memory_of place n c)
 unfolding coordinator_view
-viewed place n c = view_standing (coordinator_standing (kept n) c (memory_of place n c)) (kept n) c (memory_of place n c)
+viewed place n c = view_standing (coordinator_standing (kept n) c (memory_of place n c)) (kept n) c
+    (memory_of place n c)
 
-pub known_is_own : (place : Place) (p : ProcessId) → place.role ≡ Below p → (n : Node) → has (is_foreign place.me) (kept n) ≡ false
+pub known_is_own : (place : Place) (p : ProcessId) → place.role ≡ Below p → (n : Node)
+    → has (is_foreign place.me) (kept n) ≡ false
     → (c : Case) → (coordinator_view place n c).standing ≢ Unknown → is_own_case place.me c ≡ true
 known_is_own place p e n none c known = by_own (is_own_case place.me c) refl
   where
     by_own : (b : Bool) → is_own_case place.me c ≡ b → is_own_case place.me c ≡ true
     by_own true f = f
-    by_own false f = absurd (known (viewed place n c ∙ unknown_of place.me c f (kept n) (memory_of place n c) none (memory_owns place p e n c)))
+    by_own false f = absurd
+        (known (viewed place n c ∙ unknown_of place.me c f (kept n) (memory_of place n c) none
+        (memory_owns place p e n c)))

@@ -39,16 +39,21 @@ unfolding has
 one_fine c _ wrote_none = refl
 one_fine c _ (wrote_one r b of kind) = neither _ _ (coordinators_own r kind) refl
 
-writes_fine : (place : Place) (parent : Option ProcessId) (n : Node) (i : Input) (ws : List Written) (ls : List Envelope)
+writes_fine : (place : Place) (parent : Option ProcessId) (n : Node) (i : Input) (ws : List Written)
+    (ls : List Envelope)
     → Writes place parent n i ws ls → has is_managers (entries_written ws) ≡ false
-writes_fine place parent n i ws ls (writes_nothing e f) = ap (λ x. has is_managers (entries_written x)) e ∙ has-nil is_managers
+writes_fine place parent n i ws ls (writes_nothing e f) = ap (λ x. has is_managers (entries_written x)) e ∙
+    has-nil is_managers
 writes_fine place parent n i ws ls (for_act a c e f one sent) = one_fine c ws one
 writes_fine place parent n i ws ls (for_child c x t e one sent) = one_fine c ws one
 writes_fine place parent n i ws ls (for_parent c k m e f one sent) = one_fine c ws one
-writes_fine place parent n i ws ls (presumes x t o e f) = ap (λ y. has is_managers (entries_written y)) e ∙ has-nil is_managers
-writes_fine place parent n i ws ls (gives p d t e f) = ap (λ x. has is_managers (entries_written x)) e ∙ has-nil is_managers
+writes_fine place parent n i ws ls (presumes x t o e f) = ap (λ y. has is_managers (entries_written y)) e ∙
+    has-nil is_managers
+writes_fine place parent n i ws ls (gives p d t e f) = ap (λ x. has is_managers (entries_written x)) e ∙
+    has-nil is_managers
 
-fine_at : (role : Role) (place : Place) (n : Node) (h : Heard) (e : Effect) → RoleLasts role (logs_of n) → TurnAt role place n h e
+fine_at : (role : Role) (place : Place) (n : Node) (h : Heard) (e : Effect) → RoleLasts role (logs_of n)
+    → TurnAt role place n h e
     → FineAt role (logs_of n) e.written
 fine_at (AtLeaf p) place n h e l t = leaf_fine place p n h l e t
 fine_at AtRoot place n h e l t = writes_fine place None n h.input e.written e.messages t
@@ -58,14 +63,17 @@ fine_at (Below p) place n h e l t = writes_fine place (Some p) n h.input e.writt
 
 grows_none : (l : Logs) (new : List Record) → Coordinates l → has is_managers new ≡ false
     → has is_managers (reverse new ++ l.life) ≡ false
-grows_none l new h e = in_none is_managers (reverse new) l.life (has-reverse is_managers new ∙ e) h.no_managers_record
+grows_none l new h e = in_none is_managers (reverse new) l.life (has-reverse is_managers new ∙ e)
+    h.no_managers_record
 
-role_forces : (role : Role) (l : Logs) (ws : List Written) → FineAt role l ws → RoleLasts role l → RoleLasts role (forces l (entries_written ws))
+role_forces : (role : Role) (l : Logs) (ws : List Written) → FineAt role l ws → RoleLasts role l
+    → RoleLasts role (forces l (entries_written ws))
 role_forces (AtLeaf p) l ws f h = manages_forces l h (entries_written ws) f.own f.order
 role_forces AtRoot l ws f h = record { no_managers_record = grows_none l (entries_written ws) h f }
 role_forces (Below p) l ws f h = record { no_managers_record = grows_none l (entries_written ws) h f }
 
-role_writes : (role : Role) (l : Logs) (ws : List Written) → is_any_forced ws ≡ false → FineAt role l ws → RoleLasts role l
+role_writes : (role : Role) (l : Logs) (ws : List Written) → is_any_forced ws ≡ false → FineAt role l ws
+    → RoleLasts role l
     → RoleLasts role (writes l (entries_written ws))
 role_writes (AtLeaf p) l ws e f h = manages_writes l h (entries_written ws) f.own f.order (f.unpromised e)
 role_writes AtRoot l ws e f h = record { no_managers_record = grows_none l (entries_written ws) h f }
@@ -75,9 +83,15 @@ role_breaks : (role : Role) (l : Logs) (ws : List Written) (a f : ℕ) → FineA
     → RoleLasts role (breaks l (entries_written ws) a f)
 role_breaks (AtLeaf p) l ws a f g h = manages_breaks l h (entries_written ws) a f g.own g.order
 role_breaks AtRoot l ws a f g h =
-    record { no_managers_record = grows_none l (take a (entries_written ws)) h (front_none is_managers a (entries_written ws) g) }
+    record {
+      no_managers_record = grows_none l (take a (entries_written ws)) h
+          (front_none is_managers a (entries_written ws) g);
+    }
 role_breaks (Below p) l ws a f g h =
-    record { no_managers_record = grows_none l (take a (entries_written ws)) h (front_none is_managers a (entries_written ws) g) }
+    record {
+      no_managers_record = grows_none l (take a (entries_written ws)) h
+          (front_none is_managers a (entries_written ws) g);
+    }
 
 role_loses : (role : Role) (l : Logs) (k : ℕ) → RoleLasts role l → RoleLasts role (loses l k)
 role_loses (AtLeaf p) l k h = manages_loses l h k
@@ -107,7 +121,8 @@ reopens_leaf : (p : ProcessId) (rs : List Record) → has is_coordinators (reope
 unfolding has
 reopens_leaf p rs = refl
 
-role_reopens_forces : (role : Role) (l : Logs) (rs : List Record) → RoleLasts role l → RoleLasts role (forces l (reopens role rs))
+role_reopens_forces : (role : Role) (l : Logs) (rs : List Record) → RoleLasts role l
+    → RoleLasts role (forces l (reopens role rs))
 role_reopens_forces (AtLeaf p) l rs h = manages_forces l h (reopens (AtLeaf p) rs) (reopens_leaf p rs)
     (λ d. order_then_others d Unmarked (standing l) (reopens (AtLeaf p) rs) (h.in_order d)
     (reopens_none (is_branch_record d) (λ c ts. refl) (λ k. refl) (AtLeaf p) rs))
@@ -120,17 +135,21 @@ role_reopens_forces (Below p) l rs h = record {
       (reopens_none is_managers (λ c ts. refl) (λ k. refl) (Below p) rs);
 }
 
-role_reopens_breaks : (role : Role) (l : Logs) (rs : List Record) (a f : ℕ) → RoleLasts role l → RoleLasts role (breaks l (reopens role rs) a f)
-role_reopens_breaks (AtLeaf p) l rs a f h = manages_breaks l h (reopens (AtLeaf p) rs) a f (reopens_leaf p rs)
+role_reopens_breaks : (role : Role) (l : Logs) (rs : List Record) (a f : ℕ) → RoleLasts role l
+    → RoleLasts role (breaks l (reopens role rs) a f)
+role_reopens_breaks (AtLeaf p) l rs a f h = manages_breaks l h (reopens (AtLeaf p) rs) a f
+    (reopens_leaf p rs)
     (λ d. order_then_others d Unmarked (standing l) (reopens (AtLeaf p) rs) (h.in_order d)
     (reopens_none (is_branch_record d) (λ c ts. refl) (λ k. refl) (AtLeaf p) rs))
 role_reopens_breaks AtRoot l rs a f h = record {
   no_managers_record = grows_none l (take a (reopens AtRoot rs)) h
-      (front_none is_managers a (reopens AtRoot rs) (reopens_none is_managers (λ c ts. refl) (λ k. refl) AtRoot rs));
+      (front_none is_managers a (reopens AtRoot rs)
+      (reopens_none is_managers (λ c ts. refl) (λ k. refl) AtRoot rs));
 }
 role_reopens_breaks (Below p) l rs a f h = record {
   no_managers_record = grows_none l (take a (reopens (Below p) rs)) h
-      (front_none is_managers a (reopens (Below p) rs) (reopens_none is_managers (λ c ts. refl) (λ k. refl) (Below p) rs));
+      (front_none is_managers a (reopens (Below p) rs)
+      (reopens_none is_managers (λ c ts. refl) (λ k. refl) (Below p) rs));
 }
 
 -- Steps.
@@ -149,8 +168,16 @@ module _ (place : Place) (n : Node) (h : Lasts place.role (logs_of n)) where
   appended i e t =
       let new = entries_written e.written in
       either_logs n new (is_any_forced e.written) Stays
-      (λ b. record { nested = nested_forces (logs_of n) new h.nested; by_role = role_forces role (logs_of n) e.written (fine i e t) h.by_role })
-      (λ b. record { nested = nested_writes (logs_of n) new h.nested; by_role = role_writes role (logs_of n) e.written b (fine i e t) h.by_role })
+      (λ b. record {
+        nested = nested_forces (logs_of n) new h.nested;
+        by_role = role_forces role (logs_of n)
+            e.written (fine i e t) h.by_role;
+      })
+      (λ b. record {
+        nested = nested_writes (logs_of n) new h.nested;
+        by_role = role_writes role (logs_of n)
+            e.written b (fine i e t) h.by_role;
+      })
 
   broken : (i : Heard) (e : Effect) (a f : ℕ) → TurnOf place n i e → Stays (logs_of (fails_in n i e a f))
   broken i e a f t =
@@ -160,16 +187,19 @@ module _ (place : Place) (n : Node) (h : Lasts place.role (logs_of n)) where
       }
 
   trim_failed : (a : ℕ) → Stays (logs_of (trim_fails place n a))
-  trim_failed zero = record { nested = nested_falls (logs_of n) h.nested; by_role = role_falls role (logs_of n) h.by_role }
+  trim_failed zero = record
+      { nested = nested_falls (logs_of n) h.nested; by_role = role_falls role (logs_of n) h.by_role }
   trim_failed (suc k) =
       record {
         nested = nested_falls (replaces role (logs_of n)) (nested_replaces role (logs_of n) h.nested);
-        by_role = role_falls role (replaces role (logs_of n)) (role_replaces role (logs_of n) h.nested h.by_role);
+        by_role = role_falls role (replaces role (logs_of n))
+            (role_replaces role (logs_of n) h.nested h.by_role);
       }
 
   pub lasts : (m : Move) (e : Effect) (k : Node) → StepOf place n m e k → Stays (logs_of k)
   lasts m _ _ (handled i g hp np r) = appended (heard_in m i) g (turn_of place n (heard_in m i) g r)
-  lasts m _ _ (failed_in i f g fl hp np r) = broken (heard_in m i) g f.appended f.forced (turn_of place n (heard_in m i) g r)
+  lasts m _ _ (failed_in i f g fl hp np r) = broken (heard_in m i) g f.appended f.forced
+      (turn_of place n (heard_in m i) g r)
   lasts m _ _ (passed i hp r) = h
   lasts m _ _ (failed_passing i f fl hp r) =
       record { nested = nested_falls (logs_of n) h.nested; by_role = role_falls role (logs_of n) h.by_role }
@@ -178,17 +208,23 @@ module _ (place : Place) (n : Node) (h : Lasts place.role (logs_of n)) where
       let new = reopens role (standing l) in
       record {
         nested = nested_rises (forces l new) (nested_forces l new (nested_loses (logs_of n) k h.nested));
-        by_role = role_rises role (forces l new) refl (role_reopens_forces role l (standing l) (role_loses role (logs_of n) k h.by_role));
+        by_role = role_rises role (forces l new) refl
+            (role_reopens_forces role l (standing l) (role_loses role (logs_of n) k h.by_role));
       }
   lasts m _ _ (failed_reopening k f fl hp) =
       let l = loses (logs_of n) k in
       let new = reopens role (standing l) in
       record {
         nested = nested_breaks l new f.appended f.forced (nested_loses (logs_of n) k h.nested);
-        by_role = role_reopens_breaks role l (standing l) f.appended f.forced (role_loses role (logs_of n) k h.by_role);
+        by_role = role_reopens_breaks role l (standing l) f.appended f.forced
+            (role_loses role (logs_of n) k h.by_role);
       }
   lasts m _ _ (trims_log hp up) =
-      record { nested = nested_replaces role (logs_of n) h.nested; by_role = role_replaces role (logs_of n) h.nested h.by_role }
+      record {
+        nested = nested_replaces role (logs_of n) h.nested;
+        by_role = role_replaces role (logs_of n)
+            h.nested h.by_role;
+      }
   lasts m _ _ (failed_trimming f fl hp up) = trim_failed f.appended
 
 -- A process that opened an empty log.
@@ -204,7 +240,8 @@ opened_manager = record {
   no_coordinators_record = refl;
   in_order = λ d. refl;
   promise_is_forced = λ up d. refl;
-  decision_stands = λ d o e. not_both (is_decided d o) (has (is_decided d o) (Opened 1 ∷ [])) e (no_decision d o);
+  decision_stands = λ d o e. not_both (is_decided d o) (has (is_decided d o) (Opened 1 ∷ [])) e
+      (no_decision d o);
 }
 
 opened_by : (role : Role) → RoleLasts role (logs_of opened_node)

@@ -35,10 +35,13 @@ module _ (l : Logs) (h : Manages l) where
     | inr forgot ↦ inr (in_second (is_forgot d) life l.life forgot)
   ]
 
-  grows_none : (new : List Record) → has is_coordinators new ≡ false → has is_coordinators (reverse new ++ l.life) ≡ false
-  grows_none new e = in_none is_coordinators (reverse new) l.life (has-reverse is_coordinators new ∙ e) h.no_coordinators_record
+  grows_none : (new : List Record) → has is_coordinators new ≡ false
+      → has is_coordinators (reverse new ++ l.life) ≡ false
+  grows_none new e = in_none is_coordinators (reverse new) l.life (has-reverse is_coordinators new ∙ e)
+      h.no_coordinators_record
 
-  pub manages_forces : (new : List Record) → has is_coordinators new ≡ false → ((d : Case) → in_order_from d Unmarked (standing l ++ new) ≡ true) → Manages (forces l new)
+  pub manages_forces : (new : List Record) → has is_coordinators new ≡ false
+      → ((d : Case) → in_order_from d Unmarked (standing l ++ new) ≡ true) → Manages (forces l new)
   manages_forces new own order = record {
     no_coordinators_record = grows_none new own;
     in_order = λ d. ap (in_order_from d Unmarked) (append-nil (standing l ++ new)) ∙ order d;
@@ -48,12 +51,14 @@ module _ (l : Logs) (h : Manages l) where
       | inr rest ↦ elim (in_either (is_decided d o) (standing l) l.durable rest) [
         | inl old ↦ inl (in_first (is_decided d o) (standing l) new old)
         | inr ever ↦ stays_so d o (standing l ++ new) (reverse new)
-            (λ f. in_first (is_decided d o) (standing l) new (in_first (is_decided d o) l.forced l.unforced f)) ever
+            (λ f. in_first (is_decided d o) (standing l) new
+            (in_first (is_decided d o) l.forced l.unforced f)) ever
       ]
     ];
   }
 
-  pub manages_writes : (new : List Record) → has is_coordinators new ≡ false → ((d : Case) → in_order_from d Unmarked (standing l ++ new) ≡ true)
+  pub manages_writes : (new : List Record) → has is_coordinators new ≡ false
+      → ((d : Case) → in_order_from d Unmarked (standing l ++ new) ≡ true)
       → ((d : Case) → has (is_prepared d) new ≡ false) → Manages (writes l new)
   manages_writes new own order none = record {
     no_coordinators_record = grows_none new own;
@@ -62,7 +67,8 @@ module _ (l : Logs) (h : Manages l) where
     decision_stands = λ d o e. stays_so d o l.forced (reverse new) (λ f. f) e;
   }
 
-  pub manages_breaks : (new : List Record) (a f : ℕ) → has is_coordinators new ≡ false → ((d : Case) → in_order_from d Unmarked (standing l ++ new) ≡ true)
+  pub manages_breaks : (new : List Record) (a f : ℕ) → has is_coordinators new ≡ false
+      → ((d : Case) → in_order_from d Unmarked (standing l ++ new) ≡ true)
       → Manages (breaks l new a f)
   manages_breaks new a f own order = record {
     no_coordinators_record = grows_none (take a new) (front_none is_coordinators a new own);
@@ -71,11 +77,12 @@ module _ (l : Logs) (h : Manages l) where
         (ap (in_order_from d Unmarked) (append_assoc (standing l) (take a new) (drop a new)
         ∙ ap (λ x. standing l ++ x) (take-append-drop a new)) ∙ order d);
     promise_is_forced = λ up d. absurd (cc);
-    decision_stands = λ d o e. elim (in_either (is_decided d o) (take f (l.unforced ++ take a new)) l.durable e) [
-      | inl front ↦ inl (in_second (is_decided d o) l.forced (take f (l.unforced ++ take a new)) front)
-      | inr ever ↦ stays_so d o (l.forced ++ take f (l.unforced ++ take a new)) (reverse (take a new))
-          (λ g. in_first (is_decided d o) l.forced (take f (l.unforced ++ take a new)) g) ever
-    ];
+    decision_stands = λ d o e. elim
+        (in_either (is_decided d o) (take f (l.unforced ++ take a new)) l.durable e) [
+          | inl front ↦ inl (in_second (is_decided d o) l.forced (take f (l.unforced ++ take a new)) front)
+          | inr ever ↦ stays_so d o (l.forced ++ take f (l.unforced ++ take a new)) (reverse (take a new))
+              (λ g. in_first (is_decided d o) l.forced (take f (l.unforced ++ take a new)) g) ever
+        ];
   }
 
   pub manages_loses : (k : ℕ) → Manages (loses l k)
@@ -103,16 +110,20 @@ module _ (l : Logs) (h : Manages l) where
     in_order = λ d. ap (in_order_from d Unmarked) (append-nil (trimmed (AtLeaf p) (standing l)))
         ∙ trim_order p d (standing l) (h.in_order d);
     promise_is_forced = λ up d. has-nil (is_prepared d);
-    decision_stands = λ d o e. elim (in_either (is_decided d o) (trimmed (AtLeaf p) (standing l)) l.durable e) [
-      | inl now ↦ inl now
-      | inr ever ↦ elim (h.decision_stands d o ever) [
-        | inl stands ↦ kept_or d o (in_first (is_decided d o) l.forced l.unforced stands) (has (is_forgot d) (standing l)) refl
-        | inr forgot ↦ inr (in_second (is_forgot d) (reverse (data_records (AtLeaf p) (standing l))) l.life forgot)
-      ]
-    ];
+    decision_stands = λ d o e. elim
+        (in_either (is_decided d o) (trimmed (AtLeaf p) (standing l)) l.durable e) [
+          | inl now ↦ inl now
+          | inr ever ↦ elim (h.decision_stands d o ever) [
+            | inl stands ↦ kept_or d o (in_first (is_decided d o) l.forced l.unforced stands)
+                (has (is_forgot d) (standing l)) refl
+            | inr forgot ↦ inr (in_second (is_forgot d) (reverse (data_records (AtLeaf p) (standing l))) l.life
+                forgot)
+          ]
+        ];
   }
     where
-      kept_or : (d : Case) (o : Outcome) → has (is_decided d o) (standing l) ≡ true → (b : Bool) → has (is_forgot d) (standing l) ≡ b
+      kept_or : (d : Case) (o : Outcome) → has (is_decided d o) (standing l) ≡ true → (b : Bool)
+          → has (is_forgot d) (standing l) ≡ b
           → (has (is_decided d o) (trimmed (AtLeaf p) (standing l)) ≡ true)
           ⊎ (has (is_forgot d) (reverse (data_records (AtLeaf p) (standing l)) ++ l.life) ≡ true)
       kept_or d o e true f =
@@ -156,8 +167,10 @@ module _ (place : Place) (p : ProcessId) (n : Node) (h : Heard) where
       unpromised = λ e d. has-nil (is_prepared d);
     }
 
-    fine_one : (d : Case) (r : Record) (b : Bool) → is_coordinators r ≡ false → record_branch r ≡ Some (CaseBranch d) → may_follow (mark_at n d) r ≡ true
-        → (b ≡ false → (c : Case) → has (is_prepared c) (r ∷ []) ≡ false) → Fine l (record { entry = r; is_forced = b } ∷ [])
+    fine_one : (d : Case) (r : Record) (b : Bool) → is_coordinators r ≡ false
+        → record_branch r ≡ Some (CaseBranch d) → may_follow (mark_at n d) r ≡ true
+        → (b ≡ false → (c : Case) → has (is_prepared c) (r ∷ []) ≡ false)
+        → Fine l (record { entry = r; is_forced = b } ∷ [])
     fine_one d r b own of follows none = record {
       own = no_record is_coordinators r own;
       order = λ c. order_push c (standing l) r (m.in_order c) (λ e. same c (ap (branch_is c) (sym of) ∙ e));
@@ -168,7 +181,8 @@ module _ (place : Place) (p : ProcessId) (n : Node) (h : Heard) where
         not_forced true e = absurd (cc)
         not_forced false e = refl
 
-        same : (c : Case) → is_branch c (CaseBranch d) ≡ true → may_follow (mark_of (CaseBranch c) (standing l)) r ≡ true
+        same : (c : Case) → is_branch c (CaseBranch d) ≡ true
+            → may_follow (mark_of (CaseBranch c) (standing l)) r ≡ true
         same c e =
             subst (λ (x : Case). may_follow (mark_of (CaseBranch x) (standing l)) r ≡ true)
             (let t = same_case_tells d c in grind (arith, t, e)) follows
@@ -180,15 +194,19 @@ module _ (place : Place) (p : ProcessId) (n : Node) (h : Heard) where
     pub leaf_fine : (e : Effect) → LeafTurn place p n h e → Fine l e.written
     leaf_fine _ (votes_yes d k ws i a) =
         fine_one d (Prepared (CaseBranch d) ws) true refl refl (rw a.unmarked refl) (λ e. absurd (cc))
-    leaf_fine _ (obeys d CommittedOutcome i e) = fine_one d (Committed (CaseBranch d)) _ refl refl (rw e refl) (λ f c. no_promise c (Committed (CaseBranch d)) refl)
-    leaf_fine _ (obeys d AbortedOutcome i e) = fine_one d (RolledBack (CaseBranch d)) _ refl refl (rw e refl) (λ f c. no_promise c (RolledBack (CaseBranch d)) refl)
-    leaf_fine _ (notes d o i e) = fine_one d (Told (CaseBranch d) o) _ refl refl (rw e refl) (λ f c. no_promise c (Told (CaseBranch d) o) refl)
+    leaf_fine _ (obeys d CommittedOutcome i e) = fine_one d (Committed (CaseBranch d)) _ refl refl
+        (rw e refl) (λ f c. no_promise c (Committed (CaseBranch d)) refl)
+    leaf_fine _ (obeys d AbortedOutcome i e) = fine_one d (RolledBack (CaseBranch d)) _ refl refl
+        (rw e refl) (λ f c. no_promise c (RolledBack (CaseBranch d)) refl)
+    leaf_fine _ (notes d o i e) = fine_one d (Told (CaseBranch d) o) _ refl refl (rw e refl)
+        (λ f c. no_promise c (Told (CaseBranch d) o) refl)
     leaf_fine _ (decides d CommittedOutcome i e) =
         fine_one d (HeurCommit (CaseBranch d)) true refl refl (rw e refl) (λ f. absurd (cc))
     leaf_fine _ (decides d AbortedOutcome i e) =
         fine_one d (HeurRollback (CaseBranch d)) true refl refl (rw e refl) (λ f. absurd (cc))
     leaf_fine _ (forgets d i e) =
-        fine_one d (Forgot (CaseBranch d)) true refl refl (forget_follows (mark_at n d) (CaseBranch d) e) (λ f. absurd (cc))
+        fine_one d (Forgot (CaseBranch d)) true refl refl (forget_follows (mark_at n d) (CaseBranch d) e)
+        (λ f. absurd (cc))
     leaf_fine _ does_nothing = fine_none
     leaf_fine _ (gives_again d t i a) = fine_none
     leaf_fine _ (gives_fresh d i a s) = fine_none

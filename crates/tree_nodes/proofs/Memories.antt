@@ -83,7 +83,8 @@ module _ (me : ProcessId) (boot : ℕ) (c : Case) where
 
   voted : (m : Memory) (t : Ticket) (w : Vote) → O m → (ph : Phase) → m.phase ≡ ph → O (takes_vote m t w ph)
   voted m t w o Asked e =
-      accepted_if (with_vote m t w) m (is_counted m.accepted m.votes t) (moved m _ o refl (awake m o Asked e (λ f. cc))) o
+      accepted_if (with_vote m t w) m (is_counted m.accepted m.votes t)
+      (moved m _ o refl (awake m o Asked e (λ f. cc))) o
   voted m t w o Idle e = o
   voted m t w o Open e = o
   voted m t w o Over e = o
@@ -101,16 +102,19 @@ module _ (me : ProcessId) (boot : ℕ) (c : Case) where
   -- a fresh ticket
   given : (m : Memory) (d : Case) → O m → O (gives m d (next_ticket me boot m))
   given m d o = record {
-    issued = own_both me m.issued (child_case d.txn (next_ticket me boot m) ∷ []) o.issued (same_self me, tt);
+    issued = own_both me m.issued (child_case d.txn (next_ticket me boot m) ∷ []) o.issued
+        (same_self me, tt);
     not_idle = o.not_idle;
   }
 
-  opened : (m : Memory) (d : Case) → O m → (b : Bool) → same_case c (child_case d.txn (next_ticket me boot m)) ≡ b
+  opened : (m : Memory) (d : Case) → O m → (b : Bool)
+      → same_case c (child_case d.txn (next_ticket me boot m)) ≡ b
       → O (if b then opens_case (gives m d (next_ticket me boot m)) else gives m d (next_ticket me boot m))
   opened m d o true e =
       let t = next_ticket me boot m in
       let same : c ≡ child_case d.txn t = is_same c (child_case d.txn t) e in
-      moved (gives m d t) _ (given m d o) refl (subst (λ (x : Case). is_own_case me x ≡ true) (sym same) (same_self me))
+      moved (gives m d t) _ (given m d o) refl
+      (subst (λ (x : Case). is_own_case me x ≡ true) (sym same) (same_self me))
     where
       is_same : (a b : Case) → same_case a b ≡ true → a ≡ b
       is_same a b f = elim (same_case_tells a b) [ inl t ↦ t.1 | inr g ↦ absurd (let k = g.0 in cc) ]
@@ -123,7 +127,8 @@ module _ (me : ProcessId) (boot : ℕ) (c : Case) where
   retired : (m : Memory) (d : Case) → O m → O (retires m d)
   retired m d o = left m _ o refl refl
 
-  of_children : (m : Memory) (d : Case) (f : Ticket → Memory) → O m → ((t : Ticket) → O (f t)) → O (of_child c d m f)
+  of_children : (m : Memory) (d : Case) (f : Ticket → Memory) → O m → ((t : Ticket) → O (f t))
+      → O (of_child c d m f)
   of_children m d f o g = if_of (same_txn d.txn c.txn) m _ o (by_ticket d.ticket)
     where
       by_ticket : (t : Option Ticket) → O (of_ticket t m f)
@@ -132,8 +137,10 @@ module _ (me : ProcessId) (boot : ℕ) (c : Case) where
 
   heard : (m : Memory) → O m → (x : Message) → O (cascaded_hears me boot c m x)
   heard m o (Join d) = joined m d o (active_ticket m.active d)
-  heard m o (Prepare d k) = if_of (same_case d c) (retires m d) _ (retired m d o) (asked (retires m d) (retired m d o) m.phase refl)
-  heard m o (Abort d) = if_of (same_case d c) (retires m d) _ (retired m d o) (closed (retires m d) (retired m d o) m.phase refl)
+  heard m o (Prepare d k) = if_of (same_case d c) (retires m d) _ (retired m d o)
+      (asked (retires m d) (retired m d o) m.phase refl)
+  heard m o (Abort d) = if_of (same_case d c) (retires m d) _ (retired m d o)
+      (closed (retires m d) (retired m d o) m.phase refl)
   heard m o (Joined d t) = if_of (same_case d c) m _ o (accepted m t o m.phase)
   heard m o (Yes d) = of_children m d _ o (λ t. voted m t VoteYes o m.phase refl)
   heard m o (No d) = of_children m d _ o (λ t. voted m t VoteNo o m.phase refl)
@@ -145,7 +152,8 @@ module _ (me : ProcessId) (boot : ℕ) (c : Case) where
 
   remembered : (m : Memory) → O m → (i : Input) → O (cascaded_remembers me boot c m i)
   remembered m o (MessageInput k x) = heard m o x
-  remembered m o (ActInput (WorkAct d q op)) = if_of (same_case d c) m _ o (worked m (ticket_of_child m.accepted q) o m.phase)
+  remembered m o (ActInput (WorkAct d q op)) = if_of (same_case d c) m _ o
+      (worked m (ticket_of_child m.accepted q) o m.phase)
   remembered m o (ActInput (Begin p)) = o
   remembered m o (ActInput (JoinAct d q)) = o
   remembered m o (ActInput (CommitAct x)) = o
@@ -154,12 +162,17 @@ module _ (me : ProcessId) (boot : ℕ) (c : Case) where
   remembered m o (ActInput (Decide d u)) = o
   remembered m o (ActInput (Forget d)) = o
 
-  all_remembered : (p : ProcessId) (m : Memory) → O m → (hs : List Heard) → O (fold (remembers me (Below p) boot c) m hs)
+  all_remembered : (p : ProcessId) (m : Memory) → O m → (hs : List Heard)
+      → O (fold (remembers me (Below p) boot c) m hs)
   all_remembered p m o [] = o
-  all_remembered p m o (h ∷ hs) = all_remembered p (cascaded_remembers me boot c m h.input) (remembered m o h.input) hs
+  all_remembered p m o (h ∷ hs) = all_remembered p (cascaded_remembers me boot c m h.input)
+      (remembered m o h.input) hs
 
-pub memory_owns : (place : Place) (p : ProcessId) → place.role ≡ Below p → (n : Node) (c : Case) → Own place.me c (memory_of place n c)
+pub memory_owns : (place : Place) (p : ProcessId) → place.role ≡ Below p → (n : Node) (c : Case)
+    → Own place.me c (memory_of place n c)
 unfolding memory_of
 memory_owns place p e n c =
-    subst (λ (r : Role). Own place.me c (fold (remembers place.me r (boot_of (kept n)) c) fresh_memory n.heard)) (sym e)
-    (all_remembered place.me (boot_of (kept n)) c p fresh_memory (record { issued = tt; not_idle = inl refl }) n.heard)
+    subst (λ (r : Role). Own place.me c
+    (fold (remembers place.me r (boot_of (kept n)) c) fresh_memory n.heard)) (sym e)
+    (all_remembered place.me (boot_of (kept n)) c p fresh_memory
+    (record { issued = tt; not_idle = inl refl }) n.heard)

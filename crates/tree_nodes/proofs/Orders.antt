@@ -19,7 +19,8 @@ use Rattle.tree_nodes.proofs.Tests.{either, both, and, neither}
 
 -- a branch is the case
 pub branch_tells : (d : Case) (b : Branch) → is_branch d b ≡ true → b ≡ CaseBranch d
-branch_tells d (CaseBranch c) e = ap (λ x. CaseBranch x) (let t = same_case_tells c d in grind (arith, t, e))
+branch_tells d (CaseBranch c) e = ap (λ x. CaseBranch x)
+    (let t = same_case_tells c d in grind (arith, t, e))
 branch_tells d (Foreign x) e = absurd (cc)
 
 pub same_is : (d : Case) (b : Branch) → same_branch b (CaseBranch d) ≡ is_branch d b
@@ -36,10 +37,12 @@ unfolding mark_of
 mark_is d rs = refl
 
 -- a record of another branch leaves the mark
-unmoved : (d : Case) (b : Branch) (m k : Mark) → is_branch d b ≡ false → (if same_branch b (CaseBranch d) then k else m) ≡ m
+unmoved : (d : Case) (b : Branch) (m k : Mark) → is_branch d b ≡ false
+    → (if same_branch b (CaseBranch d) then k else m) ≡ m
 unmoved d b m k e = rw (same_is d b ∙ e) refl
 
-pub other_leaves : (d : Case) (m : Mark) (r : Record) → is_branch_record d r ≡ false → mark_after (CaseBranch d) m r ≡ m
+pub other_leaves : (d : Case) (m : Mark) (r : Record) → is_branch_record d r ≡ false
+    → mark_after (CaseBranch d) m r ≡ m
 other_leaves d m (Prepared b ws) e = unmoved d b m Promised e
 other_leaves d m (Committed b) e = unmoved d b m Finished e
 other_leaves d m (RolledBack b) e = unmoved d b m Finished e
@@ -60,7 +63,8 @@ other_leaves d m (Pair k v) e = refl
 -- Fronts, and one list behind another.
 
 step : (d : Case) (m : Mark) (r : Record) (rs : List Record)
-    → in_order_from d m (r ∷ rs) ≡ ((not (is_branch_record d r) || may_follow m r) && in_order_from d (mark_after (CaseBranch d) m r) rs)
+    → in_order_from d m (r ∷ rs) ≡
+    ((not (is_branch_record d r) || may_follow m r) && in_order_from d (mark_after (CaseBranch d) m r) rs)
 unfolding in_order_from
 step d m r rs = refl
 
@@ -69,21 +73,26 @@ pub order-append : (d : Case) (m : Mark) (xs ys : List Record)
 unfolding in_order_from
 order-append d m [] ys = refl
 order-append d m (x ∷ xs) ys =
-    ap (λ b. (not (is_branch_record d x) || may_follow m x) && b) (order-append d (mark_after (CaseBranch d) m x) xs ys)
+    ap (λ b. (not (is_branch_record d x) || may_follow m x) && b)
+    (order-append d (mark_after (CaseBranch d) m x) xs ys)
     ∙ regroup (not (is_branch_record d x) || may_follow m x) _ _
   where
     regroup : (a b c : Bool) → (a && (b && c)) ≡ ((a && b) && c)
     regroup true b c = refl
     regroup false b c = refl
 
-pub order_front : (d : Case) (m : Mark) (xs ys : List Record) → in_order_from d m (xs ++ ys) ≡ true → in_order_from d m xs ≡ true
+pub order_front : (d : Case) (m : Mark) (xs ys : List Record) → in_order_from d m (xs ++ ys) ≡ true
+    → in_order_from d m xs ≡ true
 order_front d m xs ys e = (both _ _ (sym (order-append d m xs ys) ∙ e)).0
 
-pub order_taken : (d : Case) (m : Mark) (k : ℕ) (xs : List Record) → in_order_from d m xs ≡ true → in_order_from d m (take k xs) ≡ true
-order_taken d m k xs e = order_front d m (take k xs) (drop k xs) (ap (in_order_from d m) (take-append-drop k xs) ∙ e)
+pub order_taken : (d : Case) (m : Mark) (k : ℕ) (xs : List Record) → in_order_from d m xs ≡ true
+    → in_order_from d m (take k xs) ≡ true
+order_taken d m k xs e = order_front d m (take k xs) (drop k xs)
+    (ap (in_order_from d m) (take-append-drop k xs) ∙ e)
 
 -- records of no branch stand anywhere
-pub order_of_others : (d : Case) (m : Mark) (xs : List Record) → has (is_branch_record d) xs ≡ false → in_order_from d m xs ≡ true
+pub order_of_others : (d : Case) (m : Mark) (xs : List Record) → has (is_branch_record d) xs ≡ false
+    → in_order_from d m xs ≡ true
 unfolding in_order_from has
 order_of_others d m [] e = refl
 order_of_others d m (x ∷ xs) e = other_first (is_branch_record d x) (may_follow m x) _ (first_false _ _ e)
@@ -123,7 +132,8 @@ abbrev pub IsMarked : Mark → Type 0
 IsMarked Unmarked = ⊥
 IsMarked _ = Unit {0}
 
-pub marks : (d : Case) (m : Mark) (r : Record) → is_branch_record d r ≡ true → IsMarked (mark_after (CaseBranch d) m r)
+pub marks : (d : Case) (m : Mark) (r : Record) → is_branch_record d r ≡ true
+    → IsMarked (mark_after (CaseBranch d) m r)
 marks d m (Prepared b ws) e = rw (same_is d b ∙ e) tt
 marks d m (Committed b) e = rw (same_is d b ∙ e) tt
 marks d m (RolledBack b) e = rw (same_is d b ∙ e) tt
@@ -149,7 +159,8 @@ still_marked d m r k = by_record (is_branch_record d r) refl
     by_record false e = subst IsMarked (sym (other_leaves d m r e)) k
 
 -- a promise follows nothing of its branch
-may_not_promise : (m : Mark) (b : Branch) (ws : List Write) → IsMarked m → may_follow m (Prepared b ws) ≡ false
+may_not_promise : (m : Mark) (b : Branch) (ws : List Write) → IsMarked m
+    → may_follow m (Prepared b ws) ≡ false
 may_not_promise Unmarked b ws k = absurd k
 may_not_promise Promised b ws k = refl
 may_not_promise Decided b ws k = refl
@@ -160,9 +171,11 @@ promises_not : (a f : Bool) → f ≡ false → (not a || f) ≡ true → a ≡ 
 promises_not true f e g = absurd (cc)
 promises_not false f e g = refl
 
-not_promised : (d : Case) (m : Mark) (r : Record) → IsMarked m → (not (is_branch_record d r) || may_follow m r) ≡ true
+not_promised : (d : Case) (m : Mark) (r : Record) → IsMarked m
+    → (not (is_branch_record d r) || may_follow m r) ≡ true
     → prepares_branch (CaseBranch d) r ≡ false
-not_promised d m (Prepared b ws) k e = same_is d b ∙ promises_not (is_branch d b) _ (may_not_promise m b ws k) e
+not_promised d m (Prepared b ws) k e = same_is d b ∙ promises_not (is_branch d b) _
+    (may_not_promise m b ws k) e
 not_promised d m (Committed b) k e = refl
 not_promised d m (RolledBack b) k e = refl
 not_promised d m (Direct b ws) k e = refl
@@ -185,7 +198,8 @@ unfolding in_order_from has
 none_promised d m [] k e = refl
 none_promised d m (r ∷ rs) k e =
     let b = both _ _ e in
-    neither _ _ (not_promised d m r k b.0) (none_promised d (mark_after (CaseBranch d) m r) rs (still_marked d m r k) b.1)
+    neither _ _ (not_promised d m r k b.0)
+    (none_promised d (mark_after (CaseBranch d) m r) rs (still_marked d m r k) b.1)
 
 -- an operator's decision leaves the branch open until it is forgotten
 abbrev pub IsDecidedMark : Mark → Type 0
@@ -200,7 +214,8 @@ decided_is_open Unmarked k = absurd k
 decided_is_open Promised k = absurd k
 decided_is_open Finished k = absurd k
 
-own_stays : (d : Case) (m : Mark) (r : Record) → IsDecidedMark m → is_branch_record d r ≡ true → may_follow m r ≡ true
+own_stays : (d : Case) (m : Mark) (r : Record) → IsDecidedMark m → is_branch_record d r ≡ true
+    → may_follow m r ≡ true
     → is_forgot d r ≡ false → IsDecidedMark (mark_after (CaseBranch d) m r)
 own_stays d Decided (Told b o) k e f g = rw (same_is d b ∙ e) tt
 own_stays d Decided (Forgot b) k e f g = absurd (cc)
@@ -215,7 +230,8 @@ follows_so : (a b : Bool) → (not a || b) ≡ true → a ≡ true → b ≡ tru
 follows_so true b e f = e
 follows_so false b e f = absurd (cc)
 
-stays_decided : (d : Case) (m : Mark) (r : Record) → IsDecidedMark m → (not (is_branch_record d r) || may_follow m r) ≡ true
+stays_decided : (d : Case) (m : Mark) (r : Record) → IsDecidedMark m
+    → (not (is_branch_record d r) || may_follow m r) ≡ true
     → is_forgot d r ≡ false → IsDecidedMark (mark_after (CaseBranch d) m r)
 stays_decided d m r k e f = by_record (is_branch_record d r) refl
   where
@@ -235,7 +251,8 @@ unfolding in_order_from has
 open_behind d m [] k e f = decided_is_open m k
 open_behind d m (r ∷ rs) k e f =
     let b = both _ _ e in
-    open_behind d (mark_after (CaseBranch d) m r) rs (stays_decided d m r k b.0 (first_false _ _ f)) b.1 (second_false _ _ f)
+    open_behind d (mark_after (CaseBranch d) m r) rs (stays_decided d m r k b.0 (first_false _ _ f)) b.1
+    (second_false _ _ f)
 
 decides_mark : (d : Case) (o : Outcome) (m : Mark) (r : Record) → is_decided d o r ≡ true
     → IsDecidedMark (mark_after (CaseBranch d) m r)
@@ -244,7 +261,8 @@ decides_mark d AbortedOutcome m (HeurRollback b) e = rw (same_is d b ∙ e) tt
 decides_mark d CommittedOutcome m r e = absurd (cc)
 decides_mark d AbortedOutcome m r e = absurd (cc)
 
-pub decided_is_of : (d : Case) (o : Outcome) (r : Record) → is_decided d o r ≡ true → is_branch_record d r ≡ true
+pub decided_is_of : (d : Case) (o : Outcome) (r : Record) → is_decided d o r ≡ true
+    → is_branch_record d r ≡ true
 decided_is_of d CommittedOutcome r e = grind arith
 decided_is_of d AbortedOutcome r e = grind arith
 
@@ -255,6 +273,7 @@ open_if_decided d o m [] e f g = absurd (cc)
 open_if_decided d o m (r ∷ rs) e f g =
     let b = both _ _ e in
     elim (either _ _ f) [
-      | inl now ↦ open_behind d (mark_after (CaseBranch d) m r) rs (decides_mark d o m r now) b.1 (second_false _ _ g)
+      | inl now ↦ open_behind d (mark_after (CaseBranch d) m r) rs (decides_mark d o m r now) b.1
+          (second_false _ _ g)
       | inr rest ↦ open_if_decided d o (mark_after (CaseBranch d) m r) rs b.1 rest (second_false _ _ g)
     ]

@@ -24,16 +24,19 @@ use Rattle.tree_nodes.proofs.Cases.{own_cases_in, child_of_own, known_is_own}
 
 -- The net.
 
-pub goes_at : (ls : List Envelope) (k : ℕ) (l : Envelope) → AllGoToOwners ls → slice_get ls k ≡ Some l → GoesToOwner l.to l.message
+pub goes_at : (ls : List Envelope) (k : ℕ) (l : Envelope) → AllGoToOwners ls → slice_get ls k ≡ Some l
+    → GoesToOwner l.to l.message
 goes_at [] k l a e = absurd (cc)
-goes_at (m ∷ ls) zero l a e = let f : m ≡ l = cc in subst (λ (z : Envelope). GoesToOwner z.to z.message) f a.0
+goes_at (m ∷ ls) zero l a e = let f : m ≡ l = cc in subst (λ (z : Envelope). GoesToOwner z.to z.message) f
+    a.0
 goes_at (m ∷ ls) (suc k) l a e = goes_at ls k l a.1 e
 
 pub goes_both : (xs ys : List Envelope) → AllGoToOwners xs → AllGoToOwners ys → AllGoToOwners (xs ++ ys)
 goes_both [] ys a b = b
 goes_both (x ∷ xs) ys a b = (a.0, goes_both xs ys a.1 b)
 
-pub of_parent : (q : ProcessId) (c : Case) (m : Message) → IsForCase c m → GoesToOwner q m → is_own_case q c ≡ true
+pub of_parent : (q : ProcessId) (c : Case) (m : Message) → IsForCase c m → GoesToOwner q m
+    → is_own_case q c ≡ true
 of_parent q c (Work d k op) e f = subst (λ (x : Case). is_own_case q x ≡ true) e f
 of_parent q c (Prepare d k) e f = subst (λ (x : Case). is_own_case q x ≡ true) e f
 of_parent q c (Commit d) e f = subst (λ (x : Case). is_own_case q x ≡ true) e f
@@ -47,7 +50,8 @@ of_parent q c (Ack d o) e f = absurd e
 of_parent q c (Inquire d) e f = absurd e
 
 -- a message that was delivered goes to its case's owner
-pub delivered : (net : List Envelope) (q : ProcessId) (i : Input) (k : ℕ) (m : Message) → AllGoToOwners net → InputStands net q i
+pub delivered : (net : List Envelope) (q : ProcessId) (i : Input) (k : ℕ) (m : Message)
+    → AllGoToOwners net → InputStands net q i
     → i ≡ MessageInput k m → GoesToOwner q m
 delivered net q i k m a s e =
     let t : IsSent net q k m = subst (λ (x : Input). InputStands net q x) e s in
@@ -63,21 +67,28 @@ own_one me c _ own (wrote_one r b of kind) = neither _ _ (ap (is_foreign_case me
 
 -- the case of an input at a cascaded coordinator is its own
 module _ (place : Place) (p : ProcessId) (role : place.role ≡ Below p) (n : Node)
-    (none : has (is_foreign place.me) (kept n) ≡ false) (net : List Envelope) (goes : AllGoToOwners net) where
-  pub own_written : (i : Input) (ws : List Written) (ls : List Envelope) → InputStands net place.me i
-      → Writes place (Some p) n i ws ls → has (is_foreign place.me) (entries_written ws) ≡ false
-  own_written i ws ls s (writes_nothing e f) = ap (λ x. has (is_foreign place.me) (entries_written x)) e ∙ has-nil (is_foreign place.me)
-  own_written i ws ls s (for_act a c e known one sent) = own_one place.me c ws (known_is_own place p role n none c known) one
-  own_written i ws ls s (for_child c x t e one sent) = own_one place.me c ws (child_of_own place p role n none x t c e) one
-  own_written i ws ls s (for_parent c k m e f one sent) =
-      own_one place.me c ws (of_parent place.me c m f (delivered net place.me i k m goes s e)) one
-  own_written i ws ls s (presumes x t o e f) = ap (λ y. has (is_foreign place.me) (entries_written y)) e ∙ has-nil (is_foreign place.me)
-  own_written i ws ls s (gives q d t e f) = ap (λ x. has (is_foreign place.me) (entries_written x)) e ∙ has-nil (is_foreign place.me)
+    (none : has (is_foreign place.me) (kept n) ≡ false) (net : List Envelope) (goes : AllGoToOwners net)
+  where
+    pub own_written : (i : Input) (ws : List Written) (ls : List Envelope) → InputStands net place.me i
+        → Writes place (Some p) n i ws ls → has (is_foreign place.me) (entries_written ws) ≡ false
+    own_written i ws ls s (writes_nothing e f) = ap (λ x. has (is_foreign place.me) (entries_written x)) e ∙
+        has-nil (is_foreign place.me)
+    own_written i ws ls s (for_act a c e known one sent) = own_one place.me c ws
+        (known_is_own place p role n none c known) one
+    own_written i ws ls s (for_child c x t e one sent) = own_one place.me c ws
+        (child_of_own place p role n none x t c e) one
+    own_written i ws ls s (for_parent c k m e f one sent) =
+        own_one place.me c ws (of_parent place.me c m f (delivered net place.me i k m goes s e)) one
+    own_written i ws ls s (presumes x t o e f) = ap (λ y. has (is_foreign place.me) (entries_written y)) e ∙
+        has-nil (is_foreign place.me)
+    own_written i ws ls s (gives q d t e f) = ap (λ x. has (is_foreign place.me) (entries_written x)) e ∙
+        has-nil (is_foreign place.me)
 
 -- What a restart appends.
 
 module _ (me : ProcessId) (rs : List Record) where
-  own_abort : (c : Case) (v : CoordinatorView) (st : Standing) → is_own_case me c ≡ true → has (is_foreign me) (restart_abort c v st) ≡ false
+  own_abort : (c : Case) (v : CoordinatorView) (st : Standing) → is_own_case me c ≡ true
+      → has (is_foreign me) (restart_abort c v st) ≡ false
   unfolding has
   own_abort c v Collecting own = neither _ _ (ap not own) refl
   own_abort c v Unknown own = refl
@@ -87,11 +98,14 @@ module _ (me : ProcessId) (rs : List Record) where
   own_abort c v Aborting own = refl
   own_abort c v Heuristic own = refl
 
-  own_aborts : (cs : List Case) → AllOwn me cs → has (is_foreign me) (flat_map (aborts_collecting rs) cs) ≡ false
+  own_aborts : (cs : List Case) → AllOwn me cs
+      → has (is_foreign me) (flat_map (aborts_collecting rs) cs) ≡ false
   own_aborts [] a = has-nil (is_foreign me)
   own_aborts (c ∷ cs) a =
       in_none (is_foreign me) (aborts_collecting rs c) (flat_map (aborts_collecting rs) cs)
       (let v = recorded_view rs c in own_abort c v v.standing a.0) (own_aborts cs a.1)
 
-  pub own_reopens : (p : ProcessId) → has (is_foreign me) rs ≡ false → has (is_foreign me) (reopens (Below p) rs) ≡ false
-  own_reopens p none = has-cons (is_foreign me) _ _ ∙ neither _ _ refl (own_aborts (cases_in rs) (own_cases_in me rs none))
+  pub own_reopens : (p : ProcessId) → has (is_foreign me) rs ≡ false
+      → has (is_foreign me) (reopens (Below p) rs) ≡ false
+  own_reopens p none = has-cons (is_foreign me) _ _ ∙ neither _ _ refl
+      (own_aborts (cases_in rs) (own_cases_in me rs none))

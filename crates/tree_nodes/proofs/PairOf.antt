@@ -44,7 +44,8 @@ pub record Given (net : List Envelope) (x : Txn) (t : Ticket) : Type 0 where
 joined_itself : (d : Case) (u : Ticket) → is_joined_message d u (Joined d u) ≡ true
 joined_itself d u = grind (arith, names)
 
-given_txn : (d : Case) (u : Ticket) (x : Txn) (t : Ticket) → same_case (child_case d.txn u) (child_case x t) ≡ true
+given_txn : (d : Case) (u : Ticket) (x : Txn) (t : Ticket)
+    → same_case (child_case d.txn u) (child_case x t) ≡ true
     → (d.txn ≡ x) × (u ≡ t)
 given_txn d u x t e =
     let f = case_is (child_case d.txn u) (child_case x t) e in
@@ -54,7 +55,8 @@ given_txn d u x t e =
     or_else None v = v
     or_else (Some v) w = v
 
-    ticket_of : (a b : Option Ticket) (v : Ticket) → a ≡ b → or_else a v ≡ or_else a v → or_else a v ≡ or_else b v
+    ticket_of : (a b : Option Ticket) (v : Ticket) → a ≡ b → or_else a v ≡ or_else a v
+        → or_else a v ≡ or_else b v
     ticket_of a b v e f = ap (λ (o : Option Ticket). or_else o v) e
 
 given_now : (m : Message) (x : Txn) (t : Ticket) (ls : List Envelope) (l : Envelope) → l.message ≡ m
@@ -80,13 +82,16 @@ given_now (Abort d) x t ls l same e = absurd (cc)
 given_now (Ack d o) x t ls l same e = absurd (cc)
 given_now (Inquire d) x t ls l same e = absurd (cc)
 
-pub given : (net : List Envelope) (x : Txn) (t : Ticket) → sent (gives_case (child_case x t)) net ≡ true → Given net x t
+pub given : (net : List Envelope) (x : Txn) (t : Ticket) → sent (gives_case (child_case x t)) net ≡ true
+    → Given net x t
 unfolding sent
 given [] x t e = absurd (cc)
-given (l ∷ ls) x t e = elim (either (gives_case (child_case x t) l.message) (sent (gives_case (child_case x t)) ls) e) [
-  | inl now ↦ given_now l.message x t ls l refl now
-  | inr old ↦ let g = given ls x t old in record { of = g.of; same = g.same; joined = right (is_joined_message g.of t l.message) _ g.joined }
-]
+given (l ∷ ls) x t e = elim
+    (either (gives_case (child_case x t) l.message) (sent (gives_case (child_case x t)) ls) e) [
+      | inl now ↦ given_now l.message x t ls l refl now
+      | inr old ↦ let g = given ls x t old in record
+          { of = g.of; same = g.same; joined = right (is_joined_message g.of t l.message) _ g.joined }
+    ]
 
 -- The pair is one of the tree.
 
@@ -120,17 +125,20 @@ pub is_pair : (tree : List TreeEntry) (net : List Envelope) (c : Case) (t : Tick
     → sent (is_joined_message c t) net ≡ true → IsPair tree c t
 unfolding sent
 is_pair tree [] c t g e = absurd (cc)
-is_pair tree (l ∷ ls) c t g e = elim (either (is_joined_message c t l.message) (sent (is_joined_message c t) ls) e) [
-  | inl now ↦ pair_now tree l l.message c t g.0 now
-  | inr old ↦ is_pair tree ls c t g.1 old
-]
+is_pair tree (l ∷ ls) c t g e = elim
+    (either (is_joined_message c t l.message) (sent (is_joined_message c t) ls) e) [
+      | inl now ↦ pair_now tree l l.message c t g.0 now
+      | inr old ↦ is_pair tree ls c t g.1 old
+    ]
 
 -- Its ticket is free.
 
-none_other : (d c : Case) (u t : Ticket) → (same_case d c && same_ticket u t) ≡ (same_ticket u t && same_case d c)
+none_other : (d c : Case) (u t : Ticket)
+    → (same_case d c && same_ticket u t) ≡ (same_ticket u t && same_case d c)
 none_other d c u t = grind arith
 
-pub is_free : (net ls : List Envelope) (c : Case) (t : Ticket) → ((d : Case) → sent (is_joined_message d t) ls ≡ true → sent (is_joined_message d t) net ≡ true)
+pub is_free : (net ls : List Envelope) (c : Case) (t : Ticket)
+    → ((d : Case) → sent (is_joined_message d t) ls ≡ true → sent (is_joined_message d t) net ≡ true)
     → JoinedOnce net → sent (is_joined_message c t) net ≡ true → sent (gives_other c t) ls ≡ false
 unfolding sent
 is_free net [] c t sub once e = refl
@@ -141,17 +149,21 @@ is_free net (l ∷ ls) c t sub once e =
     free_step : (a b : Bool) → a ≡ false → b ≡ false → (a || b) ≡ false
     free_step a b f g = grind arith
 
-    not_given : (d : Case) (u : Ticket) → sent (is_joined_message d t) net ≡ true → (same_ticket u t && not (same_case d c)) ≡ false
+    not_given : (d : Case) (u : Ticket) → sent (is_joined_message d t) net ≡ true
+        → (same_ticket u t && not (same_case d c)) ≡ false
     not_given d u f =
         let g = once c d t e f in
         let h : c ≡ d = case_is c d g in
-        subst (λ (z : Case). (same_ticket u t && not (same_case z c)) ≡ false) h (let r = same_case-refl c in grind (arith, r))
+        subst (λ (z : Case). (same_ticket u t && not (same_case z c)) ≡ false) h
+        (let r = same_case-refl c in grind (arith, r))
 
-    by_ticket : (d : Case) (u : Ticket) (b : Bool) → same_ticket u t ≡ b → l.message ≡ Joined d u → (same_ticket u t && not (same_case d c)) ≡ false
+    by_ticket : (d : Case) (u : Ticket) (b : Bool) → same_ticket u t ≡ b → l.message ≡ Joined d u
+        → (same_ticket u t && not (same_case d c)) ≡ false
     by_ticket d u false f m = rw f refl
     by_ticket d u true f m = not_given d u
         (sub d (left (is_joined_message d t l.message) _
-        (subst (λ (z : Message). is_joined_message d t z ≡ true) (sym m) (let r = same_case-refl d in grind (arith, r, f)))))
+        (subst (λ (z : Message). is_joined_message d t z ≡ true) (sym m)
+        (let r = same_case-refl d in grind (arith, r, f)))))
 
     free_now : (m : Message) → l.message ≡ m → gives_other c t m ≡ false
     free_now (Joined d u) m = by_ticket d u (same_ticket u t) refl m
@@ -172,11 +184,15 @@ common_of : (p : Presumption) (r : Reading) → InvariantOf p r → Common r
 common_of PresumeAbort r h = h.common
 common_of PresumeCommit r h = h.common
 
-pub pair_of : (tree : List TreeEntry) (w : World) → WorldHolds tree w → (x : Txn) (t : Ticket) (g : Given w.net x t)
+pub pair_of : (tree : List TreeEntry) (w : World) → WorldHolds tree w
+    → (x : Txn) (t : Ticket) (g : Given w.net x t)
     → IsPair tree g.of t × Common (pair_reading tree w g.of t)
 pair_of tree w h x t g =
-    let pair = is_pair tree w.net g.of t h.net g.joined in
-    (pair, common_of g.of.txn.presumption _ (h.pairs g.of t pair (is_free w.net w.net g.of t (λ d e. e) h.joined_once g.joined)))
+    let pair = is_pair tree w.net g.of t h.net g.joined in (
+      pair,
+      common_of g.of.txn.presumption _
+          (h.pairs g.of t pair (is_free w.net w.net g.of t (λ d e. e) h.joined_once g.joined)),
+    )
 
 -- A cascaded coordinator that committed behind its promise: the outcome is commit.
 
@@ -185,7 +201,8 @@ unfolding has
 follows_has q r [] e = absurd (cc)
 follows_has q r (x ∷ xs) e = grind (arith, follows_has q r xs)
 
-has_other : (q r : Record → Bool) (xs : List Record) → ((x : Record) → q x ≡ true → r x ≡ true) → has q xs ≡ true → has r xs ≡ true
+has_other : (q r : Record → Bool) (xs : List Record) → ((x : Record) → q x ≡ true → r x ≡ true)
+    → has q xs ≡ true → has r xs ≡ true
 unfolding has
 has_other q r [] f e = absurd (cc)
 has_other q r (x ∷ xs) f e = elim (either (q x) (has q xs) e) [
@@ -199,20 +216,24 @@ commit_of d x e = grind arith
 commit_ends : (d : Case) (x : Record) → is_commit d x ≡ true → is_committing d x ≡ true
 commit_ends d x e = grind arith
 
-given_at : (role : Role) (place : Place) (net : List Envelope) (n : Node) (p : ProcessId) (d : Case) → role ≡ Below p
+given_at : (role : Role) (place : Place) (net : List Envelope) (n : Node) (p : ProcessId) (d : Case)
+    → role ≡ Below p
     → RoleHolds role place net n → has (is_record_of d) n.life ≡ true → sent (gives_case d) net ≡ true
 given_at (Below q) place net n p d e h f = (h.1.1.recorded_is_given d f).1
 given_at AtRoot place net n p d e h f = absurd (cc)
 given_at (AtLeaf q) place net n p d e h f = absurd (cc)
 
-pub cascaded_commits : (tree : List TreeEntry) (w : World) → WorldHolds tree w → (x : Txn) (t : Ticket) (p : ProcessId)
+pub cascaded_commits : (tree : List TreeEntry) (w : World) → WorldHolds tree w
+    → (x : Txn) (t : Ticket) (p : ProcessId)
     → role_of tree t.child ≡ Below p → is_listed tree t.child ≡ true
     → cascaded_ends (w.at t.child) (child_case x t) CommittedOutcome ≡ true → is_commit_outcome w x ≡ true
 cascaded_commits tree w h x t p role listed e =
     let d = child_case x t in
     let n = w.at t.child in
     let wrote = follows_has (is_commit d) (is_prepare d) n.life e in
-    let g = given w.net x t (given_at (role_of tree t.child) (place_of tree t.child) w.net n p d role (h.nodes t.child listed).role
+    let g = given w.net x t
+    (given_at (role_of tree t.child) (place_of tree t.child) w.net n p d role
+    (h.nodes t.child listed).role
     (has_other (is_commit d) (is_record_of d) n.life (commit_of d) wrote)) in
     let both = pair_of tree w h x t g in
     let committed : has (is_committing (child_case g.of.txn t)) n.life ≡ true =

@@ -73,7 +73,8 @@ module _ (q : Record → Bool) where
       by_front true f = not_both (has q xs) (in_front k xs f) e
       by_front false f = f
 
--- a record that passes the first test stands with none behind it that passes the second, or there is one that does
+-- a record that passes the first test stands with none behind it that passes the second, or there is one
+-- that does
 now_or : (a b c l : Bool) → (a || b) ≡ true → c ≡ false → (b ≡ true → l ≡ true) → ((a && not c) || l) ≡ true
 now_or true b c l e f g = rw f refl
 now_or false b c l e f g = rw (g e) (one c)
@@ -91,7 +92,8 @@ by_rest : (a b c s l : Bool) → (a || b) ≡ true → (b ≡ true → (l ≡ tr
 by_rest a b true s l e g = inr (right s true refl)
 by_rest a b false s l e g = inl (now_or a b false l e refl (λ h. of_rest l false (g h) refl))
 
-pub last_or : (q r : Record → Bool) (xs : List Record) → has q xs ≡ true → (has_last q r xs ≡ true) ⊎ (has r xs ≡ true)
+pub last_or : (q r : Record → Bool) (xs : List Record) → has q xs ≡ true
+    → (has_last q r xs ≡ true) ⊎ (has r xs ≡ true)
 unfolding has has_last
 last_or q r [] e = absurd (cc)
 last_or q r (x ∷ xs) e = by_rest (q x) (has q xs) (has r xs) (r x) (has_last q r xs) e (last_or q r xs)

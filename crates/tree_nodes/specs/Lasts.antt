@@ -19,7 +19,14 @@ pub record Logs : Type 0 where
   pub durable : List Record
 
 abbrev pub logs_of : Node → Logs
-logs_of n = record { forced = n.forced; unforced = n.unforced; failed = n.failed; life = n.life; durable = n.durable }
+logs_of n = record {
+  forced = n.forced;
+  unforced = n.unforced;
+  failed = n.failed;
+  life = n.life;
+  durable =
+      n.durable;
+}
 
 -- the records that stand
 abbrev pub standing : Logs → List Record
@@ -27,10 +34,13 @@ standing l = l.forced ++ l.unforced
 
 -- what stands in the log, or ever stood in its forced front, was appended; the boots aside
 pub record Nested (l : Logs) : Type 0 where
-  pub kept_was_written : (q : Record → Bool) → ((k : ℕ) → q (Opened k) ≡ false) → has q (standing l) ≡ true → has q l.life ≡ true
-  pub old_was_written : (q : Record → Bool) → ((k : ℕ) → q (Opened k) ≡ false) → has q l.durable ≡ true → has q l.life ≡ true
+  pub kept_was_written : (q : Record → Bool) → ((k : ℕ) → q (Opened k) ≡ false)
+      → has q (standing l) ≡ true → has q l.life ≡ true
+  pub old_was_written : (q : Record → Bool) → ((k : ℕ) → q (Opened k) ≡ false) → has q l.durable ≡ true
+      → has q l.life ≡ true
 
--- A manager's log is in order; its promises are forced, while it is up; and an operator's decision that was ever in
+-- A manager's log is in order; its promises are forced, while it is up; and an operator's decision that was
+-- ever in
 -- its forced front is there until a Forgot was appended.
 pub record Manages (l : Logs) : Type 0 where
   pub in_order : (d : Case) → in_order_from d Unmarked (standing l) ≡ true

@@ -24,7 +24,8 @@ is_given (Some b) = true
 abbrev pub is_managers : Record → Bool
 is_managers r = is_given (record_branch r)
 
--- which record may follow the last one of its branch: the promise first, then an outcome, or an operator's decision, what
+-- which record may follow the last one of its branch: the promise first, then an outcome, or an operator's
+-- decision, what
 -- the branch is told of it, and the Forgot
 abbrev pub may_follow : Mark → Record → Bool
 may_follow Unmarked (Prepared b ws) = true
@@ -40,4 +41,5 @@ may_follow _ _ = false
 -- each record of the branch may follow what stands before it
 unfoldable pub in_order_from : Case → Mark → List Record → Bool
 in_order_from d m [] = true
-in_order_from d m (r ∷ rs) = (not (is_branch_record d r) || may_follow m r) && in_order_from d (mark_after (CaseBranch d) m r) rs
+in_order_from d m (r ∷ rs) = (not (is_branch_record d r) || may_follow m r) && in_order_from d
+    (mark_after (CaseBranch d) m r) rs

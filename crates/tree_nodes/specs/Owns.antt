@@ -1,4 +1,5 @@
--- Whose cases a cascaded coordinator keeps, and to whom a parent's messages go: a case with a ticket stands at the
+-- Whose cases a cascaded coordinator keeps, and to whom a parent's messages go: a case with a ticket stands
+-- at the
 -- process that gave the ticket.
 use Rattle.std.specs.Prelude.{◌≡◌, Bool, true, false, not, Option, Some, None, List, [], ◌∷◌}
 use Rattle.tree_model.specs.declared.names.Case.{Case}

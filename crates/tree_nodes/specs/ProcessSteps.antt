@@ -16,10 +16,12 @@ use Rattle.tree_pairs.specs.Reading.{Reading}
 use Rattle.tree_readings.specs.ReadingOf.{reading_from, is_root_ticket, parent_half, child_half, ParentHalf, ChildHalf, wire, no_wire, is_prepare_message}
 use Rattle.tree_nodes.specs.WorldHolds.{IsPair, IsFree, InvariantOf}
 
--- what the pair above a case says of it: PREPARE came only if it takes part, and what it was told in doubt is true
+-- what the pair above a case says of it: PREPARE came only if it takes part, and what it was told in doubt
+-- is true
 pub record FromAbove (net : List Envelope) (c : Case) (s : Standing) (outcome above : Bool) : Type 0 where
   pub asked_takes_part : sent (is_prepare_message c) net ≡ true → above ≡ true
-  pub commit_is_true : sent (is_outcome_message CommittedOutcome c) net ≡ true → s ≡ Prepared → outcome ≡ true
+  pub commit_is_true : sent (is_outcome_message CommittedOutcome c) net ≡ true → s ≡ Prepared
+      → outcome ≡ true
   pub abort_is_true : sent (is_outcome_message AbortedOutcome c) net ≡ true → s ≡ Prepared → outcome ≡ false
 
 abbrev pub Above : Role → List Envelope → Case → Standing → Bool → Bool → Type 0
@@ -31,25 +33,31 @@ abbrev pub outcome_in : Role → Node → Case → Bool → Bool
 outcome_in AtRoot n c o = has (is_commit c) n.durable
 outcome_in _ n c o = o
 
-abbrev pub seen_below : Place → List Envelope → Node → Case → Ticket → Bool → Bool → Bool → ChildHalf → Reading
+abbrev pub seen_below : Place → List Envelope → Node → Case → Ticket → Bool → Bool → Bool → ChildHalf
+    → Reading
 seen_below place net n c t manager outcome above k =
-    reading_from (is_root_ticket c.ticket) manager (outcome_in place.role n c outcome) above (parent_half place n c t) k (wire c t net)
+    reading_from (is_root_ticket c.ticket) manager (outcome_in place.role n c outcome) above
+    (parent_half place n c t) k (wire c t net)
 
 abbrev pub seen_above : Place → List Envelope → Node → Case → Ticket → Bool → Bool → ParentHalf → Reading
 seen_above place net n c t outcome above p =
-    reading_from (is_root_ticket c.ticket) (is_leaf place.role) outcome above p (child_half place n (child_case c.txn t)) (wire c t net)
+    reading_from (is_root_ticket c.ticket) (is_leaf place.role) outcome above p
+    (child_half place n (child_case c.txn t)) (wire c t net)
 
 -- the pairs below the process: each move of its half keeps the invariant
 pub record ParentStep (place : Place) (net ls : List Envelope) (n n' : Node) : Type 0 where
-  pub follows : (c : Case) (t : Ticket) → IsPair place.tree c t → process_of c ≡ place.me → IsFree (net ++ ls) c t
-      → (manager outcome above : Bool) (k : ChildHalf) → Above place.role net c (coordinator_view place n c).standing outcome above
+  pub follows : (c : Case) (t : Ticket) → IsPair place.tree c t → process_of c ≡ place.me
+      → IsFree (net ++ ls) c t
+      → (manager outcome above : Bool) (k : ChildHalf)
+      → Above place.role net c (coordinator_view place n c).standing outcome above
       → InvariantOf c.txn.presumption (seen_below place net n c t manager outcome above k)
       → Follows (InvariantOf c.txn.presumption) (seen_below place net n c t manager outcome above k)
       (seen_below place (net ++ ls) n' c t manager outcome above k)
 
 -- the pairs above it
 pub record ChildStep (place : Place) (net ls : List Envelope) (n n' : Node) : Type 0 where
-  pub follows : (c : Case) (t : Ticket) → IsPair place.tree c t → t.child ≡ place.me → IsFree (net ++ ls) c t
+  pub follows : (c : Case) (t : Ticket) → IsPair place.tree c t → t.child ≡ place.me
+      → IsFree (net ++ ls) c t
       → (outcome above : Bool) (p : ParentHalf)
       → InvariantOf c.txn.presumption (seen_above place net n c t outcome above p)
       → Follows (InvariantOf c.txn.presumption) (seen_above place net n c t outcome above p)
@@ -57,4 +65,5 @@ pub record ChildStep (place : Place) (net ls : List Envelope) (n n' : Node) : Ty
 
 -- what it sends is of its own pairs alone
 pub record Elsewhere (place : Place) (ls : List Envelope) : Type 0 where
-  pub quiet : (c : Case) (t : Ticket) → IsPair place.tree c t → (process_of c ≡ place.me → ⊥) → (t.child ≡ place.me → ⊥) → wire c t ls ≡ no_wire
+  pub quiet : (c : Case) (t : Ticket) → IsPair place.tree c t → (process_of c ≡ place.me → ⊥)
+      → (t.child ≡ place.me → ⊥) → wire c t ls ≡ no_wire

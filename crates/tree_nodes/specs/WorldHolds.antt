@@ -1,4 +1,5 @@
--- The world's invariant: which pairs there are, and what holds of each process, of the net and of each pair. (Stated here;
+-- The world's invariant: which pairs there are, and what holds of each process, of the net and of each
+-- pair. (Stated here;
 -- the README says which parts are proved.)
 use Rattle.std.specs.Prelude.{◌≡◌, ◌≤◌, ◌<◌, ◌⊎◌, ⊤, ℕ, zero, suc, Bool, true, false, not, ◌&&◌, ◌||◌, ◌≢◌, Option, Some, None, List, [], ◌∷◌, length}
 use Rattle.std.specs.List.{list_any}
@@ -130,19 +131,25 @@ IsGivenOut boot number now count = (boot < now) ⊎ ((boot ≡ now) × (number �
 
 -- what the net knows of a process that issues tickets
 pub record Issues (place : Place) (net : List Envelope) (n : Node) : Type 0 where
-  pub given_once : n.failed ≡ false → (d : Case) (t : Ticket) → t.child ≡ place.me → sent (is_joined_message d t) net ≡ true
+  pub given_once : n.failed ≡ false → (d : Case) (t : Ticket) → t.child ≡ place.me
+      → sent (is_joined_message d t) net ≡ true
       → IsGivenOut t.boot t.number (boot_of (kept n)) (memory_of place n (some_case place)).given
-  pub given_before : (d : Case) (t : Ticket) → t.child ≡ place.me → sent (is_joined_message d t) net ≡ true → t.boot ≤ boot_of n.forced
-  pub recorded_is_given : (d : Case) → has (is_record_of d) n.life ≡ true → (process_of d ≡ place.me) × (sent (gives_case d) net ≡ true)
+  pub given_before : (d : Case) (t : Ticket) → t.child ≡ place.me
+      → sent (is_joined_message d t) net ≡ true → t.boot ≤ boot_of n.forced
+  pub recorded_is_given : (d : Case) → has (is_record_of d) n.life ≡ true
+      → (process_of d ≡ place.me) × (sent (gives_case d) net ≡ true)
   pub remembered_is_given : n.failed ≡ false → (d : Case) → (memory_of place n d).phase ≢ Idle
       → (process_of d ≡ place.me) × (sent (gives_case d) net ≡ true)
-  pub active_was_joined : n.failed ≡ false → (d e : Case) (t : Ticket) → active_ticket (memory_of place n e).active d ≡ Some t
+  pub active_was_joined : n.failed ≡ false → (d e : Case) (t : Ticket)
+      → active_ticket (memory_of place n e).active d ≡ Some t
       → (t.child ≡ place.me) × (sent (is_joined_message d t) net ≡ true)
-  pub promised_was_asked : (d : Case) → has (is_promise d) n.life ≡ true → sent (is_prepare_message d) net ≡ true
+  pub promised_was_asked : (d : Case) → has (is_promise d) n.life ≡ true
+      → sent (is_prepare_message d) net ≡ true
 
 -- A coordinator.
 
--- a record that passes the first test stands behind one that passes the second; the list has the oldest first
+-- a record that passes the first test stands behind one that passes the second; the list has the oldest
+-- first
 abbrev pub stands_behind : (Record → Bool) → (Record → Bool) → List Record → Bool
 stands_behind q r [] = false
 stands_behind q r (x ∷ xs) = (r x && has q xs) || stands_behind q r xs
@@ -160,7 +167,8 @@ pub record InOrder (c : Case) (rs : List Record) : Type 0 where
 
 -- whom decisions name
 abbrev pub NamesBy : Presumption → Case → List Record → Type 0
-NamesBy PresumeAbort c rs = (has (is_commit c) rs ≡ true → none_of (owing_by c rs) ≡ false) × (has (is_abort c) rs ≡ true → none_of (owing_by c rs) ≡ true)
+NamesBy PresumeAbort c rs = (has (is_commit c) rs ≡ true → none_of (owing_by c rs) ≡ false) ×
+    (has (is_abort c) rs ≡ true → none_of (owing_by c rs) ≡ true)
 NamesBy PresumeCommit c rs = has (is_commit c) rs ≡ true → none_of (owing_by c rs) ≡ true
 
 -- what a process remembers of itself is the same in each of its cases
@@ -172,28 +180,40 @@ pub record SameSelf (m m' : Memory) : Type 0 where
 
 pub record Coordinates (place : Place) (net : List Envelope) (n : Node) : Type 0 where
   pub alike : n.failed ≡ false → (c : Case) → IsOpenAlike place n c
-  pub votes : n.failed ≡ false → (c : Case) (t : Ticket) (v : Vote) → ((memory_of place n c).phase ≡ Open) ⊎ ((memory_of place n c).phase ≡ Asked)
+  pub votes : n.failed ≡ false → (c : Case) (t : Ticket) (v : Vote)
+      → ((memory_of place n c).phase ≡ Open) ⊎ ((memory_of place n c).phase ≡ Asked)
       → has_heard_vote n c t (is_vote v) ≡ voted_so v (memory_of place n c).votes t
-  pub remembered_accepted : (c : Case) (t : Ticket) → in_list (memory_of place n c).accepted t ≡ true → has_accepted n c t ≡ true
-  pub named_accepted : (c : Case) (t : Ticket) → has (is_naming c t) n.life ≡ true → has_accepted n c t ≡ true
-  pub voted_accepted : (c : Case) (t : Ticket) (v : Vote) → has_heard_vote n c t (is_vote v) ≡ true → has_accepted n c t ≡ true
-  pub accepted_was_joined : (c : Case) (t : Ticket) → has_accepted n c t ≡ true → (process_of c ≡ place.me) × (sent (is_joined_message c t) net ≡ true)
+  pub remembered_accepted : (c : Case) (t : Ticket) → in_list (memory_of place n c).accepted t ≡ true
+      → has_accepted n c t ≡ true
+  pub named_accepted : (c : Case) (t : Ticket) → has (is_naming c t) n.life ≡ true
+      → has_accepted n c t ≡ true
+  pub voted_accepted : (c : Case) (t : Ticket) (v : Vote) → has_heard_vote n c t (is_vote v) ≡ true
+      → has_accepted n c t ≡ true
+  pub accepted_was_joined : (c : Case) (t : Ticket) → has_accepted n c t ≡ true
+      → (process_of c ≡ place.me) × (sent (is_joined_message c t) net ≡ true)
   pub in_order : (c : Case) → InOrder c (kept n)
   pub names : (c : Case) → NamesBy c.txn.presumption c (kept n)
-  pub promise_names : (c : Case) → has (is_prepare c) (kept n) ≡ true → none_of (promised_by c (kept n)) ≡ false
-  pub open_has_no_commit : n.failed ≡ false → (c : Case) → ((memory_of place n c).phase ≡ Open) ⊎ ((memory_of place n c).phase ≡ Asked)
+  pub promise_names : (c : Case) → has (is_prepare c) (kept n) ≡ true
+      → none_of (promised_by c (kept n)) ≡ false
+  pub open_has_no_commit : n.failed ≡ false → (c : Case)
+      → ((memory_of place n c).phase ≡ Open) ⊎ ((memory_of place n c).phase ≡ Asked)
       → has (is_commit c) n.life ≡ false
 
 -- A cascaded coordinator keeps besides:
 pub record Cascades (place : Place) (net : List Envelope) (n : Node) : Type 0 where
-  pub accepted_is_given : (c : Case) (t : Ticket) → has_accepted n c t ≡ true → sent (gives_case c) net ≡ true
-  pub issued : (c : Case) → (memory_of place n c).phase ≢ Idle → has_case (memory_of place n (some_case place)).issued c ≡ true
-  pub idle_accepts_none : (c : Case) (t : Ticket) → (memory_of place n c).phase ≡ Idle → in_list (memory_of place n c).accepted t ≡ false
-  pub asked_was_prepared : n.failed ≡ false → (c : Case) → (memory_of place n c).phase ≡ Asked → sent (is_prepare_message c) net ≡ true
+  pub accepted_is_given : (c : Case) (t : Ticket) → has_accepted n c t ≡ true
+      → sent (gives_case c) net ≡ true
+  pub issued : (c : Case) → (memory_of place n c).phase ≢ Idle
+      → has_case (memory_of place n (some_case place)).issued c ≡ true
+  pub idle_accepts_none : (c : Case) (t : Ticket) → (memory_of place n c).phase ≡ Idle
+      → in_list (memory_of place n c).accepted t ≡ false
+  pub asked_was_prepared : n.failed ≡ false → (c : Case) → (memory_of place n c).phase ≡ Asked
+      → sent (is_prepare_message c) net ≡ true
 
 -- the root has begun the transaction, by all that is left of it
 abbrev pub has_begun : Place → Node → Txn → Bool
-has_begun place n x = is_begun (memory_of place n (root_case x)).phase || list_any (is_told_of_txn x) n.told || list_any (λ y. same_txn y x) n.found_undecided || has (is_commit (root_case x)) n.life
+has_begun place n x = is_begun (memory_of place n (root_case x)).phase || list_any (is_told_of_txn x) n.told
+    || list_any (λ y. same_txn y x) n.found_undecided || has (is_commit (root_case x)) n.life
 
 -- it never commits
 pub record NeverCommits (place : Place) (n : Node) (x : Txn) : Type 0 where
@@ -205,20 +225,27 @@ pub record NeverCommits (place : Place) (n : Node) (x : Txn) : Type 0 where
 -- The root keeps besides:
 pub record Begins (place : Place) (n : Node) : Type 0 where
   pub begun_once : n.failed ≡ false → (x : Txn) → has_begun place n x ≡ true
-      → (x.root ≡ place.me) × IsGivenOut x.boot x.sequence (boot_of (kept n)) (memory_of place n (some_case place)).begun
+      → (x.root ≡ place.me) × IsGivenOut x.boot x.sequence (boot_of (kept n))
+      (memory_of place n (some_case place)).begun
   pub begun_before : (x : Txn) → has_begun place n x ≡ true → x.boot ≤ boot_of n.forced
-  pub own_records : (d : Case) → has (is_record_of d) n.life ≡ true → (d.ticket ≡ None) × ((process_of d ≡ place.me) × (has_begun place n d.txn ≡ true))
-  pub accepted_is_begun : (d : Case) (t : Ticket) → has_accepted n d t ≡ true → (d.ticket ≡ None) × (has_begun place n d.txn ≡ true)
-  pub own_memory : (d : Case) → (memory_of place n d).phase ≢ Idle → (d.ticket ≡ None) × (process_of d ≡ place.me)
+  pub own_records : (d : Case) → has (is_record_of d) n.life ≡ true
+      → (d.ticket ≡ None) × ((process_of d ≡ place.me) × (has_begun place n d.txn ≡ true))
+  pub accepted_is_begun : (d : Case) (t : Ticket) → has_accepted n d t ≡ true
+      → (d.ticket ≡ None) × (has_begun place n d.txn ≡ true)
+  pub own_memory : (d : Case) → (memory_of place n d).phase ≢ Idle
+      → (d.ticket ≡ None) × (process_of d ≡ place.me)
   pub told_never_commits : (x : Txn) → list_any (is_told_aborted x) n.told ≡ true → NeverCommits place n x
-  pub aborted_never_commits : (x : Txn) → has (is_abort (root_case x)) n.life ≡ true → NeverCommits place n x
-  pub found_undecided_never_commits : (x : Txn) → list_any (λ y. same_txn y x) n.found_undecided ≡ true → NeverCommits place n x
+  pub aborted_never_commits : (x : Txn) → has (is_abort (root_case x)) n.life ≡ true
+      → NeverCommits place n x
+  pub found_undecided_never_commits : (x : Txn) → list_any (λ y. same_txn y x) n.found_undecided ≡ true
+      → NeverCommits place n x
 
 -- A manager.
 
 -- A manager keeps besides what lasts there:
 pub record Branches (place : Place) (n : Node) : Type 0 where
-  pub open_is_unmarked : n.failed ≡ false → (d : Case) → (memory_of place n d).phase ≡ Open → mark_of (CaseBranch d) (kept n) ≡ Unmarked
+  pub open_is_unmarked : n.failed ≡ false → (d : Case) → (memory_of place n d).phase ≡ Open
+      → mark_of (CaseBranch d) (kept n) ≡ Unmarked
   pub accepts_none : n.accepted ≡ []
 
 -- Any process.
@@ -244,7 +271,8 @@ abbrev pub GoesDown : List TreeEntry → Envelope → Case → Type 0
 GoesDown tree l d = (process_of d ≡ l.to) × IsChildRole (role_of tree l.to) l.from
 
 abbrev pub GoesBy : List TreeEntry → Envelope → Message → Type 0
-GoesBy tree l (Join d) = (process_of d ≡ l.from) × (IsParent tree d × IsChildRole (role_of tree l.to) l.from)
+GoesBy tree l (Join d) = (process_of d ≡ l.from) ×
+    (IsParent tree d × IsChildRole (role_of tree l.to) l.from)
 GoesBy tree l (Joined d t) = (t.child ≡ l.from) × ((process_of d ≡ l.to) × IsPair tree d t)
 GoesBy tree l (Work d i op) = GoesDown tree l d
 GoesBy tree l (Prepare d k) = GoesDown tree l d
@@ -276,7 +304,8 @@ is_about d (Inquire e) = same_case e d
 
 -- a ticket is given to one case
 abbrev pub JoinedOnce : List Envelope → Type 0
-JoinedOnce net = (c d : Case) (t : Ticket) → sent (is_joined_message c t) net ≡ true → sent (is_joined_message d t) net ≡ true → same_case c d ≡ true
+JoinedOnce net = (c d : Case) (t : Ticket) → sent (is_joined_message c t) net ≡ true
+    → sent (is_joined_message d t) net ≡ true → same_case c d ≡ true
 
 -- such a message names a case that was given
 abbrev pub AboutGiven : List Envelope → Type 0
@@ -294,4 +323,5 @@ pub record WorldHolds (tree : List TreeEntry) (w : World) : Type 0 where
 
 -- what was true for ever of each pair
 abbrev pub AllLater : List TreeEntry → World → World → Type 0
-AllLater tree w w' = (c : Case) (t : Ticket) → IsPair tree c t → IsFree w'.net c t → Later (pair_reading tree w c t) (pair_reading tree w' c t)
+AllLater tree w w' = (c : Case) (t : Ticket) → IsPair tree c t → IsFree w'.net c t
+    → Later (pair_reading tree w c t) (pair_reading tree w' c t)

@@ -53,7 +53,8 @@ module _ (s : Seat) where
       by_parent None e = tt
       by_parent (Some p) e = (upward p m e f, tt)
 
-  sent_down : (f : Ticket → Message) → ((t : Ticket) → IsForCase (child_case s.own.txn t) (f t)) → (ts : List Ticket)
+  sent_down : (f : Ticket → Message) → ((t : Ticket) → IsForCase (child_case s.own.txn t) (f t))
+      → (ts : List Ticket)
       → Sent (map (λ t. post s.me t.child (f t)) ts)
   sent_down f k [] = tt
   sent_down f k (t ∷ ts) = (down t (f t) (k t), sent_down f k ts)
@@ -65,7 +66,8 @@ module _ (s : Seat) where
   aborts_down ts = sent_down (λ t. Abort (child_case s.own.txn t)) (λ t. refl) ts
 
   prepares_down : (v : CoordinatorView) → Sent (prepares s v)
-  prepares_down v = sent_down (λ t. Prepare (child_case s.own.txn t) (works_of v.works t)) (λ t. refl) v.accepted
+  prepares_down v = sent_down (λ t. Prepare (child_case s.own.txn t) (works_of v.works t)) (λ t. refl)
+      v.accepted
 
   abort_up : (p : Presumption) → Sent (acknowledges_abort s p)
   abort_up PresumeAbort = tt
@@ -83,23 +85,34 @@ module _ (s : Seat) where
 
   commits_with : (v : CoordinatorView) (p : Presumption) → One (active_commit_with s v p)
   commits_with v PresumeAbort = (wrote_none, prepares_down v)
-  commits_with v PresumeCommit = (wrote_one (CollectingRecord s.own v.accepted) true refl refl, prepares_down v)
+  commits_with v PresumeCommit =
+      (wrote_one (CollectingRecord s.own v.accepted) true refl refl, prepares_down v)
 
-  commits_by : (v : CoordinatorView) (b : Bool) (p : Presumption) → One (if b then active_commit_alone s else active_commit_with s v p)
+  commits_by : (v : CoordinatorView) (b : Bool) (p : Presumption)
+      → One (if b then active_commit_alone s else active_commit_with s v p)
   commits_by v true p = (wrote_none, sent_up (Read s.own) refl)
   commits_by v false p = commits_with v p
 
   committed : (v : CoordinatorView) → One (active_commit s v)
   committed v = commits_by v (none_of v.accepted) s.own.txn.presumption
 
-  gave_up : (v : CoordinatorView) (p : Presumption) → Sent (acknowledges_abort s p ++ each s Abort v.accepted)
-  gave_up v p = sent_both (acknowledges_abort s p) (each s Abort v.accepted) (abort_up p) (aborts_down v.accepted)
+  gave_up : (v : CoordinatorView) (p : Presumption)
+      → Sent (acknowledges_abort s p ++ each s Abort v.accepted)
+  gave_up v p = sent_both (acknowledges_abort s p) (each s Abort v.accepted) (abort_up p)
+      (aborts_down v.accepted)
 
-  aborts_by : (why : Reason) (v : CoordinatorView) (us : List Ticket) (p : Presumption) → One (collecting_abort_by s why v us p)
-  aborts_by why v us PresumeAbort =
-      (wrote_one (AbortRecord s.own []) false refl refl, sent_both (abort_heard_above s why) (each s Abort us) (heard_above why) (aborts_down us))
-  aborts_by why v us PresumeCommit =
-      (wrote_one (AbortRecord s.own us) true refl refl, sent_both (abort_heard_above s why) (each s Abort us) (heard_above why) (aborts_down us))
+  aborts_by : (why : Reason) (v : CoordinatorView) (us : List Ticket) (p : Presumption)
+      → One (collecting_abort_by s why v us p)
+  aborts_by why v us PresumeAbort = (
+    wrote_one (AbortRecord s.own []) false refl refl,
+    sent_both (abort_heard_above s why)
+        (each s Abort us) (heard_above why) (aborts_down us),
+  )
+  aborts_by why v us PresumeCommit = (
+    wrote_one (AbortRecord s.own us) true refl refl,
+    sent_both (abort_heard_above s why)
+        (each s Abort us) (heard_above why) (aborts_down us),
+  )
 
   aborted : (why : Reason) (v : CoordinatorView) → One (collecting_abort s why v)
   aborted why v = aborts_by why v _ s.own.txn.presumption
@@ -116,7 +129,8 @@ module _ (s : Seat) where
   decided v ys None = roots v ys s.own.txn.presumption
   decided v ys (Some p) = (wrote_one (PrepareRecord s.own ys) true refl refl, sent_up (Yes s.own) refl)
 
-  full_by : (v : CoordinatorView) (ys : List Ticket) (b : Bool) → One (if b then collecting_read_only s else decides s v ys s.parent)
+  full_by : (v : CoordinatorView) (ys : List Ticket) (b : Bool)
+      → One (if b then collecting_read_only s else decides s v ys s.parent)
   full_by v ys true = (reads_only s.own.txn.presumption, sent_up (Read s.own) refl)
   full_by v ys false = decided v ys s.parent
 
@@ -146,25 +160,37 @@ module _ (s : Seat) where
   passes_commit : (v : CoordinatorView) (p : Presumption) → One (prepared_commit_by s v p)
   passes_commit v PresumeAbort = (
     wrote_one (CommitRecord s.own v.promised) true refl refl,
-    sent_both (up s (Ack s.own CommittedOutcome)) (each s Commit v.promised) (sent_up (Ack s.own CommittedOutcome) refl) (commits_down v.promised),
+    sent_both (up s (Ack s.own CommittedOutcome)) (each s Commit v.promised)
+        (sent_up (Ack s.own CommittedOutcome) refl) (commits_down v.promised),
   )
-  passes_commit v PresumeCommit = (wrote_one (CommitRecord s.own []) false refl refl, commits_down v.promised)
+  passes_commit v PresumeCommit =
+      (wrote_one (CommitRecord s.own []) false refl refl, commits_down v.promised)
 
   passes_abort : (v : CoordinatorView) (p : Presumption) → One (prepared_abort_by s v p)
   passes_abort v PresumeAbort = (wrote_one (AbortRecord s.own []) false refl refl, aborts_down v.promised)
   passes_abort v PresumeCommit = (
     wrote_one (AbortRecord s.own v.promised) true refl refl,
-    sent_both (up s (Ack s.own AbortedOutcome)) (each s Abort v.promised) (sent_up (Ack s.own AbortedOutcome) refl) (aborts_down v.promised),
+    sent_both (up s (Ack s.own AbortedOutcome)) (each s Abort v.promised)
+        (sent_up (Ack s.own AbortedOutcome) refl) (aborts_down v.promised),
   )
 
   ends_by : (left : List Ticket) (v : CoordinatorView) (b : Bool)
       → One (if b
-      then record { written = plain (EndRecord s.own); told = None; messages = []; accepts = []; counts = []; view = unknown_view }
+      then record {
+        written = plain (EndRecord s.own);
+        told = None;
+        messages = [];
+        accepts = [];
+        counts =
+            [];
+        view = unknown_view;
+      }
       else quiet (record v { owed = left }))
   ends_by left v true = (wrote_one (EndRecord s.own) false refl refl, tt)
   ends_by left v false = (wrote_none, tt)
 
-  acked_by : (t : Ticket) (v : CoordinatorView) (b : Bool) → One (if b then decided_ack_by s (other_tickets t v.owed) v else quiet v)
+  acked_by : (t : Ticket) (v : CoordinatorView) (b : Bool)
+      → One (if b then decided_ack_by s (other_tickets t v.owed) v else quiet v)
   acked_by t v true = ends_by (other_tickets t v.owed) v (none_of (other_tickets t v.owed))
   acked_by t v false = (wrote_none, tt)
 
@@ -218,7 +244,8 @@ module _ (s : Seat) where
   inquired : (t : Ticket) (v : CoordinatorView) (st : Standing) → One (on_inquiry s t v st)
   inquired t v Committing = (wrote_none, (down t (Commit (child_case s.own.txn t)) refl, tt))
   inquired t v Aborting = (wrote_none, (down t (Abort (child_case s.own.txn t)) refl, tt))
-  inquired t v Unknown = (wrote_none, (down t _ (tells_child (presumed s.own.txn.presumption) (child_case s.own.txn t)), tt))
+  inquired t v Unknown =
+      (wrote_none, (down t _ (tells_child (presumed s.own.txn.presumption) (child_case s.own.txn t)), tt))
   inquired t v Active = (wrote_none, tt)
   inquired t v Collecting = (wrote_none, tt)
   inquired t v Prepared = (wrote_none, tt)
@@ -228,7 +255,8 @@ abbrev Silent : Row → Type 0
 Silent r = (r.written ≡ []) × (r.messages ≡ [])
 
 takes_by : (t : Ticket) (v u : CoordinatorView) (b : Bool)
-    → Silent (if b then quiet v else record { written = []; told = None; messages = []; accepts = t ∷ []; counts = []; view = u })
+    → Silent (if b then quiet v else record
+    { written = []; told = None; messages = []; accepts = t ∷ []; counts = []; view = u })
 takes_by t v u true = (refl, refl)
 takes_by t v u false = (refl, refl)
 
@@ -266,27 +294,35 @@ module _ (place : Place) (parent : Option ProcessId) (n : Node) where
       act_row r one = for_act a c refl known one.0 one.1
 
       joins_by : (q : ProcessId) (v : CoordinatorView) (b k : Bool)
-          → W (ActInput a) (if k then Does (row_effect c (if b then quiet v else sends (post place.me q (Join c) ∷ []) v)) else Refused NotAChild)
+          → W (ActInput a) (if k then Does
+          (row_effect c (if b then quiet v else sends (post place.me q (Join c) ∷ []) v)) else Refused
+          NotAChild)
       joins_by q v true true = act_row (quiet v) (wrote_none, tt)
-      joins_by q v false true = act_row (sends (post place.me q (Join c) ∷ []) v) (wrote_none, (invites q, tt))
+      joins_by q v false true = act_row (sends (post place.me q (Join c) ∷ []) v)
+          (wrote_none, (invites q, tt))
       joins_by q v b false = tt
 
       works_if : (t : Ticket) (op : Op) (v : CoordinatorView) (b : Bool)
           → W (ActInput a) (if b then Does (row_effect c (active_work s t op v)) else Refused NotAChild)
       works_if t op v true =
-          act_row (active_work s t op v) (wrote_none, (down t (Work (child_case c.txn t) (works_of v.works t + 1) op) refl, tt))
+          act_row (active_work s t op v)
+          (wrote_none, (down t (Work (child_case c.txn t) (works_of v.works t + 1) op) refl, tt))
       works_if t op v false = tt
 
-      works_for : (op : Op) (v : CoordinatorView) (t : Option Ticket) → W (ActInput a) (work_for s place.tree op v t)
+      works_for : (op : Op) (v : CoordinatorView) (t : Option Ticket)
+          → W (ActInput a) (work_for s place.tree op v t)
       works_for op v None = tt
       works_for op v (Some t) = works_if t op v (is_leaf (role_of place.tree t.child))
 
-    is_known : (st : Standing) → (coordinator_view place n c).standing ≡ st → st ≢ Unknown → (coordinator_view place n c).standing ≢ Unknown
+    is_known : (st : Standing) → (coordinator_view place n c).standing ≡ st → st ≢ Unknown
+        → (coordinator_view place n c).standing ≢ Unknown
     is_known st e f g = f (sym e ∙ g)
 
-    joins : (q : ProcessId) (v : CoordinatorView) (st : Standing) → (coordinator_view place n c).standing ≡ st
+    joins : (q : ProcessId) (v : CoordinatorView) (st : Standing)
+        → (coordinator_view place n c).standing ≡ st
         → W (ActInput a) (join_by s place.tree q v st)
-    joins q v Active e = joins_by (is_known Active e (λ f. cc)) q v (has_child v.accepted q) (is_child place.tree q place.me)
+    joins q v Active e = joins_by (is_known Active e (λ f. cc)) q v (has_child v.accepted q)
+        (is_child place.tree q place.me)
     joins q v Unknown e = tt
     joins q v Collecting e = tt
     joins q v Prepared e = tt
@@ -294,7 +330,8 @@ module _ (place : Place) (parent : Option ProcessId) (n : Node) where
     joins q v Aborting e = tt
     joins q v Heuristic e = tt
 
-    works : (q : ProcessId) (op : Op) (v : CoordinatorView) (st : Standing) → (coordinator_view place n c).standing ≡ st
+    works : (q : ProcessId) (op : Op) (v : CoordinatorView) (st : Standing)
+        → (coordinator_view place n c).standing ≡ st
         → W (ActInput a) (work_by s place.tree q op v st)
     works q op v Active e = works_for (is_known Active e (λ f. cc)) op v (ticket_of_child v.accepted q)
     works q op v Unknown e = tt
@@ -304,7 +341,8 @@ module _ (place : Place) (parent : Option ProcessId) (n : Node) where
     works q op v Aborting e = tt
     works q op v Heuristic e = tt
 
-    commits : (v : CoordinatorView) (st : Standing) → (coordinator_view place n c).standing ≡ st → W (ActInput a) (commit_by s v st)
+    commits : (v : CoordinatorView) (st : Standing) → (coordinator_view place n c).standing ≡ st
+        → W (ActInput a) (commit_by s v st)
     commits v Active e = act_row (is_known Active e (λ f. cc)) (active_commit s v) (committed s v)
     commits v Unknown e = tt
     commits v Collecting e = tt
@@ -313,16 +351,20 @@ module _ (place : Place) (parent : Option ProcessId) (n : Node) where
     commits v Aborting e = tt
     commits v Heuristic e = tt
 
-    aborts : (v : CoordinatorView) (st : Standing) → (coordinator_view place n c).standing ≡ st → W (ActInput a) (abort_by s v st)
-    aborts v Active e = act_row (is_known Active e (λ f. cc)) (active_abort s v) (wrote_none, gave_up s v c.txn.presumption)
-    aborts v Collecting e = act_row (is_known Collecting e (λ f. cc)) (collecting_abort s ByAct v) (aborted s ByAct v)
+    aborts : (v : CoordinatorView) (st : Standing) → (coordinator_view place n c).standing ≡ st
+        → W (ActInput a) (abort_by s v st)
+    aborts v Active e = act_row (is_known Active e (λ f. cc)) (active_abort s v)
+        (wrote_none, gave_up s v c.txn.presumption)
+    aborts v Collecting e = act_row (is_known Collecting e (λ f. cc)) (collecting_abort s ByAct v)
+        (aborted s ByAct v)
     aborts v Unknown e = tt
     aborts v Prepared e = tt
     aborts v Committing e = tt
     aborts v Aborting e = tt
     aborts v Heuristic e = tt
 
-    asks : (v : CoordinatorView) (st : Standing) → (coordinator_view place n c).standing ≡ st → W (ActInput a) (ask_by s v st)
+    asks : (v : CoordinatorView) (st : Standing) → (coordinator_view place n c).standing ≡ st
+        → W (ActInput a) (ask_by s v st)
     asks v Prepared e =
         act_row (is_known Prepared e (λ f. cc)) (prepared_ask s v) (wrote_none, sent_up s (Inquire c) refl)
     asks v Unknown e = tt
@@ -344,9 +386,12 @@ module _ (place : Place) (parent : Option ProcessId) (n : Node) where
   pub act_writes : (a : Act) → W (ActInput a) (coordinator_acts place parent n a)
   act_writes (Begin p) = begins p parent (ActInput (Begin p))
   act_writes (JoinAct c q) = let v = coordinator_view place n c in joins (JoinAct c q) c q v v.standing refl
-  act_writes (WorkAct c q op) = let v = coordinator_view place n c in works (WorkAct c q op) c q op v v.standing refl
-  act_writes (CommitAct x) = let v = coordinator_view place n (root_case x) in commits (CommitAct x) (root_case x) v v.standing refl
-  act_writes (AbortAct x) = let v = coordinator_view place n (root_case x) in aborts (AbortAct x) (root_case x) v v.standing refl
+  act_writes (WorkAct c q op) = let v = coordinator_view place n c in works (WorkAct c q op) c q op v
+      v.standing refl
+  act_writes (CommitAct x) = let v = coordinator_view place n (root_case x) in commits (CommitAct x)
+      (root_case x) v v.standing refl
+  act_writes (AbortAct x) = let v = coordinator_view place n (root_case x) in aborts (AbortAct x)
+      (root_case x) v v.standing refl
   act_writes (Ask c) = let v = coordinator_view place n c in asks (Ask c) c v v.standing refl
   act_writes (Decide c o) = lives NotInDoubt (ActInput (Decide c o)) (coordinator_view place n c).standing
   act_writes (Forget c) = lives NothingToForget (ActInput (Forget c)) (coordinator_view place n c).standing
@@ -362,32 +407,38 @@ module _ (place : Place) (parent : Option ProcessId) (n : Node) where
   votes i x t w None e = writes_nothing refl refl
   votes i x t w (Some c) e =
       let v = coordinator_view place n c in
-      child_row i c x t e (on_vote (seat_of place parent c) t w v v.standing) (voted (seat_of place parent c) t w v v.standing)
+      child_row i c x t e (on_vote (seat_of place parent c) t w v v.standing)
+      (voted (seat_of place parent c) t w v v.standing)
 
-  acknowledges : (i : Input) (x : Txn) (t : Ticket) (o : Outcome) (d : Option Case) → case_of_child place n x t ≡ d
+  acknowledges : (i : Input) (x : Txn) (t : Ticket) (o : Outcome) (d : Option Case)
+      → case_of_child place n x t ≡ d
       → W i (Does (ack_for place parent n t o d))
   acknowledges i x t o None e = writes_nothing refl refl
   acknowledges i x t o (Some c) e =
       let v = coordinator_view place n c in
-      child_row i c x t e (on_ack (seat_of place parent c) t o v v.standing) (acked (seat_of place parent c) t o v v.standing)
+      child_row i c x t e (on_ack (seat_of place parent c) t o v v.standing)
+      (acked (seat_of place parent c) t o v v.standing)
 
   inquires : (i : Input) (x : Txn) (t : Ticket) (o : Option Case) → case_of_child place n x t ≡ o
       → W i (Does (inquiry_for place parent n x t o))
   inquires i x t None e = presumes x t (presumed x.presumption) refl refl
   inquires i x t (Some c) e =
       let v = coordinator_view place n c in
-      child_row i c x t e (on_inquiry (seat_of place parent c) t v v.standing) (inquired (seat_of place parent c) t v v.standing)
+      child_row i c x t e (on_inquiry (seat_of place parent c) t v v.standing)
+      (inquired (seat_of place parent c) t v v.standing)
 
   says : (i : Input) (x : Txn) (u : Option Ticket) (f : Ticket → Effect) → ((t : Ticket) → W i (Does (f t)))
       → W i (Does (child_says (record { txn = x; ticket = u }) f))
   says i x None f g = writes_nothing refl refl
   says i x (Some t) f g = g t
 
-  joined_takes : (i : Input) (d : Case) (t : Ticket) (v : CoordinatorView) (st : Standing) → W i (Does (row_effect d (on_joined t v st)))
+  joined_takes : (i : Input) (d : Case) (t : Ticket) (v : CoordinatorView) (st : Standing)
+      → W i (Does (row_effect d (on_joined t v st)))
   joined_takes i d t v st = let k = takes t v st in writes_nothing k.0 k.1
 
   pub child_writes : (j : ℕ) (m : Message) → W (MessageInput j m) (Does (hears_from_child place parent n m))
-  child_writes j (Joined d t) = let v = coordinator_view place n d in joined_takes (MessageInput j (Joined d t)) d t v v.standing
+  child_writes j (Joined d t) = let v = coordinator_view place n d in joined_takes
+      (MessageInput j (Joined d t)) d t v v.standing
   child_writes j (Yes d) = says (MessageInput j (Yes d)) d.txn d.ticket _
       (λ t. votes (MessageInput j (Yes d)) d.txn t VoteYes (case_of_child place n d.txn t) refl)
   child_writes j (No d) = says (MessageInput j (No d)) d.txn d.ticket _
@@ -412,7 +463,8 @@ module _ (place : Place) (p : ProcessId) (n : Node) where
   gives_by i d m None = gives p d _ refl refl
   gives_by i d m (Some t) = gives p d t refl refl
 
-  parent_row : (d : Case) (j : ℕ) (m : Message) → IsForCase d m → (r : Row) → One (seat_of place (Some p) d) r
+  parent_row : (d : Case) (j : ℕ) (m : Message) → IsForCase d m → (r : Row)
+      → One (seat_of place (Some p) d) r
       → V (MessageInput j m) (row_effect d r)
   parent_row d j m f r one = for_parent d j m refl f one.0 one.1
 
@@ -421,13 +473,16 @@ module _ (place : Place) (p : ProcessId) (n : Node) where
       let m = memory_of place n d in gives_by (MessageInput j (Join d)) d m (active_ticket m.active d)
   cascaded_writes j (Prepare d k) =
       let v = coordinator_view place n d in
-      parent_row d j (Prepare d k) refl (on_prepare (seat_of place (Some p) d) v v.standing) (on_prepares (seat_of place (Some p) d) v v.standing)
+      parent_row d j (Prepare d k) refl (on_prepare (seat_of place (Some p) d) v v.standing)
+      (on_prepares (seat_of place (Some p) d) v v.standing)
   cascaded_writes j (Commit d) =
       let v = coordinator_view place n d in
-      parent_row d j (Commit d) refl (on_commit (seat_of place (Some p) d) v v.standing) (on_commits (seat_of place (Some p) d) v v.standing)
+      parent_row d j (Commit d) refl (on_commit (seat_of place (Some p) d) v v.standing)
+      (on_commits (seat_of place (Some p) d) v v.standing)
   cascaded_writes j (Abort d) =
       let v = coordinator_view place n d in
-      parent_row d j (Abort d) refl (on_abort (seat_of place (Some p) d) v v.standing) (on_aborts (seat_of place (Some p) d) v v.standing)
+      parent_row d j (Abort d) refl (on_abort (seat_of place (Some p) d) v v.standing)
+      (on_aborts (seat_of place (Some p) d) v v.standing)
   cascaded_writes j (Joined d t) = child_writes place (Some p) n j (Joined d t)
   cascaded_writes j (Work d k op) = child_writes place (Some p) n j (Work d k op)
   cascaded_writes j (Yes d) = child_writes place (Some p) n j (Yes d)

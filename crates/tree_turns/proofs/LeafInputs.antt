@@ -57,7 +57,8 @@ module _ (place : Place) (p : ProcessId) (n : Node) (h : Heard) where
     unknown : (k : Mark) → Seen k → (marked_branch m k).standing ≡ Unknown → IsUnknown place n d
     unknown k s e = ap (λ (v : ManagerView). v.standing) s.view ∙ e
 
-    unheard : (ph : Phase) → Seen Unmarked → m.phase ≡ ph → (heard_branch m ph).standing ≡ Unknown → IsUnknown place n d
+    unheard : (ph : Phase) → Seen Unmarked → m.phase ≡ ph → (heard_branch m ph).standing ≡ Unknown
+        → IsUnknown place n d
     unheard ph s e f = unknown Unmarked s (ap (λ (x : Phase). (heard_branch m x).standing) e ∙ f)
 
     -- PREPARE.
@@ -72,7 +73,8 @@ module _ (place : Place) (p : ProcessId) (n : Node) (h : Heard) where
     prepares_by k i a x true = held k i a x
     prepares_by k i a x false = votes_no d k i a
 
-    prepared_heard : (k : ℕ) (x : Holding) → Hears h (Prepare d k) → Seen Unmarked → (ph : Phase) → m.phase ≡ ph
+    prepared_heard : (k : ℕ) (x : Holding) → Hears h (Prepare d k) → Seen Unmarked → (ph : Phase)
+        → m.phase ≡ ph
         → T (leaf_effect (on_prepare here k x (heard_branch m ph) (heard_branch m ph).standing))
     prepared_heard k x i s Open e =
         prepares_by k i (record { unmarked = s.mark; is_open = e }) x ((m.done == k) && not m.spoiled)
@@ -84,19 +86,22 @@ module _ (place : Place) (p : ProcessId) (n : Node) (h : Heard) where
         → T (leaf_effect (on_prepare here j x (marked_branch m k) (marked_branch m k).standing))
     prepared_seen j x i Unmarked s = prepared_heard j x i s m.phase refl
     prepared_seen j x i Promised s = repeats_yes d j i (subst IsOpenBranch (sym s.mark) waits)
-    prepared_seen j x i Decided s = repeats_yes d j i (subst IsOpenBranch (sym s.mark) (by_operator Decided untold))
+    prepared_seen j x i Decided s = repeats_yes d j i
+        (subst IsOpenBranch (sym s.mark) (by_operator Decided untold))
     prepared_seen j x i (ToldOf o) s =
         repeats_yes d j i (subst IsOpenBranch (sym s.mark) (by_operator (ToldOf o) (told o)))
     prepared_seen j x i Finished s = refuses d j i (unknown Finished s refl)
 
     -- An outcome.
 
-    heard_again : (o u : Outcome) → Hears h (tells_outcome o d) → mark_at n d ≡ ToldOf u → (b : Bool) → same_outcome u o ≡ b
+    heard_again : (o u : Outcome) → Hears h (tells_outcome o d) → mark_at n d ≡ ToldOf u → (b : Bool)
+        → same_outcome u o ≡ b
         → T (leaf_effect (if b
         then record { written = []; messages = acknowledgement here o; view = marked_branch m (ToldOf u) }
         else leaf.unmoved (marked_branch m (ToldOf u))))
     heard_again o u i s true e =
-        acknowledges_told d o i (s ∙ ap (λ x. ToldOf x) (let t = same_outcome_tells u o in grind (arith, t, e)))
+        acknowledges_told d o i
+        (s ∙ ap (λ x. ToldOf x) (let t = same_outcome_tells u o in grind (arith, t, e)))
     heard_again o u i s false e = does_nothing
 
     committed_heard : Hears h (Commit d) → Seen Unmarked → (ph : Phase) → m.phase ≡ ph
@@ -111,7 +116,8 @@ module _ (place : Place) (p : ProcessId) (n : Node) (h : Heard) where
     committed_seen i Unmarked s = committed_heard i s m.phase refl
     committed_seen i Promised s = obeys d CommittedOutcome i s.mark
     committed_seen i Decided s = notes d CommittedOutcome i s.mark
-    committed_seen i (ToldOf u) s = heard_again CommittedOutcome u i s.mark (same_outcome u CommittedOutcome) refl
+    committed_seen i (ToldOf u) s = heard_again CommittedOutcome u i s.mark
+        (same_outcome u CommittedOutcome) refl
     committed_seen i Finished s = acknowledges d CommittedOutcome i (unknown Finished s refl)
 
     aborted_heard : Hears h (Abort d) → Seen Unmarked → (ph : Phase) → m.phase ≡ ph
@@ -131,7 +137,8 @@ module _ (place : Place) (p : ProcessId) (n : Node) (h : Heard) where
 
     -- WORK says nothing.
 
-    works_by : (b c : Bool) (v w x : ManagerView) → T (leaf_effect (if b then leaf.unmoved (if c then v else w) else leaf.unmoved x))
+    works_by : (b c : Bool) (v w x : ManagerView)
+        → T (leaf_effect (if b then leaf.unmoved (if c then v else w) else leaf.unmoved x))
     works_by true c v w x = does_nothing
     works_by false c v w x = does_nothing
 
@@ -146,7 +153,8 @@ module _ (place : Place) (p : ProcessId) (n : Node) (h : Heard) where
 
     -- JOIN.
 
-    joined : Hears h (Join d) → (b : Bool) → h.data_answer.starts ≡ b → (o : Option Ticket) → active_ticket m.active d ≡ o
+    joined : Hears h (Join d) → (b : Bool) → h.data_answer.starts ≡ b → (o : Option Ticket)
+        → active_ticket m.active d ≡ o
         → T (leaf_joins place p n d m b o)
     joined i true b (Some t) a = gives_again d t i a
     joined i false b (Some t) a = gives_again d t i a
@@ -170,7 +178,8 @@ module _ (place : Place) (p : ProcessId) (n : Node) (h : Heard) where
     asked_seen i (ToldOf o) s = tt
     asked_seen i Finished s = tt
 
-    decided_heard : (o : Outcome) (ph : Phase) → TurnsBy place p n h (decide_by here o (heard_branch m ph).standing)
+    decided_heard : (o : Outcome) (ph : Phase)
+        → TurnsBy place p n h (decide_by here o (heard_branch m ph).standing)
     decided_heard o Idle = tt
     decided_heard o Open = tt
     decided_heard o Asked = tt
@@ -223,14 +232,17 @@ module _ (place : Place) (p : ProcessId) (n : Node) (h : Heard) where
       subst (λ (v : ManagerView). TurnsBy place p n h (forget_by (leaf_of place p d) v.standing))
       (sym (viewed place n d)) (forgot_seen d i (mark_at n d) (seen d (mark_at n d) refl))
 
-  pub message_turn : (j : ℕ) (x : Message) → h.input ≡ MessageInput j x → T (manager_hears place p n h.data_answer x)
+  pub message_turn : (j : ℕ) (x : Message) → h.input ≡ MessageInput j x
+      → T (manager_hears place p n h.data_answer x)
   message_turn j (Join d) i =
       joined d (j, i) h.data_answer.starts refl (active_ticket (memory_of place n d).active d) refl
   message_turn j (Work d k op) i =
       let v = manager_view place n d in worked d k h.data_answer.does v v.standing
   message_turn j (Prepare d k) i =
-      subst (λ (v : ManagerView). T (leaf_effect (on_prepare (leaf_of place p d) k h.data_answer.holding v v.standing)))
-      (sym (viewed place n d)) (prepared_seen d k h.data_answer.holding (j, i) (mark_at n d) (seen d (mark_at n d) refl))
+      subst (λ (v : ManagerView). T
+      (leaf_effect (on_prepare (leaf_of place p d) k h.data_answer.holding v v.standing)))
+      (sym (viewed place n d))
+      (prepared_seen d k h.data_answer.holding (j, i) (mark_at n d) (seen d (mark_at n d) refl))
   message_turn j (Commit d) i =
       subst (λ (v : ManagerView). T (leaf_effect (on_commit (leaf_of place p d) v v.standing)))
       (sym (viewed place n d)) (committed_seen d (j, i) (mark_at n d) (seen d (mark_at n d) refl))

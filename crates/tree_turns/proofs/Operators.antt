@@ -36,7 +36,8 @@ abbrev pub any_written : (Record → Bool) → List Written → Bool
 any_written q ws = list_any (λ w. q w.entry) ws
 
 -- a front of them passes no other test
-pub any_taken : (q : Record → Bool) (k : ℕ) (ws : List Written) → any_written q (take k ws) ≡ true → any_written q ws ≡ true
+pub any_taken : (q : Record → Bool) (k : ℕ) (ws : List Written) → any_written q (take k ws) ≡ true
+    → any_written q ws ≡ true
 any_taken q zero ws e = absurd (cc)
 any_taken q (suc k) [] e = e
 any_taken q (suc k) (w ∷ ws) e = elim (either (q w.entry) (any_written q (take k ws)) e) [
@@ -68,7 +69,8 @@ has_one : (q : Record → Bool) (r : Record) → q r ≡ false → has q (r ∷ 
 unfolding has
 has_one q r e = rw e refl
 
-has_first : (q : Record → Bool) (r : Record) (rs : List Record) → q r ≡ false → has q rs ≡ false → has q (r ∷ rs) ≡ false
+has_first : (q : Record → Bool) (r : Record) (rs : List Record) → q r ≡ false → has q rs ≡ false
+    → has q (r ∷ rs) ≡ false
 unfolding has
 has_first q r rs e f = rw (e, f) refl
 
@@ -83,7 +85,8 @@ aborts_none q none c v Committing = refl
 aborts_none q none c v Aborting = refl
 aborts_none q none c v Heuristic = refl
 
-all_none : (q : Record → Bool) → ((c : Case) (ts : List Ticket) → q (AbortRecord c ts) ≡ false) → (rs : List Record) (cs : List Case)
+all_none : (q : Record → Bool) → ((c : Case) (ts : List Ticket) → q (AbortRecord c ts) ≡ false)
+    → (rs : List Record) (cs : List Case)
     → has q (flat_map (aborts_collecting rs) cs) ≡ false
 unfolding has
 all_none q none rs [] = refl
@@ -94,7 +97,8 @@ all_none q none rs (c ∷ cs) =
     both : (a b : Bool) → a ≡ false → b ≡ false → (a || b) ≡ false
     both a b e f = grind arith
 
-pub reopens_none : (q : Record → Bool) → ((c : Case) (ts : List Ticket) → q (AbortRecord c ts) ≡ false) → ((k : ℕ) → q (Opened k) ≡ false)
+pub reopens_none : (q : Record → Bool) → ((c : Case) (ts : List Ticket) → q (AbortRecord c ts) ≡ false)
+    → ((k : ℕ) → q (Opened k) ≡ false)
     → (role : Role) (rs : List Record) → has q (reopens role rs) ≡ false
 reopens_none q none first (AtLeaf p) rs = has_one q _ (first _)
 reopens_none q none first AtRoot rs = has_first q _ _ (first _) (all_none q none rs (cases_in rs))
@@ -115,7 +119,8 @@ module _ (q : Record → Bool) (i : Input) (own : OperatorsOwn q i) where
   at_most_one c _ wrote_none = refl
   at_most_one c _ (wrote_one r b of kind) = rw (own.coordinators r kind) refl
 
-  wrote : (place : Place) (parent : Option ProcessId) (n : Node) (j : Input) (ws : List Written) (ls : List Envelope)
+  wrote : (place : Place) (parent : Option ProcessId) (n : Node) (j : Input) (ws : List Written)
+      (ls : List Envelope)
       → Writes place parent n j ws ls → any_written q ws ≡ false
   wrote place parent n j ws ls (writes_nothing e f) = rw e refl
   wrote place parent n j ws ls (for_act a c e f one sent) = at_most_one c ws one
@@ -127,24 +132,30 @@ module _ (q : Record → Bool) (i : Input) (own : OperatorsOwn q i) where
   by_role : (role : Role) (place : Place) (n : Node) (h : Heard) (e : Effect) → TurnAt role place n h e
       → any_written q e.written ≡ true → h.input ≡ i
   by_role AtRoot place n h e t f = absurd (let g = wrote place None n h.input e.written e.messages t in cc)
-  by_role (Below p) place n h e t f = absurd (let g = wrote place (Some p) n h.input e.written e.messages t in cc)
+  by_role (Below p) place n h e t f = absurd
+      (let g = wrote place (Some p) n h.input e.written e.messages t in cc)
   by_role (AtLeaf p) place n h e t f = own.leaf place p n h e t f
 
   pub by_step : (place : Place) (n : Node) (m : Move) (e : Effect) (k : Node) → StepOf place n m e k
       → any_written q e.written ≡ true → m.step.happening ≡ Handles i
   by_step place n m _ _ (handled j g hp np r) f =
-      hp ∙ ap (λ x. Handles x) (by_role place.role place n (heard_in m j) g (turn_of place n (heard_in m j) g r).turn f)
+      hp ∙ ap (λ x. Handles x)
+      (by_role place.role place n (heard_in m j) g (turn_of place n (heard_in m j) g r).turn f)
   by_step place n m _ _ (failed_in j ft g fl hp np r) f =
       hp ∙ ap (λ x. Handles x)
-      (by_role place.role place n (heard_in m j) g (turn_of place n (heard_in m j) g r).turn (any_taken q ft.appended g.written f))
+      (by_role place.role place n (heard_in m j) g (turn_of place n (heard_in m j) g r).turn
+      (any_taken q ft.appended g.written f))
   by_step place n m _ _ (passed j hp r) f = absurd (cc)
   by_step place n m _ _ (failed_passing j ft fl hp r) f = absurd (cc)
-  by_step place n m _ _ (reopened k hp) f = absurd (reopened_so _ (any_forced q (reopens place.role _) ∙ reopens_none q own.aborted own.opened place.role _) f)
+  by_step place n m _ _ (reopened k hp) f = absurd
+      (reopened_so _ (any_forced q (reopens place.role _) ∙ reopens_none q own.aborted own.opened place.role
+      _) f)
     where
       reopened_so : (b : Bool) → b ≡ false → b ≡ true → ⊥
       reopened_so b e f = cc
   by_step place n m _ _ (failed_reopening k ft fl hp) f =
-      absurd (not_both _ (any_forced q (reopens place.role _) ∙ reopens_none q own.aborted own.opened place.role _)
+      absurd (not_both _ (any_forced q (reopens place.role _) ∙ reopens_none q own.aborted own.opened
+      place.role _)
       (any_taken q ft.appended (forced_all (reopens place.role _)) f))
     where
       not_both : (b : Bool) → b ≡ false → b ≡ true → ⊥
@@ -154,16 +165,20 @@ module _ (q : Record → Bool) (i : Input) (own : OperatorsOwn q i) where
 
 -- An operator's decision.
 
-decided_tells : (c : Case) (o : Outcome) (l : Leaf) (u : Outcome) → is_decided c o (decides_record l u) ≡ true → (l.own ≡ c) × (u ≡ o)
-decided_tells c CommittedOutcome l CommittedOutcome e = (let t = same_case_tells l.own c in grind (arith, t), refl)
-decided_tells c AbortedOutcome l AbortedOutcome e = (let t = same_case_tells l.own c in grind (arith, t), refl)
+decided_tells : (c : Case) (o : Outcome) (l : Leaf) (u : Outcome)
+    → is_decided c o (decides_record l u) ≡ true → (l.own ≡ c) × (u ≡ o)
+decided_tells c CommittedOutcome l CommittedOutcome e =
+    (let t = same_case_tells l.own c in grind (arith, t), refl)
+decided_tells c AbortedOutcome l AbortedOutcome e =
+    (let t = same_case_tells l.own c in grind (arith, t), refl)
 decided_tells c CommittedOutcome l AbortedOutcome e = absurd (cc)
 decided_tells c AbortedOutcome l CommittedOutcome e = absurd (cc)
 
 alone : (b : Bool) → (b || false) ≡ true → b ≡ true
 alone b e = grind arith
 
-no_decision_ends : (c : Case) (o : Outcome) (l : Leaf) (u : Outcome) → is_decided c o (ends_record l u) ≡ false
+no_decision_ends : (c : Case) (o : Outcome) (l : Leaf) (u : Outcome)
+    → is_decided c o (ends_record l u) ≡ false
 no_decision_ends c CommittedOutcome l CommittedOutcome = refl
 no_decision_ends c CommittedOutcome l AbortedOutcome = refl
 no_decision_ends c AbortedOutcome l CommittedOutcome = refl
@@ -172,7 +187,8 @@ no_decision_ends c AbortedOutcome l AbortedOutcome = refl
 never : (a : Bool) → a ≡ false → (a || false) ≡ true → ⊥
 never a e f = grind arith
 
-leaf_decides : (c : Case) (o : Outcome) (place : Place) (p : ProcessId) (n : Node) (h : Heard) (e : Effect) → LeafTurn place p n h e
+leaf_decides : (c : Case) (o : Outcome) (place : Place) (p : ProcessId) (n : Node) (h : Heard) (e : Effect)
+    → LeafTurn place p n h e
     → any_written (is_decided c o) e.written ≡ true → h.input ≡ ActInput (Decide c o)
 leaf_decides c o place p n h _ (decides d u i k) f =
     let t = decided_tells c o (record { me = place.me; parent = p; own = d }) u (alone _ f) in
@@ -197,7 +213,8 @@ leaf_decides c o place p n h _ (acknowledges d u i k) f = absurd (cc)
 leaf_decides c o place p n h _ (drops d i a) f = absurd (cc)
 leaf_decides c o place p n h _ (asks d i k) f = absurd (cc)
 
-no_decision_by_coordinators : (c : Case) (o : Outcome) (r : Record) → is_coordinators r ≡ true → is_decided c o r ≡ false
+no_decision_by_coordinators : (c : Case) (o : Outcome) (r : Record) → is_coordinators r ≡ true
+    → is_decided c o r ≡ false
 no_decision_by_coordinators c CommittedOutcome r e = grind arith
 no_decision_by_coordinators c AbortedOutcome r e = grind arith
 
@@ -205,7 +222,8 @@ no_decision_opens : (c : Case) (o : Outcome) (k : ℕ) → is_decided c o (Opene
 no_decision_opens c CommittedOutcome k = refl
 no_decision_opens c AbortedOutcome k = refl
 
-no_decision_aborts : (c : Case) (o : Outcome) (d : Case) (ts : List Ticket) → is_decided c o (AbortRecord d ts) ≡ false
+no_decision_aborts : (c : Case) (o : Outcome) (d : Case) (ts : List Ticket)
+    → is_decided c o (AbortRecord d ts) ≡ false
 no_decision_aborts c CommittedOutcome d ts = refl
 no_decision_aborts c AbortedOutcome d ts = refl
 
@@ -219,7 +237,8 @@ decisions c o = record {
 
 -- A Forgot.
 
-leaf_forgets : (c : Case) (place : Place) (p : ProcessId) (n : Node) (h : Heard) (e : Effect) → LeafTurn place p n h e
+leaf_forgets : (c : Case) (place : Place) (p : ProcessId) (n : Node) (h : Heard) (e : Effect)
+    → LeafTurn place p n h e
     → any_written (is_forgot c) e.written ≡ true → h.input ≡ ActInput (Forget c)
 leaf_forgets c place p n h _ (forgets d i k) f =
     let same : d ≡ c = (let t = same_case_tells d c in let g = alone _ f in grind (arith, t, g)) in
@@ -255,13 +274,15 @@ forgots c = record {
 
 -- Runs.
 
-pub by_operator_alone : (tree : List TreeEntry) (es : List Made) (w : World) → IsRun tree es w → ByOperatorAlone es
+pub by_operator_alone : (tree : List TreeEntry) (es : List Made) (w : World) → IsRun tree es w
+    → ByOperatorAlone es
 by_operator_alone tree _ _ opens = tt
 by_operator_alone tree _ _ (makes es w m e w' run stands step) =
     let at = makes_at tree w m e w' step in
     let s = step_of (place_of tree m.step.process) (w.at m.step.process) m e at.node at.made in (
       record {
-        decided = λ c o f. by_step (is_decided c o) (ActInput (Decide c o)) (decisions c o) _ _ m e at.node s f;
+        decided = λ c o f. by_step (is_decided c o) (ActInput (Decide c o)) (decisions c o) _ _ m e at.node
+            s f;
         forgot = λ c f. by_step (is_forgot c) (ActInput (Forget c)) (forgots c) _ _ m e at.node s f;
       },
       by_operator_alone tree es w run,

@@ -28,7 +28,8 @@ mark_at n d = mark_of (CaseBranch d) (kept n)
 
 -- an effect that only writes and sends
 abbrev pub writes_and_sends : List Written → List Envelope → Effect
-writes_and_sends ws ls = record { begun = None; written = ws; told = None; messages = ls; accepts = []; counts = []; remains = None }
+writes_and_sends ws ls = record
+    { begun = None; written = ws; told = None; messages = ls; accepts = []; counts = []; remains = None }
 
 -- the branch has promised, and knows of no outcome
 pub data Waits : Mark → Type 0 where
@@ -62,14 +63,18 @@ Hears h m = (k : ℕ) × (h.input ≡ MessageInput k m)
 pub data LeafTurn (place : Place) (p : ProcessId) (n : Node) (h : Heard) : Effect → Type 0 where
   does_nothing : LeafTurn place p n h no_effect
   -- JOIN is answered by the active ticket, else by a fresh one
-  gives_again : (d : Case) (t : Ticket) → Hears h (Join d) → active_ticket (memory_of place n d).active d ≡ Some t
+  gives_again : (d : Case) (t : Ticket) → Hears h (Join d)
+      → active_ticket (memory_of place n d).active d ≡ Some t
       → LeafTurn place p n h (writes_and_sends [] (post place.me p (Joined d t) ∷ []))
-  gives_fresh : (d : Case) → Hears h (Join d) → active_ticket (memory_of place n d).active d ≡ None → h.data_answer.starts ≡ true
+  gives_fresh : (d : Case) → Hears h (Join d) → active_ticket (memory_of place n d).active d ≡ None
+      → h.data_answer.starts ≡ true
       → LeafTurn place p n h
-      (writes_and_sends [] (post place.me p (Joined d (next_ticket place.me (boot_of (kept n)) (memory_of place n d))) ∷ []))
+      (writes_and_sends [] (post place.me p
+      (Joined d (next_ticket place.me (boot_of (kept n)) (memory_of place n d))) ∷ []))
   -- PREPARE finds the branch Active
   votes_yes : (d : Case) (k : ℕ) (ws : List Write) → Hears h (Prepare d k) → IsActive place n d
-      → LeafTurn place p n h (writes_and_sends (forced (PreparedRecord (CaseBranch d) ws)) (post place.me p (Yes d) ∷ []))
+      → LeafTurn place p n h
+      (writes_and_sends (forced (PreparedRecord (CaseBranch d) ws)) (post place.me p (Yes d) ∷ []))
   votes_read : (d : Case) (k : ℕ) → Hears h (Prepare d k) → IsActive place n d
       → LeafTurn place p n h (writes_and_sends [] (post place.me p (Read d) ∷ []))
   votes_no : (d : Case) (k : ℕ) → Hears h (Prepare d k) → IsActive place n d
@@ -81,10 +86,14 @@ pub data LeafTurn (place : Place) (p : ProcessId) (n : Node) (h : Heard) : Effec
       → LeafTurn place p n h (writes_and_sends [] (post place.me p (No d) ∷ []))
   -- an outcome finds the promise
   obeys : (d : Case) (o : Outcome) → Hears h (tells_outcome o d) → mark_at n d ≡ Promised
-      → LeafTurn place p n h (writes_and_sends (written_as (leaf_of place p d) o (ends_record (leaf_of place p d) o)) (acknowledgement (leaf_of place p d) o))
+      → LeafTurn place p n h
+      (writes_and_sends (written_as (leaf_of place p d) o (ends_record (leaf_of place p d) o))
+      (acknowledgement (leaf_of place p d) o))
   -- it finds an operator's decision, for the first time
   notes : (d : Case) (o : Outcome) → Hears h (tells_outcome o d) → mark_at n d ≡ Decided
-      → LeafTurn place p n h (writes_and_sends (written_as (leaf_of place p d) o (ToldRecord (CaseBranch d) o)) (acknowledgement (leaf_of place p d) o))
+      → LeafTurn place p n h
+      (writes_and_sends (written_as (leaf_of place p d) o (ToldRecord (CaseBranch d) o))
+      (acknowledgement (leaf_of place p d) o))
   -- or again
   acknowledges_told : (d : Case) (o : Outcome) → Hears h (tells_outcome o d) → mark_at n d ≡ ToldOf o
       → LeafTurn place p n h (writes_and_sends [] (acknowledgement (leaf_of place p d) o))

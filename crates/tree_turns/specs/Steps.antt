@@ -19,16 +19,22 @@ pub data StepOf (place : Place) (n : Node) (m : Move) : Effect → Node → Type
   handled : (i : Input) (g : Effect) → m.step.happening ≡ Handles i → is_passed_over place n i ≡ false
       → reacts place n (heard_in m i) ≡ Does g
       → StepOf place n m g (after n (heard_in m i) g)
-  failed_in : (i : Input) (f : Fault) (g : Effect) → m.step.fault ≡ Some f → m.step.happening ≡ Handles i → is_passed_over place n i ≡ false
+  failed_in : (i : Input) (f : Fault) (g : Effect) → m.step.fault ≡ Some f → m.step.happening ≡ Handles i
+      → is_passed_over place n i ≡ false
       → reacts place n (heard_in m i) ≡ Does g
       → StepOf place n m (fault_effect g f.appended) (fails_in n (heard_in m i) g f.appended f.forced)
-  passed : (i : Input) → m.step.happening ≡ Handles i → is_passed_over place n i ≡ true → StepOf place n m no_effect n
-  failed_passing : (i : Input) (f : Fault) → m.step.fault ≡ Some f → m.step.happening ≡ Handles i → is_passed_over place n i ≡ true
+  passed : (i : Input) → m.step.happening ≡ Handles i → is_passed_over place n i ≡ true
+      → StepOf place n m no_effect n
+  failed_passing : (i : Input) (f : Fault) → m.step.fault ≡ Some f → m.step.happening ≡ Handles i
+      → is_passed_over place n i ≡ true
       → StepOf place n m no_effect (record n { failed = true })
-  reopened : (k : ℕ) → m.step.happening ≡ Restart k → StepOf place n m (restart_effect place n k) (restarted place n k)
+  reopened : (k : ℕ) → m.step.happening ≡ Restart k
+      → StepOf place n m (restart_effect place n k) (restarted place n k)
   failed_reopening : (k : ℕ) (f : Fault) → m.step.fault ≡ Some f → m.step.happening ≡ Restart k
-      → StepOf place n m (fault_effect (restart_effect place n k) f.appended) (restart_fails place n k f.appended f.forced)
-  trimmed : m.step.happening ≡ Trim → n.failed ≡ false → StepOf place n m (trim_effect place n) (trims place n)
+      → StepOf place n m (fault_effect (restart_effect place n k) f.appended)
+      (restart_fails place n k f.appended f.forced)
+  trimmed : m.step.happening ≡ Trim → n.failed ≡ false
+      → StepOf place n m (trim_effect place n) (trims place n)
   failed_trimming : (f : Fault) → m.step.fault ≡ Some f → m.step.happening ≡ Trim → n.failed ≡ false
       → StepOf place n m (fault_effect (trim_effect place n) 0) (trim_fails place n f.appended)
 

@@ -53,7 +53,8 @@ IsFromCase c (Ack d o) = d ≡ c
 IsFromCase c (Inquire d) = d ≡ c
 IsFromCase c _ = ⊥
 
--- What a coordinator's case sends: to a child about the child's case, to the parent about its own, and JOIN.
+-- What a coordinator's case sends: to a child about the child's case, to the parent about its own, and
+-- JOIN.
 pub data Sends (s : Seat) : Envelope → Type 0 where
   down : (t : Ticket) (m : Message) → IsForCase (child_case s.own.txn t) m → Sends s (post s.me t.child m)
   upward : (p : ProcessId) (m : Message) → s.parent ≡ Some p → IsFromCase s.own m → Sends s (post s.me p m)
@@ -63,16 +64,21 @@ abbrev pub AllSent : Seat → List Envelope → Type 0
 AllSent s [] = Unit {0}
 AllSent s (l ∷ ls) = Sends s l × AllSent s ls
 
--- What an input lets a coordinator write and send: a row of the act's case, which is known, of the child's case, or of the
+-- What an input lets a coordinator write and send: a row of the act's case, which is known, of the child's
+-- case, or of the
 -- parent's message's; an answer to a stranger's inquiry; or a ticket.
-pub data Writes (place : Place) (parent : Option ProcessId) (n : Node) (i : Input) (ws : List Written) (ls : List Envelope) : Type 0 where
+pub data Writes (place : Place) (parent : Option ProcessId) (n : Node) (i : Input) (ws : List Written)
+    (ls : List Envelope) : Type 0 where
   writes_nothing : ws ≡ [] → ls ≡ [] → Writes place parent n i ws ls
-  for_act : (a : Act) (c : Case) → i ≡ ActInput a → (coordinator_view place n c).standing ≢ Unknown → AtMostOne c ws
+  for_act : (a : Act) (c : Case) → i ≡ ActInput a → (coordinator_view place n c).standing ≢ Unknown
+      → AtMostOne c ws
       → AllSent (seat_of place parent c) ls → Writes place parent n i ws ls
   for_child : (c : Case) (x : Txn) (t : Ticket) → case_of_child place n x t ≡ Some c → AtMostOne c ws
       → AllSent (seat_of place parent c) ls → Writes place parent n i ws ls
   for_parent : (c : Case) (k : ℕ) (m : Message) → i ≡ MessageInput k m → IsForCase c m → AtMostOne c ws
       → AllSent (seat_of place parent c) ls → Writes place parent n i ws ls
-  presumes : (x : Txn) (t : Ticket) (o : Outcome) → ws ≡ [] → ls ≡ post place.me t.child (tells_outcome o (child_case x t)) ∷ []
+  presumes : (x : Txn) (t : Ticket) (o : Outcome) → ws ≡ []
+      → ls ≡ post place.me t.child (tells_outcome o (child_case x t)) ∷ []
       → Writes place parent n i ws ls
-  gives : (p : ProcessId) (d : Case) (t : Ticket) → ws ≡ [] → ls ≡ post place.me p (Joined d t) ∷ [] → Writes place parent n i ws ls
+  gives : (p : ProcessId) (d : Case) (t : Ticket) → ws ≡ [] → ls ≡ post place.me p (Joined d t) ∷ []
+      → Writes place parent n i ws ls
