@@ -97,7 +97,7 @@ restarted p text new forced forced' keep failures failures' room room' rs failed
       left = records_in p 0 (body (take (forced + keep) text));
       leaves = left_records p text forced keep is.header_forced;
       forced = ap (records_in p 0) all ∙ text_records p (take (forced + keep) text) new rs are q;
-      loose = ap (λ t. drop (length (records_in p 0 t)) (records_in p 0 (body new))) all ∙ drop_all (records_in p 0 (body new));
+      unforced = ap (λ t. drop (length (records_in p 0 t)) (records_in p 0 (body new))) all ∙ drop_all (records_in p 0 (body new));
       works = refl;
       failures = g;
     })

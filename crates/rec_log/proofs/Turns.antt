@@ -57,7 +57,7 @@ appended p text text' forced forced' failures failures' room room' l failed ok r
     record {
       kind = refl;
       forced = ap (records_in p 0) same;
-      loose = ap (λ t. drop (length (records_in p 0 t)) (records_in p 0 (body text'))) same ∙ ap (drop (length (records_in p 0 (front text forced)))) all
+      unforced = ap (λ t. drop (length (records_in p 0 t)) (records_in p 0 (body text'))) same ∙ ap (drop (length (records_in p 0 (front text forced)))) all
           ∙ drop-append-le (length (records_in p 0 (front text forced))) (records_in p 0 (body text)) (l ∷ []) (short_front p text forced);
       works = ok;
       failures = g;
@@ -118,7 +118,7 @@ forced_all p text text' forced forced' failures failures' room room' failed ok e
     record {
       kind = refl;
       forced = ap (records_in p 0) all ∙ ap (λ t. records_in p 0 (body t)) e ∙ sym (records_stand p text forced);
-      loose = ap (λ t. drop (length (records_in p 0 t)) (records_in p 0 (body text'))) all ∙ drop_all (records_in p 0 (body text'));
+      unforced = ap (λ t. drop (length (records_in p 0 t)) (records_in p 0 (body text'))) all ∙ drop_all (records_in p 0 (body text'));
       works = ok;
       failures = g;
       room = omega (arith, r, ap length e);

@@ -28,8 +28,8 @@ longer_front p text forced n h =
     let F = records_in p 0 (front text forced) in
     let is : records_in p 0 (take n (body text)) ≡ F ++ f.0 = f.1 ∙ ap (λ t. records_in p 0 t ++ f.0) (take_within (forced - 5) n (body text) h) in
     let all : records_in p 0 (body text) ≡ F ++ (f.0 ++ a.0) = a.1 ∙ ap (λ t. t ++ a.0) is ∙ append_assoc F f.0 a.0 in
-    let loose : drop (length F) (records_in p 0 (body text)) ≡ f.0 ++ a.0 = ap (drop (length F)) all ∙ drop-append_seam F (f.0 ++ a.0) in
-    record { some = length f.0; is = is ∙ ap (λ t. F ++ t) (sym (ap (take (length f.0)) loose ∙ take-append_seam f.0 a.0)) }
+    let unforced : drop (length F) (records_in p 0 (body text)) ≡ f.0 ++ a.0 = ap (drop (length F)) all ∙ drop-append_seam F (f.0 ++ a.0) in
+    record { some = length f.0; is = is ∙ ap (λ t. F ++ t) (sym (ap (take (length f.0)) unforced ∙ take-append_seam f.0 a.0)) }
 
 body_taken : (n : ℕ) (text : List ℕ) → 5 ≤ n → body (take n text) ≡ take (n - 5) (body text)
 body_taken n text h =

@@ -12,7 +12,7 @@ use Rattle.rec_log.specs.declared.log.LogError.TheVariants.{Memory, Device}
 -- the records that are forced, and those behind them
 pub record Kept : Type 0 where
   pub forced : List LogRecord
-  pub loose : List LogRecord
+  pub unforced : List LogRecord
 
 pub record LogSight : Type 0 where
   pub kept : Kept
@@ -27,7 +27,7 @@ pub record LogState : Type 0 where
   pub room : ℕ
 
 abbrev pub records_of : Kept → List LogRecord
-records_of k = k.forced ++ k.loose
+records_of k = k.forced ++ k.unforced
 
 -- the bytes behind the header
 abbrev pub body : List ℕ → List ℕ
@@ -41,7 +41,7 @@ front text forced = take (forced - 5) (body text)
 abbrev pub kept_of : Kind → List ℕ → ℕ → Kept
 kept_of p text forced = record {
   forced = records_in p 0 (front text forced);
-  loose = drop (length (records_in p 0 (front text forced))) (records_in p 0 (body text));
+  unforced = drop (length (records_in p 0 (front text forced))) (records_in p 0 (body text));
 }
 
 abbrev pub log_state : Kind → List ℕ → ℕ → ℕ → ℕ → Bool → LogState
@@ -71,7 +71,7 @@ pub record IsRecord (p : Kind) (l : LogRecord) : Type 0 where
 pub record Appended (old new : LogState) (l : LogRecord) : Type 0 where
   pub kind : new.kind ≡ old.kind
   pub forced : new.sight.kept.forced ≡ old.sight.kept.forced
-  pub loose : new.sight.kept.loose ≡ old.sight.kept.loose ++ l ∷ []
+  pub unforced : new.sight.kept.unforced ≡ old.sight.kept.unforced ++ l ∷ []
   pub works : new.sight.failed ≡ false
   pub failures : new.sight.failures ≡ old.sight.failures
   pub room : old.room ≤ new.room + length (record_text l)
@@ -80,7 +80,7 @@ pub record Appended (old new : LogState) (l : LogRecord) : Type 0 where
 pub record Forced (old new : LogState) : Type 0 where
   pub kind : new.kind ≡ old.kind
   pub forced : new.sight.kept.forced ≡ records_of old.sight.kept
-  pub loose : new.sight.kept.loose ≡ []
+  pub unforced : new.sight.kept.unforced ≡ []
   pub works : new.sight.failed ≡ false
   pub failures : new.sight.failures ≡ old.sight.failures
   pub room : old.room ≤ new.room
@@ -106,7 +106,7 @@ WrittenIsRead = (p : Kind) (ls : List LogRecord) → AreRecords p ls → (record
 -- what a crash leaves: the forced records and a front of the others
 pub record Leaves (k : Kept) (left : List LogRecord) : Type 0 where
   pub some : ℕ
-  pub is : left ≡ k.forced ++ take some k.loose
+  pub is : left ≡ k.forced ++ take some k.unforced
 
 -- the first so many bytes are whole frames of records, and behind them no whole frame of a record begins
 pub record Sounds (p : Kind) (bytes : List ℕ) (size : ℕ) : Type 0 where
@@ -129,7 +129,7 @@ pub record Restarts (old new : LogState) (rs : List LogRecord) : Type 0 where
   pub left : List LogRecord
   pub leaves : Leaves old.sight.kept left
   pub forced : new.sight.kept.forced ≡ left ++ rs
-  pub loose : new.sight.kept.loose ≡ []
+  pub unforced : new.sight.kept.unforced ≡ []
   pub works : new.sight.failed ≡ false
   pub failures : new.sight.failures ≡ old.sight.failures
 
