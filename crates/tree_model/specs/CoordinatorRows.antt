@@ -72,7 +72,7 @@ to_child s m t = post s.me t.child (m (child_case s.own.txn t))
 abbrev pub each : Seat → (Case → Message) → List Ticket → List Envelope
 each s m ts = map (to_child s m) ts
 
--- what is told where there is no parent
+-- this is told where there is no parent; else nothing is
 abbrev pub told_by : Option ProcessId → Conclusion → Option Conclusion
 told_by None a = Some a
 told_by (Some p) a = None

@@ -120,7 +120,7 @@ abbrev pub foreign_to : Role → Option ProcessId → Case → Record → List R
 foreign_to (AtLeaf q) p c r = renamed (Foreign (name_xid p (CaseBranch c))) r ∷ []
 foreign_to _ p c r = []
 
--- a record of this case, as the process reads it: its own, or of no case, unchanged; else as foreign
+-- a log's record as its process reads it: one of a case that is not its own is foreign to it
 abbrev pub own_by : Place → LogRecord → Option Case → List Record
 own_by place l None = l.entry ∷ []
 own_by place l (Some c) = if is_own place l.parent c then l.entry ∷ [] else foreign_to place.role l.parent c l.entry

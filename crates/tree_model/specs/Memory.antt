@@ -159,7 +159,7 @@ sends_work m _ _ = m
 abbrev pub is_counted : List Ticket → List (Ticket × Vote) → Ticket → Bool
 is_counted accepted votes t = in_list accepted t && not (has_voted votes t)
 
--- the phase after a vote that counts, and whether all have voted: NO or the last one ends the votes
+-- the phase after a vote that counts, by whether all have voted: NO, or the last one, ends the votes
 abbrev pub phase_after : Vote → Bool → Phase
 phase_after VoteNo all = Over
 phase_after _ all = if all then Over else Asked
@@ -170,7 +170,7 @@ with_vote m t w =
     let votes = m.votes ++ (t, w) ∷ [] in
     record m { votes = votes; phase = phase_after w (all_voted m.accepted votes) }
 
--- a vote comes: it counts only while votes are collected
+-- a vote comes: while votes are collected it is noted, if it counts
 abbrev pub takes_vote : Memory → Ticket → Vote → Phase → Memory
 takes_vote m t w Asked = if is_counted m.accepted m.votes t then with_vote m t w else m
 takes_vote m t w _ = m

@@ -93,7 +93,7 @@ pub data TakesPart (w : World) (x : Txn) : Ticket → Type 0 where
   at_root : (t : Ticket) → has_accepted (w.at x.root) (root_case x) t ≡ true → TakesPart w x t
   below : (u t : Ticket) → TakesPart w x u → has_accepted (w.at u.child) (child_case x u) t ≡ true → TakesPart w x t
 
--- the application was told `aborted`
+-- the conclusion is `aborted`
 abbrev pub is_aborted : Conclusion → Bool
 is_aborted ConcludedAborted = true
 is_aborted _ = false
@@ -142,7 +142,7 @@ Ends tree w x t o = EndsIn (role_of tree t.child) tree w x t o
 abbrev pub has_promised : Case → Record → Bool
 has_promised c r = is_prepare c r || is_prepared c r || is_heuristic c r
 
--- a record of the case's outcome: its decision or end, or Told; or its Forgot
+-- a Commit, Abort, Committed, RolledBack, Told or Forgot record of the case
 abbrev pub has_concluded : Case → Record → Bool
 has_concluded c r = is_commit c r || is_abort c r || is_committed c r || is_rolled_back c r || is_told c r || is_forgot c r
 

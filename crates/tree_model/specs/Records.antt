@@ -242,7 +242,7 @@ kind_of (Forgot b) = ForgotKind
 kind_of (Base n) = BaseKind
 kind_of (Pair k v) = PairKind
 
--- the case, if there is one
+-- what a record of this case is of; something other where there is none
 abbrev pub case_subject : Option Case → Subject
 case_subject None = Other
 case_subject (Some c) = OfCase c

@@ -20,7 +20,7 @@ with_pair k v [] = (k, v) ∷ []
 with_pair k v (p ∷ ps) =
     if same_bytes k p.0 then (k, v) ∷ ps else if key_below k p.0 then (k, v) ∷ (p ∷ ps) else p ∷ with_pair k v ps
 
--- the pairs without the key's
+-- the pairs without the first of this key
 unfoldable pub without_key : List ℕ → List (List ℕ × List ℕ) → List (List ℕ × List ℕ)
 without_key k [] = []
 without_key k (p ∷ ps) = if same_bytes k p.0 then ps else p ∷ without_key k ps

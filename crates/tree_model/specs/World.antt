@@ -52,7 +52,7 @@ abbrev pub restart_makes : Place → Node → ℕ → Option Fault → Stepped
 restart_makes place n k None = Makes (restart_effect place n k) (restarted place n k)
 restart_makes place n k (Some f) = Makes (fault_effect (restart_effect place n k) f.appended) (restart_fails place n k f.appended f.forced)
 
--- a trim; a device's failure breaks it off
+-- a trim; a device's failure leaves the old log or the new one
 abbrev pub trim_makes : Place → Node → Option Fault → Stepped
 trim_makes place n None = Makes (trim_effect place n) (trims place n)
 trim_makes place n (Some f) = Makes (fault_effect (trim_effect place n) 0) (trim_fails place n f.appended)
