@@ -43,15 +43,19 @@ pub record Row : Type 0 where
 
 -- Parts of rows.
 
+-- one record, forced
 abbrev pub forced : Record → List Written
 forced r = record { entry = r; is_forced = true } ∷ []
 
+-- one record, unforced
 abbrev pub plain : Record → List Written
 plain r = record { entry = r; is_forced = false } ∷ []
 
+-- the message from the first process to the second
 abbrev pub post : ProcessId → ProcessId → Message → Envelope
 post me q m = record { from = me; to = q; message = m }
 
+-- the message to the parent, where there is one
 abbrev pub posted_up : ProcessId → Option ProcessId → Message → List Envelope
 posted_up me None m = []
 posted_up me (Some p) m = post me p m ∷ []
@@ -60,6 +64,7 @@ posted_up me (Some p) m = post me p m ∷ []
 abbrev pub up : Seat → Message → List Envelope
 up s m = posted_up s.me s.parent m
 
+-- the message to the ticket's child, about the child's case
 abbrev pub to_child : Seat → (Case → Message) → Ticket → Envelope
 to_child s m t = post s.me t.child (m (child_case s.own.txn t))
 
@@ -67,6 +72,7 @@ to_child s m t = post s.me t.child (m (child_case s.own.txn t))
 abbrev pub each : Seat → (Case → Message) → List Ticket → List Envelope
 each s m ts = map (to_child s m) ts
 
+-- this is told where there is no parent; else nothing is
 abbrev pub told_by : Option ProcessId → Conclusion → Option Conclusion
 told_by None a = Some a
 told_by (Some p) a = None
@@ -75,9 +81,11 @@ told_by (Some p) a = None
 abbrev pub tells : Seat → Conclusion → Option Conclusion
 tells s a = told_by s.parent a
 
+-- a row that does nothing, and leaves this view
 abbrev pub quiet : CoordinatorView → Row
 quiet v = record { written = []; told = None; messages = []; accepts = []; counts = []; view = v }
 
+-- a row that sends these messages and does nothing else, and leaves this view
 abbrev pub sends : List Envelope → CoordinatorView → Row
 sends ls v = record { written = []; told = None; messages = ls; accepts = []; counts = []; view = v }
 
@@ -87,14 +95,17 @@ awaits s ts v = if none_of ts then unknown_view else record v { standing = s; na
 
 -- Active.
 
+-- the join act: JOIN to the child, unless a ticket of it is accepted already
 abbrev pub active_join : Seat → ProcessId → CoordinatorView → Row
 active_join s q v = if has_child v.accepted q then quiet v else sends (post s.me q (Join s.own) ∷ []) v
 
+-- JOINED: the ticket is accepted, unless one of its child is accepted already
 abbrev pub active_joined : Ticket → CoordinatorView → Row
 active_joined t v =
     if has_child v.accepted t.child then quiet v
     else record { written = []; told = None; messages = []; accepts = t ∷ []; counts = []; view = record v { accepted = v.accepted ++ t ∷ [] } }
 
+-- the work act: WORK to the ticket's child, with the ticket's next number
 abbrev pub active_work : Seat → Ticket → Op → CoordinatorView → Row
 active_work s t op v =
     sends (post s.me t.child (Work (child_case s.own.txn t) (works_of v.works t + 1) op) ∷ []) (record v { works = v.works ++ t ∷ [] })
@@ -104,9 +115,11 @@ abbrev pub active_commit_alone : Seat → Row
 active_commit_alone s =
     record { written = []; told = tells s ReadOnly; messages = up s (Read s.own); accepts = []; counts = []; view = unknown_view }
 
+-- PREPARE to the child of each accepted ticket, with the number of works sent to it
 abbrev pub prepares : Seat → CoordinatorView → List Envelope
 prepares s v = map (λ t. post s.me t.child (Prepare (child_case s.own.txn t) (works_of v.works t))) v.accepted
 
+-- where somebody takes part: PREPARE to all; under Presumed Commit a forced Collecting names them
 abbrev pub active_commit_with : Seat → CoordinatorView → Presumption → Row
 active_commit_with s v PresumeAbort = sends (prepares s v) (record v { standing = Collecting })
 active_commit_with s v PresumeCommit =
@@ -154,6 +167,7 @@ abort_heard_above s ByVote = up s (No s.own)
 abort_heard_above s ByAct = []
 abort_heard_above s ByAbort = acknowledges_abort s s.own.txn.presumption
 
+-- ABORT to these tickets; under Presumed Commit the record is forced, and each of them owes
 abbrev pub collecting_abort_by : Seat → Reason → CoordinatorView → List Ticket → Presumption → Row
 collecting_abort_by s why v us PresumeAbort =
     record {
@@ -178,6 +192,7 @@ collecting_abort_by s why v us PresumeCommit =
 abbrev pub collecting_abort : Seat → Reason → CoordinatorView → Row
 collecting_abort s why v = collecting_abort_by s why v (undecided_of v.accepted v.votes) s.own.txn.presumption
 
+-- the record of a case in which all read only: under Presumed Commit an unforced End, else none
 abbrev pub read_only_end : Seat → Presumption → List Written
 read_only_end s PresumeAbort = []
 read_only_end s PresumeCommit = plain (EndRecord s.own)
@@ -194,6 +209,7 @@ collecting_read_only s =
       view = unknown_view;
     }
 
+-- the root commits, forced: COMMIT to these tickets; under Presumed Abort each of them owes
 abbrev pub root_commits : Seat → CoordinatorView → List Ticket → Presumption → Row
 root_commits s v ys PresumeAbort =
     record {
@@ -214,6 +230,7 @@ root_commits s v ys PresumeCommit =
       view = unknown_view;
     }
 
+-- the promise: a forced Prepare record that names these tickets, and YES to the parent
 abbrev pub cascaded_prepares : Seat → CoordinatorView → List Ticket → Row
 cascaded_prepares s v ys =
     record {
@@ -225,6 +242,7 @@ cascaded_prepares s v ys =
       view = record v { standing = Prepared; promised = v.promised ++ ys; named = v.named ++ ys };
     }
 
+-- with these tickets' votes YES the root commits, and a coordinator below it promises
 abbrev pub decides : Seat → CoordinatorView → List Ticket → Option ProcessId → Row
 decides s v ys None = root_commits s v ys s.own.txn.presumption
 decides s v ys (Some p) = cascaded_prepares s v ys
@@ -235,6 +253,7 @@ collecting_full s v =
     let ys = yes_of v.accepted v.votes in
     if none_of ys then collecting_read_only s else decides s v ys s.parent
 
+-- after a vote that counts: NO aborts the case; else it goes on once all have voted
 abbrev pub collecting_after : Seat → CoordinatorView → Vote → Row
 collecting_after s v VoteNo = collecting_abort s ByVote v
 collecting_after s v _ = if all_voted v.accepted v.votes then collecting_full s v else quiet v
@@ -248,6 +267,7 @@ collecting_vote s t w v =
 
 -- Prepared, below the root.
 
+-- COMMIT to the promised; under Presumed Abort it is forced and acknowledged, and each of them owes
 abbrev pub prepared_commit_by : Seat → CoordinatorView → Presumption → Row
 prepared_commit_by s v PresumeAbort =
     record {
@@ -268,9 +288,11 @@ prepared_commit_by s v PresumeCommit =
       view = unknown_view;
     }
 
+-- COMMIT of the parent, by the presumption of the transaction
 abbrev pub prepared_commit : Seat → CoordinatorView → Row
 prepared_commit s v = prepared_commit_by s v s.own.txn.presumption
 
+-- ABORT to the promised; under Presumed Commit it is forced and acknowledged, and each of them owes
 abbrev pub prepared_abort_by : Seat → CoordinatorView → Presumption → Row
 prepared_abort_by s v PresumeAbort =
     record {
@@ -291,23 +313,29 @@ prepared_abort_by s v PresumeCommit =
       view = awaits Aborting v.promised v;
     }
 
+-- ABORT of the parent, by the presumption of the transaction
 abbrev pub prepared_abort : Seat → CoordinatorView → Row
 prepared_abort s v = prepared_abort_by s v s.own.txn.presumption
 
+-- PREPARE again: YES again
 abbrev pub prepared_prepare : Seat → CoordinatorView → Row
 prepared_prepare s v = sends (up s (Yes s.own)) v
 
+-- a case in doubt asks its parent
 abbrev pub prepared_ask : Seat → CoordinatorView → Row
 prepared_ask s v = sends (up s (Inquire s.own)) v
 
 -- Committing and Aborting.
 
+-- COMMIT again: it is acknowledged
 abbrev pub committing_commit : Seat → CoordinatorView → Row
 committing_commit s v = sends (up s (Ack s.own CommittedOutcome)) v
 
+-- ABORT of a case that was aborted: it is acknowledged
 abbrev pub aborting_abort : Seat → CoordinatorView → Row
 aborting_abort s v = sends (up s (Ack s.own AbortedOutcome)) v
 
+-- PREPARE of a case that was aborted: NO
 abbrev pub aborting_prepare : Seat → CoordinatorView → Row
 aborting_prepare s v = sends (up s (No s.own)) v
 
@@ -315,6 +343,7 @@ aborting_prepare s v = sends (up s (No s.own)) v
 unfoldable pub other_tickets : Ticket → List Ticket → List Ticket
 other_tickets t ts = filter (λ u. not (same_ticket t u)) ts
 
+-- these still owe an acknowledgement; where there are none, an unforced End record ends the case
 abbrev pub decided_ack_by : Seat → List Ticket → CoordinatorView → Row
 decided_ack_by s left v =
     if none_of left
@@ -330,21 +359,26 @@ abbrev pub tells_outcome : Outcome → Case → Message
 tells_outcome CommittedOutcome = Commit
 tells_outcome AbortedOutcome = Abort
 
+-- the child that asks is told the outcome
 abbrev pub decided_inquiry : Seat → Outcome → Ticket → CoordinatorView → Row
 decided_inquiry s o t v = sends (to_child s (tells_outcome o) t ∷ []) v
 
 -- Unknown.
 
+-- PREPARE of a case of which nothing is known: NO
 abbrev pub unknown_prepare : Seat → CoordinatorView → Row
 unknown_prepare s v = sends (up s (No s.own)) v
 
+-- COMMIT of a case of which nothing is known: acknowledged under Presumed Abort, else nothing
 abbrev pub unknown_commit_by : Seat → CoordinatorView → Presumption → Row
 unknown_commit_by s v PresumeAbort = sends (up s (Ack s.own CommittedOutcome)) v
 unknown_commit_by s v PresumeCommit = quiet v
 
+-- COMMIT of a case of which nothing is known, by the presumption of the transaction
 abbrev pub unknown_commit : Seat → CoordinatorView → Row
 unknown_commit s v = unknown_commit_by s v s.own.txn.presumption
 
+-- ABORT of a case of which nothing is known: acknowledged under Presumed Commit, else nothing
 abbrev pub unknown_abort : Seat → CoordinatorView → Row
 unknown_abort s v = sends (acknowledges_abort s s.own.txn.presumption) v
 
@@ -359,6 +393,7 @@ abbrev pub on_vote : Seat → Ticket → Vote → CoordinatorView → Standing �
 on_vote s t w v Collecting = collecting_vote s t w v
 on_vote s t w v _ = quiet v
 
+-- an acknowledgement of a child; it does something only where it agrees with the decision
 abbrev pub on_ack : Seat → Ticket → Outcome → CoordinatorView → Standing → Row
 on_ack s t CommittedOutcome v Committing = decided_ack s t v
 on_ack s t AbortedOutcome v Aborting = decided_ack s t v
@@ -371,6 +406,7 @@ on_inquiry s t v Aborting = decided_inquiry s AbortedOutcome t v
 on_inquiry s t v Unknown = unknown_inquiry s t v
 on_inquiry s t v _ = quiet v
 
+-- JOINED of a child
 abbrev pub on_joined : Ticket → CoordinatorView → Standing → Row
 on_joined t v Active = active_joined t v
 on_joined t v _ = quiet v

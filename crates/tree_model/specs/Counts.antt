@@ -22,15 +22,19 @@ pub record Cost : Type 0 where
   pub forced : ℕ
   pub messages : ℕ
 
+-- the cost of these records and messages
 abbrev pub cost_of : List Written → List Envelope → Cost
 cost_of ws ls = record { records = length ws; forced = count_by (λ w. w.is_forced) ws; messages = length ls }
 
+-- two costs, added
 abbrev pub together : Cost → Cost → Cost
 together a b = record { records = a.records + b.records; forced = a.forced + b.forced; messages = a.messages + b.messages }
 
+-- the cost of a coordinator's row
 abbrev pub row_cost : Row → Cost
 row_cost r = cost_of r.written r.messages
 
+-- the cost of a manager's row
 abbrev pub leaf_cost : LeafRow → Cost
 leaf_cost r = cost_of r.written r.messages
 
@@ -87,10 +91,12 @@ pub record IsOrderOf (order tickets : List Ticket) : Type 0 where
   pub among : list_all (in_list tickets) order ≡ true
   pub all : list_all (in_list order) tickets ≡ true
 
+-- what a committed update of n children costs the root
 abbrev pub root_price : Presumption → ℕ → Cost
 root_price PresumeAbort n = record { records = 2; forced = 1; messages = 2 * n }
 root_price PresumeCommit n = record { records = 2; forced = 2; messages = 2 * n }
 
+-- what a committed update costs a manager that wrote
 abbrev pub manager_price : Presumption → Cost
 manager_price PresumeAbort = record { records = 2; forced = 2; messages = 2 }
 manager_price PresumeCommit = record { records = 2; forced = 1; messages = 1 }

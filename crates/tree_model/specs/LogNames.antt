@@ -26,6 +26,7 @@ abbrev pub name_by : Option Case → Option Branch → Option Branch
 name_by (Some c) b = Some (CaseBranch c)
 name_by None b = b
 
+-- the name of this record, if it has one
 abbrev pub record_name : Record → Option Branch
 record_name r = name_by (record_case r) (record_branch r)
 
@@ -39,11 +40,13 @@ abbrev pub name_xid : Option ProcessId → Branch → XidParts
 name_xid p (CaseBranch c) = branch_parts c.txn (below_of c.ticket p)
 name_xid p (Foreign x) = x
 
+-- two parents are one, or neither is there
 abbrev pub same_parent : Option ProcessId → Option ProcessId → Bool
 same_parent None None = true
 same_parent (Some p) (Some q) = same_process p q
 same_parent _ _ = false
 
+-- both names are there and are one, and so are their parents
 abbrev pub same_name_by : Option ProcessId → Option Branch → Option ProcessId → Option Branch → Bool
 same_name_by p (Some b) q (Some d) = same_parent p q && same_branch b d
 same_name_by _ _ _ _ = false
@@ -59,15 +62,18 @@ IsWholeName p (Some (CaseBranch c)) = is_some p ≡ is_some c.ticket
 IsWholeName p (Some (Foreign x)) =
     (p ≡ None) × ((y : Txn) (b : Option (ProcessId × Ticket)) → FitsTxn y → FitsBelow b → branch_parts y b ≢ x)
 
+-- the name of a record in a log is whole
 abbrev pub IsWhole : LogRecord → Type 0
 IsWhole l = IsWholeName l.parent (record_name l.entry)
 
 -- From a process's record to its log.
 
+-- the parent that goes with a ticket; none without one
 abbrev pub ticket_parent : Option ProcessId → Option Ticket → Option ProcessId
 ticket_parent p None = None
 ticket_parent p (Some t) = p
 
+-- the parent that goes with a case; none where it has no ticket
 abbrev pub case_parent : Option ProcessId → Option Case → Option ProcessId
 case_parent p None = None
 case_parent p (Some c) = ticket_parent p c.ticket
@@ -78,6 +84,7 @@ in_log p r = record { entry = r; parent = case_parent p (record_case r) }
 
 -- From a log to the records as its process reads them.
 
+-- the parent of a process with this role
 abbrev pub parent_of : Role → Option ProcessId
 parent_of AtRoot = None
 parent_of (Below p) = Some p
@@ -113,6 +120,7 @@ abbrev pub foreign_to : Role → Option ProcessId → Case → Record → List R
 foreign_to (AtLeaf q) p c r = renamed (Foreign (name_xid p (CaseBranch c))) r ∷ []
 foreign_to _ p c r = []
 
+-- a log's record as its process reads it: one of a case that is not its own is foreign to it
 abbrev pub own_by : Place → LogRecord → Option Case → List Record
 own_by place l None = l.entry ∷ []
 own_by place l (Some c) = if is_own place l.parent c then l.entry ∷ [] else foreign_to place.role l.parent c l.entry
@@ -126,6 +134,7 @@ abbrev pub is_own_by : Place → Option Case → Bool
 is_own_by place None = true
 is_own_by place (Some c) = is_own place (parent_of place.role) c
 
+-- the record is of a case of the process's own, or of none
 abbrev pub is_own_record : Place → Record → Bool
 is_own_record place r = is_own_by place (record_case r)
 

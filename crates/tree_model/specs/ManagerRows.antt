@@ -33,9 +33,11 @@ pub record LeafRow : Type 0 where
   pub messages : List Envelope
   pub view : ManagerView
 
+-- a row that does nothing, and leaves this view
 abbrev pub unmoved : ManagerView → LeafRow
 unmoved v = record { written = []; messages = []; view = v }
 
+-- a row that sends this message to the parent and does nothing else, and leaves this view
 abbrev pub replies : Leaf → Message → ManagerView → LeafRow
 replies l m v = record { written = []; messages = post l.me l.parent m ∷ []; view = v }
 
@@ -49,9 +51,11 @@ is_acknowledged PresumeAbort CommittedOutcome = true
 is_acknowledged PresumeCommit AbortedOutcome = true
 is_acknowledged _ _ = false
 
+-- ACK of the outcome to the parent, unless the presumption covers the outcome
 abbrev pub acknowledgement : Leaf → Outcome → List Envelope
 acknowledgement l o = if is_acknowledged l.own.txn.presumption o then post l.me l.parent (Ack l.own o) ∷ [] else []
 
+-- the record, forced unless the presumption covers the outcome
 abbrev pub written_as : Leaf → Outcome → Record → List Written
 written_as l o r = record { entry = r; is_forced = is_acknowledged l.own.txn.presumption o } ∷ []
 
@@ -64,6 +68,7 @@ active_work i does v =
     then unmoved (if does then record v { done = i } else record v { spoiled = true })
     else unmoved v
 
+-- READ where the branch wrote nothing; else a forced Prepared record with its writes, and YES
 abbrev pub active_prepare_holding : Leaf → Holding → LeafRow
 active_prepare_holding l ReadsOnly = replies l (Read l.own) unknown_branch
 active_prepare_holding l (Holds ws) =
@@ -78,11 +83,13 @@ abbrev pub active_prepare : Leaf → ℕ → Holding → ManagerView → LeafRow
 active_prepare l n holding v =
     if (v.done == n) && not v.spoiled then active_prepare_holding l holding else replies l (No l.own) unknown_branch
 
+-- ABORT: the branch is forgotten without a record; under Presumed Commit it is acknowledged
 abbrev pub active_abort : Leaf → LeafRow
 active_abort l = record { written = []; messages = acknowledgement l AbortedOutcome; view = unknown_branch }
 
 -- Prepared.
 
+-- the record by which an outcome ends the branch
 abbrev pub ends_record : Leaf → Outcome → Record
 ends_record l CommittedOutcome = Committed (own_branch l)
 ends_record l AbortedOutcome = RolledBack (own_branch l)
@@ -93,12 +100,15 @@ prepared_outcome l o = record { written = written_as l o (ends_record l o); mess
 
 -- Prepared and Heuristic
 
+-- PREPARE again: YES again
 abbrev pub promised_prepare : Leaf → ManagerView → LeafRow
 promised_prepare l v = replies l (Yes l.own) v
 
+-- a branch that was not told the outcome asks its parent
 abbrev pub untold_ask : Leaf → ManagerView → LeafRow
 untold_ask l v = replies l (Inquire l.own) v
 
+-- the record of an operator's decision
 abbrev pub decides_record : Leaf → Outcome → Record
 decides_record l CommittedOutcome = HeurCommit (own_branch l)
 decides_record l AbortedOutcome = HeurRollback (own_branch l)
@@ -116,23 +126,28 @@ heuristic_outcome l o v None =
 heuristic_outcome l o v (Some told) =
     if same_outcome told o then record { written = []; messages = acknowledgement l o; view = v } else unmoved v
 
+-- an operator forgets the branch, forced
 abbrev pub heuristic_forget : Leaf → LeafRow
 heuristic_forget l = record { written = forced (Forgot (own_branch l)); messages = []; view = unknown_branch }
 
 -- Unknown.
 
+-- PREPARE of a branch of which nothing is known: NO
 abbrev pub unknown_prepare : Leaf → ManagerView → LeafRow
 unknown_prepare l v = replies l (No l.own) v
 
+-- an outcome of a branch of which nothing is known: acknowledged, unless the presumption covers it
 abbrev pub unknown_outcome : Leaf → Outcome → ManagerView → LeafRow
 unknown_outcome l o v = record { written = []; messages = acknowledgement l o; view = v }
 
 -- The table by messages.
 
+-- WORK of the parent
 abbrev pub on_work : ℕ → Bool → ManagerView → Standing → LeafRow
 on_work i does v Active = active_work i does v
 on_work i does v _ = unmoved v
 
+-- PREPARE of the parent
 abbrev pub on_prepare : Leaf → ℕ → Holding → ManagerView → Standing → LeafRow
 on_prepare l n holding v Active = active_prepare l n holding v
 on_prepare l n holding v Prepared = promised_prepare l v
@@ -140,12 +155,14 @@ on_prepare l n holding v Heuristic = promised_prepare l v
 on_prepare l n holding v Unknown = unknown_prepare l v
 on_prepare l n holding v _ = unmoved v
 
+-- COMMIT of the parent
 abbrev pub on_commit : Leaf → ManagerView → Standing → LeafRow
 on_commit l v Prepared = prepared_outcome l CommittedOutcome
 on_commit l v Heuristic = heuristic_outcome l CommittedOutcome v v.told
 on_commit l v Unknown = unknown_outcome l CommittedOutcome v
 on_commit l v _ = unmoved v
 
+-- ABORT of the parent
 abbrev pub on_abort : Leaf → ManagerView → Standing → LeafRow
 on_abort l v Active = active_abort l
 on_abort l v Prepared = prepared_outcome l AbortedOutcome

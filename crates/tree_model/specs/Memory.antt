@@ -28,6 +28,7 @@ has_child ts q = list_any (λ u. same_process u.child q) ts
 unfoldable pub ticket_of_child : List Ticket → ProcessId → Option Ticket
 ticket_of_child ts q = find (λ u. same_process u.child q) ts
 
+-- two votes are one
 abbrev pub same_vote : Vote → Vote → Bool
 same_vote VoteYes VoteYes = true
 same_vote VoteNo VoteNo = true
@@ -92,6 +93,7 @@ pub record Memory : Type 0 where
   pub done : ℕ
   pub spoiled : Bool
 
+-- what is remembered at a restart: nothing
 abbrev pub fresh_memory : Memory
 fresh_memory = record { begun = 0; given = 0; issued = []; active = []; phase = Idle; accepted = []; votes = []; works = []; acks = []; done = 0; spoiled = false }
 
@@ -118,6 +120,7 @@ has_ticket c t = same_case c (child_case c.txn t)
 unfoldable pub without_ticket : List (Case × Ticket) → Case → List (Case × Ticket)
 without_ticket active c = filter (λ a. not (same_case (child_case a.0.txn a.1) c)) active
 
+-- a ticket is given for the parent's case d: it is counted, issued and active
 abbrev pub gives : Memory → Case → Ticket → Memory
 gives m d t = record m { given = m.given + 1; issued = m.issued ++ child_case d.txn t ∷ []; active = m.active ++ (d, t) ∷ [] }
 
@@ -145,6 +148,7 @@ abbrev pub accepts_ticket : Memory → Ticket → Phase → Memory
 accepts_ticket m t Open = if has_child m.accepted t.child then m else record m { accepted = m.accepted ++ t ∷ [] }
 accepts_ticket m t _ = m
 
+-- the work act: while the case takes work, one more is sent to the ticket
 abbrev pub sends_work : Memory → Option Ticket → Phase → Memory
 sends_work m (Some t) Open = record m { works = m.works ++ t ∷ [] }
 sends_work m _ _ = m
@@ -155,15 +159,18 @@ sends_work m _ _ = m
 abbrev pub is_counted : List Ticket → List (Ticket × Vote) → Ticket → Bool
 is_counted accepted votes t = in_list accepted t && not (has_voted votes t)
 
+-- the phase after a vote that counts, by whether all have voted: NO, or the last one, ends the votes
 abbrev pub phase_after : Vote → Bool → Phase
 phase_after VoteNo all = Over
 phase_after _ all = if all then Over else Asked
 
+-- the memory with a vote that counts
 abbrev pub with_vote : Memory → Ticket → Vote → Memory
 with_vote m t w =
     let votes = m.votes ++ (t, w) ∷ [] in
     record m { votes = votes; phase = phase_after w (all_voted m.accepted votes) }
 
+-- a vote comes: while votes are collected it is noted, if it counts
 abbrev pub takes_vote : Memory → Ticket → Vote → Phase → Memory
 takes_vote m t w Asked = if is_counted m.accepted m.votes t then with_vote m t w else m
 takes_vote m t w _ = m
@@ -176,6 +183,7 @@ takes_ack m t o _ = record m { acks = m.acks ++ (t, o) ∷ [] }
 
 -- The inputs.
 
+-- what the function gives for the ticket; without a ticket the other value
 abbrev pub of_ticket : {A : Type 0} → Option Ticket → A → (Ticket → A) → A
 of_ticket None a f = a
 of_ticket (Some t) a f = f t
@@ -184,6 +192,7 @@ of_ticket (Some t) a f = f t
 abbrev pub of_child : Case → Case → Memory → (Ticket → Memory) → Memory
 of_child c d m f = if same_txn d.txn c.txn then of_ticket d.ticket m f else m
 
+-- the second memory where the two cases are one, else the first
 abbrev pub if_same : Case → Case → Memory → Memory → Memory
 if_same d c m m' = if same_case d c then m' else m
 
@@ -191,6 +200,7 @@ if_same d c m m' = if same_case d c then m' else m
 abbrev pub next_txn : ProcessId → ℕ → Memory → Presumption → Txn
 next_txn me boot m p = record { root = me; boot = boot; sequence = m.begun + 1; presumption = p }
 
+-- the begin act: it is counted, and opens the case where that is the new transaction's
 abbrev pub begins : ProcessId → ℕ → Case → Memory → Presumption → Memory
 begins me boot c m p =
     let counted = record m { begun = m.begun + 1 } in
@@ -205,6 +215,7 @@ hears_child c m (Read d) = of_child c d m (λ t. takes_vote m t VoteRead m.phase
 hears_child c m (Ack d o) = of_child c d m (λ t. takes_ack m t o m.phase)
 hears_child c m _ = m
 
+-- an input at the root
 abbrev pub root_remembers : ProcessId → ℕ → Case → Memory → Input → Memory
 root_remembers me boot c m (ActInput (Begin p)) = begins me boot c m p
 root_remembers me boot c m (ActInput (WorkAct d q op)) = if_same d c m (sends_work m (ticket_of_child m.accepted q) m.phase)
@@ -217,12 +228,14 @@ root_remembers me boot c m (MessageInput k message) = hears_child c m message
 abbrev pub retires : Memory → Case → Memory
 retires m d = record m { active = without_ticket m.active d }
 
+-- a message at a coordinator below the root
 abbrev pub cascaded_hears : ProcessId → ℕ → Case → Memory → Message → Memory
 cascaded_hears me boot c m (Join d) = joins me boot c d m (active_ticket m.active d)
 cascaded_hears me boot c m (Prepare d n) = if_same d c (retires m d) (asks_votes (retires m d) m.phase)
 cascaded_hears me boot c m (Abort d) = if_same d c (retires m d) (closes (retires m d) m.phase)
 cascaded_hears me boot c m message = hears_child c m message
 
+-- an input at a coordinator below the root
 abbrev pub cascaded_remembers : ProcessId → ℕ → Case → Memory → Input → Memory
 cascaded_remembers me boot c m (ActInput (WorkAct d q op)) = if_same d c m (sends_work m (ticket_of_child m.accepted q) m.phase)
 cascaded_remembers me boot c m (ActInput _) = m
@@ -236,6 +249,7 @@ works m i does Open =
     else m
 works m i does _ = m
 
+-- a message at a manager, with what its data answer
 abbrev pub manager_hears : ProcessId → ℕ → Case → Memory → DataAnswer → Message → Memory
 manager_hears me boot c m data_answer (Join d) = if data_answer.starts then joins me boot c d m (active_ticket m.active d) else m
 manager_hears me boot c m data_answer (Work d i op) = if_same d c m (works m i data_answer.does m.phase)
@@ -243,10 +257,12 @@ manager_hears me boot c m data_answer (Prepare d n) = if_same d c (retires m d) 
 manager_hears me boot c m data_answer (Abort d) = if_same d c (retires m d) (closes (retires m d) m.phase)
 manager_hears me boot c m data_answer _ = m
 
+-- an input at a manager, with what its data answer
 abbrev pub manager_remembers : ProcessId → ℕ → Case → Memory → DataAnswer → Input → Memory
 manager_remembers me boot c m data_answer (ActInput _) = m
 manager_remembers me boot c m data_answer (MessageInput k message) = manager_hears me boot c m data_answer message
 
+-- an input at a process of this role
 abbrev pub remembers : ProcessId → Role → ℕ → Case → Memory → Heard → Memory
 remembers me AtRoot boot c m h = root_remembers me boot c m h.input
 remembers me (Below p) boot c m h = cascaded_remembers me boot c m h.input

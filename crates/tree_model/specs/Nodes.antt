@@ -22,6 +22,7 @@ use Rattle.tree_model.specs.Records.{kind_of, subject_of}
 
 -- Where a process sits.
 
+-- what a process is in its tree
 pub data Role : Type 0 where
   AtRoot : Role
   -- a cascaded coordinator, with its parent
@@ -29,6 +30,7 @@ pub data Role : Type 0 where
   -- a resource manager, with its parent
   AtLeaf : ProcessId → Role
 
+-- a process, its role, and its tree
 pub record Place : Type 0 where
   pub me : ProcessId
   pub role : Role
@@ -38,6 +40,7 @@ pub record Place : Type 0 where
 unfoldable pub is_listed : List TreeEntry → ProcessId → Bool
 is_listed tree q = list_any (λ e. same_process e.id q) tree
 
+-- there is a parent, and it is this process
 abbrev pub is_parent : ProcessId → Option ProcessId → Bool
 is_parent p None = false
 is_parent p (Some q) = same_process q p
@@ -47,12 +50,14 @@ unfoldable pub is_child : List TreeEntry → ProcessId → ProcessId → Bool
 is_child [] q p = false
 is_child (e ∷ es) q p = if same_process e.id q then is_parent p e.parent else is_child es q p
 
+-- the role of a process of this kind with this parent; without a parent it is the root
 abbrev pub role_by : Kind → Option ProcessId → Role
 role_by Coordinator None = AtRoot
 role_by Coordinator (Some p) = Below p
 role_by Manager None = AtRoot
 role_by Manager (Some p) = AtLeaf p
 
+-- the role is a resource manager's
 abbrev pub is_leaf : Role → Bool
 is_leaf (AtLeaf p) = true
 is_leaf _ = false
@@ -62,6 +67,7 @@ unfoldable pub role_of : List TreeEntry → ProcessId → Role
 role_of [] q = AtRoot
 role_of (e ∷ es) q = if same_process e.id q then role_by e.kind e.parent else role_of es q
 
+-- where the process sits in the tree
 abbrev pub place_of : List TreeEntry → ProcessId → Place
 place_of tree q = record { me = q; role = role_of tree q; tree = tree }
 
@@ -128,19 +134,24 @@ pub record Effect : Type 0 where
   pub counts : List (Case × (Ticket × Vote))
   pub remains : Option ℕ
 
+-- nothing is done
 abbrev pub no_effect : Effect
 no_effect = record { begun = None; written = []; told = None; messages = []; accepts = []; counts = []; remains = None }
 
+-- the records, without their force
 abbrev pub entries_written : List Written → List Record
 entries_written ws = map (λ w. w.entry) ws
 
+-- a record of these is forced
 abbrev pub is_any_forced : List Written → Bool
 is_any_forced ws = list_any (λ w. w.is_forced) ws
 
+-- the transactions begun, the newest first, with this one if there is one
 abbrev pub begun_first : Option Txn → List Txn → List Txn
 begun_first None xs = xs
 begun_first (Some x) xs = x ∷ xs
 
+-- what was told, the newest first, with this if there is something
 abbrev pub told_first : Option Told → List Told → List Told
 told_first None ts = ts
 told_first (Some t) ts = t ∷ ts

@@ -33,18 +33,22 @@ use Rattle.tree_model.specs.World.{World, Made, Continues, made_by, node_by}
 unfoldable pub sent : (Message → Bool) → List Envelope → Bool
 sent q es = list_any (λ e. q e.message) es
 
+-- JOINED for this case, with this ticket
 abbrev pub is_joined_message : Case → Ticket → Message → Bool
 is_joined_message c t (Joined d u) = same_case d c && same_ticket u t
 is_joined_message c t _ = false
 
+-- YES of this case
 abbrev pub is_yes_message : Case → Message → Bool
 is_yes_message c (Yes d) = same_case d c
 is_yes_message c _ = false
 
+-- READ of this case
 abbrev pub is_read_message : Case → Message → Bool
 is_read_message c (Read d) = same_case d c
 is_read_message c _ = false
 
+-- the message that tells this case the outcome
 abbrev pub is_outcome_message : Outcome → Case → Message → Bool
 is_outcome_message CommittedOutcome c (Commit d) = same_case d c
 is_outcome_message CommittedOutcome c _ = false
@@ -60,6 +64,7 @@ abbrev pub vote_in : Case × (Ticket × Vote) → Case → Ticket → Option Vot
 vote_in a c t (Some v) = Some v
 vote_in a c t None = if same_case a.0 c && same_ticket a.1.0 t then Some a.1.1 else None
 
+-- the oldest vote of the ticket in the case, where the list has the newest first
 unfoldable pub first_vote : List (Case × (Ticket × Vote)) → Case → Ticket → Option Vote
 first_vote [] c t = None
 first_vote (a ∷ as') c t = vote_in a c t (first_vote as' c t)
@@ -88,10 +93,12 @@ pub data TakesPart (w : World) (x : Txn) : Ticket → Type 0 where
   at_root : (t : Ticket) → has_accepted (w.at x.root) (root_case x) t ≡ true → TakesPart w x t
   below : (u t : Ticket) → TakesPart w x u → has_accepted (w.at u.child) (child_case x u) t ≡ true → TakesPart w x t
 
+-- the conclusion is `aborted`
 abbrev pub is_aborted : Conclusion → Bool
 is_aborted ConcludedAborted = true
 is_aborted _ = false
 
+-- the application was told `aborted` of this transaction
 abbrev pub is_told_aborted : Txn → Told → Bool
 is_told_aborted x t = same_txn t.txn x && is_aborted t.conclusion
 
@@ -119,6 +126,7 @@ pub record DiesUnprepared (tree : List TreeEntry) (w : World) (x : Txn) (t : Tic
   pub never_promised : has (is_prepared (child_case x t)) (w.at t.child).life ≡ false
   pub never_read : sent (is_read_message (child_case x t)) w.net ≡ false
 
+-- a ticket's process of this role ends the transaction by the outcome; the root has no ticket
 abbrev pub EndsIn : Role → List TreeEntry → World → Txn → Ticket → Outcome → Type 0
 EndsIn AtRoot tree w x t o = ⊥
 EndsIn (Below p) tree w x t o = cascaded_ends (w.at t.child) (child_case x t) o ≡ true
@@ -130,9 +138,11 @@ Ends tree w x t o = EndsIn (role_of tree t.child) tree w x t o
 
 -- Doubt.
 
+-- a record of the case's promise, or of an operator's decision
 abbrev pub has_promised : Case → Record → Bool
 has_promised c r = is_prepare c r || is_prepared c r || is_heuristic c r
 
+-- a Commit, Abort, Committed, RolledBack, Told or Forgot record of the case
 abbrev pub has_concluded : Case → Record → Bool
 has_concluded c r = is_commit c r || is_abort c r || is_committed c r || is_rolled_back c r || is_told c r || is_forgot c r
 
@@ -148,6 +158,7 @@ pub record Agreement (tree : List TreeEntry) (w : World) : Type 0 where
   pub root_agrees : (x : Txn) (o : Outcome) → role_of tree x.root ≡ AtRoot → root_ends (w.at x.root) x o ≡ true → o ≡ outcome_of w x
   pub others_agree : (x : Txn) (t : Ticket) (o : Outcome) → Ends tree w x t o → o ≡ outcome_of w x
 
+-- the vote YES or READ
 abbrev pub is_consent : Vote → Bool
 is_consent VoteYes = true
 is_consent VoteRead = true
@@ -158,6 +169,7 @@ pub data IsAcceptor (w : World) (x : Txn) (t : Ticket) : Case → Type 0 where
   by_root : has_accepted (w.at x.root) (root_case x) t ≡ true → IsAcceptor w x t (root_case x)
   by_ticket : (u : Ticket) → has_accepted (w.at u.child) (child_case x u) t ≡ true → IsAcceptor w x t (child_case x u)
 
+-- there is a vote, and it is YES or READ
 abbrev pub consents : Option Vote → Bool
 consents None = false
 consents (Some v) = is_consent v

@@ -32,27 +32,33 @@ pub record Worked : Type 0 where
   pub done : ℕ
   pub writes : List Write
 
+-- the writes with one more: it takes the place of its key's write, or comes last
 abbrev pub with_write : List Write → List ℕ → Option (List ℕ) → List Write
 with_write [] k v = record { key = k; value = v } ∷ []
 with_write (w ∷ ws) k v = if same_bytes w.key k then record { key = k; value = v } ∷ ws else w ∷ with_write ws k v
 
+-- the writes after an operation; a get writes nothing
 abbrev pub op_writes : List Write → Op → List Write
 op_writes ws (Put k v) = with_write ws k (Some v)
 op_writes ws (Delete k) = with_write ws k None
 op_writes ws (Get k) = ws
 
+-- the works of the case after an input: its WORK counts where it comes in order
 abbrev pub worked_by : Case → Worked → Input → Worked
 worked_by c w (MessageInput n (Work d i op)) =
     if same_case d c && (i == w.done + 1) then record { done = i; writes = op_writes w.writes op } else w
 worked_by c w _ = w
 
+-- what a plain leaf holds with these writes; without any it has only read
 abbrev pub held_writes : List Write → Holding
 held_writes [] = ReadsOnly
 held_writes (w ∷ ws) = Holds (w ∷ ws)
 
+-- the writes of the case in the inputs heard
 unfoldable pub writes_heard : List Heard → Case → List Write
 writes_heard hs c = (fold (λ w h. worked_by c w h.input) (record { done = 0; writes = [] }) hs).writes
 
+-- what a plain leaf's data answer to PREPARE: the writes heard of its case
 abbrev pub plain_holding : List Heard → Message → Holding
 plain_holding hs (Prepare c n) = held_writes (writes_heard hs c)
 plain_holding hs _ = ReadsOnly
@@ -64,6 +70,7 @@ plain_answer n (ActInput a) = record { starts = true; does = true; holding = Rea
 
 -- Events.
 
+-- an event
 pub data Play : Type 0 where
   Acts : Act → Play
   Delivers : ℕ → Play
@@ -78,9 +85,11 @@ pub record Player : Type 0 where
   pub moves : List Made
   pub delivered : List ℕ
 
+-- nothing was played yet
 abbrev pub first_player : Player
 first_player = record { world = opened_world; moves = []; delivered = [] }
 
+-- the run goes on, or has stopped at a refusal
 pub data Played : Type 0 where
   Goes : Player → Played
   Stops : StepError → Player → Played
@@ -96,9 +105,11 @@ process_of_act root (Ask c) = process_of c
 process_of_act root (Decide c o) = process_of c
 process_of_act root (Forget c) = process_of c
 
+-- a move in which no device fails
 abbrev pub move_of : ProcessId → Happening → DataAnswer → Move
 move_of q happening a = record { step = record { process = q; happening = happening; fault = None }; data_answer = a }
 
+-- the player after a move, with what is delivered now; a refusal stops the run
 abbrev pub played : Player → Move → List ℕ → Stepped → Played
 played p m delivered (Refuses e) = Stops e p
 played p m delivered (Makes e n) =
@@ -108,14 +119,17 @@ played p m delivered (Makes e n) =
       delivered = delivered;
     })
 
+-- a move at its process; one that is not listed stops the run
 abbrev pub plays_move : List TreeEntry → Player → Move → List ℕ → Played
 plays_move tree p m delivered =
     let q = m.step.process in
     if is_listed tree q then played p m delivered (node_makes (place_of tree q) (p.world.at q) m) else Stops NoSuch p
 
+-- an input at this process, where each manager is a plain leaf
 abbrev pub plays_input : List TreeEntry → Player → ProcessId → Input → List ℕ → Played
 plays_input tree p q i delivered = plays_move tree p (move_of q (Handles i) (plain_answer (p.world.at q) i)) delivered
 
+-- the message with this number comes to its receiver; where there is none, the run stops
 abbrev pub delivers : List TreeEntry → Player → ℕ → Option Envelope → Played
 delivers tree p k None = Stops NoSuch p
 delivers tree p k (Some e) = plays_input tree p e.to (MessageInput k e.message) (k ∷ p.delivered)
@@ -125,6 +139,7 @@ abbrev pub sent_as : List Envelope → ℕ → Option Envelope
 sent_as net zero = None
 sent_as net (suc k) = slice_get net k
 
+-- the number is in the list
 abbrev pub is_in : List ℕ → ℕ → Bool
 is_in ks k = list_any (λ j. j == k) ks
 
@@ -133,6 +148,7 @@ abbrev pub least_open : List ℕ → ℕ → ℕ → Option ℕ
 least_open delivered k zero = None
 least_open delivered k (suc more) = if is_in delivered k then least_open delivered (k + 1) more else Some k
 
+-- delivers the message with this number, and goes on unless the run stops; without a number it is done
 abbrev pub settle_next : (Player → Played) → List TreeEntry → Player → Option ℕ → Played
 settle_next again tree p None = Goes p
 settle_next again tree p (Some k) = then_again (delivers tree p k (sent_as p.world.net k))
@@ -141,10 +157,12 @@ settle_next again tree p (Some k) = then_again (delivers tree p k (sent_as p.wor
     then_again (Goes q) = again q
     then_again (Stops e q) = Stops e q
 
+-- delivers the least numbered message not delivered yet, at most so many times
 abbrev pub settles : ℕ → List TreeEntry → Player → Played
 settles zero tree p = Goes p
 settles (suc fuel) tree p = settle_next (settles fuel tree) tree p (least_open p.delivered 1 (length p.world.net))
 
+-- one event
 abbrev pub plays : List TreeEntry → ProcessId → Player → Play → Played
 plays tree root p (Acts a) = plays_input tree p (process_of_act root a) (ActInput a) p.delivered
 plays tree root p (Delivers k) = delivers tree p k (sent_as p.world.net k)
@@ -152,6 +170,7 @@ plays tree root p Settles = settles 10000 tree p
 plays tree root p (Restarts q k) = plays_move tree p (move_of q (Restart k) (record { starts = true; does = true; holding = ReadsOnly })) p.delivered
 plays tree root p (Trims q) = plays_move tree p (move_of q Trim (record { starts = true; does = true; holding = ReadsOnly })) p.delivered
 
+-- one event more, unless the run has stopped
 abbrev pub plays_on : List TreeEntry → ProcessId → Played → Play → Played
 plays_on tree root (Goes p) e = plays tree root p e
 plays_on tree root (Stops e p) _ = Stops e p
@@ -162,10 +181,12 @@ plays_all tree root es = fold (plays_on tree root) (Goes first_player) es
 
 -- The lines of a run.
 
+-- how many messages were sent, and the lines
 pub record Lines : Type 0 where
   pub sent : ℕ
   pub lines : List (List ℕ)
 
+-- the lines of moves, where the list has the newest first
 abbrev pub lines_of : List Made → Lines
 lines_of [] = record { sent = 0; lines = [] }
 lines_of (e ∷ es) =
@@ -175,6 +196,7 @@ lines_of (e ∷ es) =
       lines = before.lines ++ reaction_lines e.move.step.process.0 before.sent (reaction_of e.effect);
     }
 
+-- the lines of a run, up to where it stopped
 abbrev pub played_lines : Played → List (List ℕ)
 played_lines (Goes p) = (lines_of p.moves).lines
 played_lines (Stops e p) = (lines_of p.moves).lines

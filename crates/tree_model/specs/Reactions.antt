@@ -41,10 +41,12 @@ pub data Reacts : Type 0 where
 
 -- Effects of rows.
 
+-- what is told of the transaction, if anything is
 abbrev pub told_of : Txn → Option Conclusion → Option Told
 told_of x None = None
 told_of x (Some a) = Some (record { txn = x; conclusion = a })
 
+-- the effect of a coordinator's row of this case
 abbrev pub row_effect : Case → Row → Effect
 row_effect c r =
     record {
@@ -57,23 +59,28 @@ row_effect c r =
       remains = None;
     }
 
+-- the effect of a manager's row
 abbrev pub leaf_effect : LeafRow → Effect
 leaf_effect r = record { begun = None; written = r.written; told = None; messages = r.messages; accepts = []; counts = []; remains = None }
 
+-- these messages, and nothing else
 abbrev pub sends_only : List Envelope → Effect
 sends_only ls = record { begun = None; written = []; told = None; messages = ls; accepts = []; counts = []; remains = None }
 
 -- A coordinator.
 
+-- the standing is Prepared
 abbrev pub is_prepared_standing : Standing → Bool
 is_prepared_standing Prepared = true
 is_prepared_standing _ = false
 
+-- the coordinator in this case, below this parent
 abbrev pub seat_of : Place → Option ProcessId → Case → Seat
 seat_of place parent c = record { me = place.me; parent = parent; own = c }
 
 -- Acts of a coordinator.
 
+-- begin: the root's next transaction; nothing is written or sent
 abbrev pub acts_begin : Place → Node → Presumption → Reacts
 acts_begin place n p =
     let c = root_case (next_txn place.me (boot_of (kept n)) (memory_of place n (some_case place)) p) in
@@ -84,6 +91,7 @@ abbrev pub begins_at : Option ProcessId → Place → Node → Presumption → R
 begins_at None place n p = acts_begin place n p
 begins_at (Some q) place n p = Refused NoSuch
 
+-- join: the case is Active, and the process is a child of this one
 abbrev pub join_by : Seat → List TreeEntry → ProcessId → CoordinatorView → Standing → Reacts
 join_by s tree q v Unknown = Refused UnknownTxn
 join_by s tree q v Active = if is_child tree q s.me then Does (row_effect s.own (active_join s q v)) else Refused NotAChild
@@ -95,22 +103,26 @@ work_for s tree op v None = Refused NotAChild
 work_for s tree op v (Some t) =
     if is_leaf (role_of tree t.child) then Does (row_effect s.own (active_work s t op v)) else Refused NotAChild
 
+-- work: the case is Active, and the process is an accepted child of it, and a manager
 abbrev pub work_by : Seat → List TreeEntry → ProcessId → Op → CoordinatorView → Standing → Reacts
 work_by s tree q op v Unknown = Refused UnknownTxn
 work_by s tree q op v Active = work_for s tree op v (ticket_of_child v.accepted q)
 work_by s tree q op v _ = Refused Closed
 
+-- commit: the case is Active
 abbrev pub commit_by : Seat → CoordinatorView → Standing → Reacts
 commit_by s v Unknown = Refused UnknownTxn
 commit_by s v Active = Does (row_effect s.own (active_commit s v))
 commit_by s v _ = Refused Closed
 
+-- abort: the case is Active, or collects votes
 abbrev pub abort_by : Seat → CoordinatorView → Standing → Reacts
 abort_by s v Unknown = Refused UnknownTxn
 abort_by s v Active = Does (row_effect s.own (active_abort s v))
 abort_by s v Collecting = Does (row_effect s.own (collecting_abort s ByAct v))
 abort_by s v _ = Refused Closed
 
+-- ask: the case is in doubt
 abbrev pub ask_by : Seat → CoordinatorView → Standing → Reacts
 ask_by s v Unknown = Refused UnknownTxn
 ask_by s v Prepared = Does (row_effect s.own (prepared_ask s v))
@@ -121,6 +133,7 @@ abbrev pub live_by : StepError → Standing → Reacts
 live_by e Unknown = Refused UnknownTxn
 live_by e _ = Refused e
 
+-- the acts at a coordinator; it has nothing for an operator to decide or to forget
 abbrev pub coordinator_acts : Place → Option ProcessId → Node → Act → Reacts
 coordinator_acts place parent n (Begin p) = begins_at parent place n p
 coordinator_acts place parent n (JoinAct c q) =
@@ -138,11 +151,13 @@ coordinator_acts place parent n (Forget c) = live_by NothingToForget (coordinato
 
 -- Messages of children.
 
+-- a ticket's vote in the case to which it belongs; where there is none, nothing is done
 abbrev pub vote_for : Place → Option ProcessId → Node → Ticket → Vote → Option Case → Effect
 vote_for place parent n t w None = no_effect
 vote_for place parent n t w (Some c) =
     let v = coordinator_view place n c in row_effect c (on_vote (seat_of place parent c) t w v v.standing)
 
+-- a ticket's acknowledgement in the case to which it belongs; where there is none, nothing is done
 abbrev pub ack_for : Place → Option ProcessId → Node → Ticket → Outcome → Option Case → Effect
 ack_for place parent n t o None = no_effect
 ack_for place parent n t o (Some c) =
@@ -159,6 +174,7 @@ inquiry_for place parent n x t (Some c) =
 abbrev pub child_says : Case → (Ticket → Effect) → Effect
 child_says d f = of_ticket d.ticket no_effect f
 
+-- the messages of children; any other does nothing
 abbrev pub hears_from_child : Place → Option ProcessId → Node → Message → Effect
 hears_from_child place parent n (Joined d t) =
     let v = coordinator_view place n d in row_effect d (on_joined t v v.standing)
@@ -176,6 +192,7 @@ abbrev pub joins_with : Place → ProcessId → Node → Case → Memory → Opt
 joins_with place p n d m (Some t) = sends_only (post place.me p (Joined d t) ∷ [])
 joins_with place p n d m None = sends_only (post place.me p (Joined d (next_ticket place.me (boot_of (kept n)) m)) ∷ [])
 
+-- the messages at a coordinator below the root: its parent's, then its children's
 abbrev pub cascaded_hears : Place → ProcessId → Node → Message → Effect
 cascaded_hears place p n (Join d) =
     let m = memory_of place n d in joins_with place p n d m (active_ticket m.active d)
@@ -189,6 +206,7 @@ cascaded_hears place p n message = hears_from_child place (Some p) n message
 
 -- A manager.
 
+-- the manager in this case, below this parent
 abbrev pub leaf_of : Place → ProcessId → Case → Leaf
 leaf_of place p c = record { me = place.me; parent = p; own = c }
 
@@ -198,21 +216,25 @@ childless_by Unknown = Refused UnknownTxn
 childless_by Active = Refused NotAChild
 childless_by _ = Refused Closed
 
+-- an operator has decided: ask only where the outcome was not told yet
 abbrev pub asks_untold : Leaf → ManagerView → Option Outcome → Reacts
 asks_untold l v None = Does (leaf_effect (untold_ask l v))
 asks_untold l v (Some o) = Refused NotInDoubt
 
+-- ask: the branch is Prepared, or an operator decided it and the outcome was not told yet
 abbrev pub leaf_ask_by : Leaf → ManagerView → Standing → Reacts
 leaf_ask_by l v Unknown = Refused UnknownTxn
 leaf_ask_by l v Prepared = Does (leaf_effect (untold_ask l v))
 leaf_ask_by l v Heuristic = asks_untold l v v.told
 leaf_ask_by l v _ = Refused NotInDoubt
 
+-- an operator decides: the branch is Prepared
 abbrev pub decide_by : Leaf → Outcome → Standing → Reacts
 decide_by l o Unknown = Refused UnknownTxn
 decide_by l o Prepared = Does (leaf_effect (prepared_decide l o))
 decide_by l o _ = Refused NotInDoubt
 
+-- an operator forgets: the branch was decided by an operator
 abbrev pub forget_by : Leaf → Standing → Reacts
 forget_by l Unknown = Refused UnknownTxn
 forget_by l Heuristic = Does (leaf_effect (heuristic_forget l))
@@ -235,6 +257,7 @@ leaf_joins place p n d m starts (Some t) = joins_with place p n d m (Some t)
 leaf_joins place p n d m true None = joins_with place p n d m None
 leaf_joins place p n d m false None = no_effect
 
+-- the messages at a manager, with what its data answer; any other does nothing
 abbrev pub manager_hears : Place → ProcessId → Node → DataAnswer → Message → Effect
 manager_hears place p n a (Join d) =
     let m = memory_of place n d in leaf_joins place p n d m a.starts (active_ticket m.active d)
@@ -250,11 +273,13 @@ manager_hears place p n a _ = no_effect
 
 -- Any process.
 
+-- what a process of this role does with an act
 abbrev pub acts : Role → Place → Node → Act → Reacts
 acts AtRoot place n a = coordinator_acts place None n a
 acts (Below p) place n a = coordinator_acts place (Some p) n a
 acts (AtLeaf p) place n a = manager_acts place p n a
 
+-- what a process of this role does with a message
 abbrev pub hears : Role → Place → Node → DataAnswer → Message → Effect
 hears AtRoot place n a m = hears_from_child place None n m
 hears (Below p) place n a m = cascaded_hears place p n m
@@ -285,10 +310,12 @@ passes_at _ place n i = false
 abbrev pub is_passed_over : Place → Node → Input → Bool
 is_passed_over place n i = passes_at place.role place n i
 
+-- a failed process refuses each input; else acts may be refused, and messages never are
 abbrev pub handles : Place → Node → Heard → Input → Reacts
 handles place n h (ActInput a) = if n.failed then Refused Failed else acts place.role place n a
 handles place n h (MessageInput k m) = if n.failed then Refused Failed else Does (hears place.role place n h.data_answer m)
 
+-- the child that an act names is listed; a message names none
 abbrev pub act_is_listed : List TreeEntry → Input → Bool
 act_is_listed tree (ActInput a) = names_listed tree a
 act_is_listed tree (MessageInput k m) = true

@@ -53,38 +53,47 @@ is_branch c (Foreign x) = false
 
 -- Tests of one record for one case.
 
+-- an Opened record
 abbrev pub is_opened : Record → Bool
 is_opened (Opened n) = true
 is_opened _ = false
 
+-- a Collecting record of the case
 abbrev pub is_collecting : Case → Record → Bool
 is_collecting c (Collecting d ts) = same_case d c
 is_collecting c _ = false
 
+-- a Prepare record of the case
 abbrev pub is_prepare : Case → Record → Bool
 is_prepare c (Prepare d ts) = same_case d c
 is_prepare c _ = false
 
+-- a Commit record of the case
 abbrev pub is_commit : Case → Record → Bool
 is_commit c (Commit d ts) = same_case d c
 is_commit c _ = false
 
+-- an Abort record of the case
 abbrev pub is_abort : Case → Record → Bool
 is_abort c (Abort d ts) = same_case d c
 is_abort c _ = false
 
+-- an End record of the case
 abbrev pub is_end : Case → Record → Bool
 is_end c (End d) = same_case d c
 is_end c _ = false
 
+-- a manager's Prepared record of the case
 abbrev pub is_prepared : Case → Record → Bool
 is_prepared c (Prepared b ws) = is_branch c b
 is_prepared c _ = false
 
+-- a manager's Committed record of the case
 abbrev pub is_committed : Case → Record → Bool
 is_committed c (Committed b) = is_branch c b
 is_committed c _ = false
 
+-- a manager's RolledBack record of the case
 abbrev pub is_rolled_back : Case → Record → Bool
 is_rolled_back c (RolledBack b) = is_branch c b
 is_rolled_back c _ = false
@@ -102,10 +111,12 @@ is_decided c CommittedOutcome _ = false
 is_decided c AbortedOutcome (HeurRollback b) = is_branch c b
 is_decided c AbortedOutcome _ = false
 
+-- a manager's Told record of the case, of either outcome
 abbrev pub is_told : Case → Record → Bool
 is_told c (Told b o) = is_branch c b
 is_told c _ = false
 
+-- a manager's Forgot record of the case
 abbrev pub is_forgot : Case → Record → Bool
 is_forgot c (Forgot b) = is_branch c b
 is_forgot c _ = false
@@ -131,12 +142,15 @@ owing_in c (Commit d ts) = if same_case d c then ts else []
 owing_in c (Abort d ts) = if same_case d c then ts else []
 owing_in c _ = []
 
+-- the tickets that the records of the case name
 unfoldable pub named_by : Case → List Record → List Ticket
 named_by c rs = flat_map (named_in c) rs
 
+-- the tickets that the Prepare records of the case name
 unfoldable pub promised_by : Case → List Record → List Ticket
 promised_by c rs = flat_map (promised_in c) rs
 
+-- the tickets that the decisions of the case name
 unfoldable pub owing_by : Case → List Record → List Ticket
 owing_by c rs = flat_map (owing_in c) rs
 
@@ -145,6 +159,7 @@ abbrev pub boot_after : ℕ → Record → ℕ
 boot_after b (Opened n) = n
 boot_after b _ = b
 
+-- the boot of a log, by its last Opened record; 0 where there is none
 unfoldable pub boot_of : List Record → ℕ
 boot_of rs = fold boot_after 0 rs
 
@@ -193,10 +208,12 @@ prepares_branch b _ = false
 unfoldable pub has_case : List Case → Case → Bool
 has_case cs c = list_any (λ d. same_case d c) cs
 
+-- the list with the case at its end, unless it has it already or there is none
 abbrev pub with_case : List Case → Option Case → List Case
 with_case cs None = cs
 with_case cs (Some c) = if has_case cs c then cs else cs ++ c ∷ []
 
+-- the list with the case of the record at its end, unless it has it already or there is none
 abbrev pub with_record : List Case → Record → List Case
 with_record cs r = with_case cs (record_case r)
 
@@ -206,6 +223,7 @@ cases_in rs = fold with_record [] rs
 
 -- How a trace names records.
 
+-- the kind of a record
 abbrev pub kind_of : Record → RecordKind
 kind_of (Opened n) = OpenedKind
 kind_of (Collecting c ts) = CollectingKind
@@ -224,10 +242,12 @@ kind_of (Forgot b) = ForgotKind
 kind_of (Base n) = BaseKind
 kind_of (Pair k v) = PairKind
 
+-- what a record of this case is of; something other where there is none
 abbrev pub case_subject : Option Case → Subject
 case_subject None = Other
 case_subject (Some c) = OfCase c
 
+-- what a record is of: the boot, or its case if it has one
 abbrev pub subject_of : Record → Subject
 subject_of (Opened n) = Boot n
 subject_of r = case_subject (record_case r)

@@ -24,9 +24,11 @@ use Rattle.tree_model.specs.Store.{stored, base_records}
 
 -- Views with nothing heard: what records alone say.
 
+-- a coordinator's view of the case
 unfoldable pub recorded_view : List Record → Case → CoordinatorView
 recorded_view rs c = view_at (coordinator_standing rs c fresh_memory) rs c fresh_memory
 
+-- a manager's view of the case
 unfoldable pub recorded_branch : List Record → Case → ManagerView
 recorded_branch rs c = marked_branch fresh_memory (mark_of (CaseBranch c) rs)
 
@@ -41,9 +43,11 @@ abbrev pub restart_abort : Case → CoordinatorView → Standing → List Record
 restart_abort c v Collecting = AbortRecord c v.named ∷ []
 restart_abort c v _ = []
 
+-- the Abort record of a case that these records leave Collecting; none of any other
 abbrev pub aborts_collecting : List Record → Case → List Record
 aborts_collecting rs c = let v = recorded_view rs c in restart_abort c v v.standing
 
+-- Opened with the next boot, and an Abort record of each case that these records leave Collecting
 abbrev pub coordinator_reopens : List Record → List Record
 coordinator_reopens rs = Opened (boot_of rs + 1) ∷ flat_map (aborts_collecting rs) (cases_in rs)
 
@@ -59,19 +63,23 @@ resumes_by s v Aborting = each s Abort v.owed
 resumes_by s v Prepared = up s (Inquire s.own)
 resumes_by s v _ = []
 
+-- what a coordinator sends of one case as it restarts with these records
 abbrev pub coordinator_resumes : ProcessId → Option ProcessId → List Record → Case → List Envelope
 coordinator_resumes me parent rs c =
     let v = recorded_view rs c in resumes_by (record { me = me; parent = parent; own = c }) v v.standing
 
+-- an inquiry, unless the outcome was told
 abbrev pub untold_inquiry : ProcessId → ProcessId → Case → Option Outcome → List Envelope
 untold_inquiry me p c None = post me p (Inquire c) ∷ []
 untold_inquiry me p c (Some o) = []
 
+-- an inquiry where the branch is Prepared, or an operator decided it and the outcome was not told
 abbrev pub inquires_by : ProcessId → ProcessId → Case → ManagerView → Standing → List Envelope
 inquires_by me p c v Prepared = post me p (Inquire c) ∷ []
 inquires_by me p c v Heuristic = untold_inquiry me p c v.told
 inquires_by me p c v _ = []
 
+-- what a manager sends of one case as it restarts with these records
 abbrev pub manager_resumes : ProcessId → ProcessId → List Record → Case → List Envelope
 manager_resumes me p rs c = let v = recorded_branch rs c in inquires_by me p c v v.standing
 
@@ -81,9 +89,11 @@ resumes AtRoot me rs = flat_map (coordinator_resumes me None rs) (cases_in rs)
 resumes (Below p) me rs = flat_map (coordinator_resumes me (Some p) rs) (cases_in rs)
 resumes (AtLeaf p) me rs = flat_map (manager_resumes me p rs) (cases_in rs)
 
+-- the records, each of them forced
 abbrev pub forced_all : List Record → List Written
 forced_all rs = map (λ r. record { entry = r; is_forced = true }) rs
 
+-- what a restart does where so many unforced records are left
 abbrev pub restart_effect : Place → Node → ℕ → Effect
 restart_effect place n k =
     let left = left_of n k in
@@ -98,6 +108,7 @@ restart_effect place n k =
       remains = None;
     }
 
+-- the application was told how the transaction ended
 abbrev pub is_concluded : List Told → Txn → Bool
 is_concluded ts x = list_any (λ t. same_txn t.txn x) ts
 
@@ -141,10 +152,12 @@ restart_fails place n k appended forced =
 
 -- Trim.
 
+-- the standing is not Unknown
 abbrev pub is_known : Standing → Bool
 is_known Unknown = false
 is_known _ = true
 
+-- the branch promised, or was decided by an operator, and is not finished
 abbrev pub is_open : Mark → Bool
 is_open Unmarked = false
 is_open Finished = false
@@ -160,14 +173,17 @@ abbrev pub branch_stays : List Record → List Record → Option Branch → Bool
 branch_stays rs behind None = false
 branch_stays rs behind (Some b) = is_open (mark_of b rs) && not (has (prepares_branch b) behind)
 
+-- a record stays in the log, with these behind it: by its branch at a manager, else by its case
 abbrev pub stays : Role → List Record → List Record → Record → Bool
 stays (AtLeaf p) rs behind r = branch_stays rs behind (record_branch r)
 stays _ rs behind r = case_stays rs (record_case r)
 
+-- the records of a log, or of an end of it, that stay
 abbrev pub staying : Role → List Record → List Record → List Record
 staying role rs [] = []
 staying role rs (r ∷ behind) = if stays role rs behind r then r ∷ staying role rs behind else staying role rs behind
 
+-- a manager's data as a trim writes them; a coordinator has none
 abbrev pub data_records : Role → List Record → List Record
 data_records (AtLeaf p) rs = base_records (stored rs)
 data_records _ rs = []
@@ -176,6 +192,7 @@ data_records _ rs = []
 unfoldable pub trimmed : Role → List Record → List Record
 trimmed role rs = (Opened (boot_of rs) ∷ staying role rs rs) ++ data_records role rs
 
+-- what a trim does: nothing is sent or told, and so many records remain
 abbrev pub trim_effect : Place → Node → Effect
 trim_effect place n =
     record { begun = None; written = []; told = None; messages = []; accepts = []; counts = []; remains = Some (length (trimmed place.role (kept n))) }

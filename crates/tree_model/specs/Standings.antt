@@ -36,6 +36,7 @@ pub record CoordinatorView : Type 0 where
 abbrev pub unknown_view : CoordinatorView
 unknown_view = record { standing = Unknown; accepted = []; votes = []; works = []; promised = []; named = []; owed = [] }
 
+-- the standing of a decided case, but Unknown where the decision names nobody
 abbrev pub unless_none : Bool → Standing → Standing
 unless_none true s = Unknown
 unless_none false s = s
@@ -55,6 +56,7 @@ standing_by false false false true _ none heard = Prepared
 standing_by false false false false true none heard = Collecting
 standing_by false false false false false none heard = heard
 
+-- where the case stands, by these records and this memory
 abbrev pub coordinator_standing : List Record → Case → Memory → Standing
 coordinator_standing rs c m =
     standing_by (has (is_end c) rs) (has (is_commit c) rs) (has (is_abort c) rs) (has (is_prepare c) rs) (has (is_collecting c) rs) (none_of (owing_by c rs)) (phase_standing c.txn.presumption m.phase)
@@ -73,6 +75,7 @@ abbrev pub known_view : Standing → CoordinatorView → CoordinatorView
 known_view Unknown v = unknown_view
 known_view _ v = v
 
+-- the view of a case with this standing, by these records and this memory
 abbrev pub view_at : Standing → List Record → Case → Memory → CoordinatorView
 view_at s rs c m =
     known_view s (record {
@@ -85,6 +88,7 @@ view_at s rs c m =
       owed = still_owed m.acks (decided_outcome s) (owing_by c rs);
     })
 
+-- a coordinator's view of the case
 unfoldable pub coordinator_view : Place → Node → Case → CoordinatorView
 coordinator_view place n c =
     let m = memory_of place n c in
@@ -121,6 +125,7 @@ pub record ManagerView : Type 0 where
   pub spoiled : Bool
   pub told : Option Outcome
 
+-- the view of a branch of which nothing is known
 abbrev pub unknown_branch : ManagerView
 unknown_branch = record { standing = Unknown; done = 0; spoiled = false; told = None }
 
@@ -134,6 +139,7 @@ pub data Mark : Type 0 where
   ToldOf : Outcome → Mark
   Finished : Mark
 
+-- the mark after one more record; records of other branches leave it
 abbrev pub mark_after : Branch → Mark → Record → Mark
 mark_after b m (PreparedRecord d ws) = if same_branch d b then Promised else m
 mark_after b m (Committed d) = if same_branch d b then Finished else m
@@ -145,6 +151,7 @@ mark_after b m (Told d o) = if same_branch d b then ToldOf o else m
 mark_after b m (Forgot d) = if same_branch d b then Finished else m
 mark_after b m _ = m
 
+-- the mark of the branch after these records
 unfoldable pub mark_of : Branch → List Record → Mark
 mark_of b rs = fold (mark_after b) Unmarked rs
 
@@ -152,13 +159,16 @@ mark_of b rs = fold (mark_after b) Unmarked rs
 abbrev pub active_branch : Memory → ManagerView
 active_branch m = record { standing = Active; done = m.done; spoiled = m.spoiled; told = None }
 
+-- a branch with this standing and what it was told; no works count
 abbrev pub standing_branch : Standing → Option Outcome → ManagerView
 standing_branch s told = record { standing = s; done = 0; spoiled = false; told = told }
 
+-- a branch of which there is no record: Active while it takes work, else Unknown
 abbrev pub heard_branch : Memory → Phase → ManagerView
 heard_branch m Open = active_branch m
 heard_branch m _ = unknown_branch
 
+-- the view of a branch with this mark
 abbrev pub marked_branch : Memory → Mark → ManagerView
 marked_branch m Unmarked = heard_branch m m.phase
 marked_branch m Promised = standing_branch Prepared None
@@ -166,11 +176,13 @@ marked_branch m Decided = standing_branch Heuristic None
 marked_branch m (ToldOf o) = standing_branch Heuristic (Some o)
 marked_branch m Finished = unknown_branch
 
+-- a manager's view of the case
 unfoldable pub manager_view : Place → Node → Case → ManagerView
 manager_view place n c = marked_branch (memory_of place n c) (mark_of (CaseBranch c) (kept n))
 
 -- Any process.
 
+-- where the case stands at a process of this role
 abbrev pub standing_in : Role → Place → Node → Case → Standing
 standing_in (AtLeaf p) place n c = (manager_view place n c).standing
 standing_in _ place n c = (coordinator_view place n c).standing

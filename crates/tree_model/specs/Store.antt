@@ -8,6 +8,7 @@ use Rattle.tree_model.specs.Records.{same_bytes, same_branch}
 
 -- Keys, in the order of their bytes.
 
+-- the first key comes before the second
 unfoldable pub key_below : List ℕ → List ℕ → Bool
 key_below _ [] = false
 key_below [] (b ∷ bs) = true
@@ -19,10 +20,12 @@ with_pair k v [] = (k, v) ∷ []
 with_pair k v (p ∷ ps) =
     if same_bytes k p.0 then (k, v) ∷ ps else if key_below k p.0 then (k, v) ∷ (p ∷ ps) else p ∷ with_pair k v ps
 
+-- the pairs without the first of this key
 unfoldable pub without_key : List ℕ → List (List ℕ × List ℕ) → List (List ℕ × List ℕ)
 without_key k [] = []
 without_key k (p ∷ ps) = if same_bytes k p.0 then ps else p ∷ without_key k ps
 
+-- the pairs with the key at this value, or without it where there is none
 abbrev pub set_key : List ℕ → Option (List ℕ) → List (List ℕ × List ℕ) → List (List ℕ × List ℕ)
 set_key k (Some v) ps = with_pair k v ps
 set_key k None ps = without_key k ps
@@ -40,6 +43,7 @@ pub record Data : Type 0 where
   pub pairs : List (List ℕ × List ℕ)
   pub promised : List (Branch × List Write)
 
+-- the data of an empty log
 abbrev pub no_data : Data
 no_data = record { count = 0; pairs = []; promised = [] }
 
@@ -48,6 +52,7 @@ unfoldable pub writes_of : Branch → List (Branch × List Write) → List Write
 writes_of b [] = []
 writes_of b (p ∷ ps) = if same_branch p.0 b then p.1 else writes_of b ps
 
+-- the data after a commit of these writes
 abbrev pub commits : List Write → Data → Data
 commits ws d = record d { count = d.count + 1; pairs = applied ws d.pairs }
 
@@ -62,9 +67,11 @@ stored_after d (Base n) = record d { count = n; pairs = [] }
 stored_after d (Pair k v) = record d { pairs = with_pair k v d.pairs }
 stored_after d _ = d
 
+-- the data that these records make
 unfoldable pub stored : List Record → Data
 stored rs = fold stored_after no_data rs
 
+-- a pair as a record
 abbrev pub pair_record : List ℕ × List ℕ → Record
 pair_record p = Pair p.0 p.1
 

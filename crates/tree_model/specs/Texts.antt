@@ -25,6 +25,7 @@ use Rattle.tree_model.specs.declared.events.Reaction.{Reaction}
 
 -- Names.
 
+-- the letter of a presumption
 abbrev pub presumption_letter : Presumption → List ℕ
 presumption_letter PresumeAbort = codes "a"
 presumption_letter PresumeCommit = codes "c"
@@ -37,6 +38,7 @@ txn_text x = presumption_letter x.presumption ++ decimal x.boot ++ codes "." ++ 
 abbrev pub ticket_text : Ticket → List ℕ
 ticket_text t = decimal t.child.0 ++ codes "." ++ decimal t.boot ++ codes "." ++ decimal t.number
 
+-- `@` and the ticket, where there is one
 abbrev pub ticket_part : Option Ticket → List ℕ
 ticket_part None = []
 ticket_part (Some t) = codes "@" ++ ticket_text t
@@ -47,15 +49,18 @@ case_text c = txn_text c.txn ++ ticket_part c.ticket
 
 -- Messages.
 
+-- an operation: its word, its key, and for a put the value
 abbrev pub op_text : Op → List ℕ
 op_text (Put key value) = codes "put " ++ key ++ codes " " ++ value
 op_text (Get key) = codes "get " ++ key
 op_text (Delete key) = codes "del " ++ key
 
+-- the word of an outcome
 abbrev pub outcome_word : Outcome → List ℕ
 outcome_word CommittedOutcome = codes "commit"
 outcome_word AbortedOutcome = codes "abort"
 
+-- a message: its word, its case, and what else it carries
 abbrev pub message_text : Message → List ℕ
 message_text (Join c) = codes "JOIN " ++ case_text c
 message_text (Joined c t) = codes "JOINED " ++ case_text c ++ codes " " ++ ticket_text t
@@ -75,6 +80,7 @@ envelope_text n e = decimal n ++ codes " " ++ decimal e.from.0 ++ codes "->" ++ 
 
 -- Records and what was told.
 
+-- the word of a record's kind
 abbrev pub kind_word : RecordKind → List ℕ
 kind_word OpenedKind = codes "Opened"
 kind_word CollectingKind = codes "Collecting"
@@ -99,31 +105,38 @@ subject_text (Boot n) = codes " " ++ decimal n
 subject_text (OfCase c) = codes " " ++ case_text c
 subject_text Other = []
 
+-- ` forced` or ` plain`
 abbrev pub force_word : Bool → List ℕ
 force_word true = codes " forced"
 force_word false = codes " plain"
 
+-- a record: its process, its kind, what it is of, and its force
 abbrev pub logged_text : ℕ → Logged → List ℕ
 logged_text p l = codes "log " ++ decimal p ++ codes " " ++ kind_word l.kind ++ subject_text l.subject ++ force_word l.forced
 
+-- the word that tells the application how its transaction ended
 abbrev pub conclusion_word : Conclusion → List ℕ
 conclusion_word ConcludedCommitted = codes "committed"
 conclusion_word ConcludedAborted = codes "aborted"
 conclusion_word ReadOnly = codes "readonly"
 
+-- what the application was told: its transaction, and the word
 abbrev pub told_text : Told → List ℕ
 told_text t = codes "told " ++ txn_text t.txn ++ codes " " ++ conclusion_word t.conclusion
 
 -- The lines of a step: what was begun, logged, told and sent, and what a trim kept.
 
+-- the line of the transaction begun, if there is one
 abbrev pub begun_lines : Option Txn → List (List ℕ)
 begun_lines None = []
 begun_lines (Some x) = (codes "begin " ++ txn_text x) ∷ []
 
+-- a line for each record of this process
 abbrev pub logged_lines : ℕ → List Logged → List (List ℕ)
 logged_lines p [] = []
 logged_lines p (l ∷ ls) = logged_text p l ∷ logged_lines p ls
 
+-- the line of what was told, if anything was
 abbrev pub told_lines : Option Told → List (List ℕ)
 told_lines None = []
 told_lines (Some t) = told_text t ∷ []
@@ -133,6 +146,7 @@ abbrev pub envelope_lines : ℕ → List Envelope → List (List ℕ)
 envelope_lines n [] = []
 envelope_lines n (e ∷ es) = envelope_text (n + 1) e ∷ envelope_lines (n + 1) es
 
+-- the line of a trim: its process, and how many records it kept
 abbrev pub kept_lines : ℕ → Option ℕ → List (List ℕ)
 kept_lines p None = []
 kept_lines p (Some n) = (codes "trim " ++ decimal p ++ codes " " ++ decimal n) ∷ []
@@ -149,10 +163,12 @@ pub record FitsName (boot number : ℕ) : Type 0 where
   pub boot_fits : boot < 2 ^ 64
   pub number_fits : number < 2 ^ 64
 
+-- numbers that the fields of a case's ticket can be
 abbrev pub FitsOwner : Option Ticket → Type 0
 FitsOwner None = Unit {0}
 FitsOwner (Some t) = (t.child.0 < 2 ^ 64) × FitsName t.boot t.number
 
+-- numbers that the fields of a case can be; of the root nothing is asked
 abbrev pub FitsCase : Case → Type 0
 FitsCase c = FitsName c.txn.boot c.txn.sequence × FitsOwner c.ticket
 

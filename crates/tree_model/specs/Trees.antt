@@ -29,6 +29,7 @@ times_listed es q = count_by (λ e. same_process e.id q) es
 unfoldable pub lists_twice : List TreeEntry → Bool
 lists_twice es = list_any (λ e. nat_lt 1 (times_listed es e.id)) es
 
+-- there is a parent, and it is not listed
 abbrev pub is_unlisted : List TreeEntry → Option ProcessId → Bool
 is_unlisted es None = false
 is_unlisted es (Some p) = not (is_listed es p)
@@ -37,6 +38,7 @@ is_unlisted es (Some p) = not (is_listed es p)
 unfoldable pub has_unknown_parent : List TreeEntry → Bool
 has_unknown_parent es = list_any (λ e. is_unlisted es e.parent) es
 
+-- the parent of an entry, if there are both
 abbrev pub entry_parent : Option TreeEntry → Option ProcessId
 entry_parent None = None
 entry_parent (Some e) = e.parent
@@ -45,10 +47,12 @@ entry_parent (Some e) = e.parent
 unfoldable pub parent_of : List TreeEntry → ProcessId → Option ProcessId
 parent_of es q = entry_parent (find (λ e. same_process e.id q) es)
 
+-- one more, if there is a number
 abbrev pub one_more : Option ℕ → Option ℕ
 one_more None = None
 one_more (Some n) = Some (n + 1)
 
+-- one more than the climb from the parent gives; 1 where there is no parent
 abbrev pub levels_above : (ProcessId → Option ℕ) → Option ProcessId → Option ℕ
 levels_above climb None = Some 1
 levels_above climb (Some p) = one_more (climb p)
@@ -67,6 +71,7 @@ has_cycle es = list_any (λ e. is_none (level_within (length es) es e.id)) es
 abbrev pub is_top : TreeEntry → Bool
 is_top e = is_none e.parent
 
+-- the id of an entry; 0 where there is none
 abbrev pub entry_id : Option TreeEntry → ProcessId
 entry_id None = record { 0 = 0 }
 entry_id (Some e) = e.id
@@ -75,6 +80,7 @@ entry_id (Some e) = e.id
 unfoldable pub root_of : List TreeEntry → ProcessId
 root_of es = entry_id (find is_top es)
 
+-- the kind is a manager's
 abbrev pub is_manager_kind : Kind → Bool
 is_manager_kind Manager = true
 is_manager_kind Coordinator = false
@@ -87,6 +93,7 @@ has_wrong_roots es = nat_lt 1 (count_by is_top es) || list_any (λ e. is_top e &
 unfoldable pub is_listed_manager : List TreeEntry → ProcessId → Bool
 is_listed_manager es q = list_any (λ e. same_process e.id q && is_manager_kind e.kind) es
 
+-- there is a parent, and it is listed as a manager
 abbrev pub is_managed : List TreeEntry → Option ProcessId → Bool
 is_managed es None = false
 is_managed es (Some p) = is_listed_manager es p
@@ -95,6 +102,7 @@ is_managed es (Some p) = is_listed_manager es p
 unfoldable pub has_managed_child : List TreeEntry → Bool
 has_managed_child es = list_any (λ e. is_managed es e.parent) es
 
+-- there is a level, and it is below this one
 abbrev pub is_below_level : ℕ → Option ℕ → Bool
 is_below_level most None = false
 is_below_level most (Some n) = nat_lt most n

@@ -31,9 +31,11 @@ use Rattle.tree_model.specs.Reactions.{row_effect, leaf_effect, leaf_of, leaf_jo
 
 -- A manager.
 
+-- a manager with this parent in a tree
 abbrev pub leaf_place : ProcessId → ProcessId → List TreeEntry → Place
 leaf_place me p tree = record { me = me; role = AtLeaf p; tree = tree }
 
+-- the message with this number, with what a manager's data answer to it
 abbrev pub hears_message : ℕ → Message → DataAnswer → Heard
 hears_message k m a = record { input = MessageInput k m; data_answer = a }
 
@@ -42,6 +44,7 @@ pub record MovesBranch (place : Place) (n : Node) (h : Heard) (d : Case) (row : 
   pub moved : manager_view place (after n h (leaf_effect row)) d ≡ row.view
   pub others : (c : Case) → same_case d c ≡ false → manager_view place (after n h (leaf_effect row)) c ≡ manager_view place n c
 
+-- an act, with what a manager's data answer to it
 abbrev pub hears_act : Act → DataAnswer → Heard
 hears_act x a = record { input = ActInput x; data_answer = a }
 
@@ -84,9 +87,11 @@ pub record ManagerViews (me p : ProcessId) (tree : List TreeEntry) (n : Node) (d
 
 -- The root.
 
+-- the root of a tree
 abbrev pub root_place : ProcessId → List TreeEntry → Place
 root_place me tree = record { me = me; role = AtRoot; tree = tree }
 
+-- the root in this case
 abbrev pub root_seat : ProcessId → Case → Seat
 root_seat me c = record { me = me; parent = None; own = c }
 
@@ -103,6 +108,7 @@ pub record MovesTxn (place : Place) (n : Node) (h : Heard) (x : Txn) (row : Row)
   pub moved : coordinator_view place (after n h (row_effect (root_case x) row)) (root_case x) ≡ row.view
   pub others : (y : Txn) → same_txn x y ≡ false → coordinator_view place (after n h (row_effect (root_case x) row)) (root_case y) ≡ coordinator_view place n (root_case y)
 
+-- the message that brings a vote
 abbrev pub vote_message : Vote → Case → Message
 vote_message VoteYes = Yes
 vote_message VoteNo = No

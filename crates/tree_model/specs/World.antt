@@ -36,23 +36,28 @@ abbrev pub fault_effect : Effect → ℕ → Effect
 fault_effect e appended =
     record { begun = None; written = take appended e.written; told = None; messages = []; accepts = e.accepts; counts = e.counts; remains = None }
 
+-- a move by an input: refused, or done, or broken off by a device's failure
 abbrev pub input_makes : Node → Heard → Option Fault → Reacts → Stepped
 input_makes n h fault (Refused e) = Refuses e
 input_makes n h None (Does e) = Makes e (after n h e)
 input_makes n h (Some f) (Does e) = Makes (fault_effect e f.appended) (fails_in n h e f.appended f.forced)
 
+-- an input that is passed over: nothing moves; a device's failure fails the process
 abbrev pub passes_over : Node → Option Fault → Stepped
 passes_over n None = Makes no_effect n
 passes_over n (Some f) = Makes no_effect (record n { failed = true })
 
+-- a restart, with so many unforced records left; a device's failure breaks it off
 abbrev pub restart_makes : Place → Node → ℕ → Option Fault → Stepped
 restart_makes place n k None = Makes (restart_effect place n k) (restarted place n k)
 restart_makes place n k (Some f) = Makes (fault_effect (restart_effect place n k) f.appended) (restart_fails place n k f.appended f.forced)
 
+-- a trim; a device's failure leaves the old log or the new one
 abbrev pub trim_makes : Place → Node → Option Fault → Stepped
 trim_makes place n None = Makes (trim_effect place n) (trims place n)
 trim_makes place n (Some f) = Makes (fault_effect (trim_effect place n) 0) (trim_fails place n f.appended)
 
+-- a move by what happens; a process that has failed refuses a trim
 abbrev pub happening_makes : Place → Node → Move → Happening → Stepped
 happening_makes place n m (Handles i) =
     let h : Heard = record { input = i; data_answer = m.data_answer } in
@@ -66,6 +71,7 @@ node_makes place n m = happening_makes place n m m.step.happening
 
 -- The tree.
 
+-- every process, and every message
 pub record World : Type 0 where
   pub at : ProcessId → Node
   -- every message that was ever sent; the first has number 1
@@ -75,6 +81,7 @@ pub record World : Type 0 where
 abbrev pub opened_world : World
 opened_world = record { at = λ q. opened_node; net = [] }
 
+-- the processes, with this one at this id
 abbrev pub put_at : ProcessId → Node → (ProcessId → Node) → ProcessId → Node
 put_at q n f r = if same_process q r then n else f r
 
@@ -83,6 +90,7 @@ abbrev pub world_stepped : World → ProcessId → Stepped → Option (Effect ×
 world_stepped w q (Refuses e) = None
 world_stepped w q (Makes e n) = Some (e, record { at = put_at q n w.at; net = w.net ++ e.messages })
 
+-- what a move makes of the world; nothing where its process is not listed or refuses it
 unfoldable pub world_makes : List TreeEntry → World → Move → Option (Effect × World)
 world_makes tree w m =
     let q = m.step.process in
@@ -94,6 +102,7 @@ pub record IsSent (net : List Envelope) (q : ProcessId) (number : ℕ) (message 
   pub counted : 1 ≤ number
   pub stands : slice_get net (number - 1) ≡ Some (record { from = sender; to = q; message = message })
 
+-- a delivered message was sent to the process; an act may always come
 abbrev pub InputStands : List Envelope → ProcessId → Input → Type 0
 InputStands net q (ActInput a) = ⊤
 InputStands net q (MessageInput number message) = IsSent net q number message
@@ -135,6 +144,7 @@ unfoldable pub made_by : ProcessId → List Made → List Made
 made_by q [] = []
 made_by q (e ∷ es) = if same_process e.move.step.process q then e ∷ made_by q es else made_by q es
 
+-- the process after a move; one that is refused leaves it as it was
 abbrev pub node_left : Node → Stepped → Node
 node_left n (Refuses e) = n
 node_left n (Makes e n') = n'
@@ -164,6 +174,7 @@ abbrev pub shown : Option Fault → Effect → Reaction
 shown None e = reaction_of e
 shown (Some f) e = reaction_of no_effect
 
+-- how the journal shows a move
 abbrev pub entry_of : Made → Entry
 entry_of e = record { step = e.move.step; reaction = shown e.move.step.fault e.effect }
 
