@@ -7,3 +7,6 @@ pub mod Doubts
 pub mod Moves
 pub mod Rows
 pub mod ManagerRows
+pub mod Fronts
+pub mod FailMoves
+pub mod LeafFaults

@@ -21,15 +21,15 @@ first_false a b e = grind arith
 second_false : (a b : Bool) → (a || b) ≡ false → b ≡ false
 second_false a b e = grind arith
 
-follows_so : (a b : Bool) → (not a || b) ≡ true → a ≡ true → b ≡ true
+pub follows_so : (a b : Bool) → (not a || b) ≡ true → a ≡ true → b ≡ true
 follows_so true b e f = e
 follows_so false b e f = absurd (cc)
 
 module _ (d : Case) where
-  abbrev after : Mark → Record → Mark
+  abbrev pub after : Mark → Record → Mark
   after m r = mark_after (CaseBranch d) m r
 
-  abbrev MayStand : Mark → Record → Type 0
+  abbrev pub MayStand : Mark → Record → Type 0
   MayStand m r = (not (is_branch_record d r) || may_follow m r) ≡ true
 
   -- A set of marks that no record leaves.
@@ -213,7 +213,7 @@ module _ (d : Case) where
   own_decides Unmarked r e f k = absurd (cc)
   own_decides Finished r e f k = absurd (cc)
 
-  decided_one : (m : Mark) (r : Record) → MayStand m r → IsDecidedMark (after m r)
+  pub decided_one : (m : Mark) (r : Record) → MayStand m r → IsDecidedMark (after m r)
       → IsDecidedMark m ⊎ (is_heuristic d r ≡ true)
   decided_one m r f k = by_record (is_branch_record d r) refl
     where
@@ -244,7 +244,7 @@ module _ (d : Case) where
 
   -- A finished branch was forgotten, or obeyed an outcome with no operator's decision before it.
 
-  none_behind : (rs : List Record) → in_order_from d Finished rs ≡ true → has (is_heuristic d) rs ≡ false
+  pub none_behind : (rs : List Record) → in_order_from d Finished rs ≡ true → has (is_heuristic d) rs ≡ false
   unfolding in_order_from has
   none_behind [] e = refl
   none_behind (r ∷ rs) e =
