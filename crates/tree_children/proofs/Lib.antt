@@ -10,3 +10,5 @@ pub mod ManagerRows
 pub mod Fronts
 pub mod FailMoves
 pub mod LeafFaults
+pub mod Faults
+pub mod FaultTurns
