@@ -1,5 +1,5 @@
 -- Each turn of a manager in which its device fails: nothing or the one record was appended.
-use Rattle.std.proofs.Common.{◌≡◌, ◌∙◌, ◌⊎◌, inl, inr, ℕ, zero, suc, Bool, true, false, List, [], ◌∷◌, ◌++◌, take, refl, sym, ap, subst}
+use Rattle.std.proofs.Common.{◌≡◌, ◌∙◌, inl, inr, ℕ, zero, suc, Bool, true, false, List, [], ◌∷◌, ◌++◌, take, refl, sym, ap, subst}
 use Rattle.std.specs.Prelude.{not}
 use Rattle.tree_model.specs.declared.names.Case.{Case}
 use Rattle.tree_model.specs.declared.names.ProcessId.{ProcessId}
@@ -7,7 +7,7 @@ use Rattle.tree_model.specs.declared.names.Ticket.{Ticket}
 use Rattle.tree_model.specs.declared.names.Outcome.{Outcome}
 use Rattle.tree_model.specs.declared.names.Outcome.TheVariants.{Committed as CommittedOutcome, Aborted as AbortedOutcome}
 use Rattle.tree_model.specs.declared.names.Presumption.{Presumption}
-use Rattle.tree_model.specs.declared.messages.Message.TheVariants.{Prepare, Commit, Abort}
+use Rattle.tree_model.specs.declared.messages.Message.TheVariants.{Joined, Prepare, Yes, No, Read, Commit, Abort, Inquire}
 use Rattle.tree_model.specs.declared.messages.Envelope.{Envelope}
 use Rattle.tree_model.specs.declared.records.Branch.TheVariants.{Case as CaseBranch}
 use Rattle.tree_model.specs.declared.records.Record.{Record}
@@ -17,10 +17,12 @@ use Rattle.tree_model.specs.declared.events.Input.TheVariants.{Message as Messag
 use Rattle.tree_model.specs.declared.trees.TreeEntry.{TreeEntry}
 use Rattle.tree_model.specs.Names.{child_case, same_case}
 use Rattle.tree_model.specs.NameLaws.{same_case_tells, same_case-refl}
-use Rattle.tree_model.specs.Records.{has, is_heuristic, is_decided, is_forgot}
-use Rattle.tree_model.specs.Nodes.{Place, AtLeaf, Node, Heard, Effect, Written, entries_written, fails_in}
-use Rattle.tree_model.specs.CoordinatorRows.{tells_outcome}
-use Rattle.tree_model.specs.ManagerRows.{is_acknowledged}
+use Rattle.tree_model.specs.Records.{has, is_heuristic, is_decided, is_forgot, boot_of}
+use Rattle.tree_model.specs.Nodes.{Place, AtLeaf, Node, Heard, Effect, entries_written, kept, no_effect, fails_in}
+use Rattle.tree_model.specs.CoordinatorRows.{post, forced, tells_outcome}
+use Rattle.tree_model.specs.ManagerRows.{is_acknowledged, acknowledgement, written_as}
+use Rattle.tree_model.specs.Memory.{memory_of, next_ticket}
+use Rattle.tree_model.specs.Reactions.{leaf_of}
 use Rattle.tree_model.specs.Standings.{manager_view, Promised, Decided, Mark}
 use Rattle.tree_model.specs.Outcomes.{is_outcome_message}
 use Rattle.tree_model.specs.World.{InputStands}
@@ -31,7 +33,7 @@ use Rattle.tree_pairs.specs.Invariant.{Common}
 use Rattle.tree_readings.specs.ReadingOf.{reading_from, ParentHalf, ChildHalf, Wire, child_half, wire, is_prepare_message, is_promise, is_learnt_commit, is_learnt_abort, is_committing}
 use Rattle.tree_readings.specs.Halves.{failed_half}
 use Rattle.tree_readings.proofs.LeafCrash.{half_fails}
-use Rattle.tree_turns.specs.LeafTurns.{LeafTurn, Hears, mark_at, IsActive, IsOpenBranch, Waits, promised, decided, waits, by_operator, IsDecided, untold, told, does_nothing, gives_again, gives_fresh, votes_yes, votes_read, votes_no, repeats_yes, refuses, obeys, notes, acknowledges_told, acknowledges, drops, asks, decides, forgets}
+use Rattle.tree_turns.specs.LeafTurns.{LeafTurn, writes_and_sends, Hears, mark_at, IsActive, IsOpenBranch, Waits, promised, decided, waits, by_operator, IsDecided, untold, told, does_nothing, gives_again, gives_fresh, votes_yes, votes_read, votes_no, repeats_yes, refuses, obeys, notes, acknowledges_told, acknowledges, drops, asks, decides, forgets}
 use Rattle.tree_turns.specs.Written.{is_coordinators}
 use Rattle.tree_nodes.specs.Lasts.{logs_of, Nested, Manages, Lasts}
 use Rattle.tree_nodes.specs.Marks.{is_branch_record}
@@ -367,3 +369,97 @@ module _ (c : Case) (t : Ticket) (p : ProcessId) (tree : List TreeEntry) (n : No
 
         never : k.heuristic_commits ≡ false
         never = none_ever n d plain_so_far (moves.never_decided r0 common plain_so_far doubts)
+
+    -- Every turn.
+
+    abbrev Fails : Effect → Type 0
+    Fails e = (a f : ℕ) → Left e a f → Ok e a f
+
+    abbrev acked : Case → Outcome → List Envelope
+    acked x o = acknowledgement (leaf_of place p x) o
+
+    abbrev Ends : Case → Outcome → Record → Effect
+    Ends x o r = writes_and_sends (written_as (leaf_of place p x) o r) (acked x o)
+
+    abbrev Decides : Case → Record → Effect
+    Decides x r = writes_and_sends (forced r) []
+
+    pub turn_fails : (e : Effect) → LeafTurn place p n h e → Fails e
+    turn_fails _ does_nothing = silent no_effect refl
+    turn_fails _ (gives_again x u i a) = silent
+        (writes_and_sends [] (post t.child p (Joined x u) ∷ [])) refl
+    turn_fails _ (gives_fresh x i a s) =
+        silent
+        (writes_and_sends [] (post t.child p
+        (Joined x (next_ticket t.child (boot_of (kept n)) (memory_of place n x))) ∷ [])) refl
+    turn_fails _ (votes_yes x y ws i a) = elim (same_case_tells x d) [
+      | inl s ↦ subst (λ (z : Case). Hears h (Prepare z y) → IsActive place n z
+          → Fails (writes_and_sends (forced (PreparedRecord (CaseBranch z) ws)) (post t.child p (Yes z) ∷ [])))
+          (sym s.1)
+          (promises_own
+          (writes_and_sends (forced (PreparedRecord (CaseBranch d) ws)) (post t.child p (Yes d) ∷ [])) true
+          ws refl y) i a
+      | inr f ↦ fails_other
+          (writes_and_sends (forced (PreparedRecord (CaseBranch x) ws)) (post t.child p (Yes x) ∷ []))
+          (PreparedRecord (CaseBranch x) ws) true refl
+          (record { no_abort = refl; no_prepare = refl }) f.0 refl
+    ]
+    turn_fails _ (votes_read x y i a) = silent (writes_and_sends [] (post t.child p (Read x) ∷ [])) refl
+    turn_fails _ (votes_no x y i a) = silent (writes_and_sends [] (post t.child p (No x) ∷ [])) refl
+    turn_fails _ (repeats_yes x y i a) = silent (writes_and_sends [] (post t.child p (Yes x) ∷ [])) refl
+    turn_fails _ (refuses x y i a) = silent (writes_and_sends [] (post t.child p (No x) ∷ [])) refl
+    turn_fails _ (obeys x CommittedOutcome i a) = elim (same_case_tells x d) [
+      | inl s ↦ subst (λ (z : Case). Hears h (Commit z) → mark_at n z ≡ Promised
+          → Fails (Ends z CommittedOutcome (Committed (CaseBranch z)))) (sym s.1)
+          (λ i' a'. obeys_own (Ends d CommittedOutcome (Committed (CaseBranch d)))
+          (is_acknowledged c.txn.presumption CommittedOutcome) CommittedOutcome i' a' refl) i a
+      | inr f ↦ fails_other (Ends x CommittedOutcome (Committed (CaseBranch x))) (Committed (CaseBranch x))
+          (is_acknowledged x.txn.presumption CommittedOutcome) refl
+          (record { no_abort = refl; no_prepare = refl }) f.0 refl
+    ]
+    turn_fails _ (obeys x AbortedOutcome i a) = elim (same_case_tells x d) [
+      | inl s ↦ subst (λ (z : Case). Hears h (Abort z) → mark_at n z ≡ Promised
+          → Fails (Ends z AbortedOutcome (RolledBack (CaseBranch z)))) (sym s.1)
+          (λ i' a'. obeys_own (Ends d AbortedOutcome (RolledBack (CaseBranch d)))
+          (is_acknowledged c.txn.presumption AbortedOutcome) AbortedOutcome i' a' refl) i a
+      | inr f ↦ fails_other (Ends x AbortedOutcome (RolledBack (CaseBranch x))) (RolledBack (CaseBranch x))
+          (is_acknowledged x.txn.presumption AbortedOutcome) refl
+          (record { no_abort = refl; no_prepare = refl }) f.0 refl
+    ]
+    turn_fails _ (notes x o i a) = elim (same_case_tells x d) [
+      | inl s ↦ subst (λ (z : Case). Hears h (tells_outcome o z) → mark_at n z ≡ Decided
+          → Fails (Ends z o (Told (CaseBranch z) o))) (sym s.1)
+          (λ i' a'. notes_own (Ends d o (Told (CaseBranch d) o)) (is_acknowledged c.txn.presumption o) o i'
+          a' refl) i a
+      | inr f ↦ fails_other (Ends x o (Told (CaseBranch x) o)) (Told (CaseBranch x) o)
+          (is_acknowledged x.txn.presumption o) refl
+          (record { no_abort = refl; no_prepare = refl }) f.0 refl
+    ]
+    turn_fails _ (acknowledges_told x o i a) = silent (writes_and_sends [] (acked x o)) refl
+    turn_fails _ (acknowledges x o i a) = silent (writes_and_sends [] (acked x o)) refl
+    turn_fails _ (drops x i a) = silent (writes_and_sends [] (acked x AbortedOutcome)) refl
+    turn_fails _ (asks x i a) = silent (writes_and_sends [] (post t.child p (Inquire x) ∷ [])) refl
+    turn_fails _ (decides x CommittedOutcome i a) = elim (same_case_tells x d) [
+      | inl s ↦ subst (λ (z : Case). mark_at n z ≡ Promised → Fails (Decides z (HeurCommit (CaseBranch z))))
+          (sym s.1)
+          (λ a'. decides_own (Decides d (HeurCommit (CaseBranch d))) true (HeurCommit (CaseBranch d)) true
+          refl (record { no_abort = refl; no_prepare = refl }) a' refl refl refl (same_case-refl d)
+          (same_case-refl d) refl refl) a
+      | inr f ↦ fails_other (Decides x (HeurCommit (CaseBranch x))) (HeurCommit (CaseBranch x)) true refl
+          (record { no_abort = refl; no_prepare = refl }) f.0 refl
+    ]
+    turn_fails _ (decides x AbortedOutcome i a) = elim (same_case_tells x d) [
+      | inl s ↦ subst (λ (z : Case). mark_at n z ≡ Promised
+          → Fails (Decides z (HeurRollback (CaseBranch z)))) (sym s.1)
+          (λ a'. decides_own (Decides d (HeurRollback (CaseBranch d))) true (HeurRollback (CaseBranch d))
+          false refl (record { no_abort = refl; no_prepare = refl }) a' refl refl refl (same_case-refl d)
+          refl refl refl) a
+      | inr f ↦ fails_other (Decides x (HeurRollback (CaseBranch x))) (HeurRollback (CaseBranch x)) true refl
+          (record { no_abort = refl; no_prepare = refl }) f.0 refl
+    ]
+    turn_fails _ (forgets x i a) = elim (same_case_tells x d) [
+      | inl s ↦ subst (λ (z : Case). IsDecided (mark_at n z) → Fails (Decides z (Forgot (CaseBranch z))))
+          (sym s.1) (λ a'. forgets_own (Decides d (Forgot (CaseBranch d))) true refl a') a
+      | inr f ↦ fails_other (Decides x (Forgot (CaseBranch x))) (Forgot (CaseBranch x)) true refl
+          (record { no_abort = refl; no_prepare = refl }) f.0 refl
+    ]

@@ -1,55 +1,33 @@
 -- Each turn of a manager in which its device fails keeps the invariant of its pairs.
-use Rattle.std.proofs.Common.{◌≡◌, ◌∙◌, ◌||◌, ◌&&◌, ◌⊎◌, inl, inr, ℕ, zero, suc, Bool, true, false, List, [], ◌∷◌, ◌++◌, take, refl, sym, ap, subst, arith}
-use Rattle.std.specs.Prelude.{not}
+use Rattle.std.proofs.Common.{◌≡◌, ◌∙◌, ◌||◌, ◌&&◌, Bool, true, false, List, refl, sym, ap, subst, arith}
 use Rattle.tree_model.specs.declared.names.Case.{Case}
 use Rattle.tree_model.specs.declared.names.ProcessId.{ProcessId}
 use Rattle.tree_model.specs.declared.names.Ticket.{Ticket}
-use Rattle.tree_model.specs.declared.names.Outcome.{Outcome}
-use Rattle.tree_model.specs.declared.names.Outcome.TheVariants.{Committed as CommittedOutcome, Aborted as AbortedOutcome}
 use Rattle.tree_model.specs.declared.names.Presumption.{Presumption}
-use Rattle.tree_model.specs.declared.messages.Message.TheVariants.{Prepare, Commit, Abort}
-use Rattle.tree_model.specs.declared.messages.Envelope.{Envelope}
-use Rattle.tree_model.specs.declared.records.Branch.TheVariants.{Case as CaseBranch}
 use Rattle.tree_model.specs.declared.records.Record.{Record}
-use Rattle.tree_model.specs.declared.records.Record.TheVariants.{Prepared as PreparedRecord, Committed, RolledBack, HeurCommit, HeurRollback, Told, Forgot}
-use Rattle.tree_model.specs.declared.records.Write.{Write}
-use Rattle.tree_model.specs.declared.events.Input.TheVariants.{Message as MessageInput}
 use Rattle.tree_model.specs.declared.trees.TreeEntry.{TreeEntry}
-use Rattle.tree_model.specs.Names.{child_case, same_case}
-use Rattle.tree_model.specs.NameLaws.{same_case_tells, same_case-refl}
-use Rattle.tree_model.specs.Records.{has, is_abort, is_prepare, is_heuristic, is_decided, is_forgot}
-use Rattle.tree_model.specs.Nodes.{Place, AtLeaf, Node, Heard, Effect, kept, fails_in}
-use Rattle.tree_model.specs.CoordinatorRows.{tells_outcome}
-use Rattle.tree_model.specs.ManagerRows.{is_acknowledged}
+use Rattle.tree_model.specs.Names.{child_case}
+use Rattle.tree_model.specs.Records.{has, is_abort, is_prepare, is_heuristic, is_forgot}
+use Rattle.tree_model.specs.Nodes.{Place, AtLeaf, Node, kept}
 use Rattle.tree_model.specs.Standings.{Unmarked}
-use Rattle.tree_model.specs.Outcomes.{is_outcome_message}
-use Rattle.tree_model.specs.World.{InputStands}
 use Rattle.tree_pairs.specs.Reading.{Reading}
 use Rattle.tree_pairs.specs.ChildCrash as crash
 use Rattle.tree_pairs.specs.ChildCrash.{ChildFront}
-use Rattle.tree_pairs.specs.Standing.{IsInDoubt}
 use Rattle.tree_pairs.specs.Invariant.{Common}
-use Rattle.tree_readings.specs.ReadingOf.{reading_from, ParentHalf, ChildHalf, Wire, child_half, wire, is_prepare_message, is_promise, is_learnt_commit, is_learnt_abort, is_committing}
+use Rattle.tree_readings.specs.ReadingOf.{reading_from, ParentHalf, ChildHalf, Wire, child_half, is_promise, is_learnt_commit, is_learnt_abort}
 use Rattle.tree_readings.specs.Halves.{failed_half}
-use Rattle.tree_readings.proofs.LeafCrash.{half_fails, reading-fails, QuietWhileOpen}
-use Rattle.tree_turns.specs.LeafTurns.{LeafTurn, Hears, mark_at, IsActive, IsOpenBranch, Waits, promised, decided, waits, by_operator, IsDecided, untold, told, does_nothing, gives_again, gives_fresh, votes_yes, votes_read, votes_no, repeats_yes, refuses, obeys, notes, acknowledges_told, acknowledges, drops, asks, decides, forgets}
+use Rattle.tree_readings.proofs.LeafCrash.{reading-fails, QuietWhileOpen}
 use Rattle.tree_turns.specs.Written.{is_coordinators}
-use Rattle.tree_nodes.specs.Lasts.{logs_of, Nested, Manages, Lasts}
+use Rattle.tree_nodes.specs.Lasts.{logs_of, Lasts}
 use Rattle.tree_nodes.specs.Marks.{in_order_from}
 use Rattle.tree_nodes.specs.WorldHolds.{InvariantOf}
 use Rattle.tree_nodes.proofs.Tests.{in_first, not_both}
-use Rattle.tree_nodes.proofs.Orders.{IsMarked}
 use Rattle.tree_nodes.proofs.Worlds.{has_other}
-use Rattle.tree_children.proofs.LeafWrites.{wrote, IsBranchs, unrelated}
-use Rattle.tree_children.proofs.LeafFaults as faults
-use Rattle.tree_children.proofs.LeafFaults.{front_of, half_fails_behind, fails_none}
+use Rattle.tree_children.proofs.LeafFaults.{front_of}
 use Rattle.tree_children.proofs.Fronts as fronts
 use Rattle.tree_children.proofs.FailMoves as fail
 use Rattle.tree_children.proofs.Moves as moves
 use Rattle.tree_children.proofs.Moves.{Fits}
-use Rattle.tree_children.proofs.Opens.{closed_where_marked, open_where_active}
-use Rattle.tree_children.proofs.Doubts.{doubt, promised_so, plain_so, heuristic_so, unforgotten_so, none_ever}
-use Rattle.tree_children.proofs.Rows.{was_sent}
 
 more : (a b c a' b' c' : Bool) → (a ≡ true → a' ≡ true) → (b ≡ true → b' ≡ true) → (c ≡ true → c' ≡ true)
     → (a || (b && c)) ≡ true → (a' || (b' && c')) ≡ true

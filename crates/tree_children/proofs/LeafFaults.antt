@@ -1,5 +1,5 @@
 -- What a fault in an event of a manager does to its half of a reading, by the record that was appended.
-use Rattle.std.proofs.Common.{◌≡◌, ◌∙◌, ℕ, zero, suc, Bool, true, false, not, ◌||◌, ◌&&◌, List, [], ◌∷◌, ◌++◌, take, drop, append_assoc, refl, sym, ap, subst, arith}
+use Rattle.std.proofs.Common.{◌≡◌, ◌∙◌, ℕ, zero, suc, Bool, true, false, not, ◌||◌, ◌&&◌, List, [], ◌∷◌, ◌++◌, take, drop, append_assoc, refl, sym, ap, arith}
 use Rattle.std.proofs.lemmas.List.{take-append-drop}
 use Rattle.std.proofs.Math.Seq.{take-nil}
 use Rattle.tree_model.specs.declared.names.Case.{Case}
@@ -11,7 +11,7 @@ use Rattle.tree_model.specs.Nodes.{Node, Heard, Effect, fails_in}
 use Rattle.tree_pairs.specs.Reading.{Reading}
 use Rattle.tree_pairs.specs.ChildCrash as crash
 use Rattle.tree_pairs.specs.ChildCrash.{ChildFront}
-use Rattle.tree_readings.specs.ReadingOf.{child_half_at, reading_from, ParentHalf, ChildHalf, Wire, is_dead, is_promise, is_learnt_commit, is_learnt_abort, is_committing}
+use Rattle.tree_readings.specs.ReadingOf.{child_half_at, reading_from, ParentHalf, ChildHalf, Wire, is_promise, is_learnt_commit, is_learnt_abort, is_committing}
 use Rattle.tree_readings.specs.Halves.{failed_half}
 use Rattle.tree_readings.proofs.Lists.{has-push_behind, has-cons, has-none}
 use Rattle.tree_readings.proofs.LeafRows.{and-false, dead-live, dead-promised}

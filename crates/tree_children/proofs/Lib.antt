@@ -12,3 +12,4 @@ pub mod FailMoves
 pub mod LeafFaults
 pub mod Faults
 pub mod FaultTurns
+pub mod ManagerFaults
