@@ -44,3 +44,13 @@ pub hardens_failed : (pr : Presumption) (front : ChildFront) (r : Reading) → I
     → crash.MayHardenFailedChild front r → Fits pr r (crash.hardens_failed_child front r)
 hardens_failed PresumeAbort front r h g = under_abort.hardens_failed_child front r h g
 hardens_failed PresumeCommit front r h g = under_commit.hardens_failed_child front r h g
+
+pub loses : (pr : Presumption) (front : ChildFront) (r : Reading) → InvariantOf pr r
+    → crash.IsChildFront front r → Fits pr r (crash.child_loses front r)
+loses PresumeAbort front r h g = under_abort.child_loses front r h g
+loses PresumeCommit front r h g = under_commit.child_loses front r h g
+
+pub restarts : (pr : Presumption) (front : ChildFront) (r : Reading) → InvariantOf pr r
+    → crash.IsChildFront front r → Fits pr r (crash.child_restarts front r)
+restarts PresumeAbort front r h g = under_abort.child_restarts front r h g
+restarts PresumeCommit front r h g = under_commit.child_restarts front r h g

@@ -51,7 +51,7 @@ module _ (d : Case) where
         | inr rest ↦ inr (right _ _ rest)
       ]
 
-  has_promise : (rs : List Record) → in_order_from d Unmarked rs ≡ true
+  pub has_promise : (rs : List Record) → in_order_from d Unmarked rs ≡ true
       → IsMarked (mark_behind d Unmarked rs) → has (is_promise d) rs ≡ true
   has_promise rs e k = elim (has_marked Unmarked rs e k) [ inl none ↦ absurd none | inr there ↦ there ]
 
@@ -91,7 +91,7 @@ module _ (d : Case) where
   told_or (ToldOf o) = inl tt
   told_or Finished = inl tt
 
-  late_or : (m : Mark) → IsLate d m ⊎ (IsLate d m → ⊥)
+  pub late_or : (m : Mark) → IsLate d m ⊎ (IsLate d m → ⊥)
   late_or Unmarked = inr (λ k. k)
   late_or Promised = inr (λ k. k)
   late_or Decided = inl tt

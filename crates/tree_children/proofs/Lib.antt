@@ -13,3 +13,6 @@ pub mod LeafFaults
 pub mod Faults
 pub mod FaultTurns
 pub mod ManagerFaults
+pub mod LastRecords
+pub mod Restarts
+pub mod ManagerRestarts

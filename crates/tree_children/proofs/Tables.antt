@@ -36,7 +36,7 @@ module _ (d : Case) where
   module _ (P : Mark → Type 0)
       (closed : (m : Mark) (r : Record) → P m → is_branch_record d r ≡ true → may_follow m r ≡ true → P
       (after m r)) where
-    one_more : (m : Mark) (r : Record) → P m → MayStand m r → P (after m r)
+    pub one_more : (m : Mark) (r : Record) → P m → MayStand m r → P (after m r)
     one_more m r k f = by_record (is_branch_record d r) refl
       where
         by_record : (b : Bool) → is_branch_record d r ≡ b → P (after m r)
@@ -70,7 +70,7 @@ module _ (d : Case) where
   IsLate Promised = ⊥
   IsLate _ = Unit {0}
 
-  late_stays : (m : Mark) (r : Record) → IsLate m → is_branch_record d r ≡ true → may_follow m r ≡ true
+  pub late_stays : (m : Mark) (r : Record) → IsLate m → is_branch_record d r ≡ true → may_follow m r ≡ true
       → IsLate (after m r)
   late_stays Decided (Told b o) k e f = rw (same_is d b ∙ e) tt
   late_stays Decided (Forgot b) k e f = rw (same_is d b ∙ e) tt

@@ -1,2 +1,3 @@
 pub mod ManagerSteps
 pub mod ManagerFaults
+pub mod ManagerRestarts
