@@ -16,3 +16,4 @@ pub mod ManagerFaults
 pub mod LastRecords
 pub mod Restarts
 pub mod ManagerRestarts
+pub mod ManagerRestartFaults

@@ -1,3 +1,4 @@
 pub mod ManagerSteps
 pub mod ManagerFaults
 pub mod ManagerRestarts
+pub mod ManagerRestartFaults

@@ -1,5 +1,6 @@
 //! The laws of children.
 ghost use Rattle.tree_children.specs.ManagerSteps.{ManagerRows};
+ghost use Rattle.tree_children.specs.ManagerRestartFaults.{ManagerRestartFaults};
 ghost use Rattle.tree_children.specs.ManagerRestarts.{ManagerRestarts};
 ghost use Rattle.tree_children.specs.ManagerFaults.{ManagerFaults};
 
@@ -19,4 +20,9 @@ pub fn manager_faults()
 /// manager, however many of the unforced records are left.
 pub fn manager_restarts()
     ensures { ManagerRestarts }
+{}
+
+/// In every run, each restart of a manager in which its device fails keeps the invariant of each pair of the manager.
+pub fn manager_restart_faults()
+    ensures { ManagerRestartFaults }
 {}
