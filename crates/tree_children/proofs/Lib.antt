@@ -17,3 +17,4 @@ pub mod LastRecords
 pub mod Restarts
 pub mod ManagerRestarts
 pub mod ManagerRestartFaults
+pub mod TrimmedBranches
