@@ -1,5 +1,5 @@
 -- What a front of a manager's log leaves of a branch, as a restart finds it: in doubt or not, and how an operator decided.
-use Rattle.std.proofs.Common.{◌≡◌, ◌∙◌, ◌||◌, ◌&&◌, ◌⊎◌, inl, inr, Bool, true, false, List, [], ◌∷◌, ◌++◌, refl, sym, ap, subst, arith}
+use Rattle.std.proofs.Common.{◌≡◌, ◌∙◌, ◌||◌, ◌&&◌, inl, inr, Bool, true, false, List, [], ◌∷◌, ◌++◌, refl, sym, ap, subst, arith}
 use Rattle.std.specs.Prelude.{not}
 use Rattle.tree_model.specs.declared.names.Case.{Case}
 use Rattle.tree_model.specs.declared.names.Outcome.{Outcome}
@@ -14,8 +14,8 @@ use Rattle.tree_readings.specs.ReadingOf.{is_promise, is_learnt_commit, is_learn
 use Rattle.tree_readings.specs.Steps.{asks_by}
 use Rattle.tree_readings.specs.Halves.{child_front, is_in_doubt}
 use Rattle.tree_nodes.specs.Marks.{is_branch_record, may_follow, in_order_from}
-use Rattle.tree_nodes.proofs.Tests.{either, left, right, neither, both, not_both, has-append}
-use Rattle.tree_nodes.proofs.Orders.{IsMarked, IsDecidedMark, mark_behind, mark_is, order_front, order-append}
+use Rattle.tree_nodes.proofs.Tests.{right, neither, both, not_both, has-append}
+use Rattle.tree_nodes.proofs.Orders.{IsMarked, mark_behind, mark_is, order_front, order-append}
 use Rattle.tree_nodes.proofs.Worlds.{has_other}
 use Rattle.tree_children.proofs.Tables.{after, MayStand, IsTold, IsLate, follows_so, one_more, late_stays, no_heuristic, no_commit, no_abort, no_forgot, no_record, has_told, finished, IsOver}
 use Rattle.tree_children.proofs.Fronts.{has_promise, late_or}

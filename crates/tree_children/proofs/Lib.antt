@@ -18,3 +18,4 @@ pub mod Restarts
 pub mod ManagerRestarts
 pub mod ManagerRestartFaults
 pub mod TrimmedBranches
+pub mod Olds

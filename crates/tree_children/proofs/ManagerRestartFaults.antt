@@ -1,5 +1,5 @@
 -- In every run, each restart of a manager in which its device fails keeps the invariant of its pairs.
-use Rattle.std.proofs.Common.{◌≡◌, ◌∙◌, ◌||◌, ◌&&◌, ◌+◌, ℕ, zero, suc, Bool, true, false, not, Some, None, List, [], ◌∷◌, ◌++◌, take, refl, sym, ap, subst, arith}
+use Rattle.std.proofs.Common.{◌≡◌, ◌∙◌, ◌||◌, ◌&&◌, ◌+◌, ℕ, zero, suc, Bool, true, false, not, Some, List, [], ◌∷◌, ◌++◌, take, refl, sym, ap, subst, arith}
 use Rattle.tree_model.specs.declared.names.Case.{Case}
 use Rattle.tree_model.specs.declared.names.ProcessId.{ProcessId}
 use Rattle.tree_model.specs.declared.names.Ticket.{Ticket}
@@ -19,22 +19,22 @@ use Rattle.tree_model.specs.Records.{has, boot_of, is_heuristic, is_forgot}
 use Rattle.tree_model.specs.Nodes.{Place, Role, AtLeaf, Node, Heard, Effect, place_of, kept}
 use Rattle.tree_model.specs.CoordinatorRows.{forced}
 use Rattle.tree_model.specs.Outcomes.{is_commit_outcome}
-use Rattle.tree_model.specs.Restarts.{left_of, crashed, restart_fails, restart_effect, reopens}
+use Rattle.tree_model.specs.Restarts.{left_of, crashed, restart_fails, restart_effect}
 use Rattle.tree_model.specs.Standings.{manager_view}
-use Rattle.tree_model.specs.World.{World, Move, Stepped, Makes, node_makes, happening_makes, restart_makes, fault_effect}
+use Rattle.tree_model.specs.World.{World, Move, Makes, node_makes, happening_makes, restart_makes, fault_effect}
 use Rattle.tree_model.proofs.RunLaws.{makes_at}
 use Rattle.tree_pairs.specs.Reading.{Reading}
 use Rattle.tree_pairs.specs.ChildCrash as crash
 use Rattle.tree_pairs.specs.ChildCrash.{ChildFront}
 use Rattle.tree_pairs.specs.Invariant.{Common}
 use Rattle.tree_readings.specs.Halves.{child_front, failed_half}
-use Rattle.tree_readings.specs.ReadingOf.{reading_of, reading_from, is_root_ticket, parent_half, child_half, child_half_at, wire, ParentHalf, ChildHalf, Wire, is_dead, is_promise}
+use Rattle.tree_readings.specs.ReadingOf.{reading_of, reading_from, is_root_ticket, parent_half, child_half, wire, ParentHalf, ChildHalf, Wire, is_dead, is_promise}
 use Rattle.tree_readings.specs.Steps.{made_at}
 use Rattle.tree_readings.proofs.LeafCrash.{half_fails, QuietWhileOpen}
 use Rattle.tree_readings.proofs.LeafRows.{and-false}
 use Rattle.tree_readings.proofs.ReadingSteps.{at_child, before}
 use Rattle.tree_turns.specs.LeafTurns.{writes_and_sends}
-use Rattle.tree_turns.specs.Steps.{StepOf, heard_in, failed_reopening}
+use Rattle.tree_turns.specs.Steps.{heard_in, failed_reopening}
 use Rattle.tree_nodes.specs.Lasts.{logs_of, Lasts}
 use Rattle.tree_nodes.specs.WorldHolds.{InvariantOf}
 use Rattle.tree_nodes.proofs.Lasting.{lasts}

@@ -1,19 +1,16 @@
 -- In every run, each restart of a manager keeps the invariant of its pairs.
-use Rattle.std.proofs.Common.{◌≡◌, ◌∙◌, ℕ, Bool, Some, None, List, Option, refl, sym, ap, subst}
-use Rattle.tree_model.specs.declared.names.Case.{Case}
+use Rattle.std.proofs.Common.{◌≡◌, ◌∙◌, ℕ, Some, None, Option, sym, ap, subst}
 use Rattle.tree_model.specs.declared.names.ProcessId.{ProcessId}
-use Rattle.tree_model.specs.declared.names.Ticket.{Ticket}
 use Rattle.tree_model.specs.declared.events.Fault.{Fault}
 use Rattle.tree_model.specs.declared.events.Happening.{Happening}
 use Rattle.tree_model.specs.declared.events.Happening.TheVariants.{Restart}
-use Rattle.tree_model.specs.declared.trees.TreeEntry.{TreeEntry}
 use Rattle.tree_model.specs.Names.{child_case, process_of}
-use Rattle.tree_model.specs.Nodes.{Role, AtLeaf, Effect, place_of}
+use Rattle.tree_model.specs.Nodes.{Role, AtLeaf, place_of}
 use Rattle.tree_model.specs.Outcomes.{is_commit_outcome}
 use Rattle.tree_model.specs.Restarts.{left_of}
-use Rattle.tree_model.specs.World.{World, Move, world_makes}
+use Rattle.tree_model.specs.World.{Move, world_makes}
 use Rattle.tree_pairs.specs.Reading.{Reading}
-use Rattle.tree_pairs.specs.ChildCrash.{ChildFront, IsChildFront, child_restarts}
+use Rattle.tree_pairs.specs.ChildCrash.{ChildFront, IsChildFront}
 use Rattle.tree_pairs.specs.Invariant.{Common}
 use Rattle.tree_readings.specs.Halves.{child_front}
 use Rattle.tree_readings.specs.ReadingOf.{reading_of, is_root_ticket, parent_half, wire}

@@ -1,5 +1,5 @@
 -- What a crash leaves of a manager's log is a front of it that holds the forced one.
-use Rattle.std.proofs.Common.{◌≡◌, ◌∙◌, ◌||◌, ◌&&◌, ◌⊎◌, inl, inr, ℕ, Bool, true, false, List, [], ◌∷◌, ◌++◌, take, drop, append_assoc, refl, sym, ap, subst, arith}
+use Rattle.std.proofs.Common.{◌≡◌, ◌∙◌, ◌||◌, ◌&&◌, ◌⊎◌, inl, inr, ℕ, Bool, true, false, List, ◌++◌, take, drop, append_assoc, refl, sym, ap, arith}
 use Rattle.std.proofs.lemmas.List.{take-append-drop}
 use Rattle.tree_model.specs.declared.names.Case.{Case}
 use Rattle.tree_model.specs.declared.names.ProcessId.{ProcessId}
@@ -7,7 +7,7 @@ use Rattle.tree_model.specs.declared.names.Outcome.TheVariants.{Committed as Com
 use Rattle.tree_model.specs.declared.records.Record.{Record}
 use Rattle.tree_model.specs.declared.trees.TreeEntry.{TreeEntry}
 use Rattle.tree_model.specs.Records.{has, is_abort, is_prepare, is_heuristic, is_decided, is_forgot}
-use Rattle.tree_model.specs.Nodes.{Place, AtLeaf, Node, kept}
+use Rattle.tree_model.specs.Nodes.{AtLeaf, Node, kept}
 use Rattle.tree_model.specs.Restarts.{left_of}
 use Rattle.tree_model.specs.Standings.{Unmarked}
 use Rattle.tree_pairs.specs.Reading.{Reading}
@@ -20,7 +20,7 @@ use Rattle.tree_readings.specs.StepLaws.{LastRecordTells}
 use Rattle.tree_turns.specs.Written.{is_coordinators}
 use Rattle.tree_nodes.specs.Lasts.{logs_of, Lasts}
 use Rattle.tree_nodes.specs.Marks.{in_order_from}
-use Rattle.tree_nodes.proofs.Tests.{in_first, neither, not_both}
+use Rattle.tree_nodes.proofs.Tests.{in_first, not_both}
 use Rattle.tree_nodes.proofs.Orders.{order_front}
 use Rattle.tree_nodes.proofs.Worlds.{has_other}
 use Rattle.tree_children.proofs.Fronts as fronts
