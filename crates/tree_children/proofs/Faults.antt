@@ -134,7 +134,8 @@ module _ (c : Case) (t : Ticket) (p : ProcessId) (tree : List TreeEntry) (n : No
           heuristic_behind_prepared = fronts.heuristic_behind d n'.forced n'.unforced order none;
           commit_behind_prepared = fronts.commit_behind d n'.forced n'.unforced order none;
           abort_behind_prepared = λ x. fronts.abort_behind d n'.forced n'.unforced order none (learnt x);
-          commit_behind_heuristic = λ x y. fronts.commit_ends d n'.forced n'.unforced order none x (decided_kept y);
+          commit_behind_heuristic = λ x y. fronts.commit_ends d n'.forced n'.unforced order none x
+              (decided_kept y);
           abort_behind_heuristic = λ x y. fronts.abort_ends d n'.forced n'.unforced order none (learnt x)
               (decided_kept y);
           forgot_behind_heuristic = fronts.forgot_behind d n'.forced n'.unforced order none;

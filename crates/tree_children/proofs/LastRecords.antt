@@ -1,4 +1,5 @@
--- What a front of a manager's log leaves of a branch, as a restart finds it: in doubt or not, and how an operator decided.
+-- What a front of a manager's log leaves of a branch, as a restart finds it: in doubt or not, and how an
+-- operator decided.
 use Rattle.std.proofs.Common.{◌≡◌, ◌∙◌, ◌||◌, ◌&&◌, inl, inr, Bool, true, false, List, [], ◌∷◌, ◌++◌, refl, sym, ap, subst, arith}
 use Rattle.std.specs.Prelude.{not}
 use Rattle.tree_model.specs.declared.names.Case.{Case}
@@ -178,7 +179,8 @@ unfolding in_order_from has
 none_late d m [] k e = refl
 none_late d m (r ∷ rs) k e =
     let b = both _ _ e in
-    neither _ _ (late_now d m r k b.0) (none_late d (after d m r) rs (one_more d (IsLate d) (late_stays d) m r k b.0) b.1)
+    neither _ _ (late_now d m r k b.0)
+    (none_late d (after d m r) rs (one_more d (IsLate d) (late_stays d) m r k b.0) b.1)
 
 is_late : (d : Case) (rs : List Record) → in_order_from d Unmarked rs ≡ true → has is_coordinators rs ≡ false
     → has (is_heuristic d) rs ≡ true → IsLate d (mark_behind d Unmarked rs)

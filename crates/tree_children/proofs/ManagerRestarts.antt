@@ -58,7 +58,8 @@ manager_restarts tree es w run c t p pair above m e w' k here fault happens made
     (parent_half (place_of tree (process_of c)) (w.at (process_of c)) c t) (wire c t w.net)
     (subst Common (sym old) common)) in
     let made_so : world_makes tree w (restarts_at t.child k m.data_answer) ≡ Some (e, w') =
-    subst (λ (x : Move). world_makes tree w x ≡ Some (e, w')) (restart_is m t.child k here happens fault) made in
+    subst (λ (x : Move). world_makes tree w x ≡ Some (e, w'))
+    (restart_is m t.child k here happens fault) made in
     subst (λ (x : Reading). Fits c.txn.presumption r x)
     (sym (step.manager_restarts tree w w' above c t p k m.data_answer e pair common
     (is_so, tells_left t.child p n last k d) made_so))

@@ -14,8 +14,8 @@ use Rattle.tree_readings.specs.ReadingOf.{reading_of}
 use Rattle.tree_readings.specs.Steps.{IsLeafPair}
 use Rattle.tree_nodes.specs.WorldHolds.{InvariantOf}
 
--- In every run, each input of a manager in which its device fails keeps the invariant of each pair of the manager,
--- however many of its records were appended and however far the forced front moved on.
+-- In every run, each input of a manager in which its device fails keeps the invariant of each pair of
+-- the manager, however many of its records were appended and however far the forced front moved on.
 abbrev pub ManagerFaults : Type 0
 ManagerFaults = (tree : List TreeEntry) (es : List Made) (w : World) → IsRun tree es w
     → (c : Case) (t : Ticket) (p : ProcessId) → IsLeafPair tree c t p → (above : Bool)

@@ -13,7 +13,8 @@ use Rattle.tree_readings.specs.ReadingOf.{reading_of}
 use Rattle.tree_readings.specs.Steps.{IsLeafPair}
 use Rattle.tree_nodes.specs.WorldHolds.{InvariantOf}
 
--- In every run, each restart of a manager in which its device fails keeps the invariant of each pair of the manager.
+-- In every run, each restart of a manager in which its device fails keeps the invariant of each pair
+-- of the manager.
 abbrev pub ManagerRestartFaults : Type 0
 ManagerRestartFaults = (tree : List TreeEntry) (es : List Made) (w : World) → IsRun tree es w
     → (c : Case) (t : Ticket) (p : ProcessId) → IsLeafPair tree c t p → (above : Bool)

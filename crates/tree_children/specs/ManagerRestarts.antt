@@ -12,8 +12,8 @@ use Rattle.tree_readings.specs.ReadingOf.{reading_of}
 use Rattle.tree_readings.specs.Steps.{IsLeafPair}
 use Rattle.tree_nodes.specs.WorldHolds.{InvariantOf}
 
--- In every run, each restart of a manager, where its device does not fail, keeps the invariant of each pair of the
--- manager, however many of the unforced records are left.
+-- In every run, each restart of a manager, where its device does not fail, keeps the invariant of each
+-- pair of the manager, however many of the unforced records are left.
 abbrev pub ManagerRestarts : Type 0
 ManagerRestarts = (tree : List TreeEntry) (es : List Made) (w : World) → IsRun tree es w
     → (c : Case) (t : Ticket) (p : ProcessId) → IsLeafPair tree c t p → (above : Bool)

@@ -10,19 +10,20 @@ pub fn manager_rows()
     ensures { ManagerRows }
 {}
 
-/// In every run, each input of a manager in which its device fails keeps the invariant of each pair of the manager:
-/// nothing or its one record was appended, and the forced front moved on to anywhere.
+/// In every run, each input of a manager in which its device fails keeps the invariant of each pair of the
+/// manager: nothing or its one record was appended, and the forced front moved on to anywhere.
 pub fn manager_faults()
     ensures { ManagerFaults }
 {}
 
-/// In every run, each restart of a manager, where its device does not fail, keeps the invariant of each pair of the
-/// manager, however many of the unforced records are left.
+/// In every run, each restart of a manager, where its device does not fail, keeps the invariant of each pair
+/// of the manager, however many of the unforced records are left.
 pub fn manager_restarts()
     ensures { ManagerRestarts }
 {}
 
-/// In every run, each restart of a manager in which its device fails keeps the invariant of each pair of the manager.
+/// In every run, each restart of a manager in which its device fails keeps the invariant of each pair of the
+/// manager.
 pub fn manager_restart_faults()
     ensures { ManagerRestartFaults }
 {}
