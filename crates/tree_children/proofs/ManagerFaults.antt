@@ -85,9 +85,10 @@ module _ (c : Case) (t : Ticket) (p : ProcessId) (tree : List TreeEntry) (n : No
       let here : InputStands net t.child i = subst (λ (x : Happening). Stands net t.child x) happens stands in
       let k' = fails_in n h b.effect f.appended f.forced in
       let stays : Lasts (AtLeaf p) (logs_of k') =
-      lasts place n last m (fault_effect b.effect f.appended) k' (failed_in i f b.effect fault happens refl b.does) in
-      let fits = turn_fails c t p tree n h net turn.up last.nested last.by_role here c.txn.presumption root outcome
-      above half inv b.effect turn.turn f.appended f.forced stays in
+      lasts place n last m (fault_effect b.effect f.appended) k'
+      (failed_in i f b.effect fault happens refl b.does) in
+      let fits = turn_fails c t p tree n h net turn.up last.nested last.by_role here
+      c.txn.presumption root outcome above half inv b.effect turn.turn f.appended f.forced stays in
       subst (λ (x : Effect). Fits c.txn.presumption (R n net) (R k (net ++ x.messages))) (sym b.sent)
       (subst (λ (x : Node). Fits c.txn.presumption (R n net) (R x (net ++ []))) (sym b.left)
       (subst (λ z. Fits c.txn.presumption (R n net)
