@@ -4,7 +4,7 @@ ghost use Rattle.std.specs.Prelude.{◌≡◌, ◌≤◌, ◌<◌, ◌+◌, ◌+
 ghost use Rattle.log_text.specs.Reading.{read_record};
 ghost use Rattle.log_text.specs.Made.{frame_record};
 ghost use Rattle.log_text.specs.Payloads.{record_text, records_text};
-ghost use Rattle.rec_log.specs.Sights.{Appended, Breaks, Forced, AreRecords, IsRecord, Leaves, LeavesText, NotRestarted, Restarts, Sounds, body, records_of};
+ghost use Rattle.rec_log.specs.Sights.{Appended, Breaks, Forced, AreRecords, IsRecord, LeavesText, NotRestarted, Restarts, Sounds, body, left_by, records_of};
 ghost use Rattle.log_store.specs.Stores.{Replaces};
 ghost use Rattle.rec_log.specs.Openings.{IsRefused, NotOpened, Opens, Settles};
 ghost use Rattle.rec_log.specs.Texts.{records_in};
@@ -240,10 +240,10 @@ impl<L: LogStore> RecLog<L> {
         records_in(self.kind, body(self.store.bytes()), alloc)
     }
 
-    /// The records that a crash would leave which keeps so many bytes behind the forced front, as a list made anew: the
-    /// forced records and a front of the others.
+    /// The records that a crash would leave which keeps so many bytes behind the forced front, as a list made anew: those
+    /// that stand whole within the forced bytes and these.
     pub fn kept(&self, keep: usize, alloc: Global) -> Result<Vec<LogRecord>, AllocError>
-        ensures { IfOk result (λ records. Leaves self.now.sight.kept records.items) }
+        ensures { IfOk result (λ records. records.items ≡ left_by self.now.sight keep) }
     {
         let forced = self.store.forced();
         let left = left_by(self.store.bytes(), forced, keep);
@@ -255,8 +255,8 @@ impl<L: LogStore> RecLog<L> {
     /// nothing changed. Device: the new records stand or do not, and the log has failed.
     pub fn restart(&mut self, keep: usize, new: &[Frame], alloc: Global) -> Result<(), LogError>
         requires { AreRecords self.old.kind (map frame_record new.now) }
-        ensures ok { OnOk result (Restarts self.old self.new (map frame_record new.now)) }
-        ensures err { IfErr result (λ e. NotRestarted self.old self.new (map frame_record new.now) e) }
+        ensures ok { OnOk result (Restarts self.old self.new keep (map frame_record new.now)) }
+        ensures err { IfErr result (λ e. NotRestarted self.old self.new keep (map frame_record new.now) e) }
     {
         let forced = self.store.forced();
         let left = left_by(self.store.bytes(), forced, keep);
