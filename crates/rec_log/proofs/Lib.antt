@@ -6,4 +6,5 @@ pub mod Settling
 pub mod Written
 pub mod Sizes
 pub mod Within
+pub mod Rewriting
 pub mod Restarting

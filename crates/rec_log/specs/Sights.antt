@@ -1,5 +1,5 @@
 -- What is seen of a log: its records, a front of which is forced.
-use Rattle.std.specs.Prelude.{◌≡◌, ◌≤◌, ◌<◌, ◌+◌, ◌-◌, ⊤, ℕ, Bool, true, false, nat_le, if◌then◌else◌, List, [], ◌∷◌, ◌++◌, length, take, drop, Some}
+use Rattle.std.specs.Prelude.{◌≡◌, ◌≤◌, ◌<◌, ◌+◌, ◌-◌, ◌⊎◌, ⊤, ℕ, Bool, true, false, nat_le, if◌then◌else◌, List, [], ◌∷◌, ◌++◌, length, take, drop, Some}
 use Rattle.tree_model.specs.declared.names.Kind.{Kind}
 use Rattle.tree_model.specs.declared.records.LogRecord.{LogRecord}
 use Rattle.log_text.specs.Frames.{header}
@@ -155,3 +155,24 @@ pub record RestartBreaks (old new : LogState) (keep : ℕ) (rs : List LogRecord)
 abbrev pub NotRestarted : LogState → LogState → ℕ → List LogRecord → LogError → Type 0
 NotRestarted old new keep rs Memory = new.sight ≡ old.sight
 NotRestarted old new keep rs Device = RestartBreaks old new keep rs
+
+-- these records stand alone, all of them forced
+pub record Rewritten (old new : LogState) (rs : List LogRecord) : Type 0 where
+  pub kind : new.kind ≡ old.kind
+  pub forced : new.sight.kept.forced ≡ rs
+  pub unforced : new.sight.kept.unforced ≡ []
+  pub behind : new.sight.behind ≡ 0
+  pub works : new.sight.failed ≡ false
+  pub failures : new.sight.failures ≡ old.sight.failures
+
+-- the device failed: the log is as it was, or these records stand alone, all of them forced
+pub record RewriteBreaks (old new : LogState) (rs : List LogRecord) : Type 0 where
+  pub kind : new.kind ≡ old.kind
+  pub either : (new.sight.kept ≡ old.sight.kept) ⊎ (new.sight.kept ≡ record { forced = rs; unforced = [] })
+  pub failed : new.sight.failed ≡ true
+  pub cause : old.sight.failures < new.sight.failures
+
+-- the records were not put in place: for memory nothing changed
+abbrev pub NotRewritten : LogState → LogState → List LogRecord → LogError → Type 0
+NotRewritten old new rs Memory = new.sight ≡ old.sight
+NotRewritten old new rs Device = RewriteBreaks old new rs
