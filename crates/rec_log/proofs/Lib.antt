@@ -4,4 +4,7 @@ pub mod Openings
 pub mod Keys
 pub mod Settling
 pub mod Written
+pub mod Sizes
+pub mod Within
+pub mod Rewriting
 pub mod Restarting

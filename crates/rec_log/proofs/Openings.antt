@@ -1,6 +1,6 @@
 -- Reading a log from its first frame on.
-use Rattle.std.proofs.Common.{◌≡◌, ◌≤◌, ◌+◌, ◌*◌, ◌-◌, ℕ, zero, suc, Bool, true, false, List, [], ◌∷◌, ◌++◌, length, take, drop, Option, Some, None, refl, sym, ap, subst, ◌∙◌, arith, append_assoc, append-nil, take-append-drop, length-append, length-take}
-use Rattle.std.proofs.lemmas.List.{take_all, length-drop}
+use Rattle.std.proofs.Common.{◌≡◌, ◌≤◌, ◌+◌, ◌*◌, ◌-◌, ℕ, zero, suc, true, List, [], ◌∷◌, ◌++◌, length, take, drop, Option, Some, None, refl, sym, ap, ◌∙◌, arith, append_assoc, take-append-drop, length-append}
+use Rattle.std.proofs.lemmas.List.{take_all}
 use Rattle.tree_model.specs.declared.names.Kind.{Kind}
 use Rattle.tree_model.specs.declared.records.LogRecord.{LogRecord}
 use Rattle.log_text.specs.Frames.{Cut, first_frame}
@@ -9,7 +9,7 @@ use Rattle.log_order.specs.Orders.{SeenLog, after, nothing_seen}
 use Rattle.log_order.specs.Logs.{LogReading, Whole, Damaged, frame_by, read_frames, record_by, seen_by, with_first}
 use Rattle.rec_log.specs.Texts.{and_records, is_whole, records_in, whole_if}
 use Rattle.rec_log.specs.Openings.{Ends}
-use Rattle.rec_log.proofs.Frames.{Cuts, cut_there, cuts, more_records, more_whole, no_frame, nothing_whole, no_records, step, step_whole, taken}
+use Rattle.rec_log.proofs.Frames.{Cuts, cut_there, cuts, more_records, more_whole, nothing_whole, no_records, step, step_whole, taken}
 
 abbrev pub with_all : List LogRecord → LogReading → LogReading
 with_all [] r = r

@@ -1,18 +1,18 @@
 -- Restarts.
-use Rattle.std.proofs.Common.{◌≡◌, ◌≤◌, ◌<◌, ◌+◌, ◌-◌, ◌⊎◌, inl, inr, ℕ, zero, suc, Bool, true, false, List, [], ◌∷◌, ◌++◌, length, take, drop, Option, Some, None, refl, sym, ap, subst, ◌∙◌, arith, append_assoc, append-nil, take-append-drop, length-append, length-drop, is_some}
-use Rattle.std.proofs.lemmas.List.{take-append-le}
-use Rattle.std.proofs.Math.Seq.{drop-append_seam, take-append_seam, take-length}
+use Rattle.std.proofs.Common.{◌≡◌, ◌≤◌, ◌<◌, ◌+◌, ◌-◌, ◌⊎◌, inl, inr, ℕ, Bool, true, false, List, [], ◌++◌, length, take, drop, Option, Some, None, refl, sym, ap, subst, ◌∙◌, arith, append_assoc, append-nil, take-append-drop, length-append, is_some}
+use Rattle.std.proofs.Math.Seq.{take-append_seam, take-length}
 use Rattle.tree_model.specs.declared.names.Kind.{Kind}
 use Rattle.tree_model.specs.declared.records.LogRecord.{LogRecord}
 use Rattle.log_text.specs.Frames.{Cut, first_frame, header}
 use Rattle.log_text.specs.Payloads.{records_text}
 use Rattle.log_text.specs.Reading.{read_record}
-use Rattle.rec_log.specs.Texts.{and_records, is_whole, records_in, whole_if}
-use Rattle.rec_log.specs.Sights.{AreRecords, IsLogText, Leaves, LeavesText, LogState, RestartBreaks, Restarts, Sounds, body, front, kept_of, log_state, records_of}
+use Rattle.rec_log.specs.Texts.{and_records, is_whole, records_in, whole_if, whole_size}
+use Rattle.rec_log.specs.Sights.{AreRecords, IsLogText, LeavesText, LogState, RestartBreaks, Restarts, Sounds, body, front, left_by, log_state}
 use Rattle.rec_log.proofs.Frames.{more_records, more_whole, no_frame, nothing_whole, step, step_whole}
 use Rattle.rec_log.proofs.Openings.{frame_at}
 use Rattle.rec_log.proofs.Turns.{all_front, drop_all, records_stand, take_within}
-use Rattle.rec_log.proofs.Written.{left_records, whole_text, written}
+use Rattle.rec_log.proofs.Within.{left_records, whole_is_full}
+use Rattle.rec_log.proofs.Written.{whole_text, written}
 
 -- The whole frames at the front.
 
@@ -85,49 +85,48 @@ pub front_begins : (n : ℕ) (text : List ℕ) → 5 ≤ n → take 5 text ≡ h
 front_begins n text h b = take_within 5 n text h ∙ b
 
 pub restarted : (p : Kind) (text new : List ℕ) (forced forced' keep failures failures' room room' : ℕ) (rs : List LogRecord) (failed : Bool) (s : LogState)
-    → log_state p text forced failures room failed ≡ s → AreRecords p rs → IsLogText p text forced failed → LeavesText p (take (forced + keep) text) rs new → forced' ≡ length new → failures' ≡ failures
-    → Restarts s (log_state p new forced' failures' room' false) rs
-restarted p text new forced forced' keep failures failures' room room' rs failed s view are is l f g =
+    → log_state p text forced failures room failed ≡ s → AreRecords p rs → IsLogText p text forced failed → forced ≤ length text → LeavesText p (take (forced + keep) text) rs new → forced' ≡ length new → failures' ≡ failures
+    → Restarts s (log_state p new forced' failures' room' false) keep rs
+restarted p text new forced forced' keep failures failures' room room' rs failed s view are is le l f g =
+    let left = left_records p text forced keep failures room failed is.header_forced le in
+    let whole = (text_settled p (take (forced + keep) text) new rs forced' are (front_begins (forced + keep) text (omega (arith, is.header_forced)) is.begins) l f).whole refl in
     let h = front_begins (forced + keep) text (omega (arith, is.header_forced)) is.begins in
     let q = parts_of p (take (forced + keep) text) new rs h l in
     let all : front new forced' ≡ body new = all_front new forced' f in
-    subst (λ z. Restarts z (log_state p new forced' failures' room' false) rs) view
+    subst (λ z. Restarts z (log_state p new forced' failures' room' false) keep rs) view
     (record {
       kind = refl;
-      left = records_in p 0 (body (take (forced + keep) text));
-      leaves = left_records p text forced keep is.header_forced;
-      forced = ap (records_in p 0) all ∙ text_records p (take (forced + keep) text) new rs are q;
+      forced = ap (records_in p 0) all ∙ text_records p (take (forced + keep) text) new rs are q ∙ ap (λ t. t ++ rs) left;
       unforced = ap (λ t. drop (length (records_in p 0 t)) (records_in p 0 (body new))) all ∙ drop_all (records_in p 0 (body new));
+      behind = ap (λ t. length t - whole_size p 0 t) all ∙ whole_is_full p (body new) whole;
       works = refl;
       failures = g;
     })
 
 pub restart_breaks : (p : Kind) (text new bytes : List ℕ) (forced forced' keep failures failures' room room' : ℕ) (rs : List LogRecord) (failed : Bool) (s : LogState)
-    → log_state p text forced failures room failed ≡ s → AreRecords p rs → IsLogText p text forced failed → LeavesText p (take (forced + keep) text) rs new
+    → log_state p text forced failures room failed ≡ s → AreRecords p rs → IsLogText p text forced failed → forced ≤ length text → LeavesText p (take (forced + keep) text) rs new
     → (bytes ≡ take (forced + keep) text) ⊎ (bytes ≡ new) → failures < failures'
-    → RestartBreaks s (log_state p bytes forced' failures' room' true) rs
-restart_breaks p text new bytes forced forced' keep failures failures' room room' rs failed s view are is l (inl e) g =
-    subst (λ z. RestartBreaks z (log_state p bytes forced' failures' room' true) rs) view
+    → RestartBreaks s (log_state p bytes forced' failures' room' true) keep rs
+restart_breaks p text new bytes forced forced' keep failures failures' room room' rs failed s view are is le l (inl e) g =
+    let left = left_records p text forced keep failures room failed is.header_forced le in
+    subst (λ z. RestartBreaks z (log_state p bytes forced' failures' room' true) keep rs) view
     (record {
       kind = refl;
-      left = records_in p 0 (body (take (forced + keep) text));
-      leaves = left_records p text forced keep is.header_forced;
       came = 0;
-      stand = records_stand p bytes forced' ∙ ap (λ t. records_in p 0 (body t)) e ∙ sym (append-nil _);
+      stand = records_stand p bytes forced' ∙ ap (λ t. records_in p 0 (body t)) e ∙ left ∙ sym (append-nil _);
       failed = refl;
       cause = g;
     })
-restart_breaks p text new bytes forced forced' keep failures failures' room room' rs failed s view are is l (inr e) g =
+restart_breaks p text new bytes forced forced' keep failures failures' room room' rs failed s view are is le l (inr e) g =
+    let left = left_records p text forced keep failures room failed is.header_forced le in
     let h = front_begins (forced + keep) text (omega (arith, is.header_forced)) is.begins in
     let q = parts_of p (take (forced + keep) text) new rs h l in
-    subst (λ z. RestartBreaks z (log_state p bytes forced' failures' room' true) rs) view
+    subst (λ z. RestartBreaks z (log_state p bytes forced' failures' room' true) keep rs) view
     (record {
       kind = refl;
-      left = records_in p 0 (body (take (forced + keep) text));
-      leaves = left_records p text forced keep is.header_forced;
       came = length rs;
       stand = records_stand p bytes forced' ∙ ap (λ t. records_in p 0 (body t)) e ∙ text_records p (take (forced + keep) text) new rs are q
-          ∙ ap (λ t. records_in p 0 (body (take (forced + keep) text)) ++ t) (sym (take-length rs));
+          ∙ ap (λ t. t ++ rs) left ∙ ap (λ t. left_by (log_state p text forced failures room failed).sight keep ++ t) (sym (take-length rs));
       failed = refl;
       cause = g;
     })

@@ -1,5 +1,5 @@
 -- The text that a log opens with.
-use Rattle.std.proofs.Common.{◌≡◌, ◌≤◌, ◌-◌, ◌+◌, ℕ, zero, suc, Bool, true, false, List, [], ◌∷◌, ◌++◌, length, take, drop, refl, sym, ap, subst, ◌∙◌, arith, append_assoc, append-nil, take-append-drop, length-append, nat_lt, nat_eq, if◌then◌else◌}
+use Rattle.std.proofs.Common.{◌≡◌, ◌≤◌, ◌-◌, ℕ, Bool, true, false, List, [], ◌∷◌, ◌++◌, length, take, drop, refl, sym, ap, ◌∙◌, arith, append_assoc, append-nil, take-append-drop, length-append, nat_lt}
 use Rattle.std.proofs.Math.Seq.{take-append_seam}
 use Rattle.std.proofs.lemmas.Bool.Decides.{nat_tests}
 use Rattle.tree_model.specs.declared.names.Kind.{Kind}
@@ -8,7 +8,7 @@ use Rattle.log_text.specs.Frames.{header}
 use Rattle.log_order.specs.Orders.{nothing_seen}
 use Rattle.log_order.specs.Logs.{LogReading, Whole, Damaged, read_frames, read_log}
 use Rattle.rec_log.specs.Texts.{is_whole, records_in}
-use Rattle.rec_log.specs.Sights.{LogState, log_state}
+use Rattle.rec_log.specs.Sights.{log_state}
 use Rattle.rec_log.specs.Openings.{Ends, IsFound, Opens, Settles}
 use Rattle.rec_log.specs.declared.opening.Found.TheVariants.{Empty, Sound}
 use Rattle.rec_log.proofs.Frames.{no_records, nothing_whole}

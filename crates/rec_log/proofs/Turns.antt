@@ -1,16 +1,17 @@
 -- What the calls of a store make of the records.
-use Rattle.std.proofs.Common.{◌≡◌, ◌≤◌, ◌<◌, ◌+◌, ◌-◌, ℕ, zero, suc, Bool, true, false, List, [], ◌∷◌, ◌++◌, length, take, drop, refl, sym, ap, subst, ◌∙◌, append_assoc, append-nil, arith, length-append}
+use Rattle.std.proofs.Common.{◌≡◌, ◌≤◌, ◌<◌, ◌-◌, ℕ, zero, suc, Bool, true, false, List, [], ◌∷◌, ◌++◌, length, take, drop, refl, sym, ap, subst, ◌∙◌, append-nil, arith, length-append}
 use Rattle.std.proofs.lemmas.List.{take-append-le, drop-append-le, length-drop, take_all}
-use Rattle.std.proofs.Math.Seq.{drop-append_seam, take-append_seam, take-length}
+use Rattle.std.proofs.Math.Seq.{drop-append_seam}
 use Rattle.tree_model.specs.declared.names.Kind.{Kind}
 use Rattle.tree_model.specs.declared.records.LogRecord.{LogRecord}
 use Rattle.log_store.specs.declared.store.StoreError.{StoreError}
 use Rattle.log_store.specs.declared.store.StoreError.TheVariants.{Memory, Device}
-use Rattle.log_text.specs.Frames.{frame_text, header}
+use Rattle.log_text.specs.Frames.{frame_text}
 use Rattle.log_text.specs.Payloads.{record_text}
-use Rattle.rec_log.specs.Texts.{is_whole, records_in}
-use Rattle.rec_log.specs.Sights.{Appended, Breaks, Forced, IsLogText, IsRecord, Kept, LogState, body, front, kept_of, log_state, records_of}
+use Rattle.rec_log.specs.Texts.{is_whole, records_in, whole_size}
+use Rattle.rec_log.specs.Sights.{Appended, Breaks, Forced, IsLogText, IsRecord, LogState, body, front, kept_of, log_state, records_of}
 use Rattle.rec_log.proofs.Frames.{front_of, front_of_frame, more_records, more_whole, one_record, one_whole}
+use Rattle.rec_log.proofs.Within.{whole_is_full}
 
 -- all the records that stand are those of the text
 pub records_stand : (p : Kind) (text : List ℕ) (forced : ℕ) → records_of (kept_of p text forced) ≡ records_in p 0 (body text)
@@ -59,6 +60,7 @@ appended p text text' forced forced' failures failures' room room' l failed ok r
       forced = ap (records_in p 0) same;
       unforced = ap (λ t. drop (length (records_in p 0 t)) (records_in p 0 (body text'))) same ∙ ap (drop (length (records_in p 0 (front text forced)))) all
           ∙ drop-append-le (length (records_in p 0 (front text forced))) (records_in p 0 (body text)) (l ∷ []) (short_front p text forced);
+      behind = ap (λ t. length t - whole_size p 0 t) same;
       works = ok;
       failures = g;
       room = omega (arith, r, ap length e, length-append text (record_text l));
@@ -110,15 +112,16 @@ pub drop_all : (xs : List LogRecord) → drop (length xs) xs ≡ []
 drop_all [] = refl
 drop_all (x ∷ xs) = drop_all xs
 
-pub forced_all : (p : Kind) (text text' : List ℕ) (forced forced' failures failures' room room' : ℕ) (failed : Bool) → failed ≡ false
+pub forced_all : (p : Kind) (text text' : List ℕ) (forced forced' failures failures' room room' : ℕ) (failed : Bool) → failed ≡ false → is_whole p 0 (body text) ≡ true
     → text' ≡ text → forced' ≡ length text → failures' ≡ failures → room ≤ room'
     → Forced (log_state p text forced failures room failed) (log_state p text' forced' failures' room' failed)
-forced_all p text text' forced forced' failures failures' room room' failed ok e f g r =
+forced_all p text text' forced forced' failures failures' room room' failed ok whole e f g r =
     let all : front text' forced' ≡ body text' = all_front text' forced' (f ∙ ap length (sym e)) in
     record {
       kind = refl;
       forced = ap (records_in p 0) all ∙ ap (λ t. records_in p 0 (body t)) e ∙ sym (records_stand p text forced);
       unforced = ap (λ t. drop (length (records_in p 0 t)) (records_in p 0 (body text'))) all ∙ drop_all (records_in p 0 (body text'));
+      behind = ap (λ t. length t - whole_size p 0 t) (all ∙ ap body e) ∙ whole_is_full p (body text) whole;
       works = ok;
       failures = g;
       room = omega (arith, r, ap length e);

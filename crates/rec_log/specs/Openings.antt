@@ -2,7 +2,7 @@
 use Rattle.std.specs.Prelude.{◌≡◌, ◌<◌, ◌≤◌, ⊤, ℕ, true, false, List, [], ◌++◌, length, take, drop}
 use Rattle.tree_model.specs.declared.names.Kind.{Kind}
 use Rattle.log_store.specs.Stores.{SameStore}
-use Rattle.log_order.specs.Logs.{LogReading, Whole, Damaged, read_frames, read_log, with_first}
+use Rattle.log_order.specs.Logs.{Whole, Damaged, read_frames, read_log}
 use Rattle.log_order.specs.Orders.{nothing_seen}
 use Rattle.rec_log.specs.Texts.{is_whole, records_in}
 use Rattle.rec_log.specs.Sights.{LogState, records_of}

@@ -1,5 +1,5 @@
 -- What is seen of a log: its records, a front of which is forced.
-use Rattle.std.specs.Prelude.{◌≡◌, ◌≤◌, ◌<◌, ◌+◌, ◌-◌, ⊤, ℕ, Bool, true, false, List, [], ◌∷◌, ◌++◌, length, take, drop, Some}
+use Rattle.std.specs.Prelude.{◌≡◌, ◌≤◌, ◌<◌, ◌+◌, ◌-◌, ◌⊎◌, ⊤, ℕ, Bool, true, false, nat_le, if◌then◌else◌, List, [], ◌∷◌, ◌++◌, length, take, drop, Some}
 use Rattle.tree_model.specs.declared.names.Kind.{Kind}
 use Rattle.tree_model.specs.declared.records.LogRecord.{LogRecord}
 use Rattle.log_text.specs.Frames.{header}
@@ -72,6 +72,7 @@ pub record Appended (old new : LogState) (l : LogRecord) : Type 0 where
   pub kind : new.kind ≡ old.kind
   pub forced : new.sight.kept.forced ≡ old.sight.kept.forced
   pub unforced : new.sight.kept.unforced ≡ old.sight.kept.unforced ++ l ∷ []
+  pub behind : new.sight.behind ≡ old.sight.behind
   pub works : new.sight.failed ≡ false
   pub failures : new.sight.failures ≡ old.sight.failures
   pub room : old.room ≤ new.room + length (record_text l)
@@ -81,6 +82,7 @@ pub record Forced (old new : LogState) : Type 0 where
   pub kind : new.kind ≡ old.kind
   pub forced : new.sight.kept.forced ≡ records_of old.sight.kept
   pub unforced : new.sight.kept.unforced ≡ []
+  pub behind : new.sight.behind ≡ 0
   pub works : new.sight.failed ≡ false
   pub failures : new.sight.failures ≡ old.sight.failures
   pub room : old.room ≤ new.room
@@ -103,10 +105,19 @@ AreRecords p (l ∷ ls) = IsRecord p l × AreRecords p ls
 abbrev pub WrittenIsRead : Type 0
 WrittenIsRead = (p : Kind) (ls : List LogRecord) → AreRecords p ls → (records_in p 0 (records_text ls) ≡ ls) × (is_whole p 0 (records_text ls) ≡ true)
 
--- what a crash leaves: the forced records and a front of the others
-pub record Leaves (k : Kept) (left : List LogRecord) : Type 0 where
-  pub some : ℕ
-  pub is : left ≡ k.forced ++ take some k.unforced
+-- how many bytes a record takes in a log
+abbrev pub record_size : LogRecord → ℕ
+record_size l = length (record_text l)
+
+-- the records at the front that stand whole within so many bytes
+unfoldable pub whole_within : ℕ → List LogRecord → List LogRecord
+whole_within n [] = []
+whole_within n (l ∷ ls) = if nat_le (record_size l) n then l ∷ whole_within (n - record_size l) ls else []
+
+-- what a crash leaves that keeps so many bytes behind the forced front: the forced records, and of the others those that
+-- stand whole within what is forced of them and these bytes
+abbrev pub left_by : LogSight → ℕ → List LogRecord
+left_by s keep = s.kept.forced ++ whole_within (s.behind + keep) s.kept.unforced
 
 -- the first so many bytes are whole frames of records, and behind them no whole frame of a record begins
 pub record Sounds (p : Kind) (bytes : List ℕ) (size : ℕ) : Type 0 where
@@ -123,27 +134,45 @@ pub record LeavesText (p : Kind) (left : List ℕ) (rs : List LogRecord) (text :
   pub sounds : Sounds p (body left) size
   pub is : text ≡ take (5 + size) left ++ records_text rs
 
--- a log of what a crash left and of these new records, all of them forced
-pub record Restarts (old new : LogState) (rs : List LogRecord) : Type 0 where
+-- a log of what a crash left that kept so many bytes, and of these new records, all of them forced
+pub record Restarts (old new : LogState) (keep : ℕ) (rs : List LogRecord) : Type 0 where
   pub kind : new.kind ≡ old.kind
-  pub left : List LogRecord
-  pub leaves : Leaves old.sight.kept left
-  pub forced : new.sight.kept.forced ≡ left ++ rs
+  pub forced : new.sight.kept.forced ≡ left_by old.sight keep ++ rs
   pub unforced : new.sight.kept.unforced ≡ []
+  pub behind : new.sight.behind ≡ 0
   pub works : new.sight.failed ≡ false
   pub failures : new.sight.failures ≡ old.sight.failures
 
 -- the crash took place, the device failed, and the new records stand or do not
-pub record RestartBreaks (old new : LogState) (rs : List LogRecord) : Type 0 where
+pub record RestartBreaks (old new : LogState) (keep : ℕ) (rs : List LogRecord) : Type 0 where
   pub kind : new.kind ≡ old.kind
-  pub left : List LogRecord
-  pub leaves : Leaves old.sight.kept left
   pub came : ℕ
-  pub stand : records_of new.sight.kept ≡ left ++ take came rs
+  pub stand : records_of new.sight.kept ≡ left_by old.sight keep ++ take came rs
   pub failed : new.sight.failed ≡ true
   pub cause : old.sight.failures < new.sight.failures
 
 -- a restart that failed: for memory nothing changed
-abbrev pub NotRestarted : LogState → LogState → List LogRecord → LogError → Type 0
-NotRestarted old new rs Memory = new.sight ≡ old.sight
-NotRestarted old new rs Device = RestartBreaks old new rs
+abbrev pub NotRestarted : LogState → LogState → ℕ → List LogRecord → LogError → Type 0
+NotRestarted old new keep rs Memory = new.sight ≡ old.sight
+NotRestarted old new keep rs Device = RestartBreaks old new keep rs
+
+-- these records stand alone, all of them forced
+pub record Rewritten (old new : LogState) (rs : List LogRecord) : Type 0 where
+  pub kind : new.kind ≡ old.kind
+  pub forced : new.sight.kept.forced ≡ rs
+  pub unforced : new.sight.kept.unforced ≡ []
+  pub behind : new.sight.behind ≡ 0
+  pub works : new.sight.failed ≡ false
+  pub failures : new.sight.failures ≡ old.sight.failures
+
+-- the device failed: the log is as it was, or these records stand alone, all of them forced
+pub record RewriteBreaks (old new : LogState) (rs : List LogRecord) : Type 0 where
+  pub kind : new.kind ≡ old.kind
+  pub either : (new.sight.kept ≡ old.sight.kept) ⊎ (new.sight.kept ≡ record { forced = rs; unforced = [] })
+  pub failed : new.sight.failed ≡ true
+  pub cause : old.sight.failures < new.sight.failures
+
+-- the records were not put in place: for memory nothing changed
+abbrev pub NotRewritten : LogState → LogState → List LogRecord → LogError → Type 0
+NotRewritten old new rs Memory = new.sight ≡ old.sight
+NotRewritten old new rs Device = RewriteBreaks old new rs

@@ -1,5 +1,5 @@
 -- The records in the bytes behind a log's header.
-use Rattle.std.specs.Prelude.{ℕ, zero, suc, ◌+◌, ◌==◌, Bool, true, false, List, [], ◌∷◌, Option, Some, None, length}
+use Rattle.std.specs.Prelude.{ℕ, zero, suc, ◌+◌, ◌==◌, Bool, false, List, [], ◌∷◌, Option, Some, None, length}
 use Rattle.tree_model.specs.declared.names.Kind.{Kind}
 use Rattle.tree_model.specs.declared.records.LogRecord.{LogRecord}
 use Rattle.log_text.specs.Frames.{Cut, first_frame}

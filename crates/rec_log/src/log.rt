@@ -2,9 +2,10 @@
 
 ghost use Rattle.std.specs.Prelude.{◌≡◌, ◌≤◌, ◌<◌, ◌+◌, ◌++◌, ◌∷◌, [], true, false, IfOk, IfErr, OnOk, OnErr, is_some, length, map, take};
 ghost use Rattle.log_text.specs.Reading.{read_record};
+ghost use Rattle.log_text.specs.Frames.{header};
 ghost use Rattle.log_text.specs.Made.{frame_record};
 ghost use Rattle.log_text.specs.Payloads.{record_text, records_text};
-ghost use Rattle.rec_log.specs.Sights.{Appended, Breaks, Forced, AreRecords, IsRecord, Leaves, LeavesText, NotRestarted, Restarts, Sounds, body, records_of};
+ghost use Rattle.rec_log.specs.Sights.{Appended, Breaks, Forced, AreRecords, IsRecord, LeavesText, NotRestarted, NotRewritten, Restarts, Rewritten, Sounds, body, left_by, records_of};
 ghost use Rattle.log_store.specs.Stores.{Replaces};
 ghost use Rattle.rec_log.specs.Openings.{IsRefused, NotOpened, Opens, Settles};
 ghost use Rattle.rec_log.specs.Texts.{records_in};
@@ -138,6 +139,15 @@ fn text_left(kind: Kind, left: &[u8], new: &[Frame], alloc: Global) -> Result<Ve
     Ok(text)
 }
 
+/// The text of a log of these records alone.
+fn text_of(new: &[Frame], alloc: Global) -> Result<Vec<u8>, AllocError>
+    ensures { IfOk result (λ text. text.items ≡ header ++ records_text (map frame_record new.now)) }
+{
+    let mut alone = Vec::from_slice(alloc, &HEADER)?;
+    push_frames(&mut alone, new)?;
+    Ok(alone)
+}
+
 /// A store in which this text stands, forced, in place of what stood there.
 fn replaced<L: LogStore + Drop>(store: L, text: &[u8]) -> Result<L, (OpenError, L)>
     ensures ok { IfOk result (λ new. Replaces L.bytes L.forced L.failures store new text.now) }
@@ -240,10 +250,10 @@ impl<L: LogStore> RecLog<L> {
         records_in(self.kind, body(self.store.bytes()), alloc)
     }
 
-    /// The records that a crash would leave which keeps so many bytes behind the forced front, as a list made anew: the
-    /// forced records and a front of the others.
+    /// The records that a crash would leave which keeps so many bytes behind the forced front, as a list made anew: those
+    /// that stand whole within the forced bytes and these.
     pub fn kept(&self, keep: usize, alloc: Global) -> Result<Vec<LogRecord>, AllocError>
-        ensures { IfOk result (λ records. Leaves self.now.sight.kept records.items) }
+        ensures { IfOk result (λ records. records.items ≡ left_by self.now.sight keep) }
     {
         let forced = self.store.forced();
         let left = left_by(self.store.bytes(), forced, keep);
@@ -255,8 +265,8 @@ impl<L: LogStore> RecLog<L> {
     /// nothing changed. Device: the new records stand or do not, and the log has failed.
     pub fn restart(&mut self, keep: usize, new: &[Frame], alloc: Global) -> Result<(), LogError>
         requires { AreRecords self.old.kind (map frame_record new.now) }
-        ensures ok { OnOk result (Restarts self.old self.new (map frame_record new.now)) }
-        ensures err { IfErr result (λ e. NotRestarted self.old self.new (map frame_record new.now) e) }
+        ensures ok { OnOk result (Restarts self.old self.new keep (map frame_record new.now)) }
+        ensures err { IfErr result (λ e. NotRestarted self.old self.new keep (map frame_record new.now) e) }
     {
         let forced = self.store.forced();
         let left = left_by(self.store.bytes(), forced, keep);
@@ -278,5 +288,27 @@ impl<L: LogStore> RecLog<L> {
                 Err(LogError::Device)
             }
         }
+    }
+
+    /// Puts these records in place of all that stand, forced by one `replace`. All memory is taken before. Memory: nothing
+    /// changed. Device: the log stands as it was or these records do, and the log has failed.
+    pub fn rewrite(&mut self, new: &[Frame], alloc: Global) -> Result<(), LogError>
+        requires works { self.old.sight.failed ≡ false }
+        requires sound { AreRecords self.old.kind (map frame_record new.now) }
+        ensures ok { OnOk result (Rewritten self.old self.new (map frame_record new.now)) }
+        ensures err { IfErr result (λ e. NotRewritten self.old self.new (map frame_record new.now) e) }
+    {
+        let text = match text_of(new, alloc) {
+            Ok(text) => text,
+            Err(_) => return Err(LogError::Memory),
+        };
+        if let Err(_) = self.store.reserve(text.len()) {
+            return Err(LogError::Memory);
+        }
+        if let Err(_) = self.store.replace(&text) {
+            self.failed = true;
+            return Err(LogError::Device);
+        }
+        Ok(())
     }
 }

@@ -1,6 +1,8 @@
 //! The log of a root that committed one transaction of two children: as it is, with each byte set to each value, and
 //! cut at each byte.
 
+ghost use Rattle.std.specs.Prelude.{◌<◌};
+
 use log_store::{LogStore, MemoryStore};
 use rec_log::{OpenError, RecLog};
 use std::alloc::{AllocError, Global};

@@ -1,4 +1,4 @@
-use Rattle.std.proofs.Common.{◌≡◌, ◌∙◌, ◌++◌, ap, sym, append-nil, append_assoc, ◌∷◌, []}
+use Rattle.std.proofs.Common.{◌∙◌, ◌++◌, ap, sym, append-nil, append_assoc, ◌∷◌, []}
 use Rattle.rec_log.specs.Texts.{and_records, records_in}
 use Rattle.rec_log.proofs.Frames.{no_frame, step}
 use Rattle.rec_log.proofs.log.records_in.Goals as goal

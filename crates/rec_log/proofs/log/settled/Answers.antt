@@ -1,4 +1,4 @@
-use Rattle.std.proofs.Common.{◌≡◌, ◌∙◌, ◌-◌, sym, ap, subst, take, length, arith}
+use Rattle.std.proofs.Common.{◌≡◌, ◌∙◌, ◌-◌, sym, ap, subst, take, length}
 use Rattle.std.proofs.lemmas.Result.{IfOk-weaker}
 use Rattle.rec_log.specs.Openings.{IsFound}
 use Rattle.rec_log.specs.declared.opening.Found.TheVariants.{Empty, Sound}

@@ -15,4 +15,4 @@ returns-clause-ok g c =
     let works : c.self.inside.failed ≡ false = ap (λ s. s.sight.failed) c.self.view_is ∙ c.requires in
     let f = c.in_default.ensures.ok in
     forced_of _ _ _ c.self.view_is
-    (forced_all _ _ _ _ _ _ _ (g.L.LogStore.room c.self.inside.store) (g.L.LogStore.room c.force.new.self) _ works f.text f.all f.failures_stay c.in_default.ensures.room)
+    (forced_all _ _ _ _ _ _ _ (g.L.LogStore.room c.self.inside.store) (g.L.LogStore.room c.force.new.self) _ works (c.self.invariant.whole works) f.text f.all f.failures_stay c.in_default.ensures.room)

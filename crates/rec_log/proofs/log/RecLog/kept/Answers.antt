@@ -1,8 +1,8 @@
-use Rattle.std.proofs.Common.{◌≡◌, ◌∙◌, ◌+◌, subst, sym, ap, take}
+use Rattle.std.proofs.Common.{◌≡◌, ◌∙◌, ◌+◌, ap, take}
 use Rattle.std.proofs.lemmas.Result.{IfOk-weaker}
 use Rattle.rec_log.specs.Texts.{records_in}
-use Rattle.rec_log.specs.Sights.{Leaves, body}
-use Rattle.rec_log.proofs.Written.{left_of_view}
+use Rattle.rec_log.specs.Sights.{body}
+use Rattle.rec_log.proofs.Within.{left_of_view}
 use Rattle.rec_log.proofs.log.RecLog.kept.Goals as goal
 
 pub returns : goal.returns
@@ -12,4 +12,4 @@ returns g c =
     let left : c.left_by-left.result.now ≡ take (forced + c.args.keep) text =
     c.left_by-left.ensures.left ∙ ap (λ n. take (n + c.args.keep) c.bytes.result.now) c.forced-forced.ensures ∙ ap (take (forced + c.args.keep)) c.bytes.ensures in
     let is = ap (records_in c.self.inside.kind 0) (c.body.ensures ∙ ap body left) in
-    IfOk-weaker c.records_in.result _ _ (λ v e. left_of_view _ _ _ _ _ _ _ _ _ c.self.view_is c.self.invariant.header_forced (e ∙ is)) c.records_in.ensures
+    IfOk-weaker c.records_in.result _ _ (λ v e. left_of_view _ _ _ _ _ _ _ _ _ c.self.view_is c.self.invariant.header_forced (g.met.L.LogStore.front c.self.inside.store) (e ∙ is)) c.records_in.ensures

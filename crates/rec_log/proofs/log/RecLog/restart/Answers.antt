@@ -36,7 +36,7 @@ returns-in-Ok-replace-clause-ok g c =
     let written : LeavesText c.self.inside.kind (take (forced + c.args.keep) text) rs (g.L.LogStore.bytes c.replace.new.self) =
     subst (λ t. LeavesText c.self.inside.kind (take (forced + c.args.keep) text) rs t) (sym ok.text_stands) leaves in
     let stays = c.in_default.ensures.stays in
-    restarted _ text _ forced _ c.args.keep _ _ _ (g.L.LogStore.room c.replace.new.self) rs _ _ c.self.view_is are c.self.invariant written (ok.all ∙ ap length (sym ok.text_stands))
+    restarted _ text _ forced _ c.args.keep _ _ _ (g.L.LogStore.room c.replace.new.self) rs _ _ c.self.view_is are c.self.invariant (g.met.L.LogStore.front c.self.inside.store) written (ok.all ∙ ap length (sym ok.text_stands))
     (ok.failures_stay ∙ c.crash.ensures.left.failures_stay ∙ stays.failures_stay)
 
 pub invariant_of-self-in-Err-replace : goal.invariant_of-self-in-Err-replace
@@ -77,5 +77,5 @@ returns-clause-err g c =
     let came = came_either _ _ (take (forced + c.args.keep) text) _ _ _ forced b.either
     (crash.text ∙ ap (λ n. take (n + c.args.keep) (g.L.LogStore.bytes c.reserve.new.self)) stays.forced_stays ∙ ap (take (forced + c.args.keep)) stays.bytes_stay)
     (crash.front ∙ stays.forced_stays) in
-    restart_breaks _ text c.deref.result.now _ forced _ c.args.keep _ _ _ (g.L.LogStore.room c.replace.new.self) rs _ _ c.self.view_is are c.self.invariant leaves (which _ _ _ _ _ came)
+    restart_breaks _ text c.deref.result.now _ forced _ c.args.keep _ _ _ (g.L.LogStore.room c.replace.new.self) rs _ _ c.self.view_is are c.self.invariant (g.met.L.LogStore.front c.self.inside.store) leaves (which _ _ _ _ _ came)
     (omega (arith, b.cause, crash.failures_stay, stays.failures_stay))
