@@ -263,7 +263,7 @@ pub record NodeHolds (place : Place) (net : List Envelope) (n : Node) : Type 0 w
 
 -- The net.
 
--- where a letter stands: who sent it, and to whom
+-- where a message stands: who sent it, and to whom
 abbrev pub GoesUp : List TreeEntry → Envelope → Case → Type 0
 GoesUp tree l d = (process_of d ≡ l.from) × IsChildRole (role_of tree l.from) l.to
 
