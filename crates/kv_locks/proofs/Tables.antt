@@ -1,0 +1,213 @@
+-- The table of holders and the lists of keys, as the maps hold them.
+use Rattle.std.proofs.Common.{◌≡◌, ℕ, Bool, true, false, cond, Option, None, Some, List, [], ◌∷◌, ◌++◌, subst, refl, sym, ap, ◌∙◌, arith, rules, inl, inr, ◌<◌, ◌≤◌, ◌-◌, length, take, drop, slice_index_or}
+use Rattle.std.proofs.lemmas.Grind.{common_steps}
+use Rattle.std.proofs.lemmas.List.Folds.{list_any-append}
+use Rattle.std.proofs.Math.Seq.{take-length}
+use Rattle.std.specs.Global.{Vec}
+use Rattle.std.specs.Map.{KeepsOthers, lookup}
+use Rattle.std.specs.Prelude.{unwrap_or}
+use Rattle.xa_xid.specs.declared.xid.Xid.{Xid}
+use Rattle.kv_locks.specs.declared.holders.Holder.{Holder}
+use Rattle.kv_locks.specs.declared.holders.Mode.{Mode}
+use Rattle.kv_locks.specs.Locks.{Becomes, IsKept, KeepsKeys, LockTable, Releases, blocked_by, given, holders_of, holds, keeps_rule, keys_in, keys_of, names_key, same, same_key, table_of, without}
+use Rattle.kv_locks.proofs.Holding.{same_is, rule_given, holds_given, rule_without, holds_without, without_idle, without_itself, without_twice}
+
+-- the holders in a list, where there is one
+abbrev pub holders_in : Option (Vec Holder) → List Holder
+holders_in None = []
+holders_in (Some v) = v.items
+
+-- what the map holds at a key
+abbrev pub found : List (Vec ℕ × Vec Holder) → List ℕ → Option (Vec Holder)
+found es k = lookup (λ l. same_key k l.items) es
+
+pub holders_of_table : (es : List (Vec ℕ × Vec Holder)) (k : List ℕ) → holders_of (table_of es) k ≡ holders_in (found es k)
+holders_of_table [] k = refl
+holders_of_table (e ∷ es) k = by_test (same_key k e.0.items) (holders_of_table es k)
+  where
+    by_test : (b : Bool) → holders_of (table_of es) k ≡ holders_in (found es k)
+        → unwrap_or (cond b (Some e.1.items) (lookup (same_key k) (table_of es))) [] ≡ holders_in (cond b (Some e.1) (found es k))
+    by_test true h = refl
+    by_test false h = h
+
+-- the test of the maps' keys
+abbrev pub key_test : List ℕ → Vec ℕ → Bool
+key_test k q = same_key k q.items
+
+tests_key : (l : List ℕ) (q r : Vec ℕ) → key_test l q ≡ true → key_test l r ≡ same_key q.items r.items
+tests_key l q r e = let one : l ≡ q.items = search rules in ap (λ j. same_key j r.items) one
+
+apart_keys : (k l : List ℕ) → same_key k l ≡ false → (q : Vec ℕ) → key_test k q ≡ true → key_test l q ≡ false
+apart_keys k l differs q e = by_test (key_test l q) refl
+  where
+    by_test : (b : Bool) → key_test l q ≡ b → b ≡ false
+    by_test false f = refl
+    by_test true f =
+        let one : k ≡ q.items = search rules in
+        let other : l ≡ q.items = search rules in
+        let alike : same_key k l ≡ true = search rules in
+        absurd (cc)
+
+-- where the map changes at one key, so does the table
+pub becomes : (es fs : List (Vec ℕ × Vec Holder)) (k : List ℕ) (w : Option (Vec Holder)) (hs : List Holder)
+    → KeepsOthers (λ q r. same_key q.items r.items) (key_test k) es fs
+    → found fs k ≡ w → holders_in w ≡ hs
+    → Becomes (table_of es) (table_of fs) k hs
+unfolding KeepsOthers
+becomes es fs k w hs keeps own now = record {
+  own = holders_of_table fs k ∙ ap holders_in own ∙ now;
+  others = λ l differs. holders_of_table fs l ∙ ap holders_in (keeps (key_test l) (tests_key l) (apart_keys k l differs)) ∙ sym (holders_of_table es l);
+}
+
+-- nothing is held, and nothing is listed
+pub kept_nothing : (es : List (Vec ℕ × Vec Holder)) (held : List (Xid × Vec (Vec ℕ))) → es ≡ [] → held ≡ [] → IsKept (table_of es) held
+unfolding keeps_rule
+kept_nothing es held none free = subst (λ fs. IsKept (table_of fs) held) (sym none) (subst (λ ks. IsKept [] ks) (sym free) (record {
+  rule = λ k. refl;
+  listed = λ x k h. h;
+}))
+
+-- the list of a branch gets one key more
+pub keeps_keys : (es fs : List (Xid × Vec (Vec ℕ))) (x : Xid) (ls : Vec (Vec ℕ)) (k : Vec ℕ)
+    → ((y : Xid) → lookup (same y) fs ≡ cond (same x y) (Some ls) (lookup (same y) es))
+    → ls.items ≡ keys_of es x ++ k ∷ [] → KeepsKeys es fs
+keeps_keys es fs x ls k writes pushed y l named = by_test (same x y) refl
+  where
+    by_test : (b : Bool) → same x y ≡ b → names_key (keys_of fs y) l ≡ true
+    by_test true e =
+        let here : keys_of fs y ≡ ls.items = ap keys_in (writes y ∙ ap (λ b. cond b (Some ls) (lookup (same y) es)) e) in
+        let was : keys_of es x ≡ keys_of es y = ap (keys_of es) (same_is x y e) in
+        ap (λ ks. names_key ks l) (here ∙ pushed ∙ ap (λ ks. ks ++ k ∷ []) was) ∙ grind (arith, common_steps, list_any-append)
+    by_test false e =
+        ap (λ ks. names_key ks l) (ap keys_in (writes y ∙ ap (λ b. cond b (Some ls) (lookup (same y) es)) e)) ∙ named
+
+pub key_listed : (fs : List (Xid × Vec (Vec ℕ))) (x : Xid) (ls : Vec (Vec ℕ)) (ks : List (Vec ℕ)) (k : Vec ℕ) (l : List ℕ)
+    → lookup (same x) fs ≡ Some ls → ls.items ≡ ks ++ k ∷ [] → k.items ≡ l → names_key (keys_of fs x) l ≡ true
+key_listed fs x ls ks k l here pushed is =
+    let itself : same_key k.items l ≡ true = search rules in
+    ap (λ js. names_key js l) (ap keys_in here ∙ pushed) ∙ grind (arith, common_steps, list_any-append)
+
+-- nobody holds the key, and so nobody is taken out
+pub becomes_idle : (es fs : List (Vec ℕ × Vec Holder)) (k : List ℕ) (x : Xid) → fs ≡ es → found es k ≡ None
+    → Becomes (table_of es) (table_of fs) k (without (holders_of (table_of es) k) x)
+becomes_idle es fs k x stays none =
+    let nobody : holders_of (table_of es) k ≡ [] = holders_of_table es k ∙ ap holders_in none in
+    subst (λ gs. Becomes (table_of es) (table_of gs) k (without (holders_of (table_of es) k) x)) (sym stays) (record {
+      own = nobody ∙ ap (λ hs. without hs x) (sym nobody);
+      others = λ l apart. refl;
+    })
+
+-- one change of a key behind another
+pub becomes_then : (t u v : LockTable) (k : List ℕ) (hs js : List Holder) → Becomes t u k hs → Becomes u v k js → js ≡ hs → Becomes t v k hs
+becomes_then t u v k hs js first next one = record {
+  own = next.own ∙ one;
+  others = λ l apart. next.others l apart ∙ first.others l apart;
+}
+
+-- a lock that nobody is in the way of keeps the rule, and its key is listed
+pub kept_given : (t u : LockTable) (held more : List (Xid × Vec (Vec ℕ))) (x : Xid) (k : List ℕ) (m : Mode)
+    → IsKept t held → blocked_by (holders_of t k) x m ≡ None → Becomes t u k (given (holders_of t k) x m)
+    → ((y : Xid) (l : List ℕ) → names_key (keys_of held y) l ≡ true → names_key (keys_of more y) l ≡ true)
+    → names_key (keys_of more x) k ≡ true
+    → IsKept u more
+kept_given t u held more x k m kept free made more_names named = record {
+  rule = λ l. ruled l (same_key k l) refl;
+  listed = λ y l h. listed y l h (same_key k l) refl;
+}
+  where
+    ruled : (l : List ℕ) (b : Bool) → same_key k l ≡ b → keeps_rule (holders_of u l) ≡ true
+    ruled l true e =
+        let one : k ≡ l = search rules in
+        subst (λ j. keeps_rule (holders_of u j) ≡ true) one
+        (ap keeps_rule made.own ∙ rule_given (holders_of t k) x m (kept.rule k) free)
+    ruled l false e = ap keeps_rule (made.others l e) ∙ kept.rule l
+
+    listed : (y : Xid) (l : List ℕ) → holds (holders_of u l) y ≡ true → (b : Bool) → same_key k l ≡ b → names_key (keys_of more y) l ≡ true
+    listed y l h true e =
+        let one : k ≡ l = search rules in
+        let held_there : holds (given (holders_of t k) x m) y ≡ true = ap (λ hs. holds hs y) (sym made.own) ∙ ap (λ j. holds (holders_of u j) y) one ∙ h in
+        elim (holds_given (holders_of t k) x y m held_there) [
+          | inl before ↦ more_names y l (kept.listed y l (ap (λ j. holds (holders_of t j) y) (sym one) ∙ before))
+          | inr this ↦ ap (λ z. names_key (keys_of more z) l) (sym (same_is x y this)) ∙ ap (names_key (keys_of more x)) (sym one) ∙ named
+        ]
+    listed y l h false e = more_names y l (kept.listed y l (ap (λ hs. holds hs y) (sym (made.others l e)) ∙ h))
+
+-- a release keeps the rule, and the keys of the others stay listed
+pub kept_released : (t u : LockTable) (held rest : List (Xid × Vec (Vec ℕ))) (x : Xid)
+    → IsKept t held → Releases t u x
+    → ((y : Xid) → same x y ≡ false → keys_of rest y ≡ keys_of held y)
+    → IsKept u rest
+kept_released t u held rest x kept released others = record {
+  rule = λ k. ap keeps_rule (released.each k) ∙ rule_without (holders_of t k) x (kept.rule k);
+  listed = λ y k h. listed y k (ap (λ hs. holds hs y) (sym (released.each k)) ∙ h) (same x y) refl;
+}
+  where
+    listed : (y : Xid) (k : List ℕ) → holds (without (holders_of t k) x) y ≡ true → (b : Bool) → same x y ≡ b → names_key (keys_of rest y) k ≡ true
+    listed y k h true e =
+        let one : x ≡ y = same_is x y e in
+        let gone : holds (without (holders_of t k) x) y ≡ false = ap (λ z. holds (without (holders_of t k) x) z) (sym one) ∙ without_itself (holders_of t k) x in
+        absurd (cc)
+    listed y k h false e = ap (λ ks. names_key ks k) (others y e) ∙ kept.listed y k (holds_without (holders_of t k) x y h)
+
+-- while a branch's locks are released: the others hold what they held, and what it still holds is among these keys
+pub record IsReleasing (t u : LockTable) (rest : List (Vec ℕ)) (x : Xid) : Type 0 where
+  pub others : (k : List ℕ) → without (holders_of u k) x ≡ without (holders_of t k) x
+  pub left : (k : List ℕ) → holds (holders_of u k) x ≡ true → names_key rest k ≡ true
+
+pub releasing_begins : (t : LockTable) (ks : List (Vec ℕ)) (x : Xid) → ((k : List ℕ) → holds (holders_of t k) x ≡ true → names_key ks k ≡ true)
+    → IsReleasing t t ks x
+releasing_begins t ks x all = record { others = λ k. refl; left = all }
+
+pub releasing_goes_on : (t u v : LockTable) (k : Vec ℕ) (rest : List (Vec ℕ)) (x : Xid) → IsReleasing t u (k ∷ rest) x
+    → Becomes u v k.items (without (holders_of u k.items) x) → IsReleasing t v rest x
+releasing_goes_on t u v k rest x so_far out = record {
+  others = λ l. others l (same_key k.items l) refl;
+  left = λ l h. left l h (same_key k.items l) refl;
+}
+  where
+    others : (l : List ℕ) (b : Bool) → same_key k.items l ≡ b → without (holders_of v l) x ≡ without (holders_of t l) x
+    others l true e =
+        let one : k.items ≡ l = search rules in
+        subst (λ j. without (holders_of v j) x ≡ without (holders_of t j) x) one
+        (ap (λ hs. without hs x) out.own ∙ without_twice (holders_of u k.items) x ∙ so_far.others k.items)
+    others l false e = ap (λ hs. without hs x) (out.others l e) ∙ so_far.others l
+
+    left : (l : List ℕ) → holds (holders_of v l) x ≡ true → (b : Bool) → same_key k.items l ≡ b → names_key rest l ≡ true
+    left l h true e =
+        let one : k.items ≡ l = search rules in
+        let held : holds (without (holders_of u k.items) x) x ≡ true = ap (λ hs. holds hs x) (sym out.own) ∙ ap (λ j. holds (holders_of v j) x) one ∙ h in
+        let gone : holds (without (holders_of u k.items) x) x ≡ false = without_itself (holders_of u k.items) x in
+        absurd (cc)
+    left l h false e =
+        let named : names_key (k ∷ rest) l ≡ true = so_far.left l (ap (λ hs. holds hs x) (sym (out.others l e)) ∙ h) in
+        grind (arith, common_steps)
+
+pub releasing_ends : (t u : LockTable) (x : Xid) → IsReleasing t u [] x → Releases t u x
+releasing_ends t u x so_far = record {
+  each = λ k. sym (without_idle (holders_of u k) x (idle k (holds (holders_of u k) x) refl)) ∙ so_far.others k;
+}
+  where
+    idle : (k : List ℕ) (b : Bool) → holds (holders_of u k) x ≡ b → holds (holders_of u k) x ≡ false
+    idle k true e = absurd (let never : false ≡ true = so_far.left k e in cc)
+    idle k false e = e
+
+-- nothing is listed for the branch, so it holds nothing
+pub released_nothing : (t : LockTable) (held : List (Xid × Vec (Vec ℕ))) (x : Xid) → IsKept t held → keys_of held x ≡ [] → Releases t t x
+released_nothing t held x kept none = releasing_ends t t x (record {
+  others = λ k. refl;
+  left = λ k h. ap (λ ks. names_key ks k) (sym none) ∙ kept.listed x k h;
+})
+
+pub releasing_next : (t u v : LockTable) (k : Vec ℕ) (rest : List (Vec ℕ)) (x : Xid) → IsReleasing t u rest x
+    → 1 ≤ length rest → slice_index_or rest 0 k ≡ k
+    → Becomes u v k.items (without (holders_of u k.items) x) → IsReleasing t v (take (length rest - 1) (drop 1 rest)) x
+releasing_next t u v k [] x so_far some first out = absurd (omega arith)
+releasing_next t u v k (j ∷ rest) x so_far some first out =
+    let one_less : length (j ∷ rest) - 1 ≡ length rest = omega arith in
+    subst (λ n. IsReleasing t v (take n rest) x) (sym one_less)
+    (subst (λ ks. IsReleasing t v ks x) (sym (take-length rest))
+    (releasing_goes_on t u v k rest x (subst (λ i. IsReleasing t u (i ∷ rest) x) first so_far) out))
+
+pub releasing_done : (t u : LockTable) (rest : List (Vec ℕ)) (x : Xid) → IsReleasing t u rest x → length rest < 1 → Releases t u x
+releasing_done t u [] x so_far none = releasing_ends t u x so_far
+releasing_done t u (k ∷ rest) x so_far none = absurd (omega arith)

@@ -1,0 +1,10 @@
+use Rattle.std.proofs.Common.{rules, ◌≡◌, [], None, refl, sym, ◌∙◌}
+use Rattle.kv_locks.specs.Locks.{holders_of, table_of}
+use Rattle.kv_locks.proofs.Tables.{becomes, becomes_then}
+use Rattle.kv_locks.proofs.locks.release_key.Goals as goal
+
+pub returns-then-is_idle : goal.returns-then-is_idle
+returns-then-is_idle c =
+    let idle : holders_of (table_of c.take_out.new.holders.entries) c.args.key.now ≡ [] = c.is_idle.ensures c.if-is_idle.true in
+    becomes_then _ (table_of c.take_out.new.holders.entries) _ c.args.key.now _ [] c.take_out.ensures
+    (becomes _ _ c.args.key.now None [] (search rules) (search rules) refl) (sym idle ∙ c.take_out.ensures.own)

@@ -1,0 +1,212 @@
+//! Which branch holds which key.
+
+ghost use Rattle.std.specs.Prelude.{◌≡◌, ◌↔◌, ℕ, List, [], true, false, IsTrue, IfErr, OnOk, OnErr, Some, None};
+ghost use Rattle.kv_locks.specs.declared.holders.Mode.TheVariants as mode;
+ghost use Rattle.kv_locks.specs.Locks.{Becomes, Gives, KeepsKeys, Refuses, Releases, blocked_by, given, holders_of, holds, keeps_rule, keys_of, names_key, table_of, without};
+
+use crate::holders::{Holder, Mode, blocked_by, given, holds, remove};
+use indexmap::IndexMap;
+use std::alloc::{AllocError, Global};
+use std::marker::Model;
+use thiserror::Error;
+use xa_xid::Xid;
+
+/// Why a lock was not given; nothing changed.
+#[derive(Clone, Copy, Debug, PartialEq, Eq, Error)]
+pub enum LockError {
+    /// There was no memory.
+    #[error("no memory")]
+    Memory,
+    /// Another branch holds the key, and the two would not both be shared: of those, the one that took it first.
+    #[error("held by another branch")]
+    Held(Xid),
+}
+
+/// The holders of each key that is held.
+type Holders = IndexMap<Vec<u8>, Vec<Holder>>;
+
+/// The keys that each branch holds.
+type Keys = IndexMap<Xid, Vec<Vec<u8>>>;
+
+/// Which branch holds which key, shared or exclusive.
+#[derive(Drop)]
+pub struct Locks {
+    alloc: Global,
+    holders: Holders,
+    keys: Keys,
+}
+
+impl Model for Locks {
+    ghost use Rattle.kv_locks.specs.Locks.{IsKept, LockTable, table_of};
+
+    ghost Value = { LockTable };
+
+    ghost view = { λ l. table_of l.holders.entries };
+
+    ghost invariant = { λ l. IsKept (table_of l.holders.entries) l.keys.entries };
+}
+
+impl Locks {
+    /// No locks. It takes no memory.
+    pub fn new(alloc: Global) -> Self
+        ensures { result ≡ [] }
+    {
+        Locks {
+            alloc,
+            holders: IndexMap::new(alloc),
+            keys: IndexMap::new(alloc),
+        }
+    }
+
+    /// The holders of a key, in the order in which they took it.
+    #[tactic(auto, using(crate::proofs::Tables::holders_of_table), unfolding(crate::specs::Locks::keeps_rule))]
+    pub fn holders(&self, key: &[u8]) -> &[Holder]
+        ensures holders { result.now ≡ holders_of self.now key.now }
+        ensures rule { keeps_rule result.now ≡ true }
+    {
+        match self.holders.get(key) {
+            None => &[],
+            Some(holders) => holders.as_slice(),
+        }
+    }
+
+    /// A shared lock for a branch, which keeps what it holds. Held: another branch holds the key exclusively. Either
+    /// refusal changes nothing.
+    pub fn shared(&mut self, xid: &Xid, key: &[u8]) -> Result<(), LockError>
+        ensures ok { OnOk result (Gives self.old self.new xid.now key.now mode.Shared) }
+        ensures err { IfErr result (Refuses self.old self.new xid.now key.now mode.Shared) }
+    {
+        self.take(xid, key, Mode::Shared)
+    }
+
+    /// An exclusive lock for a branch, in place of a shared one that it holds alone. Held: another branch holds the key.
+    /// Either refusal changes nothing.
+    pub fn exclusive(&mut self, xid: &Xid, key: &[u8]) -> Result<(), LockError>
+        ensures ok { OnOk result (Gives self.old self.new xid.now key.now mode.Exclusive) }
+        ensures err { IfErr result (Refuses self.old self.new xid.now key.now mode.Exclusive) }
+    {
+        self.take(xid, key, Mode::Exclusive)
+    }
+
+    fn take(&mut self, xid: &Xid, key: &[u8], mode: Mode) -> Result<(), LockError>
+        ensures ok { OnOk result (Gives self.old self.new xid.now key.now mode) }
+        ensures err { IfErr result (Refuses self.old self.new xid.now key.now mode) }
+    {
+        if let Some(other) = blocked_by(self.holders(key), xid, mode) {
+            return Err(LockError::Held(other));
+        }
+        match self.give(xid, key, mode) {
+            Ok(()) => Ok(()),
+            Err(_) => Err(LockError::Memory),
+        }
+    }
+
+    /// Gives a lock that nobody is in the way of.
+    fn give(&mut self, xid: &Xid, key: &[u8], mode: Mode) -> Result<(), AllocError>
+        requires { blocked_by (holders_of self.old key.now) xid.now mode ≡ None }
+        ensures ok { OnOk result (Becomes self.old self.new key.now (given (holders_of self.old key.now) xid.now mode)) }
+        ensures err { OnErr result (self.new ≡ self.old) }
+    {
+        let list = given(self.alloc, self.holders(key), xid, mode)?;
+        let is_listed = holds(self.holders(key), xid);
+        note(self.alloc, &mut self.keys, is_listed, xid, key)?;
+        let _ = self
+            .holders
+            .insert(Vec::from_slice(self.alloc, key)?, list)?;
+        Ok(())
+    }
+
+    /// Releases all locks of a branch. It takes no memory.
+    pub fn release(&mut self, xid: &Xid)
+        ensures { Releases self.old self.new xid.now }
+    {
+        if let Some(keys) = self.keys.swap_remove(xid) {
+            release_each(&mut self.holders, keys.as_slice(), xid);
+        }
+    }
+
+    /// Releases all locks of all branches. The room stays.
+    pub fn clear(&mut self)
+        ensures { self.new ≡ [] }
+    {
+        self.holders.clear();
+        self.keys.clear();
+    }
+}
+
+/// Lists a key for a branch, where it is not listed.
+fn note(
+    alloc: Global,
+    keys: &mut Keys,
+    is_listed: bool,
+    xid: &Xid,
+    key: &[u8],
+) -> Result<(), AllocError>
+    requires { is_listed ≡ true → names_key (keys_of keys.old.entries xid.now) key.now ≡ true }
+    ensures keeps { KeepsKeys keys.old.entries keys.new.entries }
+    ensures listed { OnOk result (names_key (keys_of keys.new.entries xid.now) key.now ≡ true) }
+{
+    if is_listed {
+        return Ok(());
+    }
+    add_key(alloc, keys, xid, key)
+}
+
+/// Lists a key for a branch.
+fn add_key(alloc: Global, keys: &mut Keys, xid: &Xid, key: &[u8]) -> Result<(), AllocError>
+    ensures keeps { KeepsKeys keys.old.entries keys.new.entries }
+    ensures listed { OnOk result (names_key (keys_of keys.new.entries xid.now) key.now ≡ true) }
+{
+    let key = Vec::from_slice(alloc, key)?;
+    match keys.get_mut(xid) {
+        Some(list) => list.push(key)?,
+        None => {
+            let mut list = Vec::new(alloc);
+            list.push(key)?;
+            let _ = keys.insert(*xid, list)?;
+        }
+    }
+    Ok(())
+}
+
+/// The branch releases each of these keys, which are all that it holds.
+fn release_each(holders: &mut Holders, keys: &[Vec<u8>], xid: &Xid)
+    requires { (k : List ℕ) → holds (holders_of (table_of holders.old.entries) k) xid.now ≡ true → names_key keys.now k ≡ true }
+    ensures { Releases (table_of holders.old.entries) (table_of holders.new.entries) xid.now }
+{
+    let mut rest = keys;
+    while let [key, behind @ ..] = rest {
+        release_key(holders, key.as_slice(), xid);
+        rest = behind;
+    }
+}
+
+/// The branch releases a key.
+fn release_key(holders: &mut Holders, key: &[u8], xid: &Xid)
+    ensures { Becomes (table_of holders.old.entries) (table_of holders.new.entries) key.now (without (holders_of (table_of holders.old.entries) key.now) xid.now) }
+{
+    take_out(holders, key, xid);
+    if is_idle(holders, key) {
+        let _ = holders.swap_remove(key);
+    }
+}
+
+fn take_out(holders: &mut Holders, key: &[u8], xid: &Xid)
+    ensures { Becomes (table_of holders.old.entries) (table_of holders.new.entries) key.now (without (holders_of (table_of holders.old.entries) key.now) xid.now) }
+{
+    match holders.get_mut(key) {
+        Some(list) => remove(list, xid),
+        None => {}
+    }
+}
+
+/// Whether nobody holds the key.
+#[tactic(auto, using(crate::proofs::Tables::holders_of_table))]
+fn is_idle(holders: &Holders, key: &[u8]) -> bool
+    ensures { IsTrue result → holders_of (table_of holders.now.entries) key.now ≡ [] }
+{
+    match holders.get(key) {
+        None => false,
+        Some(list) => matches!(list.as_slice(), []),
+    }
+}
