@@ -70,7 +70,3 @@ holds_given hs x y Shared h = by_test (holds hs x) h
     by_test : (b : Bool) → holds (cond b hs (hs ++ record { xid = x; mode = Shared } ∷ [])) y ≡ true → (holds hs y ≡ true) ⊎ (same x y ≡ true)
     by_test true e = inl e
     by_test false e = either (holds hs y) (same x y) (grind (arith, common_steps, list_any-append))
-
-pub nobody : (hs : List Holder) → length hs < 1 → hs ≡ []
-nobody [] few = refl
-nobody (h ∷ hs) few = absurd (omega arith)

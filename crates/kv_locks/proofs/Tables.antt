@@ -1,63 +1,15 @@
 -- The table of holders and the lists of keys, as the maps hold them.
-use Rattle.std.proofs.Common.{◌≡◌, ℕ, Bool, true, false, cond, Option, None, Some, List, [], ◌∷◌, ◌++◌, subst, refl, sym, ap, ◌∙◌, arith, rules, inl, inr, ◌<◌, ◌≤◌, ◌-◌, length, take, drop, slice_index_or}
+use Rattle.std.proofs.Common.{◌≡◌, ℕ, Bool, true, false, cond, None, Some, List, [], ◌∷◌, ◌++◌, subst, refl, sym, ap, ◌∙◌, arith, rules, inl, inr, ◌<◌, ◌≤◌, ◌-◌, length, take, drop, slice_index_or}
 use Rattle.std.proofs.lemmas.Grind.{common_steps}
 use Rattle.std.proofs.lemmas.List.Folds.{list_any-append}
-use Rattle.std.proofs.Math.Seq.{take-length}
 use Rattle.std.specs.Global.{Vec}
-use Rattle.std.specs.Map.{KeepsOthers, lookup}
-use Rattle.std.specs.Prelude.{unwrap_or}
+use Rattle.std.specs.Map.{lookup}
 use Rattle.xa_xid.specs.declared.xid.Xid.{Xid}
 use Rattle.kv_locks.specs.declared.holders.Holder.{Holder}
 use Rattle.kv_locks.specs.declared.holders.Mode.{Mode}
-use Rattle.kv_locks.specs.Locks.{Becomes, IsKept, KeepsKeys, LockTable, Releases, blocked_by, given, holders_of, holds, keeps_rule, keys_in, keys_of, names_key, same, same_key, table_of, without}
+use Rattle.key_tables.specs.Tables.{Becomes, same_key, table_of}
+use Rattle.kv_locks.specs.Locks.{IsKept, KeepsKeys, LockTable, Releases, blocked_by, given, holders_of, holds, keeps_rule, keys_in, keys_of, names_key, same, without}
 use Rattle.kv_locks.proofs.Holding.{same_is, rule_given, holds_given, rule_without, holds_without, without_idle, without_itself, without_twice}
-
--- the holders in a list, where there is one
-abbrev pub holders_in : Option (Vec Holder) → List Holder
-holders_in None = []
-holders_in (Some v) = v.items
-
--- what the map holds at a key
-abbrev pub found : List (Vec ℕ × Vec Holder) → List ℕ → Option (Vec Holder)
-found es k = lookup (λ l. same_key k l.items) es
-
-pub holders_of_table : (es : List (Vec ℕ × Vec Holder)) (k : List ℕ) → holders_of (table_of es) k ≡ holders_in (found es k)
-holders_of_table [] k = refl
-holders_of_table (e ∷ es) k = by_test (same_key k e.0.items) (holders_of_table es k)
-  where
-    by_test : (b : Bool) → holders_of (table_of es) k ≡ holders_in (found es k)
-        → unwrap_or (cond b (Some e.1.items) (lookup (same_key k) (table_of es))) [] ≡ holders_in (cond b (Some e.1) (found es k))
-    by_test true h = refl
-    by_test false h = h
-
--- the test of the maps' keys
-abbrev pub key_test : List ℕ → Vec ℕ → Bool
-key_test k q = same_key k q.items
-
-tests_key : (l : List ℕ) (q r : Vec ℕ) → key_test l q ≡ true → key_test l r ≡ same_key q.items r.items
-tests_key l q r e = let one : l ≡ q.items = search rules in ap (λ j. same_key j r.items) one
-
-apart_keys : (k l : List ℕ) → same_key k l ≡ false → (q : Vec ℕ) → key_test k q ≡ true → key_test l q ≡ false
-apart_keys k l differs q e = by_test (key_test l q) refl
-  where
-    by_test : (b : Bool) → key_test l q ≡ b → b ≡ false
-    by_test false f = refl
-    by_test true f =
-        let one : k ≡ q.items = search rules in
-        let other : l ≡ q.items = search rules in
-        let alike : same_key k l ≡ true = search rules in
-        absurd (cc)
-
--- where the map changes at one key, so does the table
-pub becomes : (es fs : List (Vec ℕ × Vec Holder)) (k : List ℕ) (w : Option (Vec Holder)) (hs : List Holder)
-    → KeepsOthers (λ q r. same_key q.items r.items) (key_test k) es fs
-    → found fs k ≡ w → holders_in w ≡ hs
-    → Becomes (table_of es) (table_of fs) k hs
-unfolding KeepsOthers
-becomes es fs k w hs keeps own now = record {
-  own = holders_of_table fs k ∙ ap holders_in own ∙ now;
-  others = λ l differs. holders_of_table fs l ∙ ap holders_in (keeps (key_test l) (tests_key l) (apart_keys k l differs)) ∙ sym (holders_of_table es l);
-}
 
 -- nothing is held, and nothing is listed
 pub kept_nothing : (es : List (Vec ℕ × Vec Holder)) (held : List (Xid × Vec (Vec ℕ))) → es ≡ [] → held ≡ [] → IsKept (table_of es) held
@@ -86,23 +38,6 @@ pub key_listed : (fs : List (Xid × Vec (Vec ℕ))) (x : Xid) (ls : Vec (Vec ℕ
 key_listed fs x ls ks k l here pushed is =
     let itself : same_key k.items l ≡ true = search rules in
     ap (λ js. names_key js l) (ap keys_in here ∙ pushed) ∙ grind (arith, common_steps, list_any-append)
-
--- nobody holds the key, and so nobody is taken out
-pub becomes_idle : (es fs : List (Vec ℕ × Vec Holder)) (k : List ℕ) (x : Xid) → fs ≡ es → found es k ≡ None
-    → Becomes (table_of es) (table_of fs) k (without (holders_of (table_of es) k) x)
-becomes_idle es fs k x stays none =
-    let nobody : holders_of (table_of es) k ≡ [] = holders_of_table es k ∙ ap holders_in none in
-    subst (λ gs. Becomes (table_of es) (table_of gs) k (without (holders_of (table_of es) k) x)) (sym stays) (record {
-      own = nobody ∙ ap (λ hs. without hs x) (sym nobody);
-      others = λ l apart. refl;
-    })
-
--- one change of a key behind another
-pub becomes_then : (t u v : LockTable) (k : List ℕ) (hs js : List Holder) → Becomes t u k hs → Becomes u v k js → js ≡ hs → Becomes t v k hs
-becomes_then t u v k hs js first next one = record {
-  own = next.own ∙ one;
-  others = λ l apart. next.others l apart ∙ first.others l apart;
-}
 
 -- a lock that nobody is in the way of keeps the rule, and its key is listed
 pub kept_given : (t u : LockTable) (held more : List (Xid × Vec (Vec ℕ))) (x : Xid) (k : List ℕ) (m : Mode)
@@ -197,17 +132,3 @@ released_nothing t held x kept none = releasing_ends t t x (record {
   others = λ k. refl;
   left = λ k h. ap (λ ks. names_key ks k) (sym none) ∙ kept.listed x k h;
 })
-
-pub releasing_next : (t u v : LockTable) (k : Vec ℕ) (rest : List (Vec ℕ)) (x : Xid) → IsReleasing t u rest x
-    → 1 ≤ length rest → slice_index_or rest 0 k ≡ k
-    → Becomes u v k.items (without (holders_of u k.items) x) → IsReleasing t v (take (length rest - 1) (drop 1 rest)) x
-releasing_next t u v k [] x so_far some first out = absurd (omega arith)
-releasing_next t u v k (j ∷ rest) x so_far some first out =
-    let one_less : length (j ∷ rest) - 1 ≡ length rest = omega arith in
-    subst (λ n. IsReleasing t v (take n rest) x) (sym one_less)
-    (subst (λ ks. IsReleasing t v ks x) (sym (take-length rest))
-    (releasing_goes_on t u v k rest x (subst (λ i. IsReleasing t u (i ∷ rest) x) first so_far) out))
-
-pub releasing_done : (t u : LockTable) (rest : List (Vec ℕ)) (x : Xid) → IsReleasing t u rest x → length rest < 1 → Releases t u x
-releasing_done t u [] x so_far none = releasing_ends t u x so_far
-releasing_done t u (k ∷ rest) x so_far none = absurd (omega arith)

@@ -1,10 +1,10 @@
 -- Who holds which key, and when a lock is given.
-use Rattle.std.specs.Prelude.{◌≡◌, ℕ, Bool, true, false, not, ◌&&◌, ◌||◌, if◌then◌else◌, Option, Some, None, unwrap_or, option_map, List, [], ◌∷◌, ◌++◌, map, filter, find}
+use Rattle.std.specs.Prelude.{◌≡◌, ℕ, Bool, true, false, not, ◌&&◌, ◌||◌, if◌then◌else◌, Option, Some, None, option_map, List, [], ◌∷◌, ◌++◌, filter, find}
 use Rattle.std.specs.Global.{Vec}
 use Rattle.std.specs.List.{list_any, list_all}
 use Rattle.std.specs.Map.{lookup}
-use Rattle.std.specs.Str.{bytes_eq}
 use Rattle.xa_xid.specs.declared.xid.Xid.{Xid}
+use Rattle.key_tables.specs.Tables.{Becomes, list_at, same_key}
 use Rattle.xa_xid.specs.contracts.xid.XidPartialEq.TheImpl as names
 use Rattle.kv_locks.specs.declared.holders.Holder.{Holder}
 use Rattle.kv_locks.specs.declared.holders.Mode.{Mode}
@@ -16,17 +16,13 @@ use Rattle.kv_locks.specs.declared.holders.Mode.TheVariants.{Shared, Exclusive}
 abbrev pub same : Xid → Xid → Bool
 same = names.ghosts.eq
 
--- two keys are one
-abbrev pub same_key : List ℕ → List ℕ → Bool
-same_key = bytes_eq
-
 -- the keys that are held, each with its holders, the one that took it first at the front
 abbrev pub LockTable : Type 0
 LockTable = List (List ℕ × List Holder)
 
 -- the holders of a key, in the order in which they took it
 abbrev pub holders_of : LockTable → List ℕ → List Holder
-holders_of t k = unwrap_or (lookup (same_key k) t) []
+holders_of t k = list_at t k
 
 -- a branch is among the holders
 abbrev pub holds : List Holder → Xid → Bool
@@ -63,11 +59,6 @@ unfoldable pub keeps_rule : List Holder → Bool
 keeps_rule [] = true
 keeps_rule (h ∷ hs) = list_all (are_shared h) hs && keeps_rule hs
 
--- one key has these holders, and the others have those that they had
-pub record Becomes (old new : LockTable) (k : List ℕ) (hs : List Holder) : Type 0 where
-  pub own : holders_of new k ≡ hs
-  pub others : (l : List ℕ) → same_key k l ≡ false → holders_of new l ≡ holders_of old l
-
 -- the branch holds nothing any more, and all others hold what they held, in their order
 pub record Releases (old new : LockTable) (x : Xid) : Type 0 where
   pub each : (k : List ℕ) → holders_of new k ≡ without (holders_of old k) x
@@ -83,10 +74,6 @@ Refuses old new x k m (Held y) = (blocked_by (holders_of old k) x m ≡ Some y) 
 Refuses old new x k m Memory = new ≡ old
 
 -- What the code keeps.
-
--- the table that the map of keys is
-abbrev pub table_of : List (Vec ℕ × Vec Holder) → LockTable
-table_of es = map (λ e. (e.0.items, e.1.items)) es
 
 -- the key is in the list
 abbrev pub names_key : List (Vec ℕ) → List ℕ → Bool

@@ -2,7 +2,8 @@
 
 ghost use Rattle.std.specs.Prelude.{◌≡◌, ◌↔◌, ℕ, List, [], true, false, IsTrue, IfErr, OnOk, OnErr, Some, None};
 ghost use Rattle.kv_locks.specs.declared.holders.Mode.TheVariants as mode;
-ghost use Rattle.kv_locks.specs.Locks.{Becomes, Gives, KeepsKeys, Refuses, Releases, blocked_by, given, holders_of, holds, keeps_rule, keys_of, names_key, table_of, without};
+ghost use Rattle.key_tables.specs.Tables.{Becomes, table_of};
+ghost use Rattle.kv_locks.specs.Locks.{Gives, KeepsKeys, Refuses, Releases, blocked_by, given, holders_of, holds, keeps_rule, keys_of, names_key, without};
 
 use crate::holders::{Holder, Mode, blocked_by, given, holds, remove};
 use indexmap::IndexMap;
@@ -37,7 +38,8 @@ pub struct Locks {
 }
 
 impl Model for Locks {
-    ghost use Rattle.kv_locks.specs.Locks.{IsKept, LockTable, table_of};
+    ghost use Rattle.key_tables.specs.Tables.{table_of};
+    ghost use Rattle.kv_locks.specs.Locks.{IsKept, LockTable};
 
     ghost Value = { LockTable };
 
@@ -59,7 +61,7 @@ impl Locks {
     }
 
     /// The holders of a key, in the order in which they took it.
-    #[tactic(auto, using(crate::proofs::Tables::holders_of_table), unfolding(crate::specs::Locks::keeps_rule))]
+    #[tactic(auto, using(key_tables::proofs::Tables::list_at_key), unfolding(crate::specs::Locks::keeps_rule))]
     pub fn holders(&self, key: &[u8]) -> &[Holder]
         ensures holders { result.now ≡ holders_of self.now key.now }
         ensures rule { keeps_rule result.now ≡ true }
@@ -201,7 +203,7 @@ fn take_out(holders: &mut Holders, key: &[u8], xid: &Xid)
 }
 
 /// Whether nobody holds the key.
-#[tactic(auto, using(crate::proofs::Tables::holders_of_table))]
+#[tactic(auto, using(key_tables::proofs::Tables::list_at_key))]
 fn is_idle(holders: &Holders, key: &[u8]) -> bool
     ensures { IsTrue result → holders_of (table_of holders.now.entries) key.now ≡ [] }
 {

@@ -1,6 +1,7 @@
 use Rattle.std.proofs.Common.{rules, ◌≡◌, [], None, refl, sym, ◌∙◌}
-use Rattle.kv_locks.specs.Locks.{holders_of, table_of}
-use Rattle.kv_locks.proofs.Tables.{becomes, becomes_then}
+use Rattle.key_tables.specs.Tables.{table_of}
+use Rattle.kv_locks.specs.Locks.{holders_of}
+use Rattle.key_tables.proofs.Tables.{becomes, becomes_then}
 use Rattle.kv_locks.proofs.locks.release_key.Goals as goal
 
 pub returns-then-is_idle : goal.returns-then-is_idle

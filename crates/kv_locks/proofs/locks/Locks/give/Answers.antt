@@ -1,6 +1,8 @@
 use Rattle.std.proofs.Common.{rules, ◌≡◌, Some, None, subst}
-use Rattle.kv_locks.specs.Locks.{Becomes, blocked_by, given, holders_of, table_of}
-use Rattle.kv_locks.proofs.Tables.{becomes, kept_given}
+use Rattle.key_tables.specs.Tables.{Becomes, table_of}
+use Rattle.kv_locks.specs.Locks.{blocked_by, given, holders_of}
+use Rattle.key_tables.proofs.Tables.{becomes}
+use Rattle.kv_locks.proofs.Tables.{kept_given}
 use Rattle.kv_locks.proofs.locks.Locks.give.Goals as goal
 
 pub invariant_of-self-2 : goal.invariant_of-self-2

@@ -1,5 +1,6 @@
 use Rattle.std.proofs.Common.{rules, ◌≡◌, [], subst}
-use Rattle.kv_locks.specs.Locks.{Releases, keys_of, table_of}
+use Rattle.key_tables.specs.Tables.{table_of}
+use Rattle.kv_locks.specs.Locks.{Releases, keys_of}
 use Rattle.kv_locks.proofs.Tables.{kept_released, released_nothing}
 use Rattle.kv_locks.proofs.locks.Locks.release.Goals as goal
 

@@ -1,0 +1,16 @@
+//! The data of a key store, with what each key was behind each commit since the base.
+//!
+//! ```text
+//! stage      the writes of the next commit, unseen; it takes all memory
+//! publish    they are data now; it takes none
+//! apply      both
+//! read       what a key is
+//! read_at    what it was behind so many commits, found by halving
+//! ```
+#![tactic(auto)]
+
+mod version;
+mod versions;
+
+pub use version::Version;
+pub use versions::{Gone, Versions};
