@@ -19,3 +19,6 @@ pub mod ManagerRestarts
 pub mod ManagerRestartFaults
 pub mod TrimmedBranches
 pub mod Olds
+pub mod TrimHalves
+pub mod StepAt
+pub mod Trims
