@@ -12,3 +12,6 @@ pub mod Addresses
 pub mod Promises
 pub mod Yesses
 pub mod PairOf
+pub mod Boots
+pub mod Selves
+pub mod Tickets
