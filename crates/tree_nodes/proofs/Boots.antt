@@ -251,6 +251,15 @@ booted_replaces role l = record {
   boot_is_forced = λ up. ap boot_of (append-nil (trimmed role (standing l)));
 }
 
+-- an input leaves the boot
+pub boot_written : (n : Node) (h : Heard) (e : Effect) → has is_opened (entries_written e.written) ≡ false
+    → boot_of (kept (after n h e)) ≡ boot_of (kept n)
+boot_written n h e none =
+    let new = entries_written e.written in
+    either_logs n new (is_any_forced e.written) (λ (l : Logs). boot_of (standing l) ≡ boot_of (kept n))
+    (λ b. ap boot_of (append-nil (kept n ++ new)) ∙ boot_others (kept n) new none)
+    (λ b. ap boot_of (sym (append_assoc n.forced n.unforced new)) ∙ boot_others (kept n) new none)
+
 module _ (place : Place) (n : Node) (h : Booted (logs_of n)) where
   appended : (i : Heard) (e : Effect) → has is_opened (entries_written e.written) ≡ false
       → Booted (logs_of (after n i e))

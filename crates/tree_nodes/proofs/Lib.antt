@@ -15,3 +15,4 @@ pub mod PairOf
 pub mod Boots
 pub mod Selves
 pub mod Tickets
+pub mod Issuing
