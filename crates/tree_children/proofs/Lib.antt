@@ -17,8 +17,6 @@ pub mod LastRecords
 pub mod Restarts
 pub mod ManagerRestarts
 pub mod ManagerRestartFaults
-pub mod TrimmedBranches
-pub mod Olds
 pub mod TrimHalves
 pub mod StepAt
 pub mod Trims

@@ -39,6 +39,7 @@ use Rattle.tree_readings.proofs.Memories.{memory_of-nothing, memory_of-forced, m
 use Rattle.tree_turns.specs.LeafTurns.{LeafTurn, Hears, mark_at, IsActive, IsUnknown, IsOpenBranch, writes_and_sends, Waits, promised, decided, waits, by_operator, IsDecided, untold, told, does_nothing, gives_again, gives_fresh, votes_yes, votes_read, votes_no, repeats_yes, refuses, obeys, notes, acknowledges_told, acknowledges, drops, asks, decides, forgets}
 use Rattle.tree_nodes.specs.Lasts.{logs_of, Nested, Manages}
 use Rattle.tree_nodes.specs.WorldHolds.{InvariantOf}
+use Rattle.tree_nodes.proofs.Deliveries.{was_sent}
 use Rattle.tree_nodes.proofs.Tests.{left, right}
 use Rattle.tree_nodes.proofs.Orders.{IsMarked, marks, other_leaves}
 use Rattle.tree_children.specs.ManagerSteps.{IsRow}
@@ -49,22 +50,6 @@ use Rattle.tree_children.proofs.Opens.{opens, fall, closes_prepared, closes_abor
 use Rattle.tree_children.proofs.Doubts.{doubt, promised_so, plain_so, heuristic_so, unforgotten_so, told_commit_so, told_abort_so, none_ever, nothing_known}
 use Rattle.tree_children.proofs.Readings as readings
 use Rattle.tree_children.proofs.Wires as wires
-
--- A message that was delivered was sent.
-
-pub sent_at : (q : Message → Bool) (ls : List Envelope) (k : ℕ) (l : Envelope) → slice_get ls k ≡ Some l
-    → q l.message ≡ true
-    → sent q ls ≡ true
-unfolding sent
-sent_at q [] k l e f = absurd (cc)
-sent_at q (m ∷ ls) zero l e f = let g : m ≡ l = cc in left _ _ (ap (λ (z : Envelope). q z.message) g ∙ f)
-sent_at q (m ∷ ls) (suc k) l e f = right _ _ (sent_at q ls k l e f)
-
-pub was_sent : (q : Message → Bool) (net : List Envelope) (me : ProcessId) (i : Input) (k : ℕ) (m : Message)
-    → InputStands net me i → i ≡ MessageInput k m → q m ≡ true → sent q net ≡ true
-was_sent q net me i k m s e f =
-    let t : IsSent net me k m = subst (λ (x : Input). InputStands net me x) e s in sent_at q net (k - 1) _
-    t.stands f
 
 -- A branch that is closed without a word is dropped, if it was open.
 

@@ -27,7 +27,7 @@ use Rattle.tree_nodes.proofs.Trims.{data_is_other, trim_left}
 use Rattle.tree_nodes.proofs.Worlds.{has_other}
 use Rattle.tree_children.proofs.LeafWrites.{hardens, stands_so}
 use Rattle.tree_children.proofs.Tables.{no_record}
-use Rattle.tree_children.proofs.TrimmedBranches.{trim_keeps, trim_forgets}
+use Rattle.tree_nodes.proofs.TrimmedBranches.{trim_keeps, trim_forgets}
 
 or_twice : (a b : Bool) → (a || (a || b)) ≡ (a || b)
 or_twice a b = grind arith

@@ -16,3 +16,8 @@ pub mod Boots
 pub mod Selves
 pub mod Tickets
 pub mod Issuing
+pub mod TrimmedBranches
+pub mod Olds
+pub mod Deliveries
+pub mod ManagerWrites
+pub mod ManagerPhases
