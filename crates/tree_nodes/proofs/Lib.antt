@@ -21,3 +21,4 @@ pub mod Olds
 pub mod Deliveries
 pub mod ManagerWrites
 pub mod ManagerPhases
+pub mod ManagerBranches

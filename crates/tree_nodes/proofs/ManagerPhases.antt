@@ -1,5 +1,5 @@
 -- How the phase of a manager's branch moves: an input leaves it or ends it, and JOIN that gives its ticket opens it.
-use Rattle.std.proofs.Common.{◌≡◌, ◌∙◌, ◌⊎◌, inl, inr, ◌&&◌, ◌==◌, ◌+◌, ℕ, Bool, true, false, Option, Some, None, List, [], refl, sym, ap, if◌then◌else◌}
+use Rattle.std.proofs.Common.{◌≡◌, ◌∙◌, ◌⊎◌, inl, inr, ◌&&◌, ◌==◌, ◌+◌, ℕ, Bool, true, false, ◌≢◌, Option, Some, None, List, [], refl, sym, ap, if◌then◌else◌}
 use Rattle.std.specs.Prelude.{not}
 use Rattle.tree_model.specs.declared.names.Case.{Case}
 use Rattle.tree_model.specs.declared.names.ProcessId.{ProcessId}
@@ -22,9 +22,9 @@ pub record Wakes (me : ProcessId) (boot : ℕ) (c : Case) (m : Memory) (a : Data
   pub none_active : active_ticket m.active parents ≡ None
   pub is_next : same_case c (child_case parents.txn (next_ticket me boot m)) ≡ true
 
--- the phase stays, or the branch is over
+-- the phase stays, or a branch that was joined is over
 abbrev pub StaysOrEnds : Memory → Memory → Type 0
-StaysOrEnds m k = (k.phase ≡ m.phase) ⊎ (k.phase ≡ Over)
+StaysOrEnds m k = (k.phase ≡ m.phase) ⊎ ((m.phase ≢ Idle) × (k.phase ≡ Over))
 
 works_left : (m u v : Memory) (a b : Bool) → u.phase ≡ m.phase → v.phase ≡ m.phase
     → StaysOrEnds m (if a then (if b then u else v) else m)
@@ -38,11 +38,11 @@ worked_left m i does Idle = inl refl
 worked_left m i does Asked = inl refl
 worked_left m i does Over = inl refl
 
-closes_left : (m k : Memory) (ph : Phase) → k.phase ≡ m.phase → StaysOrEnds m (closes k ph)
-closes_left m k Idle e = inl e
-closes_left m k Open e = inr refl
-closes_left m k Asked e = inr refl
-closes_left m k Over e = inr refl
+closes_left : (m k : Memory) (ph : Phase) → m.phase ≡ ph → k.phase ≡ m.phase → StaysOrEnds m (closes k ph)
+closes_left m k Idle at e = inl e
+closes_left m k Open at e = inr (λ idle. absurd (let x = sym at ∙ idle in cc), refl)
+closes_left m k Asked at e = inr (λ idle. absurd (let x = sym at ∙ idle in cc), refl)
+closes_left m k Over at e = inr (λ idle. absurd (let x = sym at ∙ idle in cc), refl)
 
 if_left : (m u v : Memory) (b : Bool) → StaysOrEnds m u → StaysOrEnds m v → StaysOrEnds m (if b then v else u)
 if_left m u v true e f = f
@@ -54,9 +54,9 @@ module _ (me : ProcessId) (boot : ℕ) (c : Case) (m : Memory) (a : DataAnswer) 
       → StaysOrEnds m (manager_remembers me boot c m a (MessageInput j x))
   message_left j (Work o i op) r = if_left m m _ (same_case o c) (inl refl) (worked_left m i a.does m.phase)
   message_left j (Prepare o k) r =
-      if_left m (retires m o) _ (same_case o c) (inl refl) (closes_left m (retires m o) m.phase refl)
+      if_left m (retires m o) _ (same_case o c) (inl refl) (closes_left m (retires m o) m.phase refl refl)
   message_left j (Abort o) r =
-      if_left m (retires m o) _ (same_case o c) (inl refl) (closes_left m (retires m o) m.phase refl)
+      if_left m (retires m o) _ (same_case o c) (inl refl) (closes_left m (retires m o) m.phase refl refl)
   message_left j (Join o) r = absurd (r o refl)
   message_left j (Joined o t) r = inl refl
   message_left j (Yes o) r = inl refl
@@ -93,7 +93,7 @@ module _ (me : ProcessId) (boot : ℕ) (c : Case) (m : Memory) (a : DataAnswer) 
 
   abbrev Moves : Input → Type 0
   Moves i = ((manager_remembers me boot c m a i).phase ≡ m.phase)
-      ⊎ (((manager_remembers me boot c m a i).phase ≡ Over) ⊎ Wakes me boot c m a i)
+      ⊎ (((m.phase ≢ Idle) × ((manager_remembers me boot c m a i).phase ≡ Over)) ⊎ Wakes me boot c m a i)
 
   stays_or_ends : (i : Input) → StaysOrEnds m (manager_remembers me boot c m a i) → Moves i
   stays_or_ends i (inl e) = inl e
