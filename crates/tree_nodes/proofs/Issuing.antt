@@ -26,12 +26,13 @@ use Rattle.tree_readings.proofs.Memories.{memory_of-heard}
 use Rattle.tree_turns.specs.Steps.{StepOf, heard_in, handled, failed_in, passed, failed_passing, reopened, failed_reopening, trimmed as trims_log, failed_trimming, TurnAt, TurnOf}
 use Rattle.tree_turns.proofs.Steps.{step_of, turn_of}
 use Rattle.tree_nodes.specs.Lasts.{Logs, logs_of}
+use Rattle.tree_nodes.specs.Numbers.{IsIssuer}
 use Rattle.tree_nodes.specs.WorldHolds.{IsGivenOut}
 use Rattle.tree_nodes.proofs.Tests.{either, left, right}
 use Rattle.tree_nodes.proofs.Appends.{either_logs}
 use Rattle.tree_nodes.proofs.Boots.{Booted, turn_none, still_booted, forced_rises, restart_rises, trimmed_boot, boot_written, forced_below}
 use Rattle.tree_nodes.proofs.Selves.{Self, self_of, self_same, self_remembers, next_of, joins_self, starts_for, issuer_self, self_after}
-use Rattle.tree_nodes.proofs.Tickets.{AllActive, active_found, active_after, active_all, given_grows, IsIssuer, starts_at, IsNext, Answers, joined_answers, answer_is_own, join_said}
+use Rattle.tree_nodes.proofs.Tickets.{AllActive, active_found, active_after, active_all, given_grows, starts_at, IsNext, Answers, joined_answers, answer_is_own, join_said}
 use Rattle.tree_nodes.proofs.Promises.{quiet_resumes}
 
 -- The net.

@@ -252,6 +252,7 @@ opened_by (Below p) = record { no_managers_record = refl }
 
 pub opened_lasts : (role : Role) → Lasts role (logs_of opened_node)
 opened_lasts role = record {
-  nested = record { kept_was_written = λ q none e. e; old_was_written = λ q none e. e };
+  nested = record
+      { kept_was_written = λ q none e. e; old_was_written = λ q none e. e; forced_is_old = λ q e. e };
   by_role = opened_by role;
 }

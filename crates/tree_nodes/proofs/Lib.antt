@@ -17,8 +17,8 @@ pub mod Selves
 pub mod Tickets
 pub mod Issuing
 pub mod TrimmedBranches
-pub mod Olds
 pub mod Deliveries
 pub mod ManagerWrites
 pub mod ManagerPhases
 pub mod ManagerBranches
+pub mod ManagersHold

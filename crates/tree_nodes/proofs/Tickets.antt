@@ -25,6 +25,7 @@ use Rattle.tree_model.specs.Outcomes.{sent, is_joined_message}
 use Rattle.tree_turns.specs.LeafTurns.{LeafTurn, does_nothing, gives_again, gives_fresh, votes_yes, votes_read, votes_no, repeats_yes, refuses, obeys, notes, acknowledges_told, acknowledges, drops, asks, decides, forgets}
 use Rattle.tree_turns.specs.Written.{IsForCase, IsFromCase, Sends, down, upward, invites, AllSent, IsAnswer, is_active, is_next, Writes, writes_nothing, for_act, for_child, for_parent, presumes, gives}
 use Rattle.tree_turns.specs.Steps.{TurnAt}
+use Rattle.tree_nodes.specs.Numbers.{IsIssuer}
 use Rattle.tree_nodes.proofs.Tests.{either, both}
 use Rattle.tree_nodes.proofs.Selves.{Self, self_of, self_is, next_of, gives_next, joins_self, retires_self, starts_for, hears_self, issuer_self, root_self, self_after}
 
@@ -169,12 +170,6 @@ active_is_own place n c d t e =
     (own_folded place.me place.role (boot_of (kept n)) (self_of fresh_memory) n.heard tt)) e
 
 -- JOINED.
-
--- a process that gives tickets
-abbrev pub IsIssuer : Role → Type 0
-IsIssuer AtRoot = ⊥
-IsIssuer (Below p) = Unit {0}
-IsIssuer (AtLeaf p) = Unit {0}
 
 -- a manager's data answer JOIN; a coordinator always does
 abbrev pub starts_at : Role → Heard → Bool
