@@ -20,3 +20,4 @@ pub mod ManagerRestartFaults
 pub mod TrimHalves
 pub mod StepAt
 pub mod Trims
+pub mod Joins

@@ -3,8 +3,8 @@ use Rattle.tree_turns.specs.Written.{is_coordinators}
 use Rattle.tree_model.specs.Reactions.{leaf_of}
 use Rattle.tree_model.specs.ManagerRows.{is_acknowledged, ends_record, decides_record, acknowledgement, written_as}
 use Rattle.tree_nodes.specs.Marks.{is_branch_record}
-use Rattle.std.proofs.Common.{◌≡◌, ◌∙◌, ◌&&◌, ◌-◌, ◌⊎◌, inl, inr, ℕ, zero, suc, Bool, true, false, Some, List, [], ◌∷◌, ◌++◌, refl, sym, ap, subst, if◌then◌else◌}
-use Rattle.std.specs.Prelude.{not, slice_get}
+use Rattle.std.proofs.Common.{◌≡◌, ◌∙◌, ◌&&◌, ◌⊎◌, inl, inr, ℕ, Bool, true, false, List, [], ◌∷◌, ◌++◌, refl, sym, ap, subst, if◌then◌else◌}
+use Rattle.std.specs.Prelude.{not}
 use Rattle.tree_model.specs.declared.names.Case.{Case}
 use Rattle.tree_model.specs.declared.names.ProcessId.{ProcessId}
 use Rattle.tree_model.specs.declared.names.Ticket.{Ticket}
@@ -12,14 +12,12 @@ use Rattle.tree_model.specs.declared.names.Outcome.{Outcome}
 use Rattle.tree_model.specs.declared.names.Outcome.TheVariants.{Committed as CommittedOutcome, Aborted as AbortedOutcome}
 use Rattle.tree_model.specs.declared.names.Presumption.{Presumption}
 use Rattle.tree_model.specs.declared.names.Presumption.TheVariants.{PresumeAbort, PresumeCommit}
-use Rattle.tree_model.specs.declared.messages.Message.{Message}
 use Rattle.tree_model.specs.declared.messages.Message.TheVariants.{Join, Prepare, Yes, No, Read, Commit, Abort, Ack, Inquire}
 use Rattle.tree_model.specs.declared.messages.Envelope.{Envelope}
 use Rattle.tree_model.specs.declared.records.Branch.TheVariants.{Case as CaseBranch}
 use Rattle.tree_model.specs.declared.records.Record.{Record}
 use Rattle.tree_model.specs.declared.records.Record.TheVariants.{Prepared as PreparedRecord, Committed, RolledBack, HeurCommit, HeurRollback, Told, Forgot}
 use Rattle.tree_model.specs.declared.records.Write.{Write}
-use Rattle.tree_model.specs.declared.events.Input.{Input}
 use Rattle.tree_model.specs.declared.events.Input.TheVariants.{Message as MessageInput}
 use Rattle.tree_model.specs.declared.trees.TreeEntry.{TreeEntry}
 use Rattle.tree_model.specs.Names.{child_case, same_case}
@@ -28,8 +26,8 @@ use Rattle.tree_model.specs.Records.{is_heuristic, is_decided, is_forgot, boot_a
 use Rattle.tree_model.specs.Nodes.{Place, AtLeaf, Node, Heard, Effect, kept, after, Written}
 use Rattle.tree_model.specs.CoordinatorRows.{post, forced, plain, tells_outcome}
 use Rattle.tree_model.specs.Standings.{manager_view, Mark, Promised, Decided, ToldOf, mark_of}
-use Rattle.tree_model.specs.Outcomes.{sent, is_outcome_message}
-use Rattle.tree_model.specs.World.{IsSent, InputStands}
+use Rattle.tree_model.specs.Outcomes.{is_outcome_message}
+use Rattle.tree_model.specs.World.{InputStands}
 use Rattle.tree_pairs.specs.Reading.{Reading}
 use Rattle.tree_pairs.specs.ChildMoves as move
 use Rattle.tree_pairs.specs.Standing.{IsForgotten, IsInDoubt}
@@ -40,13 +38,11 @@ use Rattle.tree_turns.specs.LeafTurns.{LeafTurn, Hears, mark_at, IsActive, IsUnk
 use Rattle.tree_nodes.specs.Lasts.{logs_of, Nested, Manages}
 use Rattle.tree_nodes.specs.WorldHolds.{InvariantOf}
 use Rattle.tree_nodes.proofs.Deliveries.{was_sent}
-use Rattle.tree_nodes.proofs.Tests.{left, right}
 use Rattle.tree_nodes.proofs.Orders.{IsMarked, marks, other_leaves}
-use Rattle.tree_children.specs.ManagerSteps.{IsRow}
 use Rattle.tree_children.proofs.LeafWrites.{wrote, hardens, stands_so, half_silent, half_forced, half_plain, IsBranchs, unrelated}
 use Rattle.tree_children.proofs.Moves as moves
 use Rattle.tree_children.proofs.Moves.{Fits}
-use Rattle.tree_children.proofs.Opens.{opens, fall, closes_prepared, closes_aborted, closed_where_marked, closed_where_unknown, open_where_active, marked_is_closed}
+use Rattle.tree_children.proofs.Opens.{IsRow, opens, fall, closes_prepared, closes_aborted, closed_where_marked, closed_where_unknown, open_where_active, marked_is_closed}
 use Rattle.tree_children.proofs.Doubts.{doubt, promised_so, plain_so, heuristic_so, unforgotten_so, told_commit_so, told_abort_so, none_ever, nothing_known}
 use Rattle.tree_children.proofs.Readings as readings
 use Rattle.tree_children.proofs.Wires as wires

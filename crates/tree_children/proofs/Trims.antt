@@ -1,5 +1,6 @@
 -- A manager's trim keeps the invariant of its pairs, also where its device fails.
 use Rattle.std.proofs.Common.{◌≡◌, ◌∙◌, ◌||◌, ◌&&◌, ◌⊎◌, inl, inr, ℕ, zero, suc, Bool, true, false, List, refl, sym, ap, subst, arith}
+use Rattle.std.proofs.lemmas.List.{append-nil}
 use Rattle.tree_model.specs.declared.names.Case.{Case}
 use Rattle.tree_model.specs.declared.names.ProcessId.{ProcessId}
 use Rattle.tree_model.specs.declared.names.Ticket.{Ticket}
@@ -13,9 +14,9 @@ use Rattle.tree_model.specs.declared.trees.TreeEntry.{TreeEntry}
 use Rattle.tree_model.specs.Names.{child_case}
 use Rattle.tree_model.specs.Records.{has, is_heuristic, is_decided}
 use Rattle.tree_model.specs.Nodes.{Place, AtLeaf, Node, kept}
-use Rattle.tree_model.specs.Memory.{memory_of}
+use Rattle.tree_model.specs.Memory.{Memory, Open, memory_of}
 use Rattle.tree_model.specs.Standings.{ManagerView, Mark, Unmarked, Promised, Decided, ToldOf, Finished, manager_view, marked_branch, mark_of}
-use Rattle.tree_model.specs.Restarts.{is_open, trims, trim_fails}
+use Rattle.tree_model.specs.Restarts.{is_open, trimmed, trims, trim_fails}
 use Rattle.tree_pairs.specs.Reading.{Reading, is_live}
 use Rattle.tree_pairs.specs.ChildMoves as move
 use Rattle.tree_pairs.specs.ChildCrash as crash
@@ -39,7 +40,10 @@ use Rattle.tree_children.proofs.Doubts.{nothing_known}
 use Rattle.tree_children.proofs.FailMoves as fail
 use Rattle.tree_children.proofs.Moves as moves
 use Rattle.tree_children.proofs.Moves.{Fits}
-use Rattle.tree_children.proofs.Opens.{closed_where_marked}
+use Rattle.tree_nodes.proofs.Boots.{trims_memory}
+use Rattle.tree_nodes.proofs.ManagerBranches.{unmarked_so}
+use Rattle.tree_nodes.proofs.TrimmedBranches.{trim_forgets}
+use Rattle.tree_children.proofs.Opens.{opens, closed_where_marked, closed_unless_open, is_phase_open}
 use Rattle.tree_children.proofs.Readings as readings
 use Rattle.tree_children.proofs.TrimHalves.{cleared, keeps_open, keeps_unmarked, forgets_over, half_keeps, half_cleared}
 
@@ -84,7 +88,7 @@ decided_is d x e = grind arith
 
 module _ (c : Case) (t : Ticket) (p : ProcessId) (tree : List TreeEntry) (n : Node) (v : Wire)
     (last : Lasts (AtLeaf p) (logs_of n))
-    (old : (q : Record → Bool) → has q n.forced ≡ true → has q n.durable ≡ true) (up : n.failed ≡ false)
+    (up : n.failed ≡ false)
     (pr : Presumption) (root outcome above : Bool) (half : ParentHalf) where
   abbrev d : Case
   d = child_case c.txn t
@@ -130,7 +134,7 @@ module _ (c : Case) (t : Ticket) (p : ProcessId) (tree : List TreeEntry) (n : No
     decided_ever e =
         let forced = common.heuristic_is_forced
         (has_other (is_decided d CommittedOutcome) (is_heuristic d) (kept n) (decided_is d) e) up in
-        old (is_decided d CommittedOutcome)
+        last.nested.forced_is_old (is_decided d CommittedOutcome)
         (decided_in_front d n.forced n.unforced (last.by_role.in_order d) none_forced forced ∙ e)
 
     promised_ever : k.prepared_kept ≡ true → k.prepared_ever ≡ true
@@ -209,3 +213,45 @@ module _ (c : Case) (t : Ticket) (p : ProcessId) (tree : List TreeEntry) (n : No
           | inr gone ↦ subst (λ (z : ChildHalf). Fits pr r0 (R (fallen z))) (sym gone.1)
               (falls (stands_so false (cleared k)) up (clears gone.0))
         ]
+
+    -- Where the device does not fail, the branch stays as open as it was.
+
+    abbrev then : Node
+    then = trims place n
+
+    stays_as : (b : Bool) → k.is_open ≡ b → opens n.failed (manager_view place then d) ≡ b → Fits pr r0 (R (child_half place then d))
+    stays_as b e f =
+        let s = (manager_view place then d).standing in
+        elim (trimmed_half s) [
+          | inl same ↦ subst (λ (z : ChildHalf). Fits pr r0 (R z))
+              (sym (same ∙ ap (λ (o : Bool). stands_so o (hardens k)) (f ∙ sym e))) hardened
+          | inr gone ↦ subst (λ (z : ChildHalf). Fits pr r0 (R z))
+              (sym (gone.1 ∙ ap (λ (o : Bool). stands_so o (cleared k)) (f ∙ (sym e ∙ over_is_closed gone.0)))) (clears gone.0)
+        ]
+
+    seen : (x : Node) → manager_view place x d ≡ marked_branch (memory_of place x d) (mark_at x d)
+    seen x = viewed place x d
+
+    same_memory : memory_of place then d ≡ memory_of place n d
+    same_memory = trims_memory place n d
+
+    unmarked_then : mark_at n d ≡ Unmarked → mark_at then d ≡ Unmarked
+    unmarked_then e =
+        ap (mark_of (CaseBranch d)) (append-nil (trimmed (AtLeaf p) (kept n)))
+        ∙ unmarked_so d (trimmed (AtLeaf p) (kept n)) (trim_forgets p d (kept n) (ap is_open e))
+
+    pub trim_fits : ((memory_of place n d).phase ≡ Open → mark_at n d ≡ Unmarked)
+        → Fits pr r0 (R (child_half place then d))
+    trim_fits unmarked = elim (is_phase_open (memory_of place n d).phase) [
+      | inl e ↦ stays_as k.is_open refl
+          (ap (opens n.failed) (seen then)
+          ∙ (ap (λ (x : Mark). opens n.failed (marked_branch (memory_of place then d) x)) (unmarked_then (unmarked e))
+          ∙ (ap (λ (m : Memory). opens n.failed (marked_branch m Unmarked)) same_memory
+          ∙ (ap (λ (x : Mark). opens n.failed (marked_branch (memory_of place n d) x)) (sym (unmarked e))
+          ∙ ap (opens n.failed) (sym (seen n))))))
+      | inr other ↦ stays_as false
+          (ap (opens n.failed) (seen n) ∙ closed_unless_open n.failed (memory_of place n d) (mark_at n d) other)
+          (ap (opens n.failed) (seen then)
+          ∙ closed_unless_open n.failed (memory_of place then d) (mark_at then d)
+          (λ e. other (ap (λ (m : Memory). m.phase) (sym same_memory) ∙ e)))
+    ]

@@ -14,6 +14,7 @@ use Rattle.tree_model.specs.declared.records.Record.TheVariants.{Opened}
 use Rattle.tree_model.specs.declared.events.Input.{Input}
 use Rattle.tree_model.specs.Records.{has, is_opened, boot_of, boot_after, cases_in}
 use Rattle.tree_model.specs.Nodes.{Role, AtRoot, Below, AtLeaf, Place, Node, Heard, Effect, kept, Written, entries_written, is_any_forced, after, fails_in}
+use Rattle.tree_model.specs.Memory.{memory_of}
 use Rattle.tree_model.specs.ManagerRows.{Leaf, ends_record, decides_record}
 use Rattle.tree_model.specs.Reactions.{leaf_of}
 use Rattle.tree_model.specs.Restarts.{aborts_collecting, reopens, stays, staying, data_records, trimmed, left_of, restarted, trims, trim_fails}
@@ -353,3 +354,8 @@ module _ (place : Place) (n : Node) (h : Booted (logs_of n)) where
       fault_below (take f.forced (take k n.unforced ++ take f.appended (reopens place.role (left_of n k)))) m _ _ (failed_reopening k f fl hp) refl
   forced_rises m _ _ (trims_log hp up) = trimmed_below
   forced_rises m _ _ (failed_trimming f fl hp up) = trim_failed_below f.appended
+
+-- A trim leaves what is remembered.
+pub trims_memory : (place : Place) (n : Node) (c : Case) → memory_of place (trims place n) c ≡ memory_of place n c
+unfolding memory_of
+trims_memory place n c = rw (ap boot_of (append-nil (trims place n).forced) ∙ trimmed_boot place.role (kept n)) refl

@@ -30,7 +30,7 @@ use Rattle.tree_nodes.specs.Numbers.{IsIssuer}
 use Rattle.tree_nodes.specs.WorldHolds.{IsGivenOut}
 use Rattle.tree_nodes.proofs.Tests.{either, left, right}
 use Rattle.tree_nodes.proofs.Appends.{either_logs}
-use Rattle.tree_nodes.proofs.Boots.{Booted, turn_none, still_booted, forced_rises, restart_rises, trimmed_boot, boot_written, forced_below}
+use Rattle.tree_nodes.proofs.Boots.{Booted, turn_none, still_booted, forced_rises, restart_rises, trimmed_boot, trims_memory, boot_written, forced_below}
 use Rattle.tree_nodes.proofs.Selves.{Self, self_of, self_same, self_remembers, next_of, joins_self, starts_for, issuer_self, self_after}
 use Rattle.tree_nodes.proofs.Tickets.{AllActive, active_found, active_after, active_all, given_grows, starts_at, IsNext, Answers, joined_answers, answer_is_own, join_said}
 use Rattle.tree_nodes.proofs.Promises.{quiet_resumes}
@@ -85,6 +85,20 @@ issued_elsewhere place net ls n h none = record {
   active_was_sent = λ up. active_all _ _ (λ d t. sent_old d t net ls) (self_at place n).active
       (h.active_was_sent up);
 }
+
+-- the next ticket was given to no case yet
+pub next_is_new : {A : Type 0} (place : Place) (net : List Envelope) (n : Node) → Issued place net n → n.failed ≡ false
+    → (d x : Case) → sent (is_joined_message d (next_ticket place.me (boot_of (kept n)) (memory_of place n x))) net ≡ true
+    → A
+next_is_new {A} place net n h up d x e =
+    let t = next_ticket place.me (boot_of (kept n)) (memory_of place n x) in
+    not_again (boot_of (kept n)) (self_at place n).given t.number
+    (ap (λ (s : Self). s.given + 1) (self_same place n x (some_case place))) (h.given_once up d t refl e)
+  where
+    not_again : {A : Type 0} (boot given number : ℕ) → number ≡ given + 1
+        → IsGivenOut boot number boot given → A
+    not_again boot given number e (inl f) = absurd (omega (arith, f))
+    not_again boot given number e (inr f) = absurd (omega (arith, e, f.1))
 
 more_given : (boot number now a b : ℕ) → IsGivenOut boot number now a → a ≤ b → IsGivenOut boot number now b
 more_given boot number now a b (inl e) f = inl e
@@ -261,23 +275,16 @@ module _ (place : Place) (net : List Envelope) (n : Node) (issuer : IsIssuer pla
 
   -- A trim.
 
-  trimmed_memory : (c : Case) → memory_of place (trims place n) c ≡ memory_of place n c
-  unfolding memory_of
-  trimmed_memory c = rw (trims_boot) refl
-    where
-      trims_boot : boot_of (kept (trims place n)) ≡ boot_of (kept n)
-      trims_boot = ap boot_of (append-nil (trims place n).forced) ∙ trimmed_boot place.role (kept n)
-
   trims_so : Issued place (net ++ []) (trims place n)
   trims_so = record {
     given_once = λ up d t own e. subst (λ y. IsGivenOut t.boot t.number y (self_at place (trims place n)).given)
         (sym (ap boot_of (append-nil (trims place n).forced) ∙ trimmed_boot place.role (kept n)))
-        (subst (λ (m : Memory). IsGivenOut t.boot t.number (boot_of (kept n)) m.given) (sym (trimmed_memory (some_case place)))
+        (subst (λ (m : Memory). IsGivenOut t.boot t.number (boot_of (kept n)) m.given) (sym (trims_memory place n (some_case place)))
         (issued.given_once up d t own (sym (sent-nil (is_joined_message d t) net) ∙ e)));
     given_before = silent_before (trims place n)
         (subst (λ y. boot_of n.forced ≤ y) (sym (trimmed_boot place.role (kept n))) (forced_below (logs_of n) booted));
     active_was_sent = λ up. subst (λ (m : Memory). AllActive (λ d t. sent (is_joined_message d t) (net ++ []) ≡ true) m.active)
-        (sym (trimmed_memory (some_case place)))
+        (sym (trims_memory place n (some_case place)))
         (active_all _ _ (λ d t. sent_old d t net []) self.active (issued.active_was_sent up));
   }
 

@@ -43,9 +43,9 @@ use Rattle.tree_nodes.specs.WorldHolds.{is_record_of, is_of, IsGivenOut}
 use Rattle.tree_nodes.proofs.Tests.{either, left, right, in_either, in_second, in_front, has-reverse, not_both, front_none}
 use Rattle.tree_nodes.proofs.Orders.{mark_is, mark_behind, other_leaves}
 use Rattle.tree_nodes.proofs.Appends.{either_logs}
-use Rattle.tree_nodes.proofs.Boots.{turn_none, trimmed_boot, boot_written}
+use Rattle.tree_nodes.proofs.Boots.{turn_none, trims_memory, boot_written}
 use Rattle.tree_nodes.proofs.Deliveries.{was_sent}
-use Rattle.tree_nodes.proofs.Issuing.{Issued, self_at}
+use Rattle.tree_nodes.proofs.Issuing.{Issued, next_is_new}
 use Rattle.tree_nodes.proofs.ManagerPhases.{Wakes, phase_moves, prepare_ends}
 use Rattle.tree_nodes.proofs.ManagerWrites.{Wrote, nothing, promise, ending, Ends, leaf_wrote, leaf_accepts, kept_after}
 use Rattle.tree_nodes.proofs.PairOf.{Given, given}
@@ -281,14 +281,7 @@ module _ (me p : ProcessId) (tree : List TreeEntry) (net : List Envelope) (n : N
           let there : d ≡ child_case w.parents.txn t = same_of d (child_case w.parents.txn t) w.is_next in
           let g : Given net w.parents.txn t =
           given net w.parents.txn t (subst (λ (z : Case). sent (gives_case z) net ≡ true) there e') in
-          not_again (boot_of (kept n)) (self_at place n).given t.number
-          (ap (λ (s : Self). s.given + 1) (self_same place n d (some_case place)))
-          (issued.given_once up g.of t refl g.joined)
-        where
-          not_again : {A : Type 0} (boot given number : ℕ) → number ≡ given + 1
-              → IsGivenOut boot number boot given → A
-          not_again boot given number e (inl f) = absurd (omega (arith, f))
-          not_again boot given number e (inr f) = absurd (omega (arith, e, f.1))
+          next_is_new place net n issued up g.of d g.joined
 
       abbrev Mark' : Case → List Record → Mark
       Mark' d rs = mark_of (CaseBranch d) rs
@@ -436,10 +429,6 @@ module _ (me p : ProcessId) (tree : List TreeEntry) (net : List Envelope) (n : N
   abbrev of_data : List Record
   of_data = data_records (AtLeaf p) (kept n)
 
-  trimmed_memory : (d : Case) → memory_of place (trims place n) d ≡ memory_of place n d
-  unfolding memory_of
-  trimmed_memory d = rw (ap boot_of (append-nil (trims place n).forced) ∙ trimmed_boot (AtLeaf p) (kept n)) refl
-
   trimmed_unmarked : (d : Case) → mark_at n d ≡ Unmarked → mark_of (CaseBranch d) (kept (trims place n)) ≡ Unmarked
   trimmed_unmarked d e =
       ap (mark_of (CaseBranch d)) (append-nil (trimmed (AtLeaf p) (kept n)))
@@ -449,10 +438,10 @@ module _ (me p : ProcessId) (tree : List TreeEntry) (net : List Envelope) (n : N
   trims_so up = record {
     recorded_is_given = λ d. silent_given [] of_data d (data_is_other (is_record_of d) (λ k v. refl) (λ k. refl) (AtLeaf p) (kept n));
     remembered_is_given = λ still d f. given_still me net [] d (known.remembered_is_given up d
-        (λ idle. f (ap (λ (m : Memory). m.phase) (trimmed_memory d) ∙ idle)));
+        (λ idle. f (ap (λ (m : Memory). m.phase) (trims_memory place n d) ∙ idle)));
     promised_was_asked = λ d. silent_asked [] of_data d (data_is_other (is_promise d) (λ k v. refl) (λ k. refl) (AtLeaf p) (kept n));
     open_is_unmarked = λ still d f. trimmed_unmarked d
-        (known.open_is_unmarked up d (sym (ap (λ (m : Memory). m.phase) (trimmed_memory d)) ∙ f));
+        (known.open_is_unmarked up d (sym (ap (λ (m : Memory). m.phase) (trims_memory place n d)) ∙ f));
     accepts_none = known.accepts_none;
   }
 
