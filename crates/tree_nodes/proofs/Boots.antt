@@ -10,14 +10,13 @@ use Rattle.tree_model.specs.declared.names.Outcome.{Outcome}
 use Rattle.tree_model.specs.declared.names.Outcome.TheVariants.{Committed as CommittedOutcome, Aborted as AbortedOutcome}
 use Rattle.tree_model.specs.declared.messages.Envelope.{Envelope}
 use Rattle.tree_model.specs.declared.records.Record.{Record}
-use Rattle.tree_model.specs.declared.records.Record.TheVariants.{Opened}
 use Rattle.tree_model.specs.declared.events.Input.{Input}
 use Rattle.tree_model.specs.Records.{has, is_opened, boot_of, boot_after, cases_in}
-use Rattle.tree_model.specs.Nodes.{Role, AtRoot, Below, AtLeaf, Place, Node, Heard, Effect, kept, Written, entries_written, is_any_forced, after, fails_in}
+use Rattle.tree_model.specs.Nodes.{Role, AtRoot, Below, AtLeaf, Place, Node, Heard, Effect, kept, Written, entries_written, is_any_forced, after}
 use Rattle.tree_model.specs.Memory.{memory_of}
 use Rattle.tree_model.specs.ManagerRows.{Leaf, ends_record, decides_record}
 use Rattle.tree_model.specs.Reactions.{leaf_of}
-use Rattle.tree_model.specs.Restarts.{aborts_collecting, reopens, stays, staying, data_records, trimmed, left_of, restarted, trims, trim_fails}
+use Rattle.tree_model.specs.Restarts.{reopens, stays, staying, data_records, trimmed, left_of, restarted, trims, trim_fails}
 use Rattle.tree_model.specs.World.{Move}
 use Rattle.tree_turns.specs.LeafTurns.{LeafTurn, does_nothing, gives_again, gives_fresh, votes_yes, votes_read, votes_no, repeats_yes, refuses, obeys, notes, acknowledges_told, acknowledges, drops, asks, decides, forgets}
 use Rattle.tree_turns.specs.Written.{is_coordinators, AtMostOne, wrote_none, wrote_one, Writes, writes_nothing, for_act, for_child, for_parent, presumes, gives}
@@ -25,7 +24,7 @@ use Rattle.tree_turns.specs.Steps.{StepOf, heard_in, handled, failed_in, passed,
 use Rattle.tree_turns.proofs.Operators.{all_none}
 use Rattle.tree_turns.proofs.Steps.{turn_of}
 use Rattle.tree_nodes.specs.Lasts.{Logs, logs_of, standing}
-use Rattle.tree_nodes.proofs.Tests.{neither, has-cons, has-nil, in_none, front_none}
+use Rattle.tree_nodes.proofs.Tests.{neither, has-cons, has-nil, in_none}
 use Rattle.tree_nodes.proofs.Appends.{forces, writes, breaks, loses, replaces, either_logs, breaks_keeps}
 use Rattle.tree_nodes.proofs.Trims.{data_is_other}
 
@@ -72,9 +71,10 @@ others_rise : (b : ℕ) (xs : List Record) → has is_opened xs ≡ false → Bo
 unfolding has
 others_rise b [] e = tt
 others_rise b (x ∷ xs) e =
-    let same = same_boot b x (first_false (is_opened x) (has is_opened xs) e) in
-    (subst (λ y. b ≤ y) (sym same) (le_refl b),
-    others_rise (boot_after b x) xs (second_false (is_opened x) (has is_opened xs) e))
+    let same = same_boot b x (first_false (is_opened x) (has is_opened xs) e) in (
+      subst (λ y. b ≤ y) (sym same) (le_refl b),
+      others_rise (boot_after b x) xs (second_false (is_opened x) (has is_opened xs) e),
+    )
 
 boot_append : (xs ys : List Record) → boot_of (xs ++ ys) ≡ fold boot_after (boot_of xs) ys
 unfolding boot_of
@@ -203,10 +203,14 @@ next_boot b = omega arith
 
 reopens_rise : (role : Role) (rs : List Record) → BootsRise (boot_of rs) (reopens role rs)
 reopens_rise (AtLeaf p) rs = (next_boot (boot_of rs), tt)
-reopens_rise AtRoot rs = (next_boot (boot_of rs),
-    others_rise (boot_of rs + 1) _ (all_none is_opened (λ c ts. refl) rs (cases_in rs)))
-reopens_rise (Below p) rs = (next_boot (boot_of rs),
-    others_rise (boot_of rs + 1) _ (all_none is_opened (λ c ts. refl) rs (cases_in rs)))
+reopens_rise AtRoot rs = (
+  next_boot (boot_of rs),
+  others_rise (boot_of rs + 1) _ (all_none is_opened (λ c ts. refl) rs (cases_in rs)),
+)
+reopens_rise (Below p) rs = (
+  next_boot (boot_of rs),
+  others_rise (boot_of rs + 1) _ (all_none is_opened (λ c ts. refl) rs (cases_in rs)),
+)
 
 reopens_boot : (role : Role) (rs : List Record) → fold boot_after (boot_of rs) (reopens role rs) ≡ boot_of rs + 1
 reopens_boot (AtLeaf p) rs = refl

@@ -1,38 +1,31 @@
 -- A ticket's number is given once, before and behind restarts: at each process, over every run.
-use Rattle.std.proofs.Common.{◌≡◌, ◌∙◌, ◌≤◌, ◌<◌, ◌||◌, ◌⊎◌, inl, inr, ◌+◌, ℕ, zero, suc, Bool, true, false, Option, Some, None, List, [], ◌∷◌, ◌++◌, refl, sym, ap, subst, arith}
-use Rattle.std.specs.Prelude.{fold}
+use Rattle.std.proofs.Common.{◌≡◌, ◌∙◌, ◌≤◌, ◌<◌, ◌⊎◌, inl, inr, ◌+◌, ℕ, zero, suc, Bool, true, false, Option, Some, None, List, [], ◌++◌, refl, sym, ap, subst, arith}
 use Rattle.std.proofs.Math.Nat.{le_trans, le_refl}
 use Rattle.std.proofs.lemmas.List.{append-nil}
 use Rattle.tree_model.specs.declared.names.Case.{Case}
 use Rattle.tree_model.specs.declared.names.ProcessId.{ProcessId}
 use Rattle.tree_model.specs.declared.names.Ticket.{Ticket}
-use Rattle.tree_model.specs.declared.messages.Message.TheVariants.{Join}
 use Rattle.tree_model.specs.declared.messages.Envelope.{Envelope}
 use Rattle.tree_model.specs.declared.events.Input.{Input}
-use Rattle.tree_model.specs.declared.events.Input.TheVariants.{Message as MessageInput}
-use Rattle.tree_model.specs.declared.trees.TreeEntry.{TreeEntry}
-use Rattle.tree_model.specs.NameLaws.{same_process_tells}
-use Rattle.tree_model.specs.Records.{has, is_opened, boot_of}
-use Rattle.tree_model.specs.Nodes.{Place, Role, AtRoot, Below, AtLeaf, place_of, role_of, Node, Heard, Effect, kept, opened_node, entries_written, is_any_forced, after, fails_in}
+use Rattle.tree_model.specs.Records.{boot_of}
+use Rattle.tree_model.specs.Nodes.{Place, Role, AtRoot, Below, AtLeaf, Node, Heard, Effect, kept, after}
 use Rattle.tree_model.specs.Memory.{Memory, memory_of, active_ticket, next_ticket, fresh_memory}
 use Rattle.tree_model.specs.Standings.{some_case}
 use Rattle.tree_model.specs.Reactions.{reacts, Does}
-use Rattle.tree_model.specs.Restarts.{left_of, reopens, restarted, trims, trim_fails, restart_fails}
+use Rattle.tree_model.specs.Restarts.{left_of, reopens, restarted, trims, trim_fails}
 use Rattle.tree_model.specs.Outcomes.{sent, is_joined_message}
-use Rattle.tree_model.specs.World.{World, Move, Made, IsRun, opens, makes, put_at}
-use Rattle.tree_model.proofs.RunLaws.{makes_at}
+use Rattle.tree_model.specs.World.{Move}
 use Rattle.tree_readings.proofs.Lists.{sent-append, sent-nil}
 use Rattle.tree_readings.proofs.Memories.{memory_of-heard}
-use Rattle.tree_turns.specs.Steps.{StepOf, heard_in, handled, failed_in, passed, failed_passing, reopened, failed_reopening, trimmed as trims_log, failed_trimming, TurnAt, TurnOf}
-use Rattle.tree_turns.proofs.Steps.{step_of, turn_of}
-use Rattle.tree_nodes.specs.Lasts.{Logs, logs_of}
+use Rattle.tree_turns.specs.Steps.{StepOf, heard_in, handled, failed_in, passed, failed_passing, reopened, failed_reopening, trimmed as trims_log, failed_trimming, TurnOf}
+use Rattle.tree_turns.proofs.Steps.{turn_of}
+use Rattle.tree_nodes.specs.Lasts.{logs_of}
 use Rattle.tree_nodes.specs.Numbers.{IsIssuer}
 use Rattle.tree_nodes.specs.WorldHolds.{IsGivenOut}
 use Rattle.tree_nodes.proofs.Tests.{either, left, right}
-use Rattle.tree_nodes.proofs.Appends.{either_logs}
-use Rattle.tree_nodes.proofs.Boots.{Booted, turn_none, still_booted, forced_rises, restart_rises, trimmed_boot, trims_memory, boot_written, forced_below}
+use Rattle.tree_nodes.proofs.Boots.{Booted, turn_none, forced_rises, restart_rises, trimmed_boot, trims_memory, boot_written, forced_below}
 use Rattle.tree_nodes.proofs.Selves.{Self, self_of, self_same, self_remembers, next_of, joins_self, starts_for, issuer_self, self_after}
-use Rattle.tree_nodes.proofs.Tickets.{AllActive, active_found, active_after, active_all, given_grows, starts_at, IsNext, Answers, joined_answers, answer_is_own, join_said}
+use Rattle.tree_nodes.proofs.Tickets.{AllActive, active_found, active_after, active_all, given_grows, starts_at, IsNext, Answers, joined_answers, join_said}
 use Rattle.tree_nodes.proofs.Promises.{quiet_resumes}
 
 -- The net.

@@ -1,14 +1,13 @@
 -- What a manager records and remembers is of cases that it gave, and a branch that takes work has no record.
-use Rattle.std.proofs.Common.{◌≡◌, ◌∙◌, ◌≤◌, ◌<◌, ◌||◌, ◌⊎◌, inl, inr, ◌+◌, ℕ, zero, suc, Bool, true, false, ◌≢◌, Option, Some, None, List, [], ◌∷◌, ◌++◌, take, refl, sym, ap, subst, arith}
+use Rattle.std.proofs.Common.{◌≡◌, ◌∙◌, ◌||◌, ◌⊎◌, inl, inr, ◌+◌, ℕ, zero, suc, Bool, true, false, ◌≢◌, Option, Some, List, [], ◌∷◌, ◌++◌, take, refl, sym, ap, subst, arith}
 use Rattle.std.specs.Prelude.{reverse, length}
 use Rattle.std.proofs.lemmas.List.{append-nil}
 use Rattle.std.proofs.lemmas.Grind.{fold-append}
 use Rattle.tree_model.specs.declared.names.Case.{Case}
 use Rattle.tree_model.specs.declared.names.ProcessId.{ProcessId}
 use Rattle.tree_model.specs.declared.names.Ticket.{Ticket}
-use Rattle.tree_model.specs.declared.names.Txn.{Txn}
 use Rattle.tree_model.specs.declared.messages.Message.{Message}
-use Rattle.tree_model.specs.declared.messages.Message.TheVariants.{Join, Prepare}
+use Rattle.tree_model.specs.declared.messages.Message.TheVariants.{Prepare}
 use Rattle.tree_model.specs.declared.messages.Envelope.{Envelope}
 use Rattle.tree_model.specs.declared.records.Branch.{Branch}
 use Rattle.tree_model.specs.declared.records.Branch.TheVariants.{Case as CaseBranch}
@@ -16,41 +15,38 @@ use Rattle.tree_model.specs.declared.records.Record.{Record}
 use Rattle.tree_model.specs.declared.records.Record.TheVariants.{Prepared as PreparedRecord}
 use Rattle.tree_model.specs.declared.records.Write.{Write}
 use Rattle.tree_model.specs.declared.events.Happening.{Happening}
-use Rattle.tree_model.specs.declared.events.Happening.TheVariants.{Input as Handles}
-use Rattle.tree_model.specs.declared.events.Input.{Input}
 use Rattle.tree_model.specs.declared.events.Input.TheVariants.{Message as MessageInput}
 use Rattle.tree_model.specs.declared.trees.TreeEntry.{TreeEntry}
 use Rattle.tree_model.specs.Names.{same_case, child_case, process_of}
 use Rattle.tree_model.specs.NameLaws.{same_case_tells, same_case-refl, names}
 use Rattle.tree_model.specs.Records.{has, boot_of, is_prepared, record_case, record_branch}
-use Rattle.tree_model.specs.Nodes.{Place, Role, AtLeaf, Node, Heard, Effect, kept, entries_written, is_any_forced, after, fails_in}
-use Rattle.tree_model.specs.Memory.{Memory, Phase, Idle, Open, Asked, Over, memory_of, fresh_memory, remembers, manager_remembers, next_ticket, active_ticket}
+use Rattle.tree_model.specs.Nodes.{Place, AtLeaf, Node, Heard, Effect, kept, entries_written, is_any_forced, after, fails_in}
+use Rattle.tree_model.specs.Memory.{Memory, Phase, Idle, Open, Over, memory_of, manager_remembers, next_ticket, active_ticket}
 use Rattle.tree_model.specs.Standings.{Mark, Unmarked, mark_of, mark_after}
-use Rattle.tree_model.specs.Standings.{some_case}
 use Rattle.tree_model.specs.Reactions.{reacts, Does}
 use Rattle.tree_model.specs.Restarts.{is_open, left_of, reopens, restarted, restart_fails, data_records, trimmed, trims, trim_fails}
 use Rattle.tree_model.specs.Outcomes.{sent, is_joined_message}
 use Rattle.tree_model.specs.World.{Move, Stands, InputStands}
 use Rattle.tree_readings.specs.ReadingOf.{gives_case, is_promise, is_prepare_message}
-use Rattle.tree_readings.proofs.Lists.{sent-append, sent-nil}
+use Rattle.tree_readings.proofs.Lists.{sent-append}
 use Rattle.tree_readings.proofs.Memories.{memory_of-heard}
-use Rattle.tree_turns.specs.LeafTurns.{LeafTurn, Hears, IsActive, mark_at}
+use Rattle.tree_turns.specs.LeafTurns.{mark_at}
 use Rattle.tree_turns.specs.Steps.{StepOf, heard_in, handled, failed_in, passed, failed_passing, reopened, failed_reopening, trimmed as trims_log, failed_trimming, TurnOf}
 use Rattle.tree_turns.proofs.Steps.{turn_of}
 use Rattle.tree_nodes.specs.Lasts.{Logs, logs_of, Lasts}
 use Rattle.tree_nodes.specs.Marks.{branch_is, is_branch_record}
-use Rattle.tree_nodes.specs.WorldHolds.{is_record_of, is_of, IsGivenOut}
-use Rattle.tree_nodes.proofs.Tests.{either, left, right, in_either, in_second, in_front, has-reverse, not_both, front_none}
+use Rattle.tree_nodes.specs.WorldHolds.{is_record_of, is_of}
+use Rattle.tree_nodes.proofs.Tests.{either, left, right, in_either, in_front, has-reverse, not_both, front_none}
 use Rattle.tree_nodes.proofs.Orders.{mark_is, mark_behind, other_leaves}
 use Rattle.tree_nodes.proofs.Appends.{either_logs}
 use Rattle.tree_nodes.proofs.Boots.{turn_none, trims_memory, boot_written}
 use Rattle.tree_nodes.proofs.Deliveries.{was_sent}
 use Rattle.tree_nodes.proofs.Issuing.{Issued, next_is_new}
 use Rattle.tree_nodes.proofs.ManagerPhases.{Wakes, phase_moves, prepare_ends}
-use Rattle.tree_nodes.proofs.ManagerWrites.{Wrote, nothing, promise, ending, Ends, leaf_wrote, leaf_accepts, kept_after}
+use Rattle.tree_nodes.proofs.ManagerWrites.{Wrote, nothing, promise, ending, leaf_wrote, leaf_accepts, kept_after}
 use Rattle.tree_nodes.proofs.PairOf.{Given, given}
 use Rattle.tree_nodes.proofs.Promises.{open_promised}
-use Rattle.tree_nodes.proofs.Selves.{Self, self_of, self_same}
+use Rattle.tree_nodes.proofs.Selves.{Self, self_same}
 use Rattle.tree_nodes.proofs.Tickets.{join_said}
 use Rattle.tree_nodes.proofs.Trims.{data_is_other}
 use Rattle.tree_nodes.proofs.TrimmedBranches.{trim_forgets}
@@ -241,10 +237,12 @@ module _ (me p : ProcessId) (tree : List TreeEntry) (net : List Envelope) (n : N
       woken_given d w =
           let t = next_ticket me (boot_of (kept n)) (memory_of place n d) in
           let there : d ≡ child_case w.parents.txn t = same_of d (child_case w.parents.txn t) w.is_next in
-          subst (λ (z : Case). IsGiven me (net ++ e.messages) z) (sym there)
-          (refl, sent-append (gives_case (child_case w.parents.txn t)) net e.messages
-          ∙ left _ _ (sent_other (is_joined_message w.parents t) (gives_case (child_case w.parents.txn t)) e.messages
-          (joined_gives w.parents t) (said w t (next_same w))))
+          subst (λ (z : Case). IsGiven me (net ++ e.messages) z) (sym there) (
+            refl,
+            sent-append (gives_case (child_case w.parents.txn t)) net e.messages
+                ∙ left _ _ (sent_other (is_joined_message w.parents t) (gives_case (child_case w.parents.txn t)) e.messages
+                (joined_gives w.parents t) (said w t (next_same w))),
+          )
         where
           next_same : (w : Woken d) → next_ticket me (boot_of (kept n)) (memory_of place n w.parents)
               ≡ next_ticket me (boot_of (kept n)) (memory_of place n d)

@@ -1,19 +1,18 @@
 -- What an input lets a manager write: a promise of a branch that is Active, or what ends an open one, or nothing.
-use Rattle.std.proofs.Common.{◌≡◌, ◌∙◌, ℕ, Bool, true, false, Some, List, [], ◌∷◌, ◌++◌, refl, sym, ap, subst, append_assoc}
+use Rattle.std.proofs.Common.{◌≡◌, ◌∙◌, ℕ, true, false, Some, List, [], ◌∷◌, ◌++◌, refl, sym, ap, append_assoc}
 use Rattle.std.proofs.lemmas.List.{append-nil}
 use Rattle.tree_model.specs.declared.names.Case.{Case}
 use Rattle.tree_model.specs.declared.names.ProcessId.{ProcessId}
 use Rattle.tree_model.specs.declared.names.Outcome.{Outcome}
 use Rattle.tree_model.specs.declared.names.Outcome.TheVariants.{Committed as CommittedOutcome, Aborted as AbortedOutcome}
-use Rattle.tree_model.specs.declared.messages.Message.TheVariants.{Join, Prepare, Commit, Abort}
+use Rattle.tree_model.specs.declared.messages.Message.TheVariants.{Join, Prepare}
 use Rattle.tree_model.specs.declared.records.Branch.TheVariants.{Case as CaseBranch}
 use Rattle.tree_model.specs.declared.records.Record.{Record}
-use Rattle.tree_model.specs.declared.records.Record.TheVariants.{Prepared as PreparedRecord, Committed, RolledBack, HeurCommit, HeurRollback, Told, Forgot}
+use Rattle.tree_model.specs.declared.records.Record.TheVariants.{Prepared as PreparedRecord, Told, Forgot}
 use Rattle.tree_model.specs.declared.records.Write.{Write}
-use Rattle.tree_model.specs.declared.events.Input.{Input}
-use Rattle.tree_model.specs.declared.events.Input.TheVariants.{Act as ActInput, Message as MessageInput}
+use Rattle.tree_model.specs.declared.events.Input.TheVariants.{Message as MessageInput}
 use Rattle.tree_model.specs.Records.{record_branch}
-use Rattle.tree_model.specs.Nodes.{Place, AtLeaf, Node, Heard, Effect, kept, Written, entries_written, is_any_forced, after}
+use Rattle.tree_model.specs.Nodes.{Place, Node, Heard, Effect, kept, entries_written, is_any_forced, after}
 use Rattle.tree_model.specs.CoordinatorRows.{tells_outcome}
 use Rattle.tree_model.specs.ManagerRows.{Leaf, ends_record, decides_record}
 use Rattle.tree_model.specs.Reactions.{leaf_of}

@@ -1,19 +1,18 @@
 -- Over every run each ticket number is given once, and each manager keeps its part of the world's invariant.
-use Rattle.std.proofs.Common.{◌≡◌, ◌∙◌, ◌≤◌, ◌⊎◌, inl, inr, ℕ, Bool, true, false, Option, Some, None, List, [], ◌∷◌, ◌++◌, refl, sym, ap, subst, arith}
-use Rattle.std.proofs.Math.Nat.{le_refl}
+use Rattle.std.proofs.Common.{◌≡◌, ◌∙◌, inl, inr, true, List, [], ◌++◌, refl, sym, ap, subst, arith}
 use Rattle.tree_model.specs.declared.names.Case.{Case}
 use Rattle.tree_model.specs.declared.names.ProcessId.{ProcessId}
 use Rattle.tree_model.specs.declared.names.Ticket.{Ticket}
 use Rattle.tree_model.specs.declared.messages.Envelope.{Envelope}
 use Rattle.tree_model.specs.declared.trees.TreeEntry.{TreeEntry}
 use Rattle.tree_model.specs.NameLaws.{same_process_tells}
-use Rattle.tree_model.specs.Records.{has, boot_of}
-use Rattle.tree_model.specs.Nodes.{Place, Role, AtRoot, Below, AtLeaf, place_of, role_of, Node, Heard, Effect, kept, opened_node}
-use Rattle.tree_model.specs.Memory.{Memory, memory_of, active_ticket}
+use Rattle.tree_model.specs.Records.{has}
+use Rattle.tree_model.specs.Nodes.{Place, Role, AtLeaf, place_of, role_of, Node, Effect, opened_node}
+use Rattle.tree_model.specs.Memory.{memory_of, active_ticket}
 use Rattle.tree_model.specs.Standings.{some_case}
 use Rattle.tree_model.specs.Restarts.{left_of, reopens}
 use Rattle.tree_model.specs.Outcomes.{sent, is_joined_message}
-use Rattle.tree_model.specs.World.{World, Move, Made, IsRun, opens, makes, Stands, put_at}
+use Rattle.tree_model.specs.World.{World, Move, Made, IsRun, opens, makes, put_at}
 use Rattle.tree_model.proofs.RunLaws.{makes_at}
 use Rattle.tree_turns.specs.Steps.{StepOf, heard_in, handled, failed_in, passed, failed_passing, reopened, failed_reopening, trimmed as trims_log, failed_trimming}
 use Rattle.tree_turns.proofs.Steps.{step_of, turn_of}
@@ -24,7 +23,7 @@ use Rattle.tree_nodes.proofs.Boots.{Booted, still_booted, forced_below}
 use Rattle.tree_nodes.proofs.Issuing.{Issued, self_at, issued_elsewhere, still_issued}
 use Rattle.tree_nodes.proofs.ManagerBranches.{Remembered, remembered_elsewhere, still_remembered}
 use Rattle.tree_nodes.proofs.Promises.{quiet_resumes}
-use Rattle.tree_nodes.proofs.Selves.{Self, self_of, self_same}
+use Rattle.tree_nodes.proofs.Selves.{Self, self_same}
 use Rattle.tree_nodes.proofs.Tickets.{active_found, active_is_own, joined_answers, answer_is_own}
 use Rattle.tree_nodes.proofs.Worlds.{all_last, put}
 
@@ -99,7 +98,6 @@ all_issued tree _ _ (makes es w m e w' run stands step) p =
     (λ other old i. issued_elsewhere (place_of tree p) w.net e.messages (w.at p) (old i)
     (λ d t f own. other (sym (joined_is_own (place_of tree q) (w.at q) m e at.node s d t f) ∙ own)))
     (all_issued tree es w run p))
-
 
 abbrev RememberedBy : List TreeEntry → List Envelope → ProcessId → Node → Type 0
 RememberedBy tree net p k = (q : ProcessId) → role_of tree p ≡ AtLeaf q

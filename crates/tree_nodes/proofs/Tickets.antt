@@ -1,6 +1,6 @@
 -- JOINED is sent only as JOIN is answered, and only for tickets of the sender; and what is active was so sent.
-use Rattle.std.proofs.Common.{◌≡◌, ◌∙◌, ◌≤◌, ◌||◌, ◌&&◌, ◌⊎◌, inl, inr, ◌+◌, ℕ, Bool, true, false, Option, Some, None, List, [], ◌∷◌, ◌++◌, refl, sym, ap, subst, if◌then◌else◌, arith}
-use Rattle.std.specs.Prelude.{not, fold, filter}
+use Rattle.std.proofs.Common.{◌≡◌, ◌≤◌, ◌||◌, ◌⊎◌, inl, inr, ℕ, Bool, true, false, Option, Some, None, List, [], ◌∷◌, ◌++◌, refl, sym, ap, subst, if◌then◌else◌, arith}
+use Rattle.std.specs.Prelude.{not, fold}
 use Rattle.std.proofs.Math.Nat.{le_refl}
 use Rattle.tree_model.specs.declared.names.Case.{Case}
 use Rattle.tree_model.specs.declared.names.ProcessId.{ProcessId}
@@ -12,11 +12,11 @@ use Rattle.tree_model.specs.declared.messages.Message.TheVariants.{Join, Joined,
 use Rattle.tree_model.specs.declared.messages.Envelope.{Envelope}
 use Rattle.tree_model.specs.declared.events.Input.{Input}
 use Rattle.tree_model.specs.declared.events.Input.TheVariants.{Act as ActInput, Message as MessageInput}
-use Rattle.tree_model.specs.Names.{same_case, same_ticket, child_case}
-use Rattle.tree_model.specs.NameLaws.{same_case_tells, same_case-refl, names}
+use Rattle.tree_model.specs.Names.{same_case, child_case}
+use Rattle.tree_model.specs.NameLaws.{same_case_tells, names}
 use Rattle.tree_model.specs.Records.{boot_of}
 use Rattle.tree_model.specs.Nodes.{Place, Role, AtRoot, Below, AtLeaf, Node, Heard, Effect, kept, Written}
-use Rattle.tree_model.specs.Memory.{Memory, memory_of, fresh_memory, active_ticket, next_ticket, without_ticket}
+use Rattle.tree_model.specs.Memory.{memory_of, fresh_memory, active_ticket, next_ticket, without_ticket}
 use Rattle.tree_model.specs.ManagerRows.{Leaf, is_acknowledged}
 use Rattle.tree_model.specs.CoordinatorRows.{Seat, post, tells_outcome}
 use Rattle.tree_model.specs.declared.events.StepError.TheVariants.{Failed, NoSuch}
@@ -26,8 +26,8 @@ use Rattle.tree_turns.specs.LeafTurns.{LeafTurn, does_nothing, gives_again, give
 use Rattle.tree_turns.specs.Written.{IsForCase, IsFromCase, Sends, down, upward, invites, AllSent, IsAnswer, is_active, is_next, Writes, writes_nothing, for_act, for_child, for_parent, presumes, gives}
 use Rattle.tree_turns.specs.Steps.{TurnAt}
 use Rattle.tree_nodes.specs.Numbers.{IsIssuer}
-use Rattle.tree_nodes.proofs.Tests.{either, both}
-use Rattle.tree_nodes.proofs.Selves.{Self, self_of, self_is, next_of, gives_next, joins_self, retires_self, starts_for, hears_self, issuer_self, root_self, self_after}
+use Rattle.tree_nodes.proofs.Tests.{either}
+use Rattle.tree_nodes.proofs.Selves.{Self, self_of, self_is, next_of, joins_self, starts_for, hears_self, issuer_self, root_self, self_after}
 
 -- Active tickets.
 

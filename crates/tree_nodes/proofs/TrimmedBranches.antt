@@ -1,19 +1,18 @@
 -- What a trim leaves of a manager's branch: all of its records where it is open, and none where it is over.
-use Rattle.std.proofs.Common.{◌≡◌, ◌∙◌, ◌&&◌, inl, inr, Bool, true, false, Option, Some, None, List, [], ◌∷◌, refl, if◌then◌else◌}
+use Rattle.std.proofs.Common.{◌≡◌, ◌∙◌, ◌&&◌, inl, inr, Bool, true, false, List, [], ◌∷◌, refl, if◌then◌else◌}
 use Rattle.std.specs.Prelude.{not}
 use Rattle.tree_model.specs.declared.names.Case.{Case}
 use Rattle.tree_model.specs.declared.names.ProcessId.{ProcessId}
-use Rattle.tree_model.specs.declared.records.Branch.{Branch}
 use Rattle.tree_model.specs.declared.records.Branch.TheVariants.{Case as CaseBranch}
 use Rattle.tree_model.specs.declared.records.Record.{Record}
 use Rattle.tree_model.specs.declared.records.Record.TheVariants.{Opened}
-use Rattle.tree_model.specs.Records.{has, prepares_branch, record_branch, boot_of}
+use Rattle.tree_model.specs.Records.{has, boot_of}
 use Rattle.tree_model.specs.Nodes.{AtLeaf}
 use Rattle.tree_model.specs.Standings.{Mark, Unmarked, mark_of, mark_after}
-use Rattle.tree_model.specs.Restarts.{is_open, branch_stays, stays, staying, data_records, trimmed}
-use Rattle.tree_nodes.specs.Marks.{branch_is, is_branch_record, in_order_from}
+use Rattle.tree_model.specs.Restarts.{is_open, stays, staying, data_records, trimmed}
+use Rattle.tree_nodes.specs.Marks.{is_branch_record, in_order_from}
 use Rattle.tree_nodes.proofs.Tests.{either, left, right, both, neither, has-cons, in_first, in_none}
-use Rattle.tree_nodes.proofs.Orders.{marks, branch_tells, none_promised}
+use Rattle.tree_nodes.proofs.Orders.{marks, none_promised}
 use Rattle.tree_nodes.proofs.Trims.{there_if, own_stays, dropped, data_is_other}
 
 abbrev with_if : Bool → Record → List Record → List Record

@@ -1,5 +1,5 @@
 -- The numbers of a process's tickets, before and behind its restarts.
-use Rattle.std.specs.Prelude.{◌≡◌, ◌≤◌, Bool, true, false, Some, List}
+use Rattle.std.specs.Prelude.{◌≡◌, ◌≤◌, true, false, Some, List}
 use Rattle.tree_model.specs.declared.names.Case.{Case}
 use Rattle.tree_model.specs.declared.names.Ticket.{Ticket}
 use Rattle.tree_model.specs.declared.messages.Envelope.{Envelope}
