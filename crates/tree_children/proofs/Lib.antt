@@ -19,3 +19,10 @@ pub mod Trims
 pub mod Joins
 pub mod RestartFaults
 pub mod ManagerSteps
+pub mod Turns
+pub mod TurnsQuiet
+pub mod TurnsWritten
+pub mod TurnsOutcomes
+pub mod TurnsOperators
+pub mod TurnsAcknowledged
+pub mod TurnsOthers

@@ -28,7 +28,8 @@ use Rattle.tree_nodes.specs.Numbers.{IsIssuer}
 use Rattle.tree_nodes.specs.WorldHolds.{InvariantOf}
 use Rattle.tree_nodes.proofs.Issuing.{Issued}
 use Rattle.tree_nodes.proofs.Lasting.{lasts}
-use Rattle.tree_nodes.proofs.ManagerBranches.{Remembered, still_remembered}
+use Rattle.tree_nodes.proofs.GivenCases.{Remembered}
+use Rattle.tree_nodes.proofs.ManagerBranches.{still_remembered}
 use Rattle.tree_nodes.proofs.ManagersHold.{all_issued, all_remembered}
 use Rattle.tree_nodes.proofs.Owning.{delivered}
 use Rattle.tree_nodes.proofs.Yesses.{nets_go, own_process}
@@ -120,9 +121,28 @@ module _ (c : Case) (t : Ticket) (p : ProcessId) (tree : List TreeEntry) (n : No
         | inl join ↦ join_fits c t p tree n h net apart issued turn.up c.txn.presumption root outcome above half inv
             join.number join.parents join.is g r turn.turn
             (then.open_is_unmarked (still_up n h g turn.up) (child_case c.txn t))
-        | inr row ↦ turn_fits c t p tree n h net turn.up last.nested last.by_role here row
-            (λ x j k f. not_parents t c x apart (delivered net t.child i j (Prepare x k) goes here f))
-            c.txn.presumption refl root outcome above half inv g turn.turn
+        | inr row ↦ turn_fits (record {
+          c = c;
+          t = t;
+          p = p;
+          tree = tree;
+          n = n;
+          h = h;
+          net = net;
+          up = turn.up;
+          nested = last.nested;
+          m = last.by_role;
+          stands = here;
+          row = row;
+          own = λ x j k f. not_parents t c x apart (delivered net t.child i j (Prepare x k) goes here f);
+          pr = c.txn.presumption;
+          of = refl;
+          root = root;
+          outcome = outcome;
+          above = above;
+          half = half;
+          inv = inv;
+        }) g turn.turn
       ]
   step_fits inv m stands _ _ (failed_in i f g fl hp np r) =
       let h = heard_in m i in

@@ -41,7 +41,7 @@ use Rattle.tree_children.proofs.FailMoves as fail
 use Rattle.tree_children.proofs.Moves as moves
 use Rattle.tree_children.proofs.Moves.{Fits}
 use Rattle.tree_nodes.proofs.Boots.{trims_memory}
-use Rattle.tree_nodes.proofs.ManagerBranches.{unmarked_so}
+use Rattle.tree_nodes.proofs.GivenCases.{unmarked_so}
 use Rattle.tree_nodes.proofs.TrimmedBranches.{trim_forgets}
 use Rattle.tree_children.proofs.Opens.{opens, closed_where_marked, closed_unless_open, is_phase_open}
 use Rattle.tree_children.proofs.Readings as readings

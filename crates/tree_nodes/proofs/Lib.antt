@@ -22,3 +22,4 @@ pub mod ManagerWrites
 pub mod ManagerPhases
 pub mod ManagerBranches
 pub mod ManagersHold
+pub mod GivenCases

@@ -21,7 +21,8 @@ use Rattle.tree_nodes.specs.Numbers.{IsIssuer, Numbers}
 use Rattle.tree_nodes.specs.WorldHolds.{NodeHolds, Boots, SameSelf}
 use Rattle.tree_nodes.proofs.Boots.{Booted, still_booted, forced_below}
 use Rattle.tree_nodes.proofs.Issuing.{Issued, self_at, issued_elsewhere, still_issued}
-use Rattle.tree_nodes.proofs.ManagerBranches.{Remembered, remembered_elsewhere, still_remembered}
+use Rattle.tree_nodes.proofs.GivenCases.{Remembered, remembered_elsewhere}
+use Rattle.tree_nodes.proofs.ManagerBranches.{still_remembered}
 use Rattle.tree_nodes.proofs.Promises.{quiet_resumes}
 use Rattle.tree_nodes.proofs.Selves.{Self, self_same}
 use Rattle.tree_nodes.proofs.Tickets.{active_found, active_is_own, joined_answers, answer_is_own}
