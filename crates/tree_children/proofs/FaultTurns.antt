@@ -50,7 +50,7 @@ use Rattle.tree_children.proofs.Moves as moves
 use Rattle.tree_children.proofs.Moves.{Fits}
 use Rattle.tree_children.proofs.Opens.{closed_where_marked, open_where_active}
 use Rattle.tree_children.proofs.Doubts.{doubt, promised_so, plain_so, heuristic_so, unforgotten_so, none_ever}
-use Rattle.tree_children.proofs.Rows.{was_sent}
+use Rattle.tree_nodes.proofs.Deliveries.{was_sent}
 
 module _ (c : Case) (t : Ticket) (p : ProcessId) (tree : List TreeEntry) (n : Node) (h : Heard)
     (net : List Envelope)

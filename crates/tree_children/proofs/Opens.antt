@@ -1,27 +1,25 @@
 -- Whether a branch is open behind an input, by its last record and the phase that is remembered.
-use Rattle.std.proofs.Common.{◌≡◌, ◌∙◌, ◌⊎◌, inl, inr, ◌&&◌, ◌==◌, ◌+◌, ℕ, Bool, true, false, List, refl, sym, ap, if◌then◌else◌}
-use Rattle.std.specs.Prelude.{not}
+use Rattle.std.proofs.Common.{◌≡◌, ◌∙◌, ◌⊎◌, inl, inr, ℕ, Bool, true, false, List, refl, sym, ap, subst}
 use Rattle.tree_model.specs.declared.names.Case.{Case}
 use Rattle.tree_model.specs.declared.names.ProcessId.{ProcessId}
 use Rattle.tree_model.specs.declared.messages.Message.{Message}
-use Rattle.tree_model.specs.declared.messages.Message.TheVariants.{Join, Joined, Work, Prepare, Yes, No, Read, Commit, Abort, Ack, Inquire}
+use Rattle.tree_model.specs.declared.messages.Message.TheVariants.{Join, Prepare, Abort}
 use Rattle.tree_model.specs.declared.records.Branch.TheVariants.{Case as CaseBranch}
 use Rattle.tree_model.specs.declared.standings.Standing.{Standing}
 use Rattle.tree_model.specs.declared.standings.Standing.TheVariants.{Unknown}
 use Rattle.tree_model.specs.declared.events.Input.{Input}
 use Rattle.tree_model.specs.declared.events.Input.TheVariants.{Act as ActInput, Message as MessageInput}
 use Rattle.tree_model.specs.declared.trees.TreeEntry.{TreeEntry}
-use Rattle.tree_model.specs.Names.{same_case}
 use Rattle.tree_model.specs.NameLaws.{same_case-refl}
 use Rattle.tree_model.specs.Records.{boot_of}
 use Rattle.tree_model.specs.Nodes.{Place, AtLeaf, Node, Heard, DataAnswer, Effect, kept, after}
-use Rattle.tree_model.specs.Memory.{Memory, Phase, Idle, Open, Asked, Over, memory_of, manager_remembers, works, closes, retires}
+use Rattle.tree_model.specs.Memory.{Memory, Phase, Idle, Open, Asked, Over, memory_of, manager_remembers}
 use Rattle.tree_model.specs.Standings.{ManagerView, manager_view, marked_branch, heard_branch, Mark, Unmarked, Promised, Decided, ToldOf, Finished, mark_of}
 use Rattle.tree_pairs.specs.Reading.{is_live}
 use Rattle.tree_readings.specs.ReadingOf.{phase_by}
 use Rattle.tree_turns.proofs.LeafInputs.{viewed}
 use Rattle.tree_nodes.proofs.Orders.{IsMarked}
-use Rattle.tree_children.specs.ManagerSteps.{IsNoJoin, IsRow}
+use Rattle.tree_nodes.proofs.ManagerPhases.{StaysOrEnds, message_left}
 
 abbrev pub opens : Bool → ManagerView → Bool
 opens f v = is_live (phase_by f v.standing)
@@ -49,7 +47,7 @@ heard_alike f m m' Open = refl
 heard_alike f m m' Asked = refl
 heard_alike f m m' Over = refl
 
-alike : (f : Bool) (m m' : Memory) (k : Mark) → m'.phase ≡ m.phase
+pub alike : (f : Bool) (m m' : Memory) (k : Mark) → m'.phase ≡ m.phase
     → opens f (marked_branch m' k) ≡ opens f (marked_branch m k)
 alike f m m' Unmarked e = ap (λ (x : Phase). opens f (heard_branch m' x)) e ∙ heard_alike f m m' m.phase
 alike f m m' Promised e = refl
@@ -57,55 +55,45 @@ alike f m m' Decided e = refl
 alike f m m' (ToldOf o) e = refl
 alike f m m' Finished e = refl
 
--- An input that gives no ticket leaves the phase, or ends it.
+-- a message that gives no ticket
+abbrev pub IsNoJoin : Message → Type 0
+IsNoJoin (Join d) = ⊥
+IsNoJoin _ = Unit {0}
 
-abbrev Left : Memory → Memory → Type 0
-Left m m' = (m'.phase ≡ m.phase) ⊎ (m'.phase ≡ Over)
+-- an input that gives no ticket
+abbrev pub IsRow : Input → Type 0
+IsRow (ActInput a) = Unit {0}
+IsRow (MessageInput k m) = IsNoJoin m
 
-works_left : (m u v : Memory) (a b : Bool) → u.phase ≡ m.phase → v.phase ≡ m.phase
-    → Left m (if a then (if b then u else v) else m)
-works_left m u v true true e f = inl e
-works_left m u v true false e f = inl f
-works_left m u v false b e f = inl refl
+no_join : (m : Message) → IsNoJoin m → (d : Case) → m ≡ Join d → ⊥
+no_join m r d e = subst IsNoJoin e r
 
-worked_left : (m : Memory) (i : ℕ) (does : Bool) (ph : Phase) → Left m (works m i does ph)
-worked_left m i does Open = works_left m _ _ ((i == m.done + 1) && not m.spoiled) does refl refl
-worked_left m i does Idle = inl refl
-worked_left m i does Asked = inl refl
-worked_left m i does Over = inl refl
-
-closes_left : (m k : Memory) (ph : Phase) → k.phase ≡ m.phase → Left m (closes k ph)
-closes_left m k Idle e = inl e
-closes_left m k Open e = inr refl
-closes_left m k Asked e = inr refl
-closes_left m k Over e = inr refl
-
-if_left : (m u v : Memory) (b : Bool) → Left m u → Left m v → Left m (if b then v else u)
-if_left m u v true e f = f
-if_left m u v false e f = e
-
-message_left : (me : ProcessId) (boot : ℕ) (d : Case) (m : Memory) (a : DataAnswer) (j : ℕ) (x : Message)
-    → IsNoJoin x
-    → Left m (manager_remembers me boot d m a (MessageInput j x))
-message_left me boot d m a j (Work o i op) r = if_left m m _ (same_case o d) (inl refl)
-    (worked_left m i a.does m.phase)
-message_left me boot d m a j (Prepare o k) r =
-    if_left m (retires m o) _ (same_case o d) (inl refl) (closes_left m (retires m o) m.phase refl)
-message_left me boot d m a j (Abort o) r =
-    if_left m (retires m o) _ (same_case o d) (inl refl) (closes_left m (retires m o) m.phase refl)
-message_left me boot d m a j (Join o) r = absurd r
-message_left me boot d m a j (Joined o t) r = inl refl
-message_left me boot d m a j (Yes o) r = inl refl
-message_left me boot d m a j (No o) r = inl refl
-message_left me boot d m a j (Read o) r = inl refl
-message_left me boot d m a j (Commit o) r = inl refl
-message_left me boot d m a j (Ack o u) r = inl refl
-message_left me boot d m a j (Inquire o) r = inl refl
-
+-- it leaves the phase, or ends it
 row_left : (me : ProcessId) (boot : ℕ) (d : Case) (m : Memory) (a : DataAnswer) (i : Input) → IsRow i
-    → Left m (manager_remembers me boot d m a i)
+    → StaysOrEnds m (manager_remembers me boot d m a i)
 row_left me boot d m a (ActInput b) r = inl refl
-row_left me boot d m a (MessageInput j x) r = message_left me boot d m a j x r
+row_left me boot d m a (MessageInput j x) r = message_left me boot d m a j x (no_join x r)
+
+-- a branch that does not take work is closed, whatever its last record says
+pub closed_unless_open : (f : Bool) (m : Memory) (k : Mark) → (m.phase ≡ Open → ⊥) → opens f (marked_branch m k) ≡ false
+closed_unless_open true m k e = refl
+closed_unless_open false m Promised e = refl
+closed_unless_open false m Decided e = refl
+closed_unless_open false m (ToldOf o) e = refl
+closed_unless_open false m Finished e = refl
+closed_unless_open false m Unmarked e = by_phase m.phase e
+  where
+    by_phase : (x : Phase) → (x ≡ Open → ⊥) → opens false (heard_branch m x) ≡ false
+    by_phase Idle e = refl
+    by_phase Asked e = refl
+    by_phase Over e = refl
+    by_phase Open e = absurd (e refl)
+
+pub is_phase_open : (x : Phase) → (x ≡ Open) ⊎ (x ≡ Open → ⊥)
+is_phase_open Open = inl refl
+is_phase_open Idle = inr (λ e. absurd (cc))
+is_phase_open Asked = inr (λ e. absurd (cc))
+is_phase_open Over = inr (λ e. absurd (cc))
 
 -- What an input makes of the branch.
 
@@ -131,7 +119,7 @@ module _ (me p : ProcessId) (tree : List TreeEntry) (n : Node) (h : Heard) (e : 
           (ap (opens n.failed) (viewed place (after n h e) d)
           ∙ closed_phase n.failed (memory_of place (after n h e) d)
           (mark_of (CaseBranch d) (kept (after n h e)))
-          (ap (λ (m : Memory). m.phase) remembers ∙ over))
+          (ap (λ (m : Memory). m.phase) remembers ∙ over.1))
     ]
 
     -- PREPARE and ABORT close an Active branch

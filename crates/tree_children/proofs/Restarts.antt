@@ -1,21 +1,27 @@
--- What a crash leaves of a manager's log is a front of it that holds the forced one.
-use Rattle.std.proofs.Common.{◌≡◌, ◌∙◌, ◌||◌, ◌&&◌, ◌⊎◌, inl, inr, ℕ, Bool, true, false, List, ◌++◌, take, drop, append_assoc, refl, sym, ap, arith}
+-- What a crash leaves of a manager's log is a front of it that holds the forced one; so a restart is a move of its pairs.
+use Rattle.std.proofs.Common.{◌≡◌, ◌∙◌, ◌||◌, ◌&&◌, ◌⊎◌, inl, inr, ℕ, Bool, ◌+◌, true, false, List, [], ◌∷◌, ◌++◌, take, drop, append_assoc, refl, sym, ap, subst, arith}
 use Rattle.std.proofs.lemmas.List.{take-append-drop}
 use Rattle.tree_model.specs.declared.names.Case.{Case}
+use Rattle.tree_model.specs.declared.names.Ticket.{Ticket}
+use Rattle.tree_model.specs.declared.names.Presumption.{Presumption}
+use Rattle.tree_model.specs.declared.messages.Envelope.{Envelope}
+use Rattle.tree_model.specs.declared.records.Record.TheVariants.{Opened}
+use Rattle.tree_model.specs.Names.{child_case}
 use Rattle.tree_model.specs.declared.names.ProcessId.{ProcessId}
 use Rattle.tree_model.specs.declared.names.Outcome.TheVariants.{Committed as CommittedOutcome}
 use Rattle.tree_model.specs.declared.records.Record.{Record}
 use Rattle.tree_model.specs.declared.trees.TreeEntry.{TreeEntry}
-use Rattle.tree_model.specs.Records.{has, is_abort, is_prepare, is_heuristic, is_decided, is_forgot}
-use Rattle.tree_model.specs.Nodes.{AtLeaf, Node, kept}
-use Rattle.tree_model.specs.Restarts.{left_of}
-use Rattle.tree_model.specs.Standings.{Unmarked}
+use Rattle.tree_model.specs.Records.{has, boot_of, is_abort, is_prepare, is_heuristic, is_decided, is_forgot}
+use Rattle.tree_model.specs.Nodes.{Place, AtLeaf, Node, kept}
+use Rattle.tree_model.specs.Restarts.{left_of, restarted, restart_effect}
+use Rattle.tree_model.specs.Standings.{Unmarked, manager_view}
 use Rattle.tree_pairs.specs.Reading.{Reading}
 use Rattle.tree_pairs.specs.ChildCrash as crash
 use Rattle.tree_pairs.specs.ChildCrash.{ChildFront}
 use Rattle.tree_pairs.specs.Invariant.{Common}
-use Rattle.tree_readings.specs.ReadingOf.{reading_from, ParentHalf, Wire, child_half, is_promise, is_learnt_commit, is_learnt_abort}
-use Rattle.tree_readings.specs.Halves.{child_front}
+use Rattle.tree_readings.proofs.RestartStep.{half_restarts, wire-restarts, inquires, reading-restarts, promises}
+use Rattle.tree_readings.specs.ReadingOf.{reading_from, ParentHalf, ChildHalf, Wire, wire, child_half, is_promise, is_learnt_commit, is_learnt_abort}
+use Rattle.tree_readings.specs.Halves.{child_front, is_in_doubt}
 use Rattle.tree_readings.specs.StepLaws.{LastRecordTells}
 use Rattle.tree_turns.specs.Written.{is_coordinators}
 use Rattle.tree_nodes.specs.Lasts.{logs_of, Lasts}
@@ -23,6 +29,10 @@ use Rattle.tree_nodes.specs.Marks.{in_order_from}
 use Rattle.tree_nodes.proofs.Tests.{in_first, not_both}
 use Rattle.tree_nodes.proofs.Orders.{order_front}
 use Rattle.tree_nodes.proofs.Worlds.{has_other}
+use Rattle.tree_nodes.specs.WorldHolds.{InvariantOf}
+use Rattle.tree_children.proofs.FailMoves as fail
+use Rattle.tree_children.proofs.Moves as moves
+use Rattle.tree_children.proofs.Moves.{Fits}
 use Rattle.tree_children.proofs.Fronts as fronts
 use Rattle.tree_children.proofs.LastRecords.{last_tells, decided_in_front}
 
@@ -174,3 +184,43 @@ module _ (me p : ProcessId) (n : Node) (last : Lasts (AtLeaf p) (logs_of n)) (k 
         where
           all_of : r0.heuristic_kept ≡ true → has (is_heuristic d) (left ++ rest) ≡ true
           all_of y = ap (has (is_heuristic d)) whole ∙ y
+
+-- The restart, where the device does not fail.
+
+module _ (c : Case) (t : Ticket) (p : ProcessId) (tree : List TreeEntry) (n : Node) (net : List Envelope)
+    (last : Lasts (AtLeaf p) (logs_of n)) (k : ℕ) (pr : Presumption) (root outcome above : Bool)
+    (half : ParentHalf) where
+  abbrev d' : Case
+  d' = child_case c.txn t
+
+  abbrev place : Place
+  place = record { me = t.child; role = AtLeaf p; tree = tree }
+
+  abbrev before : Reading
+  before = reading_from root true outcome above half (child_half place n d') (wire c t net)
+
+  abbrev kept_front : ChildFront
+  kept_front = child_front d' (left_of n k) n.durable
+
+  abbrev boot : ℕ
+  boot = boot_of (left_of n k) + 1
+
+  same_parts : (x y : ChildHalf) (v w : Wire) → x ≡ y → v ≡ w
+      → reading_from root true outcome above half x v ≡ reading_from root true outcome above half y w
+  same_parts x y v w e f =
+      ap (λ z. reading_from root true outcome above half z v) e ∙ ap (λ z. reading_from root true outcome above half y z) f
+
+  pub restart_fits : InvariantOf pr before
+      → Fits pr before (reading_from root true outcome above half (child_half place (restarted place n k) d')
+      (wire c t (net ++ (restart_effect place n k).messages)))
+  restart_fits inv =
+      let common = moves.common_of pr before inv in
+      let said = promises before common in
+      let fronts = is_front t.child p n last k d' tree root outcome above half (wire c t net) common in
+      subst (λ (z : Reading). Fits pr before z)
+      (sym (same_parts _ _ _ _ (half_restarts (manager_view place n d').standing t.child p tree n k d')
+      (wire-restarts c t t.child p (left_of n k ++ Opened boot ∷ []) net (is_in_doubt kept_front)
+      (inquires t.child p d' (left_of n k) n.durable boot (tells_left t.child p n last k d')))
+      ∙ reading-restarts root outcome above half (child_half place n d') (wire c t net) kept_front
+      said.quiet_open fronts.had_prepared (λ x y. fronts.holds_prepared (said.once x y)) said.asked))
+      (fail.restarts pr kept_front before inv fronts)

@@ -1,4 +1,1 @@
 pub mod ManagerSteps
-pub mod ManagerFaults
-pub mod ManagerRestarts
-pub mod ManagerRestartFaults

@@ -84,7 +84,7 @@ written_goes place parent n i ws ls (for_parent c k m e f one sent) = all_go (se
     sent
 written_goes place parent n i ws ls (presumes x t o e f) =
     subst AllGoToOwners (sym f) (told_goes (record { txn = x; ticket = None }) t o, tt)
-written_goes place parent n i ws ls (gives p d t e f) = subst AllGoToOwners (sym f) (tt, tt)
+written_goes place parent n i ws ls (gives p d t e f k j a) = subst AllGoToOwners (sym f) (tt, tt)
 
 acknowledged : (l : Leaf) (o : Outcome) (b : Bool)
     → AllGoToOwners (if b then post l.me l.parent (Ack l.own o) ∷ [] else [])

@@ -81,10 +81,18 @@ rises l = record l { failed = false }
 -- Nested.
 
 pub nested_falls : (l : Logs) → Nested l → Nested (falls l)
-nested_falls l h = record { kept_was_written = h.kept_was_written; old_was_written = h.old_was_written }
+nested_falls l h = record {
+  kept_was_written = h.kept_was_written;
+  old_was_written = h.old_was_written;
+  forced_is_old = h.forced_is_old;
+}
 
 pub nested_rises : (l : Logs) → Nested l → Nested (rises l)
-nested_rises l h = record { kept_was_written = h.kept_was_written; old_was_written = h.old_was_written }
+nested_rises l h = record {
+  kept_was_written = h.kept_was_written;
+  old_was_written = h.old_was_written;
+  forced_is_old = h.forced_is_old;
+}
 
 module _ (l : Logs) (h : Nested l) (new : List Record) (q : Record → Bool)
     (none : (k : ℕ) → q (Opened k) ≡ false) where
@@ -108,6 +116,10 @@ nested_forces l new h = record {
   kept_was_written = λ q none e. new_or_kept l h new q none
       (ap (has q) (sym (append-nil (standing l ++ new))) ∙ e);
   old_was_written = λ q none e. new_or_old l h new q none e;
+  forced_is_old = λ q e. elim (in_either q (standing l) new e) [
+    | inl before ↦ in_second q new (standing l ++ l.durable) (in_first q (standing l) l.durable before)
+    | inr now ↦ in_first q new (standing l ++ l.durable) now
+  ];
 }
 
 pub nested_writes : (l : Logs) (new : List Record) → Nested l → Nested (writes l new)
@@ -115,6 +127,7 @@ nested_writes l new h = record {
   kept_was_written = λ q none e. new_or_kept l h new q none
       (ap (has q) (append_assoc l.forced l.unforced new) ∙ e);
   old_was_written = λ q none e. in_second q (reverse new) l.life (h.old_was_written q none e);
+  forced_is_old = h.forced_is_old;
 }
 
 -- what stands behind a fault
@@ -137,6 +150,10 @@ nested_breaks l new a f h = record {
     ]
     | inr ever ↦ in_second q (reverse (take a new)) l.life (h.old_was_written q none ever)
   ];
+  forced_is_old = λ q e. elim (in_either q l.forced (take f (l.unforced ++ take a new)) e) [
+    | inl before ↦ in_second q (take f (l.unforced ++ take a new)) l.durable (h.forced_is_old q before)
+    | inr now ↦ in_first q (take f (l.unforced ++ take a new)) l.durable now
+  ];
 }
 
 lost_stood : (q : Record → Bool) (l : Logs) (k : ℕ) → has q (standing (loses l k)) ≡ true
@@ -150,6 +167,7 @@ pub nested_loses : (l : Logs) (k : ℕ) → Nested l → Nested (loses l k)
 nested_loses l k h = record {
   kept_was_written = λ q none e. h.kept_was_written q none (lost_stood q l k e);
   old_was_written = h.old_was_written;
+  forced_is_old = h.forced_is_old;
 }
 
 -- a log that a trim replaced
@@ -170,6 +188,7 @@ nested_replaces role l h = record {
     | inr ever ↦ in_second q (reverse (data_records role (standing l))) l.life
         (h.old_was_written q none ever)
   ];
+  forced_is_old = λ q e. in_first q (trimmed role (standing l)) l.durable e;
 }
   where
     was : (q : Record → Bool) → ((k : ℕ) → q (Opened k) ≡ false) → has q (trimmed role (standing l)) ≡ true

@@ -49,7 +49,7 @@ writes_fine place parent n i ws ls (for_child c x t e one sent) = one_fine c ws 
 writes_fine place parent n i ws ls (for_parent c k m e f one sent) = one_fine c ws one
 writes_fine place parent n i ws ls (presumes x t o e f) = ap (λ y. has is_managers (entries_written y)) e ∙
     has-nil is_managers
-writes_fine place parent n i ws ls (gives p d t e f) = ap (λ x. has is_managers (entries_written x)) e ∙
+writes_fine place parent n i ws ls (gives p d t e f k j a) = ap (λ x. has is_managers (entries_written x)) e ∙
     has-nil is_managers
 
 fine_at : (role : Role) (place : Place) (n : Node) (h : Heard) (e : Effect) → RoleLasts role (logs_of n)
@@ -252,6 +252,7 @@ opened_by (Below p) = record { no_managers_record = refl }
 
 pub opened_lasts : (role : Role) → Lasts role (logs_of opened_node)
 opened_lasts role = record {
-  nested = record { kept_was_written = λ q none e. e; old_was_written = λ q none e. e };
+  nested = record
+      { kept_was_written = λ q none e. e; old_was_written = λ q none e. e; forced_is_old = λ q e. e };
   by_role = opened_by role;
 }

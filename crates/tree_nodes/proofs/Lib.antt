@@ -12,3 +12,14 @@ pub mod Addresses
 pub mod Promises
 pub mod Yesses
 pub mod PairOf
+pub mod Boots
+pub mod Selves
+pub mod Tickets
+pub mod Issuing
+pub mod TrimmedBranches
+pub mod Deliveries
+pub mod ManagerWrites
+pub mod ManagerPhases
+pub mod ManagerBranches
+pub mod ManagersHold
+pub mod GivenCases

@@ -8,6 +8,7 @@ use Rattle.tree_model.specs.declared.names.ProcessId.{ProcessId}
 use Rattle.tree_model.specs.declared.names.Ticket.{Ticket}
 use Rattle.tree_model.specs.declared.names.Outcome.{Outcome}
 use Rattle.tree_model.specs.declared.names.Outcome.TheVariants.{Committed as CommittedOutcome, Aborted as AbortedOutcome}
+use Rattle.tree_model.specs.declared.messages.Message.{Message}
 use Rattle.tree_model.specs.declared.messages.Message.TheVariants.{Prepare, Commit, Abort, Ack, Inquire}
 use Rattle.tree_model.specs.declared.messages.Envelope.{Envelope}
 use Rattle.tree_model.specs.declared.records.Branch.TheVariants.{Case as CaseBranch}
@@ -199,7 +200,7 @@ root_yes place n i ws ls (for_child d x t e one all) c g = no_parent (seat_of pl
 root_yes place n i ws ls (for_parent d k m e f one all) c g =
     no_parent (seat_of place None d) c refl (any_yes (seat_of place None d) c ls all g)
 root_yes place n i ws ls (presumes x t o e f) c g = one_said c ls _ f (tells_no_yes c (child_case x t) o) g
-root_yes place n i ws ls (gives p d t e f) c g = one_said c ls _ f refl g
+root_yes place n i ws ls (gives p d t e f k j a) c g = one_said c ls _ f refl g
 
 module _ (place : Place) (p : ProcessId) (role : place.role ≡ Below p) (n : Node)
     (none : has (is_foreign place.me) (kept n) ≡ false) (net : List Envelope) (goes : AllGoToOwners net)
@@ -222,33 +223,33 @@ module _ (place : Place) (p : ProcessId) (role : place.role ≡ Below p) (n : No
     cascaded_yes i ws ls s (for_parent d k m e f one all) c g =
         own_yes d c ls (of_parent place.me d m f (delivered net place.me i k m goes s e)) all g
     cascaded_yes i ws ls s (presumes x t o e f) c g = one_said c ls _ f (tells_no_yes c (child_case x t) o) g
-    cascaded_yes i ws ls s (gives q d t e f) c g = one_said c ls _ f refl g
+    cascaded_yes i ws ls s (gives q d t e f k j a) c g = one_said c ls _ f refl g
 
--- A restart says no YES.
+-- A restart says nothing but COMMIT, ABORT and INQUIRE.
 
-module _ (c : Case) where
+module _ (q : Message → Bool) (commits : (d : Case) → q (Commit d) ≡ false)
+    (aborts : (d : Case) → q (Abort d) ≡ false) (inquires : (d : Case) → q (Inquire d) ≡ false) where
   abbrev Quiet : List Envelope → Type 0
-  Quiet ls = sent (is_yes_message c) ls ≡ false
+  Quiet ls = sent q ls ≡ false
 
   quiet_both : (xs ys : List Envelope) → Quiet xs → Quiet ys → Quiet (xs ++ ys)
   unfolding sent
-  quiet_both xs ys e f = list_any-append (λ (l : Envelope). is_yes_message c l.message) xs ys ∙ rw (e, f)
-      refl
+  quiet_both xs ys e f = list_any-append (λ (l : Envelope). q l.message) xs ys ∙ rw (e, f) refl
 
   quiet_commits : (s : Seat) (ts : List Ticket) → Quiet (each s Commit ts)
   unfolding sent
   quiet_commits s [] = refl
-  quiet_commits s (t ∷ ts) = quiet_commits s ts
+  quiet_commits s (t ∷ ts) = rw (commits (child_case s.own.txn t)) (quiet_commits s ts)
 
   quiet_aborts : (s : Seat) (ts : List Ticket) → Quiet (each s Abort ts)
   unfolding sent
   quiet_aborts s [] = refl
-  quiet_aborts s (t ∷ ts) = quiet_aborts s ts
+  quiet_aborts s (t ∷ ts) = rw (aborts (child_case s.own.txn t)) (quiet_aborts s ts)
 
   quiet_up : (s : Seat) (o : Option ProcessId) → Quiet (posted_up s.me o (Inquire s.own))
   unfolding sent
   quiet_up s None = refl
-  quiet_up s (Some p) = refl
+  quiet_up s (Some p) = rw (inquires s.own) refl
 
   quiet_resumed : (s : Seat) (v : CoordinatorView) (st : Standing) → Quiet (resumes_by s v st)
   unfolding sent
@@ -262,13 +263,13 @@ module _ (c : Case) where
 
   quiet_untold : (me p : ProcessId) (d : Case) (o : Option Outcome) → Quiet (untold_inquiry me p d o)
   unfolding sent
-  quiet_untold me p d None = refl
+  quiet_untold me p d None = rw (inquires d) refl
   quiet_untold me p d (Some o) = refl
 
   quiet_inquired : (me p : ProcessId) (d : Case) (v : ManagerView) (st : Standing)
       → Quiet (inquires_by me p d v st)
   unfolding sent
-  quiet_inquired me p d v Prepared = refl
+  quiet_inquired me p d v Prepared = rw (inquires d) refl
   quiet_inquired me p d v Heuristic = quiet_untold me p d v.told
   quiet_inquired me p d v Unknown = refl
   quiet_inquired me p d v Active = refl

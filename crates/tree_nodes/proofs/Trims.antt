@@ -45,7 +45,7 @@ none_if : (q : Record → Bool) (b : Bool) (r : Record) (ls : List Record) → q
 none_if q true r ls e f = has-cons q r ls ∙ neither _ _ e f
 none_if q false r ls e f = f
 
-there_if : (q : Record → Bool) (b : Bool) (r : Record) (ls : List Record) → has q ls ≡ true
+pub there_if : (q : Record → Bool) (b : Bool) (r : Record) (ls : List Record) → has q ls ≡ true
     → has q (with_if b r ls) ≡ true
 there_if q true r ls e = has-cons q r ls ∙ right _ _ e
 there_if q false r ls e = e
@@ -81,7 +81,7 @@ module _ (p : ProcessId) (whole : List Record) (d : Case) where
   by_branch rs None e = absurd (cc)
   by_branch rs (Some b) e = rw (branch_tells d b e) refl
 
-  own_stays : (r : Record) (rs : List Record) → is_branch_record d r ≡ true
+  pub own_stays : (r : Record) (rs : List Record) → is_branch_record d r ≡ true
       → stays (AtLeaf p) whole rs r
       ≡ (is_open (mark_of (CaseBranch d) whole) && not (has (prepares_branch (CaseBranch d)) rs))
   own_stays r rs e = by_branch rs (record_branch r) e
@@ -97,7 +97,7 @@ module _ (p : ProcessId) (whole : List Record) (d : Case) where
         (own_stays r rs e ∙ ap (λ b. b && not (has (prepares_branch (CaseBranch d)) rs)) over) f
     drops r rs ls false e f = none_if (is_branch_record d) (stays (AtLeaf p) whole rs r) r ls e f
 
-    dropped : (rs : List Record) → has (is_branch_record d) (left_of rs) ≡ false
+    pub dropped : (rs : List Record) → has (is_branch_record d) (left_of rs) ≡ false
     unfolding has
     dropped [] = refl
     dropped (r ∷ rs) = drops r rs (left_of rs) (is_branch_record d r) refl (dropped rs)

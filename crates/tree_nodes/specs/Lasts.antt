@@ -32,12 +32,14 @@ logs_of n = record {
 abbrev pub standing : Logs → List Record
 standing l = l.forced ++ l.unforced
 
--- what stands in the log, or ever stood in its forced front, was appended; the boots aside
+-- what stands in the log, or ever stood in its forced front, was appended, the boots aside; and what stands in the
+-- forced front ever stood there
 pub record Nested (l : Logs) : Type 0 where
   pub kept_was_written : (q : Record → Bool) → ((k : ℕ) → q (Opened k) ≡ false)
       → has q (standing l) ≡ true → has q l.life ≡ true
   pub old_was_written : (q : Record → Bool) → ((k : ℕ) → q (Opened k) ≡ false) → has q l.durable ≡ true
       → has q l.life ≡ true
+  pub forced_is_old : (q : Record → Bool) → has q l.forced ≡ true → has q l.durable ≡ true
 
 -- A manager's log is in order; its promises are forced, while it is up; and an operator's decision that was
 -- ever in

@@ -3,3 +3,4 @@ pub mod Lasts
 pub mod Owns
 pub mod WorldHolds
 pub mod ProcessSteps
+pub mod Numbers

@@ -1,14 +1,15 @@
 //! The laws of single processes.
 ghost use Rattle.std.specs.Prelude.{◌≡◌, List, true};
 ghost use Rattle.tree_model.specs.Names.{child_case};
-ghost use Rattle.tree_model.specs.Nodes.{Below, is_listed, role_of};
+ghost use Rattle.tree_model.specs.Nodes.{AtLeaf, Below, is_listed, place_of, role_of};
 ghost use Rattle.tree_model.specs.Outcomes.{StandingMismatches, YesIsForced, cascaded_ends, is_commit_outcome, sent};
 ghost use Rattle.tree_model.specs.declared.names.Case.{Case};
 ghost use Rattle.tree_model.specs.declared.names.Outcome.TheVariants.{Committed};
 ghost use Rattle.tree_model.specs.declared.names.ProcessId.{ProcessId};
 ghost use Rattle.tree_model.specs.declared.names.Ticket.{Ticket};
 ghost use Rattle.tree_model.specs.declared.names.Txn.{Txn};
-ghost use Rattle.tree_nodes.specs.WorldHolds.{IsPair, WorldHolds, pair_reading};
+ghost use Rattle.tree_nodes.specs.Numbers.{IsIssuer, Numbers};
+ghost use Rattle.tree_nodes.specs.WorldHolds.{IsPair, NodeHolds, WorldHolds, pair_reading};
 ghost use Rattle.tree_pairs.specs.Invariant.{Common};
 ghost use Rattle.tree_readings.specs.ReadingOf.{gives_case};
 ghost use Rattle.tree_model.specs.World.{IsRun, Made, World};
@@ -35,4 +36,18 @@ pub fn given_cases_have_pairs()
     ensures commits { (tree : List TreeEntry) (w : World) → WorldHolds tree w → (x : Txn) (t : Ticket) (p : ProcessId)
         → role_of tree t.child ≡ Below p → is_listed tree t.child ≡ true
         → cascaded_ends (w.at t.child) (child_case x t) Committed ≡ true → is_commit_outcome w x ≡ true }
+{}
+
+/// In every run of every tree a process gives each ticket number once, a cascaded coordinator too, also behind a
+/// restart; and each ticket that is active was told of by JOINED.
+pub fn numbers_are_given_once()
+    ensures { (tree : List TreeEntry) (es : List Made) (w : World) → IsRun tree es w → (q : ProcessId)
+        → IsIssuer (role_of tree q) → Numbers (place_of tree q) w.net (w.at q) }
+{}
+
+/// In every run of every tree each manager keeps its part of the world's invariant: what it recorded and remembers is of
+/// cases whose tickets it gave, it promised only where it was asked, and a branch that takes work has no record.
+pub fn managers_hold()
+    ensures { (tree : List TreeEntry) (es : List Made) (w : World) → IsRun tree es w → (q p : ProcessId)
+        → role_of tree q ≡ AtLeaf p → NodeHolds (place_of tree q) w.net (w.at q) }
 {}

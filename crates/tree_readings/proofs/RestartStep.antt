@@ -57,7 +57,7 @@ closed_view : (place : Place) (n : Node) (c : Case) → n.heard ≡ []
 unfolding manager_view
 closed_view place n c e = rw (forgetful place n c e) (closed_mark n.failed (mark_of (CaseBranch c) (kept n)))
 
-half_restarts : (s : Standing) (me p : ProcessId) (tree : List TreeEntry) (n : Node) (k : ℕ) (d : Case)
+pub half_restarts : (s : Standing) (me p : ProcessId) (tree : List TreeEntry) (n : Node) (k : ℕ) (d : Case)
     → (let place : Place = record { me = me; role = AtLeaf p; tree = tree } in child_half place
     (restarted place n k) d ≡ restarted_half (child_front d (left_of n k) n.durable)
     (child_half_at s n d))
@@ -74,7 +74,7 @@ refused-restarts : (o p e f n i r : Bool) → QuietWhileOpen n i p e r → (f �
 unfolding is_dead
 refused-restarts o p e f n i r quiet sub once asked = grind arith
 
-reading-restarts : (root outcome above : Bool) (p : ParentHalf) (k : ChildHalf) (v : Wire)
+pub reading-restarts : (root outcome above : Bool) (p : ParentHalf) (k : ChildHalf) (v : Wire)
     (front : ChildFront)
     → QuietWhileOpen k.is_open v.issued k.prepared_kept k.prepared_ever v.read
     → (front.prepared ≡ true → k.prepared_kept ≡ true)
@@ -92,7 +92,7 @@ reading-restarts root outcome above p k v front quiet sub once asked =
 
 -- The net.
 
-wire-restarts : (c : Case) (t : Ticket) (me p : ProcessId) (rs : List Record) (net : List Envelope)
+pub wire-restarts : (c : Case) (t : Ticket) (me p : ProcessId) (rs : List Record) (net : List Envelope)
     (asks : Bool)
     → sent (is_inquiry_message (child_case c.txn t)) (flat_map (manager_resumes me p rs) (cases_in rs)) ≡ asks
     → wire c t (net ++ flat_map (manager_resumes me p rs) (cases_in rs)) ≡ record (wire c t net)
@@ -124,7 +124,7 @@ mark_opened : (b : ℕ) (d : Case) (rs : List Record)
 unfolding mark_of
 mark_opened b d rs = fold-append _ _ rs (Opened b ∷ [])
 
-inquires : (me p : ProcessId) (d : Case) (left durable : List Record) (b : ℕ)
+pub inquires : (me p : ProcessId) (d : Case) (left durable : List Record) (b : ℕ)
     → LastRecordTells d left (child_front d left durable)
     → sent (is_inquiry_message d) (flat_map (manager_resumes me p (left ++ Opened b ∷ [])) (cases_in (left
     ++ Opened b ∷ []))) ≡ is_in_doubt (child_front d left durable)
@@ -139,13 +139,13 @@ inquires me p d left durable b tells =
 
 -- What the invariant says of the reading.
 
-record Promises (r : Reading) : Type 0 where
-  quiet_open : r.ticket_open ≡ true
+pub record Promises (r : Reading) : Type 0 where
+  pub quiet_open : r.ticket_open ≡ true
       → (r.prepared_kept ≡ false) × (r.prepared_ever ≡ false) × (r.sent_read ≡ false)
-  once : r.prepared_kept ≡ true → r.prepared_ever ≡ true → r.prepared_forced ≡ true
-  asked : r.prepared_kept ≡ true → (r.issued ≡ true) × (r.sent_read ≡ false)
+  pub once : r.prepared_kept ≡ true → r.prepared_ever ≡ true → r.prepared_forced ≡ true
+  pub asked : r.prepared_kept ≡ true → (r.issued ≡ true) × (r.sent_read ≡ false)
 
-promises : (r : Reading) → Common r → Promises r
+pub promises : (r : Reading) → Common r → Promises r
 promises r h = grind arith
 
 pub manager_restarts : ManagerRestarts

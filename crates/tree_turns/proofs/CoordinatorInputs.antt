@@ -30,7 +30,7 @@ use Rattle.tree_model.specs.Memory.{has_child, is_counted, all_voted, yes_of, wo
 use Rattle.tree_model.specs.Standings.{CoordinatorView, unknown_view, coordinator_view, case_of_child}
 use Rattle.tree_model.specs.CoordinatorRows.{Seat, Row, quiet, sends, post, posted_up, plain, up, each, prepares, tells_outcome, active_work, active_commit, active_commit_alone, active_commit_with, acknowledges_abort, active_abort, prepared_ask, abort_heard_above, collecting_abort_by, collecting_abort, Reason, ByVote, ByAct, ByAbort, collecting_read_only, read_only_end, decides, root_commits, collecting_full, collecting_after, prepared_commit_by, prepared_abort_by, unknown_commit_by, decided_ack_by, other_tickets, on_vote, on_ack, on_inquiry, on_joined, on_prepare, on_commit, on_abort}
 use Rattle.tree_model.specs.Reactions.{Reacts, Refused, Does, row_effect, seat_of, coordinator_acts, begins_at, join_by, work_by, work_for, commit_by, abort_by, ask_by, live_by, vote_for, ack_for, inquiry_for, hears_from_child, cascaded_hears, joins_with, child_says}
-use Rattle.tree_turns.specs.Written.{AtMostOne, wrote_none, wrote_one, IsForCase, IsFromCase, down, upward, invites, AllSent, Writes, writes_nothing, for_act, for_child, for_parent, presumes, gives}
+use Rattle.tree_turns.specs.Written.{AtMostOne, wrote_none, wrote_one, IsForCase, IsFromCase, down, upward, invites, AllSent, IsAnswer, is_active, is_next, Writes, writes_nothing, for_act, for_child, for_parent, presumes, gives}
 
 -- Messages.
 
@@ -459,9 +459,10 @@ module _ (place : Place) (p : ProcessId) (n : Node) where
   abbrev V : Input → Effect → Type 0
   V i e = WritesBy place (Some p) n i (Does e)
 
-  gives_by : (i : Input) (d : Case) (m : Memory) (o : Option Ticket) → V i (joins_with place p n d m o)
-  gives_by i d m None = gives p d _ refl refl
-  gives_by i d m (Some t) = gives p d t refl refl
+  gives_by : (j : ℕ) (d : Case) (o : Option Ticket) → active_ticket (memory_of place n d).active d ≡ o
+      → V (MessageInput j (Join d)) (joins_with place p n d (memory_of place n d) o)
+  gives_by j d None e = gives p d _ refl refl j refl (is_next e)
+  gives_by j d (Some t) e = gives p d t refl refl j refl (is_active t e)
 
   parent_row : (d : Case) (j : ℕ) (m : Message) → IsForCase d m → (r : Row)
       → One (seat_of place (Some p) d) r
@@ -470,7 +471,7 @@ module _ (place : Place) (p : ProcessId) (n : Node) where
 
   pub cascaded_writes : (j : ℕ) (m : Message) → V (MessageInput j m) (cascaded_hears place p n m)
   cascaded_writes j (Join d) =
-      let m = memory_of place n d in gives_by (MessageInput j (Join d)) d m (active_ticket m.active d)
+      gives_by j d (active_ticket (memory_of place n d).active d) refl
   cascaded_writes j (Prepare d k) =
       let v = coordinator_view place n d in
       parent_row d j (Prepare d k) refl (on_prepare (seat_of place (Some p) d) v v.standing)

@@ -85,7 +85,7 @@ aborts_none q none c v Committing = refl
 aborts_none q none c v Aborting = refl
 aborts_none q none c v Heuristic = refl
 
-all_none : (q : Record → Bool) → ((c : Case) (ts : List Ticket) → q (AbortRecord c ts) ≡ false)
+pub all_none : (q : Record → Bool) → ((c : Case) (ts : List Ticket) → q (AbortRecord c ts) ≡ false)
     → (rs : List Record) (cs : List Case)
     → has q (flat_map (aborts_collecting rs) cs) ≡ false
 unfolding has
@@ -127,7 +127,7 @@ module _ (q : Record → Bool) (i : Input) (own : OperatorsOwn q i) where
   wrote place parent n j ws ls (for_child c x t e one sent) = at_most_one c ws one
   wrote place parent n j ws ls (for_parent c k m e f one sent) = at_most_one c ws one
   wrote place parent n j ws ls (presumes x t o e f) = rw e refl
-  wrote place parent n j ws ls (gives p d t e f) = rw e refl
+  wrote place parent n j ws ls (gives p d t e f k y a) = rw e refl
 
   by_role : (role : Role) (place : Place) (n : Node) (h : Heard) (e : Effect) → TurnAt role place n h e
       → any_written q e.written ≡ true → h.input ≡ i

@@ -1,5 +1,5 @@
 -- What a coordinator writes and sends: at most one record, of one case.
-use Rattle.std.specs.Prelude.{◌≡◌, ℕ, Bool, true, false, Some, List, [], ◌∷◌, ◌≢◌, Option}
+use Rattle.std.specs.Prelude.{◌≡◌, ℕ, Bool, true, false, None, Some, List, [], ◌∷◌, ◌≢◌, Option}
 use Rattle.tree_model.specs.declared.names.Case.{Case}
 use Rattle.tree_model.specs.declared.names.Outcome.{Outcome}
 use Rattle.tree_model.specs.declared.names.ProcessId.{ProcessId}
@@ -15,8 +15,9 @@ use Rattle.tree_model.specs.declared.events.Act.{Act}
 use Rattle.tree_model.specs.declared.events.Input.{Input}
 use Rattle.tree_model.specs.declared.events.Input.TheVariants.{Act as ActInput, Message as MessageInput}
 use Rattle.tree_model.specs.Names.{child_case}
-use Rattle.tree_model.specs.Records.{record_case}
-use Rattle.tree_model.specs.Nodes.{Place, Node, Written}
+use Rattle.tree_model.specs.Records.{record_case, boot_of}
+use Rattle.tree_model.specs.Nodes.{Place, Node, kept, Written}
+use Rattle.tree_model.specs.Memory.{memory_of, active_ticket, next_ticket}
 use Rattle.tree_model.specs.Standings.{case_of_child, coordinator_view}
 use Rattle.tree_model.specs.CoordinatorRows.{Seat, post, tells_outcome}
 use Rattle.tree_model.specs.Reactions.{seat_of}
@@ -64,6 +65,12 @@ abbrev pub AllSent : Seat → List Envelope → Type 0
 AllSent s [] = Unit {0}
 AllSent s (l ∷ ls) = Sends s l × AllSent s ls
 
+-- the ticket that answers JOIN: the active one of that case of the parent, else the next
+pub data IsAnswer (place : Place) (n : Node) (d : Case) : Ticket → Type 0 where
+  is_active : (t : Ticket) → active_ticket (memory_of place n d).active d ≡ Some t → IsAnswer place n d t
+  is_next : active_ticket (memory_of place n d).active d ≡ None
+      → IsAnswer place n d (next_ticket place.me (boot_of (kept n)) (memory_of place n d))
+
 -- What an input lets a coordinator write and send: a row of the act's case, which is known, of the child's
 -- case, or of the
 -- parent's message's; an answer to a stranger's inquiry; or a ticket.
@@ -81,4 +88,4 @@ pub data Writes (place : Place) (parent : Option ProcessId) (n : Node) (i : Inpu
       → ls ≡ post place.me t.child (tells_outcome o (child_case x t)) ∷ []
       → Writes place parent n i ws ls
   gives : (p : ProcessId) (d : Case) (t : Ticket) → ws ≡ [] → ls ≡ post place.me p (Joined d t) ∷ []
-      → Writes place parent n i ws ls
+      → (k : ℕ) → i ≡ MessageInput k (Join d) → IsAnswer place n d t → Writes place parent n i ws ls

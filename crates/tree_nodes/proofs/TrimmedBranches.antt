@@ -1,20 +1,19 @@
 -- What a trim leaves of a manager's branch: all of its records where it is open, and none where it is over.
-use Rattle.std.proofs.Common.{◌≡◌, ◌∙◌, ◌&&◌, inl, inr, Bool, true, false, Option, Some, None, List, [], ◌∷◌, refl, if◌then◌else◌}
+use Rattle.std.proofs.Common.{◌≡◌, ◌∙◌, ◌&&◌, inl, inr, Bool, true, false, List, [], ◌∷◌, refl, if◌then◌else◌}
 use Rattle.std.specs.Prelude.{not}
 use Rattle.tree_model.specs.declared.names.Case.{Case}
 use Rattle.tree_model.specs.declared.names.ProcessId.{ProcessId}
-use Rattle.tree_model.specs.declared.records.Branch.{Branch}
 use Rattle.tree_model.specs.declared.records.Branch.TheVariants.{Case as CaseBranch}
 use Rattle.tree_model.specs.declared.records.Record.{Record}
 use Rattle.tree_model.specs.declared.records.Record.TheVariants.{Opened}
-use Rattle.tree_model.specs.Records.{has, prepares_branch, record_branch, boot_of}
+use Rattle.tree_model.specs.Records.{has, boot_of}
 use Rattle.tree_model.specs.Nodes.{AtLeaf}
 use Rattle.tree_model.specs.Standings.{Mark, Unmarked, mark_of, mark_after}
-use Rattle.tree_model.specs.Restarts.{is_open, branch_stays, stays, staying, data_records, trimmed}
-use Rattle.tree_nodes.specs.Marks.{branch_is, is_branch_record, in_order_from}
+use Rattle.tree_model.specs.Restarts.{is_open, stays, staying, data_records, trimmed}
+use Rattle.tree_nodes.specs.Marks.{is_branch_record, in_order_from}
 use Rattle.tree_nodes.proofs.Tests.{either, left, right, both, neither, has-cons, in_first, in_none}
-use Rattle.tree_nodes.proofs.Orders.{marks, branch_tells, none_promised}
-use Rattle.tree_nodes.proofs.Trims.{data_is_other}
+use Rattle.tree_nodes.proofs.Orders.{marks, none_promised}
+use Rattle.tree_nodes.proofs.Trims.{there_if, own_stays, dropped, data_is_other}
 
 abbrev with_if : Bool → Record → List Record → List Record
 with_if b r rs = if b then r ∷ rs else rs
@@ -23,37 +22,9 @@ there_now : (q : Record → Bool) (b : Bool) (r : Record) (ls : List Record) →
     → has q (with_if b r ls) ≡ true
 there_now q b r ls e f = rw e (has-cons q r ls ∙ left _ _ f)
 
-there_if : (q : Record → Bool) (b : Bool) (r : Record) (ls : List Record) → has q ls ≡ true
-    → has q (with_if b r ls) ≡ true
-there_if q true r ls e = has-cons q r ls ∙ right _ _ e
-there_if q false r ls e = e
-
-none_if : (q : Record → Bool) (b : Bool) (r : Record) (ls : List Record) → (q r ≡ true → b ≡ false)
-    → has q ls ≡ false → has q (with_if b r ls) ≡ false
-none_if q true r ls e f = has-cons q r ls ∙ neither _ _ (not_now (q r) e) f
-  where
-    not_now : (a : Bool) → (a ≡ true → true ≡ false) → a ≡ false
-    not_now true g = absurd (let h = g refl in cc)
-    not_now false g = refl
-none_if q false r ls e f = f
-
 module _ (p : ProcessId) (whole : List Record) (d : Case) where
-  by_branch : (rs : List Record) (o : Option Branch) → branch_is d o ≡ true
-      → branch_stays whole rs o ≡
-      (is_open (mark_of (CaseBranch d) whole) && not (has (prepares_branch (CaseBranch d)) rs))
-  by_branch rs None e = absurd (cc)
-  by_branch rs (Some b) e = rw (branch_tells d b e) refl
-
-  own_stays : (r : Record) (rs : List Record) → is_branch_record d r ≡ true
-      → stays (AtLeaf p) whole rs r
-      ≡ (is_open (mark_of (CaseBranch d) whole) && not (has (prepares_branch (CaseBranch d)) rs))
-  own_stays r rs e = by_branch rs (record_branch r) e
-
   all_true : (a b : Bool) → a ≡ true → b ≡ false → (a && not b) ≡ true
   all_true a b e f = rw (e, f) refl
-
-  none_true : (a b : Bool) → a ≡ false → (a && b) ≡ false
-  none_true a b e = rw e refl
 
   -- a branch that is open keeps each of its records
   stays_there : is_open (mark_of (CaseBranch d) whole) ≡ true → (q : Record → Bool)
@@ -66,22 +37,12 @@ module _ (p : ProcessId) (whole : List Record) (d : Case) where
       let b = both _ _ e in
       elim (either _ _ f) [
         | inl now ↦ there_now q (stays (AtLeaf p) whole rs r) r (staying (AtLeaf p) whole rs)
-            (own_stays r rs (own r now)
+            (own_stays p whole d r rs (own r now)
             ∙ all_true _ _ opened
             (none_promised d (mark_after (CaseBranch d) m r) rs (marks d m r (own r now)) b.1)) now
         | inr rest ↦ there_if q (stays (AtLeaf p) whole rs r) r (staying (AtLeaf p) whole rs)
             (stays_there opened q own (mark_after (CaseBranch d) m r) rs b.1 rest)
       ]
-
-  -- one that is over keeps none
-  stays_not : is_open (mark_of (CaseBranch d) whole) ≡ false → (rs : List Record)
-      → has (is_branch_record d) (staying (AtLeaf p) whole rs) ≡ false
-  unfolding has
-  stays_not over [] = refl
-  stays_not over (r ∷ rs) =
-      none_if (is_branch_record d) (stays (AtLeaf p) whole rs r) r (staying (AtLeaf p) whole rs)
-      (λ e. own_stays r rs e ∙ none_true _ (not (has (prepares_branch (CaseBranch d)) rs)) over)
-      (stays_not over rs)
 
 -- The log that a trim leaves has what stood there of an open branch.
 pub trim_keeps : (p : ProcessId) (d : Case) (rs : List Record) → in_order_from d Unmarked rs ≡ true
@@ -102,5 +63,5 @@ trim_forgets p d rs over =
     in_none (is_branch_record d) (Opened (boot_of rs) ∷ staying (AtLeaf p) rs rs)
     (data_records (AtLeaf p) rs)
     (has-cons (is_branch_record d) (Opened (boot_of rs)) (staying (AtLeaf p) rs rs)
-    ∙ neither _ _ refl (stays_not p rs d over rs))
+    ∙ neither _ _ refl (dropped p rs d over rs))
     (data_is_other (is_branch_record d) (λ k v. refl) (λ k. refl) (AtLeaf p) rs)
