@@ -9,12 +9,12 @@ use tree_model::{Kind, LogRecord, Record};
 const HEADER: [u8; 5] = *b"RLOG\x01";
 
 /// Opened with this boot.
-fn opened(boot: u8) -> [u8; 11] {
+pub(crate) fn opened(boot: u8) -> [u8; 11] {
     [1, 0, 8, 0, 0, 0, 0, 0, 0, 0, boot]
 }
 
 /// End of the root's case of this number.
-fn end(sequence: u8) -> [u8; 29] {
+pub(crate) fn end(sequence: u8) -> [u8; 29] {
     let mut frame = *b"\x06\x00\x1a\x00\x00\x0f\xa1\x14\x00\
         \x00\x00\x00\x01\x00\x00\x00\x00\x00\x00\x00\x01\x00\x00\x00\x00\x00\x00\x00\x01";
     frame[28] = sequence;
@@ -22,7 +22,7 @@ fn end(sequence: u8) -> [u8; 29] {
 }
 
 /// Commit of the root's case of this number; child 2 owes an acknowledgement.
-fn commit(sequence: u8) -> [u8; 50] {
+pub(crate) fn commit(sequence: u8) -> [u8; 50] {
     let mut frame = *b"\x04\x00\x2f\x00\x00\x0f\xa1\x14\x00\
         \x00\x00\x00\x01\x00\x00\x00\x00\x00\x00\x00\x01\x00\x00\x00\x00\x00\x00\x00\x01\
         \x01\x00\x00\x00\x02\x00\x00\x00\x00\x00\x00\x00\x01\x00\x00\x00\x00\x00\x00\x00\x01";
