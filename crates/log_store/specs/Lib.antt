@@ -1,2 +1,3 @@
 pub mod Stores
 pub mod Memory
+pub mod Faults

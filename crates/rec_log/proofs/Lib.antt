@@ -8,3 +8,4 @@ pub mod Sizes
 pub mod Within
 pub mod Rewriting
 pub mod Restarting
+pub mod Trims

@@ -1,3 +1,4 @@
 pub mod Texts
 pub mod Sights
 pub mod Openings
+pub mod Trimming

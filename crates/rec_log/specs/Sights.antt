@@ -5,6 +5,7 @@ use Rattle.tree_model.specs.declared.records.LogRecord.{LogRecord}
 use Rattle.log_text.specs.Frames.{header}
 use Rattle.log_text.specs.Payloads.{FitsFrame, kind_byte, payload_text, record_text, records_text}
 use Rattle.log_text.specs.Reading.{read_record}
+use Rattle.log_sound.specs.Sound.{IsSound}
 use Rattle.rec_log.specs.Texts.{records_in, is_whole, whole_size}
 use Rattle.rec_log.specs.declared.log.LogError.{LogError}
 use Rattle.rec_log.specs.declared.log.LogError.TheVariants.{Memory, Device}
@@ -100,6 +101,10 @@ pub record Breaks (old new : LogState) (ls : List LogRecord) : Type 0 where
 abbrev pub AreRecords : Kind → List LogRecord → Type 0
 AreRecords p [] = ⊤
 AreRecords p (l ∷ ls) = IsRecord p l × AreRecords p ls
+
+-- a sound record can stand in a log
+abbrev pub SoundIsRecord : Type 0
+SoundIsRecord = (p : Kind) (l : LogRecord) → IsSound p l → IsRecord p l
 
 -- what is written is read: the text of records reads as these records, and is whole
 abbrev pub WrittenIsRead : Type 0

@@ -1,8 +1,13 @@
 //! Laws of the bytes of a log.
 
-ghost use Rattle.rec_log.specs.Sights.{WrittenIsRead};
+ghost use Rattle.rec_log.specs.Sights.{SoundIsRecord, WrittenIsRead};
 
 /// The text of any records that can stand in a log reads as these records.
 pub fn written_is_read()
     ensures { WrittenIsRead }
+{}
+
+/// A sound record can stand in a log.
+pub fn sound_is_record()
+    ensures { SoundIsRecord }
 {}

@@ -34,6 +34,7 @@
 pub mod law;
 mod log;
 mod opening;
+mod trimming;
 
 pub use log::{LogError, RecLog};
 pub use opening::OpenError;

@@ -9,8 +9,10 @@ ghost use Rattle.rec_log.specs.Sights.{Appended, Breaks, Forced, AreRecords, IsR
 ghost use Rattle.log_store.specs.Stores.{Replaces};
 ghost use Rattle.rec_log.specs.Openings.{IsRefused, NotOpened, Opens, Settles};
 ghost use Rattle.rec_log.specs.Texts.{records_in};
+ghost use Rattle.rec_log.specs.Trimming.{Spells, Trimmed, trim_of};
 
 use crate::opening::{Found, OpenError, find};
+use crate::trimming::trimmed_text;
 use log_store::{LogStore, StoreError};
 use log_text::{Frame, HEADER, ReadFault, first_frame, read_record};
 use std::alloc::{AllocError, Global};
@@ -67,7 +69,11 @@ fn left_by(bytes: &[u8], forced: usize, keep: usize) -> &[u8]
 }
 
 /// The records at the front of the bytes behind a header.
-fn records_in(kind: Kind, bytes: &[u8], alloc: Global) -> Result<Vec<LogRecord>, AllocError>
+pub(crate) fn records_in(
+    kind: Kind,
+    bytes: &[u8],
+    alloc: Global,
+) -> Result<Vec<LogRecord>, AllocError>
     ensures { IfOk result (λ records. records.items ≡ records_in kind 0 bytes.now) }
 {
     let mut records = Vec::new(alloc);
@@ -119,7 +125,7 @@ fn sound_size(kind: Kind, bytes: &[u8], alloc: Global) -> Result<usize, AllocErr
 
 /// Adds the bytes of these frames.
 #[tactic(auto, unfolding(log_text::specs::Payloads::records_text))]
-fn push_frames(text: &mut Vec<u8>, frames: &[Frame]) -> Result<(), AllocError>
+pub(crate) fn push_frames(text: &mut Vec<u8>, frames: &[Frame]) -> Result<(), AllocError>
     ensures { OnOk result (text.new.items ≡ text.old.items ++ records_text (map frame_record frames.now)) }
 {
     for frame in frames {
@@ -298,17 +304,45 @@ impl<L: LogStore> RecLog<L> {
         ensures ok { OnOk result (Rewritten self.old self.new (map frame_record new.now)) }
         ensures err { IfErr result (λ e. NotRewritten self.old self.new (map frame_record new.now) e) }
     {
-        let text = match text_of(new, alloc) {
-            Ok(text) => text,
-            Err(_) => return Err(LogError::Memory),
-        };
+        match text_of(new, alloc) {
+            Ok(text) => self.put(&text),
+            Err(_) => Err(LogError::Memory),
+        }
+    }
+
+    /// Puts the log of this text in place of all that stand.
+    fn put(&mut self, text: &[u8]) -> Result<(), LogError>
+        requires works { self.old.sight.failed ≡ false }
+        requires sound { Spells self.old.kind text.now (records_in self.old.kind 0 (body text.now)) }
+        ensures ok { OnOk result (Rewritten self.old self.new (records_in self.old.kind 0 (body text.now))) }
+        ensures err { IfErr result (λ e. NotRewritten self.old self.new (records_in self.old.kind 0 (body text.now)) e) }
+    {
         if let Err(_) = self.store.reserve(text.len()) {
             return Err(LogError::Memory);
         }
-        if let Err(_) = self.store.replace(&text) {
+        if let Err(_) = self.store.replace(text) {
             self.failed = true;
             return Err(LogError::Device);
         }
         Ok(())
+    }
+
+    /// Puts the records that stay in a trim in place of all that stand, and these behind them, forced by one `replace`: the
+    /// last Opened, the records of the cases and branches that are not forgotten, and these. Gives how many they are. All
+    /// memory is taken before. Memory: nothing changed. Device: the log stands as it was or trimmed, and the log has failed.
+    pub fn trim(&mut self, behind: &[Frame], alloc: Global) -> Result<usize, LogError>
+        requires works { self.old.sight.failed ≡ false }
+        requires sound { AreRecords self.old.kind (map frame_record behind.now) }
+        ensures ok { IfOk result (λ count. Trimmed self.old self.new (map frame_record behind.now) count) }
+        ensures err { IfErr result (λ e. NotRewritten self.old self.new (trim_of self.old (map frame_record behind.now)) e) }
+    {
+        let (text, count) = match trimmed_text(self.kind, body(self.store.bytes()), behind, alloc) {
+            Ok(trimmed) => trimmed,
+            Err(_) => return Err(LogError::Memory),
+        };
+        match self.put(&text) {
+            Ok(()) => Ok(count),
+            Err(error) => Err(error),
+        }
     }
 }

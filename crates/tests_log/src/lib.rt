@@ -3,3 +3,7 @@
 
 #[cfg(test)]
 mod damage;
+#[cfg(test)]
+mod faults;
+#[cfg(test)]
+mod trims;

@@ -1,0 +1,4 @@
+pub mod Names
+pub mod Parts
+pub mod Records
+pub mod Sizes

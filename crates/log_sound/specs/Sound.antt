@@ -1,0 +1,100 @@
+-- Which records can stand in a log of each sort of process.
+use Rattle.std.specs.Prelude.{◌≡◌, ◌<◌, ◌≤◌, ◌^◌, ⊤, ℕ, List, Option, Some, None, length}
+use Rattle.std.specs.List.{AllByRecursion}
+use Rattle.xa_xid.specs.Xids.{IsXid}
+use Rattle.tree_model.specs.declared.names.Kind.{Kind}
+use Rattle.tree_model.specs.declared.names.Kind.TheVariants.{Coordinator, Manager}
+use Rattle.tree_model.specs.declared.names.ProcessId.{ProcessId}
+use Rattle.tree_model.specs.declared.names.Ticket.{Ticket}
+use Rattle.tree_model.specs.declared.records.Branch.{Branch}
+use Rattle.tree_model.specs.declared.records.Branch.TheVariants.{Case as CaseBranch, Foreign}
+use Rattle.tree_model.specs.declared.records.LogRecord.{LogRecord}
+use Rattle.tree_model.specs.declared.records.Record.{Record}
+use Rattle.tree_model.specs.declared.records.Record.TheVariants.{Opened, Collecting, Prepare, Commit, Abort, End, Prepared, Committed, RolledBack, Direct, HeurCommit, HeurRollback, Told, Forgot, Base, Pair}
+use Rattle.tree_model.specs.declared.records.Write.{Write}
+use Rattle.tree_model.specs.Branches.{FitsBelow, FitsTxn}
+use Rattle.tree_model.specs.LogNames.{IsWholeName, below_of, name_xid}
+use Rattle.log_text.specs.Parts.{name_in}
+use Rattle.log_text.specs.Payloads.{FitsFrame, kind_byte, payload_text}
+use Rattle.log_text.specs.Reading.{read_record}
+
+-- numbers that a name's fields can be; a foreign name is an XID
+abbrev pub FitsName : Option ProcessId → Branch → Type 0
+FitsName p (CaseBranch c) = FitsTxn c.txn × FitsBelow (below_of c.ticket p)
+FitsName p (Foreign x) = IsXid x
+
+-- a name is whole, and its numbers fit
+pub record IsSoundName (p : Option ProcessId) (b : Branch) : Type 0 where
+  pub whole : IsWholeName p (Some b)
+  pub fits : FitsName p b
+
+-- numbers of boots and tickets are below 2^63
+pub record IsSoundTicket (t : Ticket) : Type 0 where
+  pub child : t.child.0 < 2 ^ 32
+  pub boot : t.boot < 2 ^ 63
+  pub number : t.number < 2 ^ 63
+
+-- at most 255 tickets
+pub record AreSoundTickets (ts : List Ticket) : Type 0 where
+  pub count : length ts < 256
+  pub each : AllByRecursion IsSoundTicket ts
+
+-- a key has 1 to 64 bytes
+pub record IsSoundKey (k : List ℕ) : Type 0 where
+  pub some : 1 ≤ length k
+  pub short : length k ≤ 64
+
+-- a value that is left has at most 256 bytes
+abbrev pub IsSoundLeft : Option (List ℕ) → Type 0
+IsSoundLeft None = ⊤
+IsSoundLeft (Some v) = length v ≤ 256
+
+pub record IsSoundWrite (w : Write) : Type 0 where
+  pub key : IsSoundKey w.key
+  pub left : IsSoundLeft w.value
+
+-- 1 to 64 writes
+pub record AreSoundWrites (ws : List Write) : Type 0 where
+  pub some : 1 ≤ length ws
+  pub few : length ws ≤ 64
+  pub each : AllByRecursion IsSoundWrite ws
+
+-- a record without a name has a number below 2^63, or a key and its value
+abbrev pub IsSoundUnnamed : Kind → Record → Type 0
+IsSoundUnnamed p (Opened n) = n < 2 ^ 63
+IsSoundUnnamed Manager (Base n) = n < 2 ^ 63
+IsSoundUnnamed Manager (Pair k v) = IsSoundKey k × (length v ≤ 256)
+IsSoundUnnamed _ _ = ⊥
+
+-- a record can stand in a log of this sort of process: its kind is of that sort, its name whole, and its parts in range
+abbrev pub IsSoundEntry : Kind → Option ProcessId → Record → Type 0
+IsSoundEntry Coordinator p (Collecting c ts) = IsSoundName p (CaseBranch c) × AreSoundTickets ts
+IsSoundEntry Coordinator p (Prepare c ts) = IsSoundName p (CaseBranch c) × AreSoundTickets ts
+IsSoundEntry Coordinator p (Commit c ts) = IsSoundName p (CaseBranch c) × AreSoundTickets ts
+IsSoundEntry Coordinator p (Abort c ts) = IsSoundName p (CaseBranch c) × AreSoundTickets ts
+IsSoundEntry Coordinator p (End c) = IsSoundName p (CaseBranch c)
+IsSoundEntry Manager p (Prepared b ws) = IsSoundName p b × AreSoundWrites ws
+IsSoundEntry Manager p (Committed b) = IsSoundName p b
+IsSoundEntry Manager p (RolledBack b) = IsSoundName p b
+IsSoundEntry Manager p (Direct b ws) = IsSoundName p b × AreSoundWrites ws
+IsSoundEntry Manager p (HeurCommit b) = IsSoundName p b
+IsSoundEntry Manager p (HeurRollback b) = IsSoundName p b
+IsSoundEntry Manager p (Told b o) = IsSoundName p b
+IsSoundEntry Manager p (Forgot b) = IsSoundName p b
+IsSoundEntry k p r = (p ≡ None) × IsSoundUnnamed k r
+
+-- a record that can stand in such a log
+abbrev pub IsSound : Kind → LogRecord → Type 0
+IsSound k l = IsSoundEntry k l.parent l.entry
+
+-- the XID that a log writes for a whole name reads as this name
+abbrev pub NamesReadBack : Type 0
+NamesReadBack = (p : Option ProcessId) (b : Branch) → IsSoundName p b → name_in (name_xid p b) ≡ (p, b)
+
+-- the payload of a sound record reads as this record
+abbrev pub RecordsReadBack : Type 0
+RecordsReadBack = (k : Kind) (l : LogRecord) → IsSound k l → read_record k (kind_byte l.entry) (payload_text l.parent l.entry) ≡ Some l
+
+-- a sound record fits a frame
+abbrev pub RecordsFitFrames : Type 0
+RecordsFitFrames = (k : Kind) (l : LogRecord) → IsSound k l → FitsFrame l

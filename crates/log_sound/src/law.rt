@@ -1,0 +1,18 @@
+//! A sound record's payload reads as this record.
+
+ghost use Rattle.log_sound.specs.Sound.{NamesReadBack, RecordsFitFrames, RecordsReadBack};
+
+/// The XID that a log writes for a whole name reads as this name.
+pub fn names_read_back()
+    ensures { NamesReadBack }
+{}
+
+/// The payload of a sound record reads as this record.
+pub fn records_read_back()
+    ensures { RecordsReadBack }
+{}
+
+/// A sound record fits a frame.
+pub fn records_fit_frames()
+    ensures { RecordsFitFrames }
+{}
