@@ -10,6 +10,7 @@ pub record MayBeBorn (r : Reading) : Type 0 where
   pub fresh : r.born ≡ false
   pub up : r.failed ≡ false
 
+-- the child gave a ticket for the case, which is Active now
 abbrev pub is_born : Reading → Reading
 is_born r = record r { born = true; phase = Active }
 
@@ -21,6 +22,7 @@ pub record MayTakePart (r : Reading) : Type 0 where
   pub known : r.born ≡ true
   pub undecided_above : r.outcome ≡ false
 
+-- a case that takes part accepted the parent's ticket
 abbrev pub takes_part : Reading → Reading
 takes_part r = record r { took_part_up = true }
 
@@ -29,6 +31,7 @@ pub record MayCommitAbove (r : Reading) : Type 0 where
   pub cascaded : r.parent_is_root ≡ false
   pub consented : r.took_part_up ≡ true → (r.refused ≡ false) × Consents r
 
+-- the root committed the transaction
 abbrev pub commits_above : Reading → Reading
 commits_above r = record r { outcome = true }
 
@@ -39,6 +42,7 @@ pub record MayReadEmpty (r : Reading) : Type 0 where
   pub takes_part : r.took_part_up ≡ true
   pub empty : r.accepted ≡ false
 
+-- nobody takes part below: READ goes up, and the case is over
 abbrev pub reads_empty : Reading → Reading
 reads_empty r = record r { phase = Closed; read_up = true }
 
@@ -49,6 +53,7 @@ pub record MayReadUp (r : Reading) : Type 0 where
   pub takes_part : r.took_part_up ≡ true
   pub all_read : r.accepted ≡ true → r.first_read ≡ true
 
+-- all below said READ: READ goes up, and the case is over
 abbrev pub reads_up : Reading → Reading
 reads_up r = record r { phase = Closed; read_up = true }
 
@@ -64,6 +69,7 @@ pub record MayPromise (r : Reading) : Type 0 where
   pub takes_part : r.took_part_up ≡ true
   pub all_voted : HasVote r
 
+-- the forced Prepare names the child where it said YES, and YES goes up
 abbrev pub promises : Reading → Reading
 promises r = record r {
   phase = Closed;

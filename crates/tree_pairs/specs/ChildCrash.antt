@@ -41,6 +41,7 @@ pub record IsChildFront (front : ChildFront) (r : Reading) : Type 0 where
 pub record MayFailChild (r : Reading) : Type 0 where
   pub up : r.child_failed ≡ false
 
+-- the device failed and nothing of the case was appended: an open branch is lost
 abbrev pub child_fails : Reading → Reading
 child_fails r = record r {
   child_failed = true;
@@ -53,6 +54,7 @@ pub record MayFailToPromise (r : Reading) : Type 0 where
   pub asked : r.sent_prepare ≡ true
   pub is_open : r.ticket_open ≡ true
 
+-- the device failed behind Prepared or Prepare: the promise is appended, and no YES goes out
 abbrev pub fails_to_promise : Reading → Reading
 fails_to_promise r = record r { child_failed = true; ticket_open = false; prepared_kept = true }
 
@@ -62,6 +64,7 @@ pub record MayFailToLearnCommit (r : Reading) : Type 0 where
   pub told : r.sent_commit ≡ true
   pub in_doubt : IsInDoubt r
 
+-- the device failed behind the record of the commit
 abbrev pub fails_to_commit : Reading → Reading
 fails_to_commit r = record r {
   child_failed = true;
@@ -69,11 +72,13 @@ fails_to_commit r = record r {
   child_committed = not r.heuristic_kept || r.child_committed;
 }
 
+-- ABORT came to a branch in doubt as the device failed
 pub record MayFailToLearnAbort (r : Reading) : Type 0 where
   pub up : r.child_failed ≡ false
   pub told : r.sent_abort ≡ true
   pub in_doubt : IsInDoubt r
 
+-- the device failed behind the record of the abort
 abbrev pub fails_to_roll_back : Reading → Reading
 fails_to_roll_back r = record r { child_failed = true; child_refused = true; learnt_abort_kept = true }
 
@@ -84,6 +89,7 @@ pub record MayFailToDecideAlone (r : Reading) : Type 0 where
   pub in_doubt : IsInDoubt r
   pub undecided : r.heuristic_kept ≡ false
 
+-- the device failed behind the operator's decision
 abbrev pub fails_to_decide_alone : Bool → Reading → Reading
 fails_to_decide_alone commit r = record r {
   child_failed = true;
@@ -91,11 +97,13 @@ fails_to_decide_alone commit r = record r {
   heuristic_commits = commit;
 }
 
+-- the operator forgets a decided branch as the device fails
 pub record MayFailToForget (r : Reading) : Type 0 where
   pub manager : r.child_is_manager ≡ true
   pub up : r.child_failed ≡ false
   pub heuristic : IsHeuristic r
 
+-- the device failed behind Forgot
 abbrev pub fails_to_forget : Reading → Reading
 fails_to_forget r = record r { child_failed = true; forgot_kept = true }
 
@@ -104,6 +112,7 @@ pub record MayHardenFailedChild (front : ChildFront) (r : Reading) : Type 0 wher
   pub failed : r.child_failed ≡ true
   pub front_of : IsChildFront front r
 
+-- of the records of a failed child, those in this front are forced
 abbrev pub hardens_failed_child : ChildFront → Reading → Reading
 hardens_failed_child front r = record r {
   prepared_forced = front.prepared;
@@ -134,6 +143,7 @@ child_loses front r = record r {
 pub record MayReopenChild (r : Reading) : Type 0 where
   pub failed : r.child_failed ≡ true
 
+-- the child is up again: what its log holds is forced, and a promise without an outcome asks
 abbrev pub child_reopens : Reading → Reading
 child_reopens r = record r {
   child_failed = false;

@@ -8,6 +8,7 @@ pub record MayIssue (r : Reading) : Type 0 where
   pub fresh : r.issued ≡ false
   pub up : r.child_failed ≡ false
 
+-- JOINED tells the parent's case of a fresh ticket
 abbrev pub issues : Reading → Reading
 issues r = record r { issued = true; ticket_open = true }
 
@@ -26,9 +27,11 @@ votes_yes r = record r {
   sent_yes = true;
 }
 
+-- the child says NO, and drops the branch
 abbrev pub votes_no : Reading → Reading
 votes_no r = record r { ticket_open = false; child_refused = true; sent_no = true }
 
+-- the child says READ, and drops the branch
 abbrev pub votes_read : Reading → Reading
 votes_read r = record r { ticket_open = false; sent_read = true }
 
@@ -36,6 +39,7 @@ votes_read r = record r { ticket_open = false; sent_read = true }
 pub record MayDrop (r : Reading) : Type 0 where
   pub is_open : r.ticket_open ≡ true
 
+-- ABORT ends a branch that promised nothing
 abbrev pub drops : Reading → Reading
 drops r = record r { ticket_open = false; child_refused = true }
 
@@ -44,6 +48,7 @@ pub record MayDropAndAcknowledge (r : Reading) : Type 0 where
   pub is_open : r.ticket_open ≡ true
   pub aborted : r.sent_abort ≡ true
 
+-- ABORT ends a branch that promised nothing, and is acknowledged
 abbrev pub drops_and_acknowledges : Reading → Reading
 drops_and_acknowledges r = record r { ticket_open = false; child_refused = true; sent_ack = true }
 
@@ -53,6 +58,7 @@ pub record MayRepeatYes (r : Reading) : Type 0 where
   pub up : r.child_failed ≡ false
   pub promised : r.prepared_kept ≡ true
 
+-- PREPARE came again to a promise: YES goes out again
 abbrev pub repeats_yes : Reading → Reading
 repeats_yes r = record r { sent_yes = true }
 
@@ -62,6 +68,7 @@ pub record MayRefuse (r : Reading) : Type 0 where
   pub up : r.child_failed ≡ false
   pub forgotten : IsForgotten r
 
+-- PREPARE came to a ticket that is not live: NO goes out
 abbrev pub refuses : Reading → Reading
 refuses r = record r { sent_no = true }
 
@@ -118,6 +125,7 @@ pub record MayAcknowledgeAbort (r : Reading) : Type 0 where
   pub told : r.sent_abort ≡ true
   pub known : IsForgotten r ⊎ (r.learnt_abort_kept ≡ true)
 
+-- an outcome that is owed an ACK came to a ticket that knows it, or knows nothing
 abbrev pub acknowledges : Reading → Reading
 acknowledges r = record r { sent_ack = true }
 
@@ -126,6 +134,7 @@ pub record MayAsk (r : Reading) : Type 0 where
   pub up : r.child_failed ≡ false
   pub in_doubt : IsInDoubt r
 
+-- the child asks for the outcome
 abbrev pub asks : Reading → Reading
 asks r = record r { sent_inquire = true }
 
@@ -136,6 +145,7 @@ pub record MayDecideAlone (r : Reading) : Type 0 where
   pub in_doubt : IsInDoubt r
   pub undecided : r.heuristic_kept ≡ false
 
+-- an operator decides the branch, forced
 abbrev pub decides_alone : Bool → Reading → Reading
 decides_alone commit r = record r {
   heuristic_kept = true;
@@ -150,6 +160,7 @@ pub record MayForget (r : Reading) : Type 0 where
   pub up : r.child_failed ≡ false
   pub heuristic : IsHeuristic r
 
+-- the operator's decision may be forgotten, forced
 abbrev pub forgets : Reading → Reading
 forgets r = record r { forgot_kept = true; forgot_forced = true; forgot_ever = true }
 
@@ -157,6 +168,7 @@ forgets r = record r { forgot_kept = true; forgot_forced = true; forgot_ever = t
 pub record MayHardenChild (r : Reading) : Type 0 where
   pub up : r.child_failed ≡ false
 
+-- something was forced at the child: all of its log is
 abbrev pub hardens_child : Reading → Reading
 hardens_child r = record r {
   prepared_forced = r.prepared_kept;
@@ -174,6 +186,7 @@ pub record MayTrimChild (r : Reading) : Type 0 where
   pub up : r.child_failed ≡ false
   pub forgotten : IsForgotten r
 
+-- a trim takes the records of a branch that is over
 abbrev pub trims_child : Reading → Reading
 trims_child r = record r {
   prepared_kept = false;

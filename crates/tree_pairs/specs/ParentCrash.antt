@@ -37,6 +37,7 @@ pub record IsParentFront (front : ParentFront) (r : Reading) : Type 0 where
 pub record MayFailParent (r : Reading) : Type 0 where
   pub up : r.failed ≡ false
 
+-- the device failed and nothing of the case was appended: a live case is lost
 abbrev pub parent_fails : Reading → Reading
 parent_fails r = record r { failed = true; phase = Closed; refused = is_live r.phase || r.refused }
 
@@ -44,6 +45,7 @@ parent_fails r = record r { failed = true; phase = Closed; refused = is_live r.p
 pub record MayFailToCollect (r : Reading) : Type 0 where
   pub active : r.phase ≡ Active
 
+-- the device failed behind Collecting: no PREPARE goes out
 abbrev pub fails_to_collect : Reading → Reading
 fails_to_collect r = record r {
   failed = true;
@@ -67,6 +69,7 @@ fails_to_abort_naming r = record r {
   owed = is_told_to_abort r;
 }
 
+-- the device failed behind the Abort for the first NO
 abbrev pub fails_to_hear_no : Reading → Reading
 fails_to_hear_no r = record r {
   failed = true;
@@ -86,6 +89,7 @@ pub record MayFailToEndReadOnly (r : Reading) : Type 0 where
   pub waiting : r.phase ≡ Collecting
   pub all_read : r.accepted ≡ true → r.first_read ≡ true
 
+-- the device failed behind the End of a read-only case
 abbrev pub fails_to_end_read_only : Reading → Reading
 fails_to_end_read_only r = record r { failed = true; phase = Closed; refused = true; end_kept = true }
 
@@ -98,6 +102,7 @@ fails_to_decide_naming r = record r {
   owed = r.accepted && r.first_yes;
 }
 
+-- the device failed behind the root's Commit: nothing is told
 abbrev pub fails_to_decide : Reading → Reading
 fails_to_decide r = record r { failed = true; phase = Closed; commit_kept = true }
 
@@ -114,12 +119,15 @@ fails_to_promise_up r = record r {
 abbrev pub fails_to_pass_commit_naming : Reading → Reading
 fails_to_pass_commit_naming r = record r { failed = true; commit_kept = true; owed = r.names }
 
+-- the device failed behind the Commit of a promised case
 abbrev pub fails_to_pass_commit : Reading → Reading
 fails_to_pass_commit r = record r { failed = true; commit_kept = true }
 
+-- the device failed behind the Abort of a promised case, which names nobody
 abbrev pub fails_to_pass_abort : Reading → Reading
 fails_to_pass_abort r = record r { failed = true; refused = true; abort_kept = true }
 
+-- the device failed behind the Abort of a promised case, which names those that it promised for
 abbrev pub fails_to_pass_abort_naming : Reading → Reading
 fails_to_pass_abort_naming r = record r { failed = true; refused = true; abort_kept = true; owed = r.names }
 
@@ -132,6 +140,7 @@ pub record MayHardenFailedParent (front : ParentFront) (r : Reading) : Type 0 wh
   pub failed : r.failed ≡ true
   pub front_of : IsParentFront front r
 
+-- of the records of a failed parent, those in this front are forced
 abbrev pub hardens_failed_parent : ParentFront → Reading → Reading
 hardens_failed_parent front r = record r {
   collecting_forced = front.collecting;
@@ -169,10 +178,12 @@ abbrev pub is_undecided : Reading → Bool
 is_undecided r = r.collecting_kept && not r.own_prepare_kept && not r.commit_kept && not r.abort_kept &&
     not r.end_kept
 
+-- a failed parent restarts and finds the case undecided
 pub record MayAbortAtRestart (r : Reading) : Type 0 where
   pub failed : r.failed ≡ true
   pub undecided : is_undecided r ≡ true
 
+-- the device failed again behind the Abort that the restart appended
 abbrev pub fails_to_abort_at_restart : Reading → Reading
 fails_to_abort_at_restart r = record r { abort_kept = true; owed = r.collects }
 
@@ -182,6 +193,7 @@ fails_to_abort_at_restart r = record r { abort_kept = true; owed = r.collects }
 pub record MayReopenParent (r : Reading) : Type 0 where
   pub failed : r.failed ≡ true
 
+-- the parent is up again and has appended the Abort of a collection that nothing followed
 abbrev pub parent_reopens_naming : Reading → Reading
 parent_reopens_naming r = record r {
   failed = false;
@@ -211,5 +223,6 @@ parent_reopens r = record r {
 abbrev pub parent_restarts_naming : ParentFront → Reading → Reading
 parent_restarts_naming front r = parent_reopens_naming (parent_loses front r)
 
+-- a restart: what is not in this front is lost, and then the parent is up again
 abbrev pub parent_restarts : ParentFront → Reading → Reading
 parent_restarts front r = parent_reopens (parent_loses front r)

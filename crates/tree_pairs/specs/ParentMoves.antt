@@ -9,6 +9,7 @@ pub record MayAccept (r : Reading) : Type 0 where
   pub active : r.phase ≡ Active
   pub joined : r.issued ≡ true
 
+-- the case accepts the ticket
 abbrev pub accepts : Reading → Reading
 accepts r = record r { accepted = true; took_part = true }
 
@@ -40,15 +41,18 @@ pub record MayHearYes (r : Reading) : Type 0 where
   pub said : r.sent_yes ≡ true
   pub first : r.first_read ≡ false
 
+-- the first vote of the ticket was YES
 abbrev pub hears_yes : Reading → Reading
 hears_yes r = record r { first_yes = true }
 
+-- READ comes as the first vote of an accepted ticket, while the case waits for votes
 pub record MayHearRead (r : Reading) : Type 0 where
   pub waiting : r.phase ≡ Collecting
   pub accepted : r.accepted ≡ true
   pub said : r.sent_read ≡ true
   pub first : r.first_yes ≡ false
 
+-- the first vote of the ticket was READ
 abbrev pub hears_read : Reading → Reading
 hears_read r = record r { first_read = true }
 
@@ -88,6 +92,7 @@ pub record MayAbort (r : Reading) : Type 0 where
 abbrev pub is_told_to_abort : Reading → Bool
 is_told_to_abort r = r.accepted && not r.first_read
 
+-- an Abort is appended: the root tells its application, and ABORT goes to each that it is owed to
 abbrev pub aborts : Reading → Reading
 aborts r = record r {
   phase = Closed;
@@ -112,6 +117,7 @@ aborts_forced r = record r {
 pub record MayGiveUp (r : Reading) : Type 0 where
   pub active : r.phase ≡ Active
 
+-- the case ends before any vote was asked for: ABORT goes to each accepted child
 abbrev pub gives_up : Reading → Reading
 gives_up r = record r {
   phase = Closed;
@@ -124,6 +130,7 @@ gives_up r = record r {
 pub record MayHearAck (r : Reading) : Type 0 where
   pub said : r.sent_ack ≡ true
 
+-- an ACK of the ticket was heard
 abbrev pub hears_ack : Reading → Reading
 hears_ack r = record r { acked = true }
 
@@ -132,10 +139,12 @@ pub record MayEndCommit (r : Reading) : Type 0 where
   pub decided : IsCommitting r
   pub all_acked : r.owed ≡ true → r.acked ≡ true
 
+-- the case aborted, and the ACK that is owed was heard
 pub record MayEndAbort (r : Reading) : Type 0 where
   pub decided : IsAborting r
   pub all_acked : r.owed ≡ true → r.acked ≡ true
 
+-- End is appended
 abbrev pub ends : Reading → Reading
 ends r = record r { end_kept = true }
 
@@ -144,13 +153,16 @@ pub record MayAnswerCommit (r : Reading) : Type 0 where
   pub asked : r.sent_inquire ≡ true
   pub committing : IsCommitting r
 
+-- an inquiry is answered by COMMIT
 abbrev pub answers_commit : Reading → Reading
 answers_commit r = record r { sent_commit = true }
 
+-- an inquiry comes to a case that aborted
 pub record MayAnswerAbort (r : Reading) : Type 0 where
   pub asked : r.sent_inquire ≡ true
   pub aborting : IsAborting r
 
+-- an inquiry is answered by ABORT
 abbrev pub answers_abort : Reading → Reading
 answers_abort r = record r { sent_abort = true }
 
@@ -159,6 +171,7 @@ pub record MayPresumeAbort (r : Reading) : Type 0 where
   pub asked : r.sent_inquire ≡ true
   pub nothing_known : IsUnknownUnderAbort r ⊎ IsStranger r
 
+-- an inquiry comes where nothing is known of the case, under Presumed Commit
 pub record MayPresumeCommit (r : Reading) : Type 0 where
   pub asked : r.sent_inquire ≡ true
   pub nothing_known : IsUnknownUnderCommit r ⊎ IsStranger r
@@ -167,6 +180,7 @@ pub record MayPresumeCommit (r : Reading) : Type 0 where
 pub record MayHardenParent (r : Reading) : Type 0 where
   pub up : r.failed ≡ false
 
+-- something was forced at the parent: all of its log is
 abbrev pub hardens_parent : Reading → Reading
 hardens_parent r = record r {
   collecting_forced = r.collecting_kept;
