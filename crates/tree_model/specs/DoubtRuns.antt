@@ -8,6 +8,7 @@ use Rattle.tree_model.specs.Names.{root_case, child_case}
 use Rattle.tree_model.specs.Plays.{Acts, Delivers, Settles, Restarts, Trims}
 use Rattle.tree_model.specs.Rows.{process, txn, ticket, Worked, tree_a}
 
+-- the root restarts while it collects votes: it aborts, and tells all that it had asked
 abbrev pub root_restart_collecting_pc : Worked
 root_restart_collecting_pc =
     record {
@@ -58,6 +59,7 @@ root_restart_collecting_pc =
           ∷ [];
     }
 
+-- an inquiry comes to a root that committed and trimmed: the answer is what is presumed, too late to matter
 abbrev pub late_inquiry_after_trim_pa : Worked
 late_inquiry_after_trim_pa =
     record {
@@ -113,6 +115,7 @@ late_inquiry_after_trim_pa =
           ∷ [];
     }
 
+-- an operator rolls back a branch that is then committed
 abbrev pub heuristic_rollback_mismatch : Worked
 heuristic_rollback_mismatch =
     record {
@@ -157,6 +160,7 @@ heuristic_rollback_mismatch =
           ∷ [];
     }
 
+-- the root restarts while it waits for acknowledgements: it sends COMMIT again
 abbrev pub root_restart_committing_pa : Worked
 root_restart_committing_pa =
     record {
@@ -208,6 +212,7 @@ root_restart_committing_pa =
           ∷ [];
     }
 
+-- an operator rolls back a branch that is then committed, and forgets it
 abbrev pub heuristic_rollback_forgotten : Worked
 heuristic_rollback_forgotten =
     record {
@@ -254,6 +259,7 @@ heuristic_rollback_forgotten =
           ∷ [];
     }
 
+-- an operator decides and forgets a branch before its YES was heard: it votes NO when it is asked again
 abbrev pub heuristic_forgotten_before_vote : Worked
 heuristic_forgotten_before_vote =
     record {
@@ -294,6 +300,7 @@ heuristic_forgotten_before_vote =
           ∷ [];
     }
 
+-- a branch that promised nothing has nothing to ask
 abbrev pub ask_before_prepare : Worked
 ask_before_prepare =
     record {
@@ -322,6 +329,7 @@ ask_before_prepare =
           ∷ [];
     }
 
+-- a branch that committed has nothing to ask
 abbrev pub ask_after_commit : Worked
 ask_after_commit =
     record {
@@ -364,6 +372,7 @@ ask_after_commit =
           ∷ [];
     }
 
+-- a manager trims its log, and trims it again
 abbrev pub trim_manager_twice : Worked
 trim_manager_twice =
     record {
@@ -409,6 +418,7 @@ trim_manager_twice =
           ∷ [];
     }
 
+-- a promised branch asks while the root collects votes: no answer
 abbrev pub collecting_in_doubt_pc : Worked
 collecting_in_doubt_pc =
     record {

@@ -7,6 +7,7 @@ use Rattle.tree_model.specs.Names.{root_case}
 use Rattle.tree_model.specs.Plays.{Acts, Delivers, Settles, Restarts}
 use Rattle.tree_model.specs.Rows.{process, txn, Worked, tree_a}
 
+-- two managers join, work, promise and commit
 abbrev pub flat_pa_commit : Worked
 flat_pa_commit =
     record {
@@ -48,6 +49,7 @@ flat_pa_commit =
           ∷ [];
     }
 
+-- the same under Presumed Commit, which needs no acknowledgement
 abbrev pub flat_pc_commit : Worked
 flat_pc_commit =
     record {
@@ -87,6 +89,7 @@ flat_pc_commit =
           ∷ [];
     }
 
+-- one manager missed its work and votes NO
 abbrev pub late_no_vote_pa : Worked
 late_no_vote_pa =
     record {
@@ -133,6 +136,7 @@ late_no_vote_pa =
           ∷ [];
     }
 
+-- the same under Presumed Commit, where the abort is acknowledged
 abbrev pub late_no_vote_pc : Worked
 late_no_vote_pc =
     record {
@@ -176,6 +180,7 @@ late_no_vote_pc =
           ∷ [];
     }
 
+-- transactions that wrote nothing
 abbrev pub readonly_transactions : Worked
 readonly_transactions =
     record {
@@ -201,6 +206,7 @@ readonly_transactions =
           ∷ [];
     }
 
+-- PREPARE comes again to a branch that committed: it votes NO, which is ignored
 abbrev pub forgotten_ticket_votes_no : Worked
 forgotten_ticket_votes_no =
     record {
@@ -246,6 +252,7 @@ forgotten_ticket_votes_no =
           ∷ [];
     }
 
+-- the commit act comes again when the transaction is over
 abbrev pub commit_again_after_end : Worked
 commit_again_after_end =
     record {
@@ -288,6 +295,7 @@ commit_again_after_end =
           ∷ [];
     }
 
+-- the commit act comes again while votes are awaited
 abbrev pub commit_again_before_votes : Worked
 commit_again_before_votes =
     record {

@@ -59,10 +59,12 @@ abbrev pub is_collecting_naming : Case → Ticket → Record → Bool
 is_collecting_naming c t (CollectingRecord d ts) = same_case d c && in_list ts t
 is_collecting_naming c t _ = false
 
+-- a Prepare of the case that names the ticket
 abbrev pub is_prepare_naming : Case → Ticket → Record → Bool
 is_prepare_naming c t (PrepareRecord d ts) = same_case d c && in_list ts t
 is_prepare_naming c t _ = false
 
+-- a Commit or Abort of the case that names the ticket
 abbrev pub is_decision_naming : Case → Ticket → Record → Bool
 is_decision_naming c t (CommitRecord d ts) = same_case d c && in_list ts t
 is_decision_naming c t (AbortRecord d ts) = same_case d c && in_list ts t
@@ -70,18 +72,22 @@ is_decision_naming c t _ = false
 
 -- Tests of one message.
 
+-- PREPARE of the case
 abbrev pub is_prepare_message : Case → Message → Bool
 is_prepare_message d (Prepare e n) = same_case e d
 is_prepare_message d _ = false
 
+-- NO of the case
 abbrev pub is_no_message : Case → Message → Bool
 is_no_message d (No e) = same_case e d
 is_no_message d _ = false
 
+-- an ACK of the case
 abbrev pub is_ack_message : Case → Message → Bool
 is_ack_message d (Ack e o) = same_case e d
 is_ack_message d _ = false
 
+-- INQUIRE of the case
 abbrev pub is_inquiry_message : Case → Message → Bool
 is_inquiry_message d (Inquire e) = same_case e d
 is_inquiry_message d _ = false
@@ -113,6 +119,7 @@ is_dead false false false read = false
 is_dead false false true true = false
 is_dead false false true false = true
 
+-- the transaction was concluded as committed
 abbrev pub is_committed_conclusion : Conclusion → Bool
 is_committed_conclusion ConcludedCommitted = true
 is_committed_conclusion _ = false
@@ -126,6 +133,7 @@ acknowledged PresumeCommit = AbortedOutcome
 abbrev pub is_told_committed : Txn → Told → Bool
 is_told_committed x a = same_txn a.txn x && is_committed_conclusion a.conclusion
 
+-- the application was told of the transaction
 abbrev pub is_told_of_txn : Txn → Told → Bool
 is_told_of_txn x a = same_txn a.txn x
 
@@ -165,6 +173,7 @@ pub record ParentHalf : Type 0 where
   pub names : Bool
   pub owed : Bool
 
+-- the two votes are one
 abbrev pub is_vote : Vote → Vote → Bool
 is_vote VoteYes VoteYes = true
 is_vote VoteNo VoteNo = true
@@ -202,6 +211,7 @@ parent_half_at s m n c t =
       owed = has (is_decision_naming c t) (kept n);
     }
 
+-- what a process says of a pair as the parent
 abbrev pub parent_half : Place → Node → Case → Ticket → ParentHalf
 parent_half place n c t = parent_half_at (standing_of place n c) (memory_of place n c) n c t
 
@@ -254,6 +264,7 @@ child_half_at s k d =
       forgot_ever = has (is_forgot d) k.durable;
     }
 
+-- what a process says of a pair as the child
 abbrev pub child_half : Place → Node → Case → ChildHalf
 child_half place k d = child_half_at (standing_of place k d) k d
 
@@ -271,6 +282,7 @@ pub record Wire : Type 0 where
   pub ack : Bool
   pub inquire : Bool
 
+-- what was sent between the two of a pair, and up by its parent
 abbrev pub wire : Case → Ticket → List Envelope → Wire
 wire c t net =
     let d = child_case c.txn t in
@@ -296,6 +308,7 @@ abbrev pub is_born : Bool → Bool → Bool → Bool
 is_born true begun given = begun
 is_born false begun given = given
 
+-- a root's case takes part once it is begun, another one where it was accepted by one that does
 abbrev pub is_participant : Bool → Bool → Bool → Bool
 is_participant true born above = born
 is_participant false born above = above
@@ -372,6 +385,7 @@ reading_from root manager outcome above p k v =
       sent_inquire = v.inquire;
     }
 
+-- the case is the root's: it has no ticket
 abbrev pub is_root_ticket : Option Ticket → Bool
 is_root_ticket None = true
 is_root_ticket (Some u) = false
