@@ -26,3 +26,4 @@ pub mod TurnsOutcomes
 pub mod TurnsOperators
 pub mod TurnsAcknowledged
 pub mod TurnsOthers
+pub mod OwnLetters
