@@ -27,3 +27,4 @@ pub mod TurnsOperators
 pub mod TurnsAcknowledged
 pub mod TurnsOthers
 pub mod OwnLetters
+pub mod ManagerProcess
