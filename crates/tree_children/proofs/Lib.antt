@@ -28,3 +28,5 @@ pub mod TurnsAcknowledged
 pub mod TurnsOthers
 pub mod OwnLetters
 pub mod ManagerProcess
+pub mod FaultRecords
+pub mod FaultRows
