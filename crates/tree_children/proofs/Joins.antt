@@ -6,7 +6,6 @@ use Rattle.tree_model.specs.declared.names.Ticket.{Ticket}
 use Rattle.tree_model.specs.declared.names.Outcome.{Outcome}
 use Rattle.tree_model.specs.declared.names.Outcome.TheVariants.{Committed as CommittedOutcome, Aborted as AbortedOutcome}
 use Rattle.tree_model.specs.declared.names.Presumption.{Presumption}
-use Rattle.tree_model.specs.declared.names.Presumption.TheVariants.{PresumeAbort, PresumeCommit}
 use Rattle.tree_model.specs.declared.messages.Message.TheVariants.{Join, Joined}
 use Rattle.tree_model.specs.declared.messages.Envelope.{Envelope}
 use Rattle.tree_model.specs.declared.records.Branch.TheVariants.{Case as CaseBranch}
@@ -23,10 +22,7 @@ use Rattle.tree_model.specs.Outcomes.{sent, is_joined_message}
 use Rattle.tree_model.specs.Reactions.{reacts, Does}
 use Rattle.tree_model.specs.Standings.{some_case, Mark, Unmarked, manager_view, mark_of, marked_branch}
 use Rattle.tree_pairs.specs.Reading.{Reading}
-use Rattle.tree_pairs.specs.ChildMoves as move
-use Rattle.tree_pairs.proofs.ChildAbort as under_abort
-use Rattle.tree_pairs.proofs.ChildCommit as under_commit
-use Rattle.tree_readings.specs.ReadingOf.{reading_from, ParentHalf, ChildHalf, Wire, child_half, wire, is_dead}
+use Rattle.tree_readings.specs.ReadingOf.{reading_from, ParentHalf, ChildHalf, Wire, child_half, wire}
 use Rattle.tree_readings.proofs.Lists.{sent-push, mark_of-nil_behind}
 use Rattle.tree_readings.proofs.Memories.{memory_of-nothing}
 use Rattle.tree_turns.specs.LeafTurns.{LeafTurn, Hears, writes_and_sends, does_nothing, gives_again, gives_fresh, votes_yes, votes_read, votes_no, repeats_yes, refuses, obeys, notes, acknowledges_told, acknowledges, drops, asks, decides, forgets}
@@ -42,29 +38,6 @@ use Rattle.tree_children.proofs.Moves.{Fits}
 use Rattle.tree_children.proofs.Opens.{opens, alike, open_where_active}
 use Rattle.tree_children.proofs.Readings as readings
 use Rattle.tree_children.proofs.Wires as wires
-
-issues : (pr : Presumption) (r : Reading) → InvariantOf pr r → move.MayIssue r → Fits pr r (move.issues r)
-issues PresumeAbort r h g = under_abort.issues r h g
-issues PresumeCommit r h g = under_commit.issues r h g
-
-dead-unissued : (a b c : Bool) → is_dead a b false c ≡ false
-unfolding is_dead
-dead-unissued true b c = refl
-dead-unissued false true c = refl
-dead-unissued false false c = refl
-
-dead-live : (a b c : Bool) → is_dead a true b c ≡ false
-unfolding is_dead
-dead-live true b c = refl
-dead-live false b c = refl
-
-or-false : (a : Bool) → (a || false) ≡ a
-or-false a = grind arith
-
-reading-issued : (root outcome above : Bool) (p : ParentHalf) (k : ChildHalf) (v : Wire) → v.issued ≡ false
-    → reading_from root true outcome above p (stands_so true k) (record v { issued = true })
-    ≡ move.issues (reading_from root true outcome above p k v)
-reading-issued root outcome above p k v e = rw e (simp (dead-unissued, dead-live))
 
 same_of : (d c : Case) → same_case d c ≡ true → d ≡ c
 same_of d c e = elim (same_case_tells d c) [ inl t ↦ t.1 | inr g ↦ absurd (let k = g.0 in cc) ]
@@ -315,8 +288,8 @@ module _ (c : Case) (t : Ticket) (p : ProcessId) (tree : List TreeEntry) (n : No
               subst (λ (b : Bool). Fits pr r0 (R (stands_so true k) (record v { issued = b })))
               (sym (now_issued e f))
               (subst (λ (z : Reading). Fits pr r0 z)
-              (sym (reading-issued root outcome above half k v (not_issued e)))
-              (issues pr r0 inv (record { fresh = not_issued e; up = up })))
+              (sym (readings.reading-issued root outcome above half k v (not_issued e)))
+              (moves.issues pr r0 inv (record { fresh = not_issued e; up = up })))
           gives_it e false f =
               subst (λ (b : Bool). Fits pr r0 (R (stands_so true k) (record v { issued = b || v.issued })))
               (sym (ap (λ (b : Bool). b && same_ticket new t) f))

@@ -148,8 +148,25 @@ module _ (c : Case) (t : Ticket) (p : ProcessId) (tree : List TreeEntry) (n : No
       let h = heard_in m i in
       let turn = turn_of place n h g r in
       let here : InputStands net t.child i = subst (λ (x : Happening). Stands net t.child x) hp stands in
-      silent (fails_in n h g f.appended f.forced) (turn_fails c t p tree n h net turn.up last.nested last.by_role here c.txn.presumption root outcome above
-      half inv g turn.turn f.appended f.forced (lasts place n last m _ _ (failed_in i f g fl hp np r)))
+      silent (fails_in n h g f.appended f.forced) (turn_fails (record {
+        c = c;
+        t = t;
+        p = p;
+        tree = tree;
+        n = n;
+        h = h;
+        net = net;
+        up = turn.up;
+        nested = last.nested;
+        m = last.by_role;
+        stands = here;
+        pr = c.txn.presumption;
+        root = root;
+        outcome = outcome;
+        above = above;
+        half = half;
+        inv = inv;
+      }) g turn.turn f.appended f.forced (lasts place n last m _ _ (failed_in i f g fl hp np r)))
   step_fits inv m stands _ _ (passed i hp r) = absurd (cc)
   step_fits inv m stands _ _ (failed_passing i f fl hp r) = absurd (cc)
   step_fits inv m stands _ _ (reopened k hp) =

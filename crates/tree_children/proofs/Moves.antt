@@ -25,6 +25,15 @@ pub common_of : (pr : Presumption) (r : Reading) → InvariantOf pr r → Common
 common_of PresumeAbort r h = h.common
 common_of PresumeCommit r h = h.common
 
+pub issues : (pr : Presumption) (r : Reading) → InvariantOf pr r → move.MayIssue r → Fits pr r (move.issues r)
+issues PresumeAbort r h g = under_abort.issues r h g
+issues PresumeCommit r h g = under_commit.issues r h g
+
+pub trims_child : (pr : Presumption) (r : Reading) → InvariantOf pr r → move.MayTrimChild r
+    → Fits pr r (move.trims_child r)
+trims_child PresumeAbort r h g = under_abort.trims_child r h g
+trims_child PresumeCommit r h g = under_commit.trims_child r h g
+
 pub votes_yes : (pr : Presumption) (r : Reading) → InvariantOf pr r → move.MayVote r
     → Fits pr r (move.votes_yes r)
 votes_yes PresumeAbort r h g = under_abort.votes_yes r h g

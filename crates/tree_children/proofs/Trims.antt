@@ -6,7 +6,6 @@ use Rattle.tree_model.specs.declared.names.ProcessId.{ProcessId}
 use Rattle.tree_model.specs.declared.names.Ticket.{Ticket}
 use Rattle.tree_model.specs.declared.names.Outcome.TheVariants.{Committed as CommittedOutcome}
 use Rattle.tree_model.specs.declared.names.Presumption.{Presumption}
-use Rattle.tree_model.specs.declared.names.Presumption.TheVariants.{PresumeAbort, PresumeCommit}
 use Rattle.tree_model.specs.declared.records.Branch.TheVariants.{Case as CaseBranch}
 use Rattle.tree_model.specs.declared.records.Record.{Record}
 use Rattle.tree_model.specs.declared.standings.Standing.{Standing}
@@ -22,8 +21,6 @@ use Rattle.tree_pairs.specs.ChildMoves as move
 use Rattle.tree_pairs.specs.ChildCrash as crash
 use Rattle.tree_pairs.specs.Invariant.{Common}
 use Rattle.tree_pairs.specs.Standing.{IsForgotten}
-use Rattle.tree_pairs.proofs.ChildAbort as under_abort
-use Rattle.tree_pairs.proofs.ChildCommit as under_commit
 use Rattle.tree_readings.specs.ReadingOf.{reading_from, ParentHalf, ChildHalf, Wire, child_half, child_half_at, is_dead, phase_by}
 use Rattle.tree_readings.proofs.LeafCrash.{QuietWhileOpen}
 use Rattle.tree_turns.specs.Written.{is_coordinators}
@@ -46,11 +43,6 @@ use Rattle.tree_nodes.proofs.TrimmedBranches.{trim_forgets}
 use Rattle.tree_children.proofs.Opens.{opens, closed_where_marked, closed_unless_open, is_phase_open}
 use Rattle.tree_children.proofs.Readings as readings
 use Rattle.tree_children.proofs.TrimHalves.{cleared, keeps_open, keeps_unmarked, forgets_over, half_keeps, half_cleared}
-
-trims_child : (pr : Presumption) (r : Reading) → InvariantOf pr r → move.MayTrimChild r
-    → Fits pr r (move.trims_child r)
-trims_child PresumeAbort r h g = under_abort.trims_child r h g
-trims_child PresumeCommit r h g = under_commit.trims_child r h g
 
 -- the device failed, and nothing else changed
 abbrev fallen : ChildHalf → ChildHalf
@@ -190,7 +182,7 @@ module _ (c : Case) (t : Ticket) (p : ProcessId) (tree : List TreeEntry) (n : No
     clears : mark_at n d ≡ Finished → Fits pr r0 (R (stands_so false (cleared k)))
     clears e = subst (λ (z : Reading). Fits pr r0 z)
         (sym (reading-cleared root outcome above half k v (over_is_closed e) promised_ever))
-        (trims_child pr r0 inv (record { up = up; forgotten = forgotten e }))
+        (moves.trims_child pr r0 inv (record { up = up; forgotten = forgotten e }))
 
     -- and then the device fails
     falls : (x : ChildHalf) → x.failed ≡ false → Fits pr r0 (R x) → Fits pr r0 (R (fallen x))

@@ -1,1 +1,2 @@
 pub mod ManagerSteps
+pub mod ManagerProcess

@@ -23,3 +23,4 @@ pub mod ManagerPhases
 pub mod ManagerBranches
 pub mod ManagersHold
 pub mod GivenCases
+pub mod JoinedOnce

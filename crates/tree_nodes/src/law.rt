@@ -9,7 +9,7 @@ ghost use Rattle.tree_model.specs.declared.names.ProcessId.{ProcessId};
 ghost use Rattle.tree_model.specs.declared.names.Ticket.{Ticket};
 ghost use Rattle.tree_model.specs.declared.names.Txn.{Txn};
 ghost use Rattle.tree_nodes.specs.Numbers.{IsIssuer, Numbers};
-ghost use Rattle.tree_nodes.specs.WorldHolds.{IsPair, NodeHolds, WorldHolds, pair_reading};
+ghost use Rattle.tree_nodes.specs.WorldHolds.{IsPair, JoinedOnce, NodeHolds, WorldHolds, pair_reading};
 ghost use Rattle.tree_pairs.specs.Invariant.{Common};
 ghost use Rattle.tree_readings.specs.ReadingOf.{gives_case};
 ghost use Rattle.tree_model.specs.World.{IsRun, Made, World};
@@ -50,4 +50,9 @@ pub fn numbers_are_given_once()
 pub fn managers_hold()
     ensures { (tree : List TreeEntry) (es : List Made) (w : World) → IsRun tree es w → (q p : ProcessId)
         → role_of tree q ≡ AtLeaf p → NodeHolds (place_of tree q) w.net (w.at q) }
+{}
+
+/// In every run of every tree JOINED gives each ticket to one case.
+pub fn tickets_have_one_case()
+    ensures { (tree : List TreeEntry) (es : List Made) (w : World) → IsRun tree es w → JoinedOnce w.net }
 {}
