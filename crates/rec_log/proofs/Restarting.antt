@@ -1,18 +1,18 @@
 -- Restarts.
 use Rattle.std.proofs.Common.{◌≡◌, ◌≤◌, ◌<◌, ◌+◌, ◌-◌, ◌⊎◌, inl, inr, ℕ, Bool, true, false, List, [], ◌++◌, length, take, drop, Option, Some, None, refl, sym, ap, subst, ◌∙◌, arith, append_assoc, append-nil, take-append-drop, length-append, is_some}
-use Rattle.std.proofs.Math.Seq.{take-append_seam, take-length}
+use Rattle.std.proofs.Math.Seq.{take-append_seam}
 use Rattle.tree_model.specs.declared.names.Kind.{Kind}
 use Rattle.tree_model.specs.declared.records.LogRecord.{LogRecord}
 use Rattle.log_text.specs.Frames.{Cut, first_frame, header}
 use Rattle.log_text.specs.Payloads.{records_text}
 use Rattle.log_text.specs.Reading.{read_record}
 use Rattle.rec_log.specs.Texts.{and_records, is_whole, records_in, whole_if, whole_size}
-use Rattle.rec_log.specs.Sights.{AreRecords, IsLogText, LeavesText, LogState, RestartBreaks, Restarts, Sounds, body, front, left_by, log_state}
+use Rattle.rec_log.specs.Sights.{AreRecords, IsLogText, LeavesText, Kept, LogState, RestartBreaks, Restarts, Sounds, body, front, log_state}
 use Rattle.rec_log.proofs.Frames.{more_records, more_whole, no_frame, nothing_whole, step, step_whole}
 use Rattle.rec_log.proofs.Openings.{frame_at}
 use Rattle.rec_log.proofs.Turns.{all_front, drop_all, records_stand, take_within}
 use Rattle.rec_log.proofs.Within.{left_records, whole_is_full}
-use Rattle.rec_log.proofs.Written.{whole_text, written}
+use Rattle.rec_log.proofs.Written.{body_taken, whole_text, written}
 
 -- The whole frames at the front.
 
@@ -103,17 +103,28 @@ restarted p text new forced forced' keep failures failures' room room' rs failed
       failures = g;
     })
 
+-- a crash leaves the forced front as it was
+front_stays : (text : List ℕ) (forced keep : ℕ) → 5 ≤ forced → front (take (forced + keep) text) forced ≡ front text forced
+front_stays text forced keep h =
+    ap (take (forced - 5)) (body_taken (forced + keep) text (omega (arith, h))) ∙ take_within (forced - 5) (forced + keep - 5) (body text) (omega (arith, h))
+
+kept_is : (a b c d : List LogRecord) → a ≡ c → b ≡ d → ◌≡◌ {A = Kept} (record { forced = a; unforced = b }) (record { forced = c; unforced = d })
+kept_is a b c d e f = rw (e, f) refl
+
 pub restart_breaks : (p : Kind) (text new bytes : List ℕ) (forced forced' keep failures failures' room room' : ℕ) (rs : List LogRecord) (failed : Bool) (s : LogState)
     → log_state p text forced failures room failed ≡ s → AreRecords p rs → IsLogText p text forced failed → forced ≤ length text → LeavesText p (take (forced + keep) text) rs new
-    → (bytes ≡ take (forced + keep) text) ⊎ (bytes ≡ new) → failures < failures'
+    → ((bytes ≡ take (forced + keep) text) × (forced' ≡ forced)) ⊎ ((bytes ≡ new) × (forced' ≡ length new)) → failures < failures'
     → RestartBreaks s (log_state p bytes forced' failures' room' true) keep rs
 restart_breaks p text new bytes forced forced' keep failures failures' room room' rs failed s view are is le l (inl e) g =
     let left = left_records p text forced keep failures room failed is.header_forced le in
     subst (λ z. RestartBreaks z (log_state p bytes forced' failures' room' true) keep rs) view
     (record {
       kind = refl;
-      came = 0;
-      stand = records_stand p bytes forced' ∙ ap (λ t. records_in p 0 (body t)) e ∙ left ∙ sym (append-nil _);
+      either = inl (
+        records_stand p bytes forced' ∙ ap (λ t. records_in p 0 (body t)) e.0 ∙ left,
+        ap (λ t. records_in p 0 (front t forced')) e.0 ∙ ap (λ n. records_in p 0 (front (take (forced + keep) text) n)) e.1
+            ∙ ap (records_in p 0) (front_stays text forced keep is.header_forced),
+      );
       failed = refl;
       cause = g;
     })
@@ -121,12 +132,13 @@ restart_breaks p text new bytes forced forced' keep failures failures' room room
     let left = left_records p text forced keep failures room failed is.header_forced le in
     let h = front_begins (forced + keep) text (omega (arith, is.header_forced)) is.begins in
     let q = parts_of p (take (forced + keep) text) new rs h l in
+    let all : front bytes forced' ≡ body bytes = all_front bytes forced' (e.1 ∙ ap length (sym e.0)) in
     subst (λ z. RestartBreaks z (log_state p bytes forced' failures' room' true) keep rs) view
     (record {
       kind = refl;
-      came = length rs;
-      stand = records_stand p bytes forced' ∙ ap (λ t. records_in p 0 (body t)) e ∙ text_records p (take (forced + keep) text) new rs are q
-          ∙ ap (λ t. t ++ rs) left ∙ ap (λ t. left_by (log_state p text forced failures room failed).sight keep ++ t) (sym (take-length rs));
+      either = inr (kept_is _ _ _ _
+          (ap (records_in p 0) all ∙ ap (λ t. records_in p 0 (body t)) e.0 ∙ text_records p (take (forced + keep) text) new rs are q ∙ ap (λ t. t ++ rs) left)
+          (ap (λ t. drop (length (records_in p 0 t)) (records_in p 0 (body bytes))) all ∙ drop_all (records_in p 0 (body bytes))));
       failed = refl;
       cause = g;
     })
@@ -160,7 +172,3 @@ pub came_either : (bn bc left text : List ℕ) (fn fc f0 : ℕ) → ((bn ≡ bc)
     → ((bn ≡ left) × (fn ≡ f0)) ⊎ ((bn ≡ text) × (fn ≡ length text))
 came_either bn bc left text fn fc f0 (inl e) l f = inl (e.0 ∙ l, e.1 ∙ f)
 came_either bn bc left text fn fc f0 (inr e) l f = inr e
-
-pub which : (bn left text : List ℕ) (fn f0 : ℕ) → ((bn ≡ left) × (fn ≡ f0)) ⊎ ((bn ≡ text) × (fn ≡ length text)) → (bn ≡ left) ⊎ (bn ≡ text)
-which bn left text fn f0 (inl e) = inl e.0
-which bn left text fn f0 (inr e) = inr e.0

@@ -1,5 +1,5 @@
 -- The text that a log opens with.
-use Rattle.std.proofs.Common.{◌≡◌, ◌≤◌, ◌-◌, ℕ, Bool, true, false, List, [], ◌∷◌, ◌++◌, length, take, drop, refl, sym, ap, ◌∙◌, arith, append_assoc, append-nil, take-append-drop, length-append, nat_lt}
+use Rattle.std.proofs.Common.{◌≡◌, ◌≤◌, ◌-◌, ◌⊎◌, inl, inr, ℕ, Bool, true, false, List, [], ◌∷◌, ◌++◌, length, take, drop, refl, sym, ap, ◌∙◌, arith, append_assoc, append-nil, take-append-drop, length-append, nat_lt}
 use Rattle.std.proofs.Math.Seq.{take-append_seam}
 use Rattle.std.proofs.lemmas.Bool.Decides.{nat_tests}
 use Rattle.tree_model.specs.declared.names.Kind.{Kind}
@@ -7,12 +7,13 @@ use Rattle.tree_model.specs.Records.{same_bytes}
 use Rattle.log_text.specs.Frames.{header}
 use Rattle.log_order.specs.Orders.{nothing_seen}
 use Rattle.log_order.specs.Logs.{LogReading, Whole, Damaged, read_frames, read_log}
-use Rattle.rec_log.specs.Texts.{is_whole, records_in}
-use Rattle.rec_log.specs.Sights.{log_state}
-use Rattle.rec_log.specs.Openings.{Ends, IsFound, Opens, Settles}
+use Rattle.rec_log.specs.Texts.{is_whole, records_in, whole_size}
+use Rattle.rec_log.specs.Sights.{body, bytes_behind, front, kept_of, log_state}
+use Rattle.rec_log.specs.Openings.{Ends, IsFound, Opens, Settles, StaysForced}
 use Rattle.rec_log.specs.declared.opening.Found.TheVariants.{Empty, Sound}
 use Rattle.rec_log.proofs.Frames.{no_records, nothing_whole}
-use Rattle.rec_log.proofs.Turns.{records_stand}
+use Rattle.rec_log.proofs.Turns.{all_front, drop_all, records_stand}
+use Rattle.rec_log.proofs.Within.{whole_is_full}
 
 same_bytes_is : (xs ys : List ℕ) → same_bytes xs ys ≡ true → xs ≡ ys
 unfolding same_bytes
@@ -30,22 +31,25 @@ pub found_sound : (p : Kind) (bytes : List ℕ) (torn : ℕ) → 5 ≤ length by
 found_sound p bytes torn h b e =
     (same_bytes_is (take 5 bytes) header b, h, e, read_by p bytes false true (Damaged 0) (grind (arith, nat_tests)) b refl refl)
 
-pub settles_empty : (p : Kind) (bytes text : List ℕ) (failures forced failures' : ℕ) → IsFound p bytes Empty → text ≡ header → forced ≡ length header → failures' ≡ failures
-    → Settles p bytes failures text forced failures'
-settles_empty p bytes text failures forced failures' found e f g = record {
+pub settles_empty : (p : Kind) (bytes text : List ℕ) (before failures forced failures' : ℕ) → IsFound p bytes Empty → text ≡ header → forced ≡ length header → failures' ≡ failures
+    → Settles p bytes before failures text forced failures'
+settles_empty p bytes text before failures forced failures' found e f g = record {
   begins = ap (take 5) e;
   header_forced = omega (arith, f);
+  front = inr (f ∙ ap length (sym e));
   whole = ap (λ t. is_whole p 0 (drop 5 t)) e ∙ nothing_whole p;
   torn = 0;
   read = found ∙ ap (λ ls. Whole ls 0) (sym (ap (λ t. records_in p 0 (drop 5 t)) e ∙ no_records p));
   failures_stay = g;
 }
 
-settles_sound : (p : Kind) (bytes text sound : List ℕ) (failures forced failures' torn : ℕ) → text ≡ header ++ sound → is_whole p 0 sound ≡ true
-    → read_log p bytes ≡ Whole (records_in p 0 sound) torn → 5 ≤ forced → failures' ≡ failures → Settles p bytes failures text forced failures'
-settles_sound p bytes text sound failures forced failures' torn e w r f g = record {
+settles_sound : (p : Kind) (bytes text sound : List ℕ) (before failures forced failures' torn : ℕ) → text ≡ header ++ sound → is_whole p 0 sound ≡ true
+    → read_log p bytes ≡ Whole (records_in p 0 sound) torn → 5 ≤ forced → ((text ≡ bytes) × (forced ≡ before)) ⊎ (forced ≡ length text) → failures' ≡ failures
+    → Settles p bytes before failures text forced failures'
+settles_sound p bytes text sound before failures forced failures' torn e w r f k g = record {
   begins = ap (take 5) e;
   header_forced = f;
+  front = k;
   whole = ap (λ t. is_whole p 0 (drop 5 t)) e ∙ w;
   torn = torn;
   read = r ∙ ap (λ ls. Whole ls torn) (sym (ap (λ t. records_in p 0 (drop 5 t)) e));
@@ -56,32 +60,44 @@ joined : (p : Kind) (bytes : List ℕ) (torn : ℕ) (e : Ends p (drop 5 bytes) t
 joined p bytes torn e h =
     sym (take-append-drop 5 bytes) ∙ ap (λ t. t ++ drop 5 bytes) h ∙ ap (λ t. header ++ t) e.split ∙ sym (append_assoc header e.sound e.tail)
 
-pub settles_front : (p : Kind) (bytes text : List ℕ) (failures forced failures' torn : ℕ) → IsFound p bytes (Sound torn) → text ≡ take (length bytes - torn) bytes
-    → forced ≡ length text → failures' ≡ failures → Settles p bytes failures text forced failures'
-settles_front p bytes text failures forced failures' torn found e f g =
+pub settles_front : (p : Kind) (bytes text : List ℕ) (before failures forced failures' torn : ℕ) → IsFound p bytes (Sound torn) → text ≡ take (length bytes - torn) bytes
+    → forced ≡ length text → failures' ≡ failures → Settles p bytes before failures text forced failures'
+settles_front p bytes text before failures forced failures' torn found e f g =
     let n = found.2 in
     let j = joined p bytes torn n found.0 in
     let size : length bytes - torn ≡ length (header ++ n.sound) = omega (arith, ap length j, length-append (header ++ n.sound) n.tail, n.size) in
     let text_is : text ≡ header ++ n.sound = e ∙ ap (λ k. take k bytes) size ∙ ap (take (length (header ++ n.sound))) j ∙ take-append_seam (header ++ n.sound) n.tail in
-    settles_sound p bytes text n.sound failures forced failures' torn text_is n.whole (found.3 ∙ n.read) (omega (arith, f, ap length text_is, length-append header n.sound)) g
+    settles_sound p bytes text n.sound before failures forced failures' torn text_is n.whole (found.3 ∙ n.read) (omega (arith, f, ap length text_is, length-append header n.sound)) (inr f) g
 
 no_tail : (xs tail : List ℕ) → length tail ≡ 0 → xs ++ tail ≡ xs
 no_tail xs [] h = append-nil xs
 no_tail xs (b ∷ bs) h = absurd (omega arith)
 
-pub settles_same : (p : Kind) (bytes text : List ℕ) (failures forced failures' torn : ℕ) → IsFound p bytes (Sound torn) → torn ≡ 0 → text ≡ bytes
-    → 5 ≤ forced → failures' ≡ failures → Settles p bytes failures text forced failures'
-settles_same p bytes text failures forced failures' torn found z e f g =
+pub settles_same : (p : Kind) (bytes text : List ℕ) (before failures forced failures' torn : ℕ) → IsFound p bytes (Sound torn) → torn ≡ 0 → text ≡ bytes
+    → 5 ≤ forced → forced ≡ before → failures' ≡ failures → Settles p bytes before failures text forced failures'
+settles_same p bytes text before failures forced failures' torn found z e f b g =
     let n = found.2 in
     let j = joined p bytes torn n found.0 ∙ no_tail (header ++ n.sound) n.tail (n.size ∙ z) in
-    settles_sound p bytes text n.sound failures forced failures' torn (e ∙ j) n.whole (found.3 ∙ n.read) f g
+    settles_sound p bytes text n.sound before failures forced failures' torn (e ∙ j) n.whole (found.3 ∙ n.read) f (inl (e, b)) g
 
-pub opens : (p : Kind) (bytes text : List ℕ) (failures forced failures' room : ℕ) → Settles p bytes failures text forced failures'
-    → Opens p bytes failures (log_state p text forced failures' room false)
-opens p bytes text failures forced failures' room s = record {
+stays_forced : (p : Kind) (bytes text : List ℕ) (before forced failures room : ℕ) → is_whole p 0 (body text) ≡ true
+    → ((text ≡ bytes) × (forced ≡ before)) ⊎ (forced ≡ length text) → StaysForced p bytes before ((log_state p text forced failures room false).sight)
+stays_forced p bytes text before forced failures room w (inl e) =
+    inl (ap (λ t. kept_of p t forced) e.0 ∙ ap (kept_of p bytes) e.1, ap (λ t. bytes_behind p t forced) e.0 ∙ ap (bytes_behind p bytes) e.1)
+stays_forced p bytes text before forced failures room w (inr f) =
+    let all : front text forced ≡ body text = all_front text forced f in
+    inr (
+      ap (λ t. drop (length (records_in p 0 t)) (records_in p 0 (body text))) all ∙ drop_all (records_in p 0 (body text)),
+      ap (λ t. length t - whole_size p 0 t) all ∙ whole_is_full p (body text) w,
+    )
+
+pub opens : (p : Kind) (bytes text : List ℕ) (before failures forced failures' room : ℕ) → Settles p bytes before failures text forced failures'
+    → Opens p bytes before failures (log_state p text forced failures' room false)
+opens p bytes text before failures forced failures' room s = record {
   kind = refl;
   torn = s.torn;
   read = s.read ∙ ap (λ ls. Whole ls s.torn) (sym (records_stand p text forced));
+  front = stays_forced p bytes text before forced failures' room s.whole s.front;
   works = refl;
   failures_stay = s.failures_stay;
 }

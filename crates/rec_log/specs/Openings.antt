@@ -1,11 +1,11 @@
 -- Opening a log over a store.
-use Rattle.std.specs.Prelude.{◌≡◌, ◌<◌, ◌≤◌, ⊤, ℕ, true, false, List, [], ◌++◌, length, take, drop}
+use Rattle.std.specs.Prelude.{◌≡◌, ◌<◌, ◌≤◌, ◌⊎◌, ⊤, ℕ, true, false, List, [], ◌++◌, length, take, drop}
 use Rattle.tree_model.specs.declared.names.Kind.{Kind}
 use Rattle.log_store.specs.Stores.{SameStore}
 use Rattle.log_order.specs.Logs.{Whole, Damaged, read_frames, read_log}
 use Rattle.log_order.specs.Orders.{nothing_seen}
 use Rattle.rec_log.specs.Texts.{is_whole, records_in}
-use Rattle.rec_log.specs.Sights.{LogState, records_of}
+use Rattle.rec_log.specs.Sights.{LogSight, LogState, bytes_behind, kept_of, records_of}
 use Rattle.log_text.specs.Frames.{header}
 use Rattle.rec_log.specs.declared.opening.Found.{Found}
 use Rattle.rec_log.specs.declared.opening.Found.TheVariants.{Empty, Sound}
@@ -39,11 +39,17 @@ IsNoLog p bytes Memory = ⊤
 IsNoLog p bytes Device = ⊥
 IsNoLog p bytes (DamagedError place) = read_log p bytes ≡ Damaged place
 
--- the log of these bytes: their records, a torn tail gone
-pub record Opens (p : Kind) (bytes : List ℕ) (failures : ℕ) (log : LogState) : Type 0 where
+-- what is forced of the records of these bytes is forced as it was, or all of them are
+abbrev pub StaysForced : Kind → List ℕ → ℕ → LogSight → Type 0
+StaysForced p bytes forced s =
+    ((s.kept ≡ kept_of p bytes forced) × (s.behind ≡ bytes_behind p bytes forced)) ⊎ ((s.kept.unforced ≡ []) × (s.behind ≡ 0))
+
+-- the log of these bytes: their records, a torn tail gone, and what was forced of them
+pub record Opens (p : Kind) (bytes : List ℕ) (forced failures : ℕ) (log : LogState) : Type 0 where
   pub kind : log.kind ≡ p
   pub torn : ℕ
   pub read : read_log p bytes ≡ Whole (records_of log.sight.kept) torn
+  pub front : StaysForced p bytes forced log.sight
   pub works : log.sight.failed ≡ false
   pub failures_stay : log.sight.failures ≡ failures
 
@@ -59,10 +65,12 @@ IsRefused bytes forced failures old new Memory = SameStore bytes forced failures
 IsRefused bytes forced failures old new Device = failures old < failures new
 IsRefused bytes forced failures old new (DamagedError place) = ⊥
 
--- a text of the records that these bytes are, whole, with its header forced
-pub record Settles (p : Kind) (bytes : List ℕ) (failures : ℕ) (text : List ℕ) (forced failures' : ℕ) : Type 0 where
+-- a text of the records that these bytes are, whole, with its header forced: the bytes as they were, or a text that is all
+-- forced
+pub record Settles (p : Kind) (bytes : List ℕ) (forced failures : ℕ) (text : List ℕ) (forced' failures' : ℕ) : Type 0 where
   pub begins : take 5 text ≡ header
-  pub header_forced : 5 ≤ forced
+  pub header_forced : 5 ≤ forced'
+  pub front : ((text ≡ bytes) × (forced' ≡ forced)) ⊎ (forced' ≡ length text)
   pub whole : is_whole p 0 (drop 5 text) ≡ true
   pub torn : ℕ
   pub read : read_log p bytes ≡ Whole (records_in p 0 (drop 5 text)) torn

@@ -45,12 +45,16 @@ kept_of p text forced = record {
   unforced = drop (length (records_in p 0 (front text forced))) (records_in p 0 (body text));
 }
 
+-- how many of the forced bytes stand behind the last record that is wholly forced
+abbrev pub bytes_behind : Kind → List ℕ → ℕ → ℕ
+bytes_behind p text forced = length (front text forced) - whole_size p 0 (front text forced)
+
 abbrev pub log_state : Kind → List ℕ → ℕ → ℕ → ℕ → Bool → LogState
 log_state p text forced failures room failed = record {
   kind = p;
   sight = record {
     kept = kept_of p text forced;
-    behind = length (front text forced) - whole_size p 0 (front text forced);
+    behind = bytes_behind p text forced;
     failed = failed;
     failures = failures;
   };
@@ -148,11 +152,12 @@ pub record Restarts (old new : LogState) (keep : ℕ) (rs : List LogRecord) : Ty
   pub works : new.sight.failed ≡ false
   pub failures : new.sight.failures ≡ old.sight.failures
 
--- the crash took place, the device failed, and the new records stand or do not
+-- the crash took place and the device failed: what it left stands, as much of it forced as was before; or it and the new
+-- records do, all of them forced
 pub record RestartBreaks (old new : LogState) (keep : ℕ) (rs : List LogRecord) : Type 0 where
   pub kind : new.kind ≡ old.kind
-  pub came : ℕ
-  pub stand : records_of new.sight.kept ≡ left_by old.sight keep ++ take came rs
+  pub either : ((records_of new.sight.kept ≡ left_by old.sight keep) × (new.sight.kept.forced ≡ old.sight.kept.forced))
+      ⊎ (new.sight.kept ≡ record { forced = left_by old.sight keep ++ rs; unforced = [] })
   pub failed : new.sight.failed ≡ true
   pub cause : old.sight.failures < new.sight.failures
 

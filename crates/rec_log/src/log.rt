@@ -169,7 +169,7 @@ fn replaced<L: LogStore + Drop>(store: L, text: &[u8]) -> Result<L, (OpenError, 
 
 /// A store in which a log of whole frames stands that begins with these bytes.
 fn settled<L: LogStore + Drop>(kind: Kind, store: L, alloc: Global) -> Result<L, (OpenError, L)>
-    ensures ok { IfOk result (λ new. Settles kind (L.bytes store) (L.failures store) (L.bytes new) (L.forced new) (L.failures new)) }
+    ensures ok { IfOk result (λ new. Settles kind (L.bytes store) (L.forced store) (L.failures store) (L.bytes new) (L.forced new) (L.failures new)) }
     ensures err { IfErr result (λ e. NotOpened L.bytes L.forced L.failures kind store e.1 e.0) }
 {
     let torn = match find(kind, store.bytes(), alloc) {
@@ -192,7 +192,7 @@ impl<L: LogStore + Drop> RecLog<L> {
     /// A log over a store. A torn tail is removed, and an empty log is given its header, by one `replace`; otherwise
     /// the store is left as it is. A refusal hands the store back.
     pub fn open(store: L, kind: Kind, alloc: Global) -> Result<RecLog<L>, (OpenError, L)>
-        ensures ok { IfOk result (λ log. Opens kind (L.bytes store) (L.failures store) log) }
+        ensures ok { IfOk result (λ log. Opens kind (L.bytes store) (L.forced store) (L.failures store) log) }
         ensures err { IfErr result (λ e. NotOpened L.bytes L.forced L.failures kind store e.1 e.0) }
     {
         let store = settled(kind, store, alloc)?;

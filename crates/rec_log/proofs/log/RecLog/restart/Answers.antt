@@ -2,7 +2,7 @@ use Rattle.std.proofs.Common.{◌≡◌, ◌∙◌, ◌+◌, subst, sym, ap, tak
 use Rattle.log_text.specs.Made.{frame_record}
 use Rattle.rec_log.specs.Sights.{AreRecords, LeavesText}
 use Rattle.rec_log.proofs.Turns.{by_device}
-use Rattle.rec_log.proofs.Restarting.{came_either, front_begins, restart_breaks, restarted, text_broken, text_settled, which}
+use Rattle.rec_log.proofs.Restarting.{came_either, front_begins, restart_breaks, restarted, text_broken, text_settled}
 use Rattle.rec_log.proofs.log.RecLog.restart.Goals as goal
 
 pub invariant_of-self-in-Ok-replace : goal.invariant_of-self-in-Ok-replace
@@ -77,5 +77,5 @@ returns-clause-err g c =
     let came = came_either _ _ (take (forced + c.args.keep) text) _ _ _ forced b.either
     (crash.text ∙ ap (λ n. take (n + c.args.keep) (g.L.LogStore.bytes c.reserve.new.self)) stays.forced_stays ∙ ap (take (forced + c.args.keep)) stays.bytes_stay)
     (crash.front ∙ stays.forced_stays) in
-    restart_breaks _ text c.deref.result.now _ forced _ c.args.keep _ _ _ (g.L.LogStore.room c.replace.new.self) rs _ _ c.self.view_is are c.self.invariant (g.met.L.LogStore.front c.self.inside.store) leaves (which _ _ _ _ _ came)
+    restart_breaks _ text c.deref.result.now _ forced _ c.args.keep _ _ _ (g.L.LogStore.room c.replace.new.self) rs _ _ c.self.view_is are c.self.invariant (g.met.L.LogStore.front c.self.inside.store) leaves came
     (omega (arith, b.cause, crash.failures_stay, stays.failures_stay))
