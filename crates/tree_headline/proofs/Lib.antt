@@ -1,0 +1,5 @@
+pub mod Levels
+pub mod Parts
+pub mod ChildOf
+pub mod Below
+pub mod Pairs
