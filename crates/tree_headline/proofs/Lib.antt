@@ -3,3 +3,6 @@ pub mod Parts
 pub mod ChildOf
 pub mod Below
 pub mod Pairs
+pub mod Ends
+pub mod FirstVotes
+pub mod Clauses

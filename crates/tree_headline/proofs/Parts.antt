@@ -164,7 +164,7 @@ module _ (tree : List TreeEntry) (w : World) (h : Standing tree w) where
       (one_accepted (part_within k tree w) (w.at u.child) (child_case x u) t a
       (tells_within x u up k (parent_climbs tree k t.child u.child pair.child e)))
 
-  part_joined : (x : Txn) (t : Ticket) → TakesPart w x t → (c : Case) × ((c.txn ≡ x) × (sent (is_joined_message c t) w.net ≡ true))
+  pub part_joined : (x : Txn) (t : Ticket) → TakesPart w x t → (c : Case) × ((c.txn ≡ x) × (sent (is_joined_message c t) w.net ≡ true))
   part_joined x _ (at_root t a) = (root_case x, (refl, (accepts tree w h x.root (root_case x) t a).1))
   part_joined x _ (below u t up a) = (child_case x u, (refl, (accepts tree w h u.child (child_case x u) t a).1))
 
