@@ -6,3 +6,6 @@ pub mod Pairs
 pub mod Ends
 pub mod FirstVotes
 pub mod Clauses
+pub mod Grows
+pub mod Above
+pub mod Halves
