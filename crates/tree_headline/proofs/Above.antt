@@ -1,13 +1,11 @@
 -- What the pair above a cascaded case says of it.
-use Rattle.std.proofs.Common.{◌≡◌, ◌∙◌, ◌≢◌, Bool, true, false, Option, Some, None, List, refl, sym, ap, subst, arith}
+use Rattle.std.proofs.Common.{◌≡◌, ◌∙◌, Bool, true, false, Option, Some, None, List, refl, sym, subst, arith}
 use Rattle.tree_model.specs.declared.names.Case.{Case}
 use Rattle.tree_model.specs.declared.names.Presumption.{Presumption}
 use Rattle.tree_model.specs.declared.names.Presumption.TheVariants.{PresumeAbort, PresumeCommit}
-use Rattle.tree_model.specs.declared.names.ProcessId.{ProcessId}
 use Rattle.tree_model.specs.declared.names.Ticket.{Ticket}
 use Rattle.tree_model.specs.declared.names.Txn.{Txn}
 use Rattle.tree_model.specs.declared.names.Outcome.TheVariants.{Committed as CommittedOutcome, Aborted as AbortedOutcome}
-use Rattle.tree_model.specs.declared.messages.Envelope.{Envelope}
 use Rattle.tree_model.specs.declared.messages.Message.{Message}
 use Rattle.tree_model.specs.declared.standings.Standing.{Standing}
 use Rattle.tree_model.specs.declared.standings.Standing.TheVariants.{Unknown, Active, Collecting, Prepared, Committing, Aborting, Heuristic}
@@ -16,12 +14,10 @@ use Rattle.tree_model.specs.Names.{child_case, process_of}
 use Rattle.tree_model.specs.Records.{has, is_abort, is_collecting, is_commit, is_end, is_prepare, none_of, owing_by}
 use Rattle.tree_model.specs.Nodes.{Role, AtRoot, Below, AtLeaf, Node, Place, kept, place_of, role_of}
 use Rattle.tree_model.specs.Memory.{Phase, Idle, Open, Asked, Over, memory_of}
-use Rattle.tree_model.specs.Standings.{CoordinatorView, coordinator_standing, coordinator_view, known_view, phase_standing, standing_by, view_at}
+use Rattle.tree_model.specs.Standings.{CoordinatorView, coordinator_standing, coordinator_view, known_view, phase_standing, standing_by}
 use Rattle.tree_model.specs.Outcomes.{is_commit_outcome, is_joined_message, is_outcome_message, sent}
 use Rattle.tree_model.specs.Trees.{IsTree}
 use Rattle.tree_model.specs.World.{World}
-use Rattle.tree_pairs.specs.Chain.{IsBelow}
-use Rattle.tree_pairs.specs.Reading.{Reading}
 use Rattle.tree_pairs.proofs.Chain.{asked, waits}
 use Rattle.tree_pairs.proofs.Promises.{abort_refuses, refused_parent, true_commit}
 use Rattle.tree_readings.specs.ReadingOf.{gives_case, is_prepare_message}

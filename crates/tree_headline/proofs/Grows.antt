@@ -1,5 +1,5 @@
 -- What a step leaves: the net and the histories only grow.
-use Rattle.std.proofs.Common.{◌≡◌, ◌∙◌, ◌⊎◌, inl, inr, ◌||◌, ◌&&◌, ◌≢◌, ◌≤◌, ℕ, zero, suc, Bool, true, false, Option, Some, None, List, [], ◌∷◌, ◌++◌, take, refl, sym, ap, subst, arith}
+use Rattle.std.proofs.Common.{◌≡◌, ◌∙◌, ◌⊎◌, inl, inr, ◌||◌, ◌&&◌, ℕ, zero, suc, Bool, true, false, List, [], ◌∷◌, ◌++◌, take, refl, sym, ap, arith}
 use Rattle.std.specs.List.{list_any}
 use Rattle.std.proofs.lemmas.List.Folds.{list_any-append}
 use Rattle.tree_model.specs.declared.names.Case.{Case}
@@ -10,18 +10,18 @@ use Rattle.tree_model.specs.declared.messages.Message.{Message}
 use Rattle.tree_model.specs.declared.messages.Message.TheVariants.{Join, Joined, Work, Prepare, Yes, No, Read, Commit, Abort, Ack, Inquire}
 use Rattle.tree_model.specs.declared.records.Record.{Record}
 use Rattle.tree_model.specs.declared.trees.TreeEntry.{TreeEntry}
-use Rattle.tree_model.specs.Names.{child_case, process_of, same_case, same_ticket}
-use Rattle.tree_model.specs.NameLaws.{names, same_case_tells, same_ticket_tells}
+use Rattle.tree_model.specs.Names.{process_of, same_case, same_ticket}
+use Rattle.tree_model.specs.NameLaws.{same_case_tells, same_ticket_tells}
 use Rattle.tree_model.specs.Records.{has}
-use Rattle.tree_model.specs.Nodes.{Role, AtRoot, Below, AtLeaf, Effect, Node, Place, Written, appends, entries_written, is_any_forced, kept, after, fails_in, fails_with}
+use Rattle.tree_model.specs.Nodes.{Role, AtRoot, Below, AtLeaf, Effect, Node, Place, Written, appends, entries_written, is_any_forced, kept}
 use Rattle.tree_model.specs.Restarts.{crashed, reopens, trim_fails, trimmed as trimmed_log}
 use Rattle.tree_model.specs.Outcomes.{has_accepted, is_joined_message, is_read_message, is_yes_message, sent}
 use Rattle.tree_model.specs.World.{Move}
 use Rattle.tree_readings.specs.ReadingOf.{gives_case, is_prepare_message}
 use Rattle.tree_readings.proofs.Lists.{sent-append}
-use Rattle.tree_turns.specs.Steps.{StepOf, heard_in, handled, failed_in, passed, failed_passing, reopened, failed_reopening, trimmed, failed_trimming}
-use Rattle.tree_nodes.specs.WorldHolds.{AllGo, Branches, Cascades, Coordinates, GoesBy, IsFree, Issues, NodeHolds, RoleHolds, gives_other}
-use Rattle.tree_nodes.proofs.Tests.{both, either, in_first, in_second, left, neither, right}
+use Rattle.tree_turns.specs.Steps.{StepOf, handled, failed_in, passed, failed_passing, reopened, failed_reopening, trimmed, failed_trimming}
+use Rattle.tree_nodes.specs.WorldHolds.{AllGo, Cascades, Coordinates, GoesBy, IsFree, Issues, NodeHolds, RoleHolds, gives_other}
+use Rattle.tree_nodes.proofs.Tests.{both, either, in_second, right}
 use Rattle.tree_headline.specs.ProcessLaws.{AllFrom}
 
 -- The net.

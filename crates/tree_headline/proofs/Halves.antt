@@ -1,12 +1,12 @@
 -- A step as its process's half of each pair: the outcome above the pair and who takes part stay as they were.
-use Rattle.std.proofs.Common.{◌≡◌, ◌∙◌, ◌⊎◌, inl, inr, Bool, true, false, Option, Some, None, List, ◌++◌, refl, sym, ap, subst, arith}
+use Rattle.std.proofs.Common.{◌≡◌, ◌∙◌, inl, inr, Bool, Option, Some, None, List, ◌++◌, refl, sym, ap, subst}
 use Rattle.tree_model.specs.declared.names.Case.{Case}
 use Rattle.tree_model.specs.declared.names.ProcessId.{ProcessId}
 use Rattle.tree_model.specs.declared.names.Ticket.{Ticket}
 use Rattle.tree_model.specs.declared.names.Txn.{Txn}
 use Rattle.tree_model.specs.declared.messages.Envelope.{Envelope}
 use Rattle.tree_model.specs.declared.trees.TreeEntry.{TreeEntry}
-use Rattle.tree_model.specs.Names.{child_case, process_of, same_process}
+use Rattle.tree_model.specs.Names.{child_case, process_of}
 use Rattle.tree_model.specs.NameLaws.{same_process_tells}
 use Rattle.tree_model.specs.Records.{has, is_commit}
 use Rattle.tree_model.specs.Nodes.{Role, AtRoot, Below, AtLeaf, Node, is_leaf, place_of, role_of}
@@ -16,7 +16,7 @@ use Rattle.tree_model.specs.World.{World}
 use Rattle.tree_pairs.specs.Keeps.{Follows}
 use Rattle.tree_pairs.specs.Reading.{Reading}
 use Rattle.tree_pairs.proofs.Later.{later-now}
-use Rattle.tree_readings.specs.ReadingOf.{ChildHalf, ParentHalf, Wire, child_half, is_root_ticket, no_wire, parent_half, reading_from, wire}
+use Rattle.tree_readings.specs.ReadingOf.{ChildHalf, ParentHalf, Wire, child_half, is_root_ticket, parent_half, reading_from, wire}
 use Rattle.tree_readings.proofs.OtherSteps.{or_none}
 use Rattle.tree_nodes.specs.ProcessSteps.{outcome_in, seen_above, seen_below}
 use Rattle.tree_nodes.specs.WorldHolds.{InvariantOf, IsChildRole, IsFree, IsPair, IsParentRole, WorldHolds, pair_reading, takes_part}

@@ -9,3 +9,6 @@ pub mod Clauses
 pub mod Grows
 pub mod Above
 pub mod Halves
+pub mod Stages
+pub mod PartSteps
+pub mod OutcomeSteps
