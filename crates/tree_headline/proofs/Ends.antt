@@ -45,7 +45,7 @@ unfolding has
 follows_second q r [] e = absurd (cc)
 follows_second q r (x ∷ xs) e = grind (arith, follows_second q r xs)
 
-has_either : (q r s : Record → Bool) (xs : List Record)
+pub has_either : (q r s : Record → Bool) (xs : List Record)
     → ((x : Record) → q x ≡ true → (r x ≡ true) ⊎ (s x ≡ true)) → has q xs ≡ true
     → (has r xs ≡ true) ⊎ (has s xs ≡ true)
 unfolding has

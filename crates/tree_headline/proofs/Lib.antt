@@ -12,3 +12,5 @@ pub mod Halves
 pub mod Stages
 pub mod PartSteps
 pub mod OutcomeSteps
+pub mod Steps
+pub mod Doubts
