@@ -1,5 +1,5 @@
 -- True answers, where the world's invariant holds.
-use Rattle.std.proofs.Common.{◌≡◌, ◌∙◌, ◌⊎◌, inl, inr, ◌||◌, ◌&&◌, Bool, true, false, List, [], ◌∷◌, refl, sym, ap, subst, arith}
+use Rattle.std.proofs.Common.{◌≡◌, ◌∙◌, ◌⊎◌, inl, inr, ◌||◌, ◌&&◌, Bool, true, false, List, refl, sym, subst, arith}
 use Rattle.tree_model.specs.declared.names.Case.{Case}
 use Rattle.tree_model.specs.declared.names.Outcome.{Outcome}
 use Rattle.tree_model.specs.declared.names.Outcome.TheVariants.{Committed as CommittedOutcome, Aborted as AbortedOutcome}
@@ -12,17 +12,17 @@ use Rattle.tree_model.specs.declared.records.Record.{Record}
 use Rattle.tree_model.specs.declared.trees.TreeEntry.{TreeEntry}
 use Rattle.tree_model.specs.Names.{child_case}
 use Rattle.tree_model.specs.Records.{has, is_abort, is_forgot, is_heuristic, is_prepare}
-use Rattle.tree_model.specs.Nodes.{Node, kept}
+use Rattle.tree_model.specs.Nodes.{kept}
 use Rattle.tree_model.specs.Outcomes.{InDoubt, TrueAnswers, has_concluded, has_promised, is_joined_message, is_outcome_message, sent}
 use Rattle.tree_model.specs.Trees.{IsTree}
-use Rattle.tree_model.specs.World.{Continues, IsRun, Made, World}
+use Rattle.tree_model.specs.World.{IsRun, Made, World}
 use Rattle.tree_pairs.specs.Invariant.{Common}
 use Rattle.tree_pairs.specs.Keeps.{Later}
 use Rattle.tree_pairs.specs.Promises.{TrueAnswers as PairAnswers}
 use Rattle.tree_pairs.specs.Reading.{Reading}
 use Rattle.tree_pairs.specs.Standing.{IsInDoubt}
 use Rattle.tree_pairs.proofs.Promises.{abort_true_answers, commit_true_answers}
-use Rattle.tree_readings.specs.ReadingOf.{gives_case, is_learnt_abort, is_learnt_commit, is_promise}
+use Rattle.tree_readings.specs.ReadingOf.{is_learnt_abort, is_learnt_commit, is_promise}
 use Rattle.tree_nodes.specs.WorldHolds.{InvariantOf, WorldHolds, is_about, pair_reading}
 use Rattle.tree_nodes.proofs.GivenCases.{sent_other}
 use Rattle.tree_nodes.proofs.PairOf.{common_of, given, is_free}
@@ -30,7 +30,7 @@ use Rattle.tree_nodes.proofs.Worlds.{has_other}
 use Rattle.tree_headline.specs.ProcessLaws.{ProcessLaws}
 use Rattle.tree_headline.proofs.Ends.{Tells, has_either, says_abort, says_commit}
 use Rattle.tree_headline.proofs.Pairs.{joined_pair}
-use Rattle.tree_headline.proofs.Steps.{LaterHolds, onward_holds}
+use Rattle.tree_headline.proofs.Steps.{onward_holds}
 
 -- A case in doubt, as its pair has it.
 

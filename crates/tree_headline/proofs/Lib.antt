@@ -14,3 +14,5 @@ pub mod PartSteps
 pub mod OutcomeSteps
 pub mod Steps
 pub mod Doubts
+pub mod Opened
+pub mod Headline

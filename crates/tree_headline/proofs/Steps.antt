@@ -1,5 +1,5 @@
 -- The steps of a run keep the world's invariant, from the laws of the processes.
-use Rattle.std.proofs.Common.{◌≡◌, ◌∙◌, inl, inr, Bool, true, false, Some, List, ◌∷◌, ◌++◌, refl, sym, ap, subst}
+use Rattle.std.proofs.Common.{◌≡◌, ◌∙◌, inl, inr, Bool, true, Some, List, ◌∷◌, ◌++◌, refl, sym, ap, subst}
 use Rattle.tree_model.specs.declared.names.Case.{Case}
 use Rattle.tree_model.specs.declared.names.ProcessId.{ProcessId}
 use Rattle.tree_model.specs.declared.names.Ticket.{Ticket}
@@ -19,7 +19,7 @@ use Rattle.tree_readings.proofs.ReadingSteps.{same_process-refl}
 use Rattle.tree_turns.specs.Steps.{StepOf}
 use Rattle.tree_turns.proofs.Steps.{step_of}
 use Rattle.tree_pairs.proofs.Later.{later-later, later-now}
-use Rattle.tree_nodes.specs.WorldHolds.{AllLater, IsFree, IsPair, JoinedOnce, WorldHolds, pair_reading}
+use Rattle.tree_nodes.specs.WorldHolds.{AllLater, IsFree, JoinedOnce, WorldHolds, pair_reading}
 use Rattle.tree_nodes.proofs.JoinedOnce.{tickets_have_one_case}
 use Rattle.tree_nodes.proofs.Unlisted.{unlisted_stay}
 use Rattle.tree_headline.specs.ProcessLaws.{ProcessLaws}

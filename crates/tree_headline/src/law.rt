@@ -1,14 +1,16 @@
 //! The laws of one world, and of its steps.
-ghost use Rattle.std.specs.Prelude.{◌≡◌, List, true};
+ghost use Rattle.std.specs.Prelude.{◌≡◌, List, Some, true};
+ghost use Rattle.tree_headline.specs.ProcessLaws.{ProcessLaws};
 ghost use Rattle.tree_model.specs.Names.{child_case};
-ghost use Rattle.tree_model.specs.Outcomes.{Agreement, CommitRule, is_joined_message, sent};
+ghost use Rattle.tree_model.specs.Nodes.{Effect};
+ghost use Rattle.tree_model.specs.Outcomes.{Agreement, CommitRule, Headline, TrueAnswers, is_joined_message, sent};
 ghost use Rattle.tree_model.specs.Trees.{IsTree};
-ghost use Rattle.tree_model.specs.World.{IsRun, Made, World};
+ghost use Rattle.tree_model.specs.World.{IsRun, Made, Move, Stands, World, opened_world, world_makes};
 ghost use Rattle.tree_model.specs.declared.names.Case.{Case};
 ghost use Rattle.tree_model.specs.declared.names.Ticket.{Ticket};
 ghost use Rattle.tree_model.specs.declared.names.Txn.{Txn};
 ghost use Rattle.tree_model.specs.declared.trees.TreeEntry.{TreeEntry};
-ghost use Rattle.tree_nodes.specs.WorldHolds.{IsPair, TellsPart, WorldHolds, pair_reading};
+ghost use Rattle.tree_nodes.specs.WorldHolds.{AllLater, IsPair, TellsPart, WorldHolds, pair_reading};
 ghost use Rattle.tree_pairs.specs.Chain.{IsBelow};
 
 /// Where the world's invariant holds, the climb from a ticket to the root tells who takes part.
@@ -34,4 +36,33 @@ pub fn agreement()
 pub fn commit_rule()
     ensures { (tree : List TreeEntry) (es : List Made) (w : World) → IsTree tree → IsRun tree es w → WorldHolds tree w
         → CommitRule tree es w }
+{}
+
+/// The world's invariant holds of a tree that was just opened.
+pub fn opened_world_holds()
+    ensures { (tree : List TreeEntry) → WorldHolds tree opened_world }
+{}
+
+/// Where the steps of each process keep what `ProcessLaws` says, a step of a run keeps the world's invariant, and what was
+/// true of each pair for ever; so the world's invariant holds behind every run.
+pub fn steps_keep_the_world()
+    ensures step { (tree : List TreeEntry) → IsTree tree → ProcessLaws tree → (es : List Made) (w : World)
+        → IsRun tree es w → WorldHolds tree w → (m : Move) (e : Effect) (later : World)
+        → Stands w.net m.step.process m.step.happening → world_makes tree w m ≡ Some (e, later)
+        → WorldHolds tree later × AllLater tree w later }
+    ensures run { (tree : List TreeEntry) → IsTree tree → ProcessLaws tree → (es : List Made) (w : World)
+        → IsRun tree es w → WorldHolds tree w }
+{}
+
+/// Where the steps of each process keep what `ProcessLaws` says, each COMMIT and each ABORT that finds its case in doubt
+/// tells the outcome, now and in every later world.
+pub fn true_answers()
+    ensures { (tree : List TreeEntry) → IsTree tree → ProcessLaws tree → (es : List Made) (w : World)
+        → IsRun tree es w → WorldHolds tree w → TrueAnswers tree w }
+{}
+
+/// Where the steps of each process keep what `ProcessLaws` says, the headline holds of every run.
+pub fn headline_from_processes()
+    ensures { (tree : List TreeEntry) → IsTree tree → ProcessLaws tree → (es : List Made) (w : World)
+        → IsRun tree es w → Headline tree es w }
 {}
