@@ -11,7 +11,7 @@ use Rattle.tree_model.specs.declared.messages.Message.TheVariants.{Join, Joined,
 use Rattle.tree_model.specs.declared.records.Record.{Record}
 use Rattle.tree_model.specs.declared.trees.TreeEntry.{TreeEntry}
 use Rattle.tree_model.specs.Names.{process_of, same_case, same_ticket}
-use Rattle.tree_model.specs.NameLaws.{same_case_tells, same_ticket_tells}
+use Rattle.tree_model.specs.NameLaws.{same_ticket_tells}
 use Rattle.tree_model.specs.Records.{has}
 use Rattle.tree_model.specs.Nodes.{Role, AtRoot, Below, AtLeaf, Effect, Node, Place, Written, appends, entries_written, is_any_forced, kept}
 use Rattle.tree_model.specs.Restarts.{crashed, reopens, trim_fails, trimmed as trimmed_log}
@@ -22,6 +22,7 @@ use Rattle.tree_readings.proofs.Lists.{sent-append}
 use Rattle.tree_turns.specs.Steps.{StepOf, handled, failed_in, passed, failed_passing, reopened, failed_reopening, trimmed, failed_trimming}
 use Rattle.tree_nodes.specs.WorldHolds.{AllGo, Cascades, Coordinates, GoesBy, IsFree, Issues, NodeHolds, RoleHolds, gives_other}
 use Rattle.tree_nodes.proofs.Tests.{both, either, in_second, right}
+use Rattle.tree_nodes.proofs.GivenCases.{same_of}
 use Rattle.tree_headline.specs.ProcessLaws.{AllFrom}
 
 -- The net.
@@ -61,9 +62,6 @@ some_letter tree q test (l ∷ ls) f g e = elim (either (test l.message) (sent t
   | inr rest ↦ some_letter tree q test ls f.1 g.1 rest
 ]
 
-case_is : (c d : Case) → same_case c d ≡ true → c ≡ d
-case_is c d e = elim (same_case_tells c d) [ inl t ↦ t.1 | inr g ↦ absurd (let k = g.0 in cc) ]
-
 ticket_is : (c d : Ticket) → same_ticket c d ≡ true → c ≡ d
 ticket_is c d e = elim (same_ticket_tells c d) [ inl t ↦ t.1 | inr g ↦ absurd (let k = g.0 in cc) ]
 
@@ -96,7 +94,7 @@ yes_here tree q ls f g d e =
     by_message s.letter s.letter.message s.here s.goes s.passes
   where
     by_message : (l : Envelope) (m : Message) → l.from ≡ q → GoesBy tree l m → is_yes_message d m ≡ true → process_of d ≡ q
-    by_message l (Yes c) here goes e = ap process_of (sym (case_is c d e)) ∙ (goes.0 ∙ here)
+    by_message l (Yes c) here goes e = ap process_of (sym (same_of c d e)) ∙ (goes.0 ∙ here)
     by_message l (Joined c u) here goes e = absurd (cc)
     by_message l (Join c) here goes e = absurd (cc)
     by_message l (Work c i op) here goes e = absurd (cc)
@@ -115,7 +113,7 @@ read_here tree q ls f g d e =
     by_message s.letter s.letter.message s.here s.goes s.passes
   where
     by_message : (l : Envelope) (m : Message) → l.from ≡ q → GoesBy tree l m → is_read_message d m ≡ true → process_of d ≡ q
-    by_message l (Read c) here goes e = ap process_of (sym (case_is c d e)) ∙ (goes.0 ∙ here)
+    by_message l (Read c) here goes e = ap process_of (sym (same_of c d e)) ∙ (goes.0 ∙ here)
     by_message l (Joined c u) here goes e = absurd (cc)
     by_message l (Join c) here goes e = absurd (cc)
     by_message l (Work c i op) here goes e = absurd (cc)
