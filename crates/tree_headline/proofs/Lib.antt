@@ -16,3 +16,5 @@ pub mod Steps
 pub mod Doubts
 pub mod Opened
 pub mod Headline
+pub mod ManagerLetters
+pub mod Managers

@@ -3,7 +3,7 @@ use Rattle.std.specs.Prelude.{◌≡◌, Some, List, [], ◌∷◌, ◌++◌}
 use Rattle.tree_model.specs.declared.names.ProcessId.{ProcessId}
 use Rattle.tree_model.specs.declared.messages.Envelope.{Envelope}
 use Rattle.tree_model.specs.declared.trees.TreeEntry.{TreeEntry}
-use Rattle.tree_model.specs.Nodes.{Effect, Node, Place, place_of}
+use Rattle.tree_model.specs.Nodes.{AtLeaf, AtRoot, Below, Effect, Node, Place, Role, place_of, role_of}
 use Rattle.tree_model.specs.World.{IsRun, Made, Move, Stands, World, world_makes}
 use Rattle.tree_nodes.specs.ProcessSteps.{ChildStep, Elsewhere, ParentStep}
 use Rattle.tree_nodes.specs.WorldHolds.{AboutGiven, AllGo, NodeHolds, WorldHolds}
@@ -30,4 +30,17 @@ abbrev pub ProcessLaws : List TreeEntry → Type 0
 ProcessLaws tree = (es : List Made) (w : World) → IsRun tree es w → WorldHolds tree w
     → (m : Move) (e : Effect) (w' : World) → Stands w.net m.step.process m.step.happening
     → world_makes tree w m ≡ Some (e, w')
+    → StepKeeps (place_of tree m.step.process) w.net e.messages (w.at m.step.process) (w'.at m.step.process)
+
+-- the role is a coordinator's
+abbrev pub IsCoordinator : Role → Type 0
+IsCoordinator AtRoot = Unit {0}
+IsCoordinator (Below p) = Unit {0}
+IsCoordinator (AtLeaf p) = ⊥
+
+-- The same of coordinators alone.
+abbrev pub CoordinatorLaws : List TreeEntry → Type 0
+CoordinatorLaws tree = (es : List Made) (w : World) → IsRun tree es w → WorldHolds tree w
+    → (m : Move) (e : Effect) (w' : World) → IsCoordinator (role_of tree m.step.process)
+    → Stands w.net m.step.process m.step.happening → world_makes tree w m ≡ Some (e, w')
     → StepKeeps (place_of tree m.step.process) w.net e.messages (w.at m.step.process) (w'.at m.step.process)

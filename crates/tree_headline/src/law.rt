@@ -1,6 +1,6 @@
 //! The laws of one world, and of its steps.
 ghost use Rattle.std.specs.Prelude.{◌≡◌, List, Some, true};
-ghost use Rattle.tree_headline.specs.ProcessLaws.{ProcessLaws};
+ghost use Rattle.tree_headline.specs.ProcessLaws.{CoordinatorLaws, ProcessLaws};
 ghost use Rattle.tree_model.specs.Names.{child_case};
 ghost use Rattle.tree_model.specs.Nodes.{Effect};
 ghost use Rattle.tree_model.specs.Outcomes.{Agreement, CommitRule, Headline, TrueAnswers, is_joined_message, sent};
@@ -64,5 +64,13 @@ pub fn true_answers()
 /// Where the steps of each process keep what `ProcessLaws` says, the headline holds of every run.
 pub fn headline_from_processes()
     ensures { (tree : List TreeEntry) → IsTree tree → ProcessLaws tree → (es : List Made) (w : World)
+        → IsRun tree es w → Headline tree es w }
+{}
+
+/// Each step of each manager keeps what `ProcessLaws` says, so the laws of coordinators are enough: where each step of each
+/// coordinator keeps it, the headline holds of every run.
+pub fn headline_from_coordinators()
+    ensures enough { (tree : List TreeEntry) → CoordinatorLaws tree → ProcessLaws tree }
+    ensures headline { (tree : List TreeEntry) → IsTree tree → CoordinatorLaws tree → (es : List Made) (w : World)
         → IsRun tree es w → Headline tree es w }
 {}
