@@ -95,7 +95,8 @@ module _ (tree : List TreeEntry) (is_tree : IsTree tree) (w : World) (h : WorldH
       (is_commit_outcome w c.txn) (takes_part tree w c)
 
   -- of a case whose ticket JOINED gave to this one
-  joined_says : (c : Case) (u t : Ticket) → sent (is_joined_message c u) w.net ≡ true → IsPair tree (child_case c.txn u) t
+  joined_says : (c : Case) (u t : Ticket) → sent (is_joined_message c u) w.net ≡ true
+      → IsPair tree (child_case c.txn u) t
       → Said (child_case c.txn u)
   joined_says c u t joined next =
       let d = child_case c.txn u in
@@ -113,7 +114,8 @@ module _ (tree : List TreeEntry) (is_tree : IsTree tree) (w : World) (h : WorldH
             refused_parent up k r.0 r.1;
       }
 
-  given_says : (x : Txn) (u t : Ticket) → IsPair tree (child_case x u) t → sent (gives_case (child_case x u)) w.net ≡ true
+  given_says : (x : Txn) (u t : Ticket) → IsPair tree (child_case x u) t
+      → sent (gives_case (child_case x u)) w.net ≡ true
       → Said (child_case x u)
   given_says x u t next e =
       let g = given w.net x u e in
@@ -123,7 +125,8 @@ module _ (tree : List TreeEntry) (is_tree : IsTree tree) (w : World) (h : WorldH
   case_says : (x : Txn) (u t : Ticket) → IsPair tree (child_case x u) t → Said (child_case x u)
   case_says x u t next =
       let d = child_case x u in
-      let by = λ (q : Message → Bool) (f : (m : Message) → q m ≡ true → is_about d m ≡ true) (e : sent q w.net ≡ true).
+      let by = λ (q : Message → Bool) (f : (m : Message) → q m ≡ true → is_about d m
+      ≡ true) (e : sent q w.net ≡ true).
       given_says x u t next (h.about_given d (sent_other q (is_about d) w.net f e)) in
       record {
         asked_takes_part = λ e. (by (is_prepare_message d) (prepare_about d) e).asked_takes_part e;

@@ -4,7 +4,8 @@ use Rattle.tree_pairs.specs.Chain.{IsBelow}
 use Rattle.tree_readings.specs.ReadingOf.{reading_from, ParentHalf, ChildHalf, Wire, is_participant, is_born}
 use Rattle.tree_headline.proofs.ChildOf.{child_of}
 
-pub is_below : (root manager outcome above part committed aborts : Bool) (up p : ParentHalf) (k : ChildHalf) (v0 v : Wire)
+pub is_below : (root manager outcome above part committed aborts : Bool) (up p : ParentHalf) (k : ChildHalf)
+    (v0 v : Wire)
     → v0.issued ≡ true → v.given ≡ true → v.read_up ≡ v0.read
     → part ≡ (up.took_part && is_participant root (is_born root up.begun v0.given) above)
     → IsBelow (reading_from root false outcome above up (child_of p committed aborts) v0)

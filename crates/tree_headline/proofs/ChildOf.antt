@@ -51,7 +51,8 @@ same_found q r b (x ∷ xs) f g e = step (q x) (r x) (b x) _ _ (has b xs) (f x) 
 none_step : (q b x z : Bool) → (q ≡ true → b ≡ true) → (b || z) ≡ false → (z ≡ false → x ≡ false) → (q || x) ≡ false
 none_step q b x z f e h = grind arith
 
-none_found : (q b : Record → Bool) (xs : List Record) → ((x : Record) → q x ≡ true → b x ≡ true) → has b xs ≡ false → has q xs ≡ false
+none_found : (q b : Record → Bool) (xs : List Record) → ((x : Record) → q x ≡ true → b x ≡ true) → has b xs
+    ≡ false → has q xs ≡ false
 unfolding has
 none_found q b [] f e = refl
 none_found q b (x ∷ xs) f e = none_step (q x) (b x) _ (has b xs) (f x) e (none_found q b xs f)
@@ -62,7 +63,8 @@ promises d x e = grind arith
 promises_back : (d : Case) (x : Record) → is_prepare d x ≡ true → is_promise d x ≡ true
 promises_back d x e = grind arith
 
-commits : (d : Case) (x : Record) → is_learnt_commit d x ≡ true → (is_commit d x ≡ true) ⊎ (is_branch_record d x ≡ true)
+commits : (d : Case) (x : Record) → is_learnt_commit d x ≡ true → (is_commit d x
+    ≡ true) ⊎ (is_branch_record d x ≡ true)
 commits d x e = grind arith
 
 commits_back : (d : Case) (x : Record) → is_commit d x ≡ true → is_learnt_commit d x ≡ true
@@ -96,11 +98,16 @@ pub half_as_child : (s : Standing) (m : Memory) (n : Node) (d : Case) (t : Ticke
     → child_half_at s n d ≡ child_of (parent_half_at s m n d t) (has (is_commit d) n.life) (has (is_abort d) n.forced)
 half_as_child s m n d t b =
     rw (
-      same_found (is_promise d) (is_prepare d) (is_branch_record d) (kept n) (promises d) (promises_back d) b.kept_none,
-      same_found (is_promise d) (is_prepare d) (is_branch_record d) n.forced (promises d) (promises_back d) b.forced_none,
-      same_found (is_promise d) (is_prepare d) (is_branch_record d) n.durable (promises d) (promises_back d) b.durable_none,
-      same_found (is_learnt_commit d) (is_commit d) (is_branch_record d) (kept n) (commits d) (commits_back d) b.kept_none,
-      same_found (is_learnt_commit d) (is_commit d) (is_branch_record d) n.forced (commits d) (commits_back d) b.forced_none,
+      same_found (is_promise d) (is_prepare d) (is_branch_record d) (kept n) (promises d) (promises_back d)
+          b.kept_none,
+      same_found (is_promise d) (is_prepare d) (is_branch_record d) n.forced (promises d) (promises_back d)
+          b.forced_none,
+      same_found (is_promise d) (is_prepare d) (is_branch_record d) n.durable (promises d) (promises_back d)
+          b.durable_none,
+      same_found (is_learnt_commit d) (is_commit d) (is_branch_record d) (kept n) (commits d) (commits_back
+          d) b.kept_none,
+      same_found (is_learnt_commit d) (is_commit d) (is_branch_record d) n.forced (commits d) (commits_back
+          d) b.forced_none,
       same_found (is_committing d) (is_commit d) (is_branch_record d) n.life (ends d) (ends_back d) b.life_none,
       none_found (is_learnt_abort d) (is_branch_record d) (kept n) (aborts d) b.kept_none,
       none_found (is_learnt_abort d) (is_branch_record d) n.forced (aborts d) b.forced_none,
@@ -130,4 +137,5 @@ no_branch d n h k = record {
 
     none : (b : Bool) {c : Bool} → c ≡ b → (c ≡ true → has (is_branch_record d) n.life ≡ true) → c ≡ false
     none false e f = e
-    none true e f = absurd (let x = sym k.no_managers_record ∙ has_other (is_branch_record d) is_managers n.life managers (f e) in cc)
+    none true e f = absurd (let x = sym k.no_managers_record
+        ∙ has_other (is_branch_record d) is_managers n.life managers (f e) in cc)

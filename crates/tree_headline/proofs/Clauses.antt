@@ -67,13 +67,15 @@ module _ (tree : List TreeEntry) (is_tree : IsTree tree) (w : World) (h : WorldH
 
       by_listed : (b : Bool) → is_listed tree x.root ≡ b → Tells w x AbortedOutcome
       by_listed true l = says_abort w x
-          (never x (begins_in (role_of tree x.root) (place_of tree x.root) w.net (w.at x.root) f (h.nodes x.root l).role) e).none_ever
+          (never x (begins_in (role_of tree x.root) (place_of tree x.root) w.net (w.at x.root) f (h.nodes
+          x.root l).role) e).none_ever
       by_listed false l = opened_ends (w.at x.root) (h.unlisted x.root l) e
 
   -- Agreement of the others.
 
   given_by_record : (x : Txn) (t : Ticket) → is_listed tree t.child ≡ true → IsIssuer (role_of tree t.child)
-      → has (is_record_of (child_case x t)) (w.at t.child).life ≡ true → sent (gives_case (child_case x t)) w.net ≡ true
+      → has (is_record_of (child_case x t)) (w.at t.child).life ≡ true
+      → sent (gives_case (child_case x t)) w.net ≡ true
   given_by_record x t l i e = ((issues_in (role_of tree t.child) (place_of tree t.child) w.net (w.at t.child) i
       (h.nodes t.child l).role).recorded_is_given (child_case x t) e).1
 
@@ -105,16 +107,20 @@ module _ (tree : List TreeEntry) (is_tree : IsTree tree) (w : World) (h : WorldH
   unfolding has
   ends_joined x t AtRoot f o e = absurd (e)
   ends_joined x t (Below p) f CommittedOutcome e =
-      joined_by_record (is_prepare (child_case x t)) x t (subst IsIssuer (sym f) tt) (prepare_record (child_case x t)) refl
+      joined_by_record (is_prepare (child_case x t)) x t (subst IsIssuer (sym f) tt) (prepare_record
+      (child_case x t)) refl
       (follows_second _ _ (w.at t.child).life e)
   ends_joined x t (Below p) f AbortedOutcome e =
-      joined_by_record (is_prepare (child_case x t)) x t (subst IsIssuer (sym f) tt) (prepare_record (child_case x t)) refl
+      joined_by_record (is_prepare (child_case x t)) x t (subst IsIssuer (sym f) tt) (prepare_record
+      (child_case x t)) refl
       (follows_second _ _ (w.at t.child).life e)
   ends_joined x t (AtLeaf p) f CommittedOutcome (inl e) =
-      joined_by_record (is_prepared (child_case x t)) x t (subst IsIssuer (sym f) tt) (prepared_record (child_case x t)) refl
+      joined_by_record (is_prepared (child_case x t)) x t (subst IsIssuer (sym f) tt) (prepared_record
+      (child_case x t)) refl
       (follows_second _ _ (w.at t.child).life e)
   ends_joined x t (AtLeaf p) f AbortedOutcome (inl e) =
-      joined_by_record (is_prepared (child_case x t)) x t (subst IsIssuer (sym f) tt) (prepared_record (child_case x t)) refl
+      joined_by_record (is_prepared (child_case x t)) x t (subst IsIssuer (sym f) tt) (prepared_record
+      (child_case x t)) refl
       (follows_second _ _ (w.at t.child).life e)
   ends_joined x t (AtLeaf p) f o (inr e) = joined_by_part x t e.1.takes_part
 
@@ -137,7 +143,8 @@ module _ (tree : List TreeEntry) (is_tree : IsTree tree) (w : World) (h : WorldH
   no_first_no : (r : Reading) → Common r → VotedFor r → r.first_no ≡ false
   no_first_no r k v = grind arith
 
-  all_consented : (x : Txn) (t : Ticket) (c : Case) → is_commit_outcome w x ≡ true → TakesPart w x t → IsAcceptor w x t c
+  all_consented : (x : Txn) (t : Ticket) (c : Case) → is_commit_outcome w x ≡ true → TakesPart w x t
+      → IsAcceptor w x t c
       → consents (first_vote (w.at (process_of c)).voted c t) ≡ true
   all_consented x t c committed p a =
       let f = acceptor_joined x t c a in
@@ -148,7 +155,8 @@ module _ (tree : List TreeEntry) (is_tree : IsTree tree) (w : World) (h : WorldH
       let v = voted r k (ap (is_commit_outcome w) f.0 ∙ committed) up.1 up.0 in
       first_consents c t (w.at (process_of c)).voted v (no_first_no r k v)
 
-pub commit_rule : (tree : List TreeEntry) (es : List Made) (w : World) → IsTree tree → IsRun tree es w → WorldHolds tree w
+pub commit_rule : (tree : List TreeEntry) (es : List Made) (w : World) → IsTree tree → IsRun tree es w
+    → WorldHolds tree w
     → CommitRule tree es w
 commit_rule tree es w is_tree run h =
     record { all_consented = all_consented tree is_tree w h; yes_is_forced = yes_is_forced tree es w run }

@@ -79,10 +79,11 @@ module _ (tree : List TreeEntry) (w : World) (h : WorldHolds tree w) (c : Case) 
       let rs = kept (w.at t.child) in
       let k : Common r = common_of c.txn.presumption r (joined_pair tree w h c t joined).1 in
       record {
-        prepared = elim (has_either (has_promised d) (is_promise d) (is_heuristic d) rs (promised_by d) doubt.promised) [
-          | inl promised ↦ promised
-          | inr decided ↦ (k.heuristic_stands_behind decided).0
-        ];
+        prepared = elim (has_either (has_promised d) (is_promise d) (is_heuristic d) rs (promised_by d)
+            doubt.promised) [
+              | inl promised ↦ promised
+              | inr decided ↦ (k.heuristic_stands_behind decided).0
+            ];
         no_commit = none_of_them (is_learnt_commit d) (has_concluded d) rs (commit_concludes d) doubt.not_concluded;
         no_abort = neither_so (has (is_learnt_abort d) rs) (has (is_abort d) rs) (has (is_prepare d) rs)
             (none_of_them (is_learnt_abort d) (has_concluded d) rs (abort_concludes d) doubt.not_concluded)
@@ -106,11 +107,14 @@ pub true_answers : (tree : List TreeEntry) → IsTree tree → ProcessLaws tree 
 true_answers tree is_tree laws es w run h = record {
   tells_outcome = λ x t o e doubt fs later on.
       let g = given w.net x t (h.about_given (child_case x t)
-      (sent_other (is_outcome_message o (child_case x t)) (is_about (child_case x t)) w.net (about_so o (child_case x t)) e)) in
+      (sent_other (is_outcome_message o (child_case x t)) (is_about (child_case x t)) w.net (about_so o
+      (child_case x t)) e)) in
       let f = onward_holds tree is_tree laws es w run h fs later on in
       let joined = f.net (is_joined_message g.of t) g.joined in
       let pair = joined_pair tree w h g.of t g.joined in
       let free = is_free later.net later.net g.of t (λ d k. k) f.holds.joined_once joined in
-      subst (λ (y : Txn). sent (is_outcome_message o (child_case y t)) w.net ≡ true → InDoubt (w.at t.child) (child_case y t)
-      → Tells later y o) g.same (answers tree w h g.of t g.joined later f.holds joined (f.later g.of t pair.0 free) o) e doubt;
+      subst (λ (y : Txn). sent (is_outcome_message o (child_case y t)) w.net ≡ true
+      → InDoubt (w.at t.child) (child_case y t)
+      → Tells later y o) g.same (answers tree w h g.of t g.joined later f.holds joined (f.later g.of t pair.0
+      free) o) e doubt;
 }

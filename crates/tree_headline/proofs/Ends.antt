@@ -87,7 +87,8 @@ not_live false m (ToldOf o) e = refl
 not_live false m Finished e = refl
 not_live false m Unmarked e = by_phase m.phase e
   where
-    by_phase : (p : Phase) → (heard_branch m p).standing ≢ Active → is_live (phase_by false (heard_branch m p).standing) ≡ false
+    by_phase : (p : Phase) → (heard_branch m p).standing ≢ Active
+        → is_live (phase_by false (heard_branch m p).standing) ≡ false
     by_phase Idle e = refl
     by_phase Open e = absurd (e refl)
     by_phase Asked e = refl
@@ -112,7 +113,8 @@ issues_in AtRoot place net n i h = absurd (i)
 issues_in (Below p) place net n i h = h.1.1
 issues_in (AtLeaf p) place net n i h = h.1
 
-manages_in : (role : Role) (n : Node) (p : ProcessId) → role ≡ AtLeaf p → RoleLasts role (logs_of n) → Manages (logs_of n)
+manages_in : (role : Role) (n : Node) (p : ProcessId) → role ≡ AtLeaf p → RoleLasts role (logs_of n)
+    → Manages (logs_of n)
 manages_in (AtLeaf q) n p f l = l
 manages_in AtRoot n p f l = absurd (cc)
 manages_in (Below q) n p f l = absurd (cc)
@@ -182,19 +184,24 @@ module _ (tree : List TreeEntry) (is_tree : IsTree tree) (w : World) (h : WorldH
     pub part : TakesPart w c.txn t → (r.took_part ≡ true) × (r.took_part_up ≡ true)
     part p =
         let s = standing_world tree w h in
-        both _ _ (sym (takes tree is_tree w s c t (joined_pair tree w h c t joined).0 joined) ∙ tells tree w s is_tree c.txn t p)
+        both _ _ (sym (takes tree is_tree w s c t (joined_pair tree w h c t joined).0 joined)
+        ∙ tells tree w s is_tree c.txn t p)
 
-    dies : (p : ProcessId) → role_of tree t.child ≡ AtLeaf p → DiesUnprepared tree w c.txn t → Tells w c.txn AbortedOutcome
+    dies : (p : ProcessId) → role_of tree t.child ≡ AtLeaf p → DiesUnprepared tree w c.txn t
+        → Tells w c.txn AbortedOutcome
     dies p leaf e =
         let lasts = (h.nodes t.child listed).lasts in
         let takes_part_in = part e.takes_part in
-        let dead = dead_so (has (is_promise d) (kept n) || has (is_promise d) n.durable) _ (sent (is_joined_message c t) w.net)
+        let dead = dead_so (has (is_promise d) (kept n) || has (is_promise d) n.durable) _ (sent
+        (is_joined_message c t) w.net)
         (sent (is_read_message d) w.net)
         (no_promise n d lasts.nested (manages_in (role_of tree t.child) n p leaf lasts.by_role) e.never_promised)
-        (closed_in (role_of tree t.child) (place_of tree t.child) n d p leaf e.is_active_no_longer) joined e.never_read in
+        (closed_in (role_of tree t.child) (place_of tree t.child) n d p leaf e.is_active_no_longer) joined
+        e.never_read in
         says_abort w c.txn (refused_child r common (right _ _ dead) takes_part_in.0 takes_part_in.1)
 
-    pub ends : (role : Role) → role_of tree t.child ≡ role → (o : Outcome) → EndsIn role tree w c.txn t o → Tells w c.txn o
+    pub ends : (role : Role) → role_of tree t.child ≡ role → (o : Outcome) → EndsIn role tree w c.txn t o
+        → Tells w c.txn o
     ends AtRoot f o e = absurd (e)
     ends (Below p) f CommittedOutcome e =
         commits (has_other (is_commit d) (is_committing d) n.life (commits_so d) (follows_first _ _ n.life e))
@@ -204,5 +211,6 @@ module _ (tree : List TreeEntry) (is_tree : IsTree tree) (w : World) (h : WorldH
         commits (has_other (is_committed d) (is_committing d) n.life (committed_so d) (follows_first _ _ n.life e))
     ends (AtLeaf p) f AbortedOutcome (inl e) = refuses (subst IsIssuer (sym f) tt)
         (has_other (is_prepared d) (is_promise d) n.life (promise_prepared d) (follows_second _ _ n.life e))
-        (left _ _ (has_other (is_rolled_back d) (is_learnt_abort d) n.life (rolled_back_so d) (follows_first _ _ n.life e)))
+        (left _ _ (has_other (is_rolled_back d) (is_learnt_abort d) n.life (rolled_back_so d) (follows_first
+        _ _ n.life e)))
     ends (AtLeaf p) f o (inr e) = subst (λ (z : Outcome). Tells w c.txn z) (sym e.0) (dies p f e.1)

@@ -72,7 +72,8 @@ joined_here tree q ls f g d t e =
     let s = some_letter tree q (is_joined_message d t) ls f g e in
     by_message s.letter s.letter.message s.here s.goes s.passes
   where
-    by_message : (l : Envelope) (m : Message) → l.from ≡ q → GoesBy tree l m → is_joined_message d t m ≡ true → t.child ≡ q
+    by_message : (l : Envelope) (m : Message) → l.from ≡ q → GoesBy tree l m → is_joined_message d t m
+        ≡ true → t.child ≡ q
     by_message l (Joined c u) here goes e =
         ap (λ (x : Ticket). x.child) (sym (ticket_is u t (both _ _ e).1)) ∙ (goes.0 ∙ here)
     by_message l (Join c) here goes e = absurd (cc)
@@ -93,7 +94,8 @@ yes_here tree q ls f g d e =
     let s = some_letter tree q (is_yes_message d) ls f g e in
     by_message s.letter s.letter.message s.here s.goes s.passes
   where
-    by_message : (l : Envelope) (m : Message) → l.from ≡ q → GoesBy tree l m → is_yes_message d m ≡ true → process_of d ≡ q
+    by_message : (l : Envelope) (m : Message) → l.from ≡ q → GoesBy tree l m → is_yes_message d m ≡ true
+        → process_of d ≡ q
     by_message l (Yes c) here goes e = ap process_of (sym (same_of c d e)) ∙ (goes.0 ∙ here)
     by_message l (Joined c u) here goes e = absurd (cc)
     by_message l (Join c) here goes e = absurd (cc)
@@ -112,7 +114,8 @@ read_here tree q ls f g d e =
     let s = some_letter tree q (is_read_message d) ls f g e in
     by_message s.letter s.letter.message s.here s.goes s.passes
   where
-    by_message : (l : Envelope) (m : Message) → l.from ≡ q → GoesBy tree l m → is_read_message d m ≡ true → process_of d ≡ q
+    by_message : (l : Envelope) (m : Message) → l.from ≡ q → GoesBy tree l m → is_read_message d m ≡ true
+        → process_of d ≡ q
     by_message l (Read c) here goes e = ap process_of (sym (same_of c d e)) ∙ (goes.0 ∙ here)
     by_message l (Joined c u) here goes e = absurd (cc)
     by_message l (Join c) here goes e = absurd (cc)
@@ -140,7 +143,11 @@ module _ (place : Place) (net ls : List Envelope) (n : Node)
       | inr old ↦ h.given_before d t own old
     ];
     recorded_is_given = λ d e. let g = h.recorded_is_given d e in (g.0, sent_still (gives_case d) net ls g.1);
-    remembered_is_given = λ up d e. let g = h.remembered_is_given up d e in (g.0, sent_still (gives_case d) net ls g.1);
+    remembered_is_given = λ up d e. let g = h.remembered_is_given up d e in (
+      g.0,
+      sent_still (gives_case d)
+          net ls g.1,
+    );
     active_was_joined = λ up d x t e.
         let g = h.active_was_joined up d x t e in (g.0, sent_still (is_joined_message d t) net ls g.1);
     promised_was_asked = λ d e. sent_still (is_prepare_message d) net ls (h.promised_was_asked d e);
@@ -202,7 +209,8 @@ module _ (place : Place) (m : Move) (q : Record → Bool) where
       in_second q (reopens place.role (kept (crashed place n j))) _
       (in_second q (kept (crashed place n j)) n.durable e)
   durable_still n _ _ (failed_reopening j f fl hp) e =
-      in_second q (take f.forced ((crashed place n j).unforced ++ take f.appended (reopens place.role (kept (crashed place n j)))))
+      in_second q (take f.forced ((crashed place n j).unforced ++ take f.appended (reopens place.role (kept
+      (crashed place n j)))))
       n.durable e
   durable_still n _ _ (trimmed hp up) e = in_second q (trimmed_log place.role (kept n)) n.durable e
   durable_still n _ _ (failed_trimming f fl hp up) e = by_front f.appended

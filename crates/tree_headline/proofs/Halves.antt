@@ -76,7 +76,8 @@ module _ (tree : List TreeEntry) where
           (subst (λ (o : Option Ticket). IsParentRole (role_of tree (process_of c)) o) f r)
           ∙ sym (ap (λ (o : Option Ticket). outcome_by o (is_commit_outcome v c.txn) old) f)
 
-  child_not_root : {A : Type 0} (q r p : ProcessId) → role_of tree r ≡ AtRoot → IsChildRole (role_of tree q) p → q ≡ r → A
+  child_not_root : {A : Type 0} (q r p : ProcessId) → role_of tree r ≡ AtRoot
+      → IsChildRole (role_of tree q) p → q ≡ r → A
   child_not_root q r p top child same =
       absurd (subst (λ (x : Role). IsChildRole x p) (ap (role_of tree) same ∙ top) child)
 
@@ -106,7 +107,8 @@ module _ (tree : List TreeEntry) (is_tree : IsTree tree) (w : World) (h : WorldH
 
   outcome_elsewhere : (x : Txn) → (x.root ≡ q → ⊥) → is_commit_outcome stepped x ≡ is_commit_outcome w x
   unfolding is_commit_outcome
-  outcome_elsewhere x other = ap (λ (n : Node). has (is_commit (record { txn = x; ticket = None })) n.durable) (others x.root other)
+  outcome_elsewhere x other = ap (λ (n : Node). has (is_commit (record { txn = x; ticket = None }))
+      n.durable) (others x.root other)
 
   module _ (c : Case) (t : Ticket) (pair : IsPair tree c t) (free : IsFree (w.net ++ ls) c t) where
     abbrev x : Txn
@@ -149,7 +151,8 @@ module _ (tree : List TreeEntry) (is_tree : IsTree tree) (w : World) (h : WorldH
     at_parent : process_of c ≡ q → Moves c t (pair_reading tree w c t) (half_reading c t)
     at_parent same =
         let role = role_of tree (process_of c) in
-        let seen : outcome_in role up_node c old_outcome ≡ old_outcome = outcome_seen tree w c old_outcome pair.parent.role
+        let seen : outcome_in role up_node c old_outcome
+        ≡ old_outcome = outcome_seen tree w c old_outcome pair.parent.role
         ∙ outcome_same c.ticket old_outcome in
         let seen' : outcome_in role (at (process_of c)) c old_outcome ≡ new_outcome =
         outcome_seen tree stepped c old_outcome pair.parent.role in
@@ -157,12 +160,15 @@ module _ (tree : List TreeEntry) (is_tree : IsTree tree) (w : World) (h : WorldH
         let old : seen_below (place_of tree (process_of c)) w.net up_node c t leaf old_outcome part (down down_node)
         ≡ pair_reading tree w c t = ap (λ (o : Bool). reading_from root leaf o part (up up_node) (down down_node)
         (wire c t w.net)) seen in
-        let new : seen_below (place_of tree (process_of c)) (w.net ++ ls) (at (process_of c)) c t leaf old_outcome part
+        let new : seen_below (place_of tree (process_of c)) (w.net ++ ls) (at (process_of c)) c t leaf
+        old_outcome part
         (down down_node) ≡ half_reading c t =
-        ap (λ (o : Bool). reading_from root leaf o part (up (at (process_of c))) (down down_node) (wire c t (w.net ++ ls)))
+        ap (λ (o : Bool). reading_from root leaf o part (up (at (process_of c))) (down down_node) (wire c t
+        (w.net ++ ls)))
         seen' ∙ ap (λ (n : Node). reading_from root leaf new_outcome part (up (at (process_of c))) (down n)
         (wire c t (w.net ++ ls))) (sym child) in
-        moves_so c t _ _ _ _ old new ((keeps_at (process_of c) same).pairs_below.follows c t pair refl free leaf old_outcome
+        moves_so c t _ _ _ _ old new ((keeps_at (process_of c) same).pairs_below.follows c t pair refl free
+        leaf old_outcome
         part (down down_node) (above tree is_tree w h c t pair)
         (subst (InvariantOf x.presumption) (sym old) before))
 
@@ -183,7 +189,8 @@ module _ (tree : List TreeEntry) (is_tree : IsTree tree) (w : World) (h : WorldH
         ≡ half_reading c t =
         ap (λ (o : Bool). reading_from root leaf o part (up up_node) (down (at t.child)) (wire c t (w.net ++ ls)))
         (sym (outcome_stays other))
-        ∙ ap (λ (n : Node). reading_from root leaf new_outcome part (up n) (down (at t.child)) (wire c t (w.net ++ ls)))
+        ∙ ap (λ (n : Node). reading_from root leaf new_outcome part (up n) (down (at t.child)) (wire c t
+        (w.net ++ ls)))
         (sym (others (process_of c) other)) in
         moves_so c t _ _ _ _ refl new
         ((keeps_at t.child same).pairs_above.follows c t pair refl free old_outcome part (up up_node) before)

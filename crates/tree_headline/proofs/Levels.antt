@@ -39,7 +39,8 @@ not_any : (es : List TreeEntry) (f : ProcessId → Bool) (q : ProcessId) → lis
 unfolding is_listed
 not_any [] f q e l = absurd (cc)
 not_any (x ∷ xs) f q e l = elim (either (same_process x.id q) (list_any (λ y. same_process y.id q) xs) l) [
-  | inl now ↦ subst (λ (p : ProcessId). f p ≡ false) (same x.id q now) (first_false (f x.id) (list_any (λ y. f y.id) xs) e)
+  | inl now ↦ subst (λ (p : ProcessId). f p
+      ≡ false) (same x.id q now) (first_false (f x.id) (list_any (λ y. f y.id) xs) e)
   | inr rest ↦ not_any xs f q (second_false (f x.id) (list_any (λ y. f y.id) xs) e) rest
 ]
   where
@@ -62,7 +63,8 @@ pub parent_climbs : (tree : List TreeEntry) (k : ℕ) (q p : ProcessId) → IsCh
     → is_none (level_within (suc k) tree q) ≡ false → is_none (level_within k tree p) ≡ false
 parent_climbs tree k q p h e =
     none_less (level_within k tree p)
-    (subst (λ (o : Option ProcessId). is_none (levels_above (level_within k tree) o) ≡ false) (parent_is tree q p h) e)
+    (subst (λ (o : Option ProcessId). is_none (levels_above (level_within k tree) o)
+    ≡ false) (parent_is tree q p h) e)
   where
     none_less : (o : Option ℕ) → is_none (one_more o) ≡ false → is_none o ≡ false
     none_less None e = absurd (cc)
@@ -74,7 +76,8 @@ never_climbs : (tree : List TreeEntry) (q : ProcessId) → IsChildRole (role_of 
 never_climbs tree q h zero e = absurd (cc)
 never_climbs tree q h (suc k) e = never_climbs tree q h k (parent_climbs tree k q q h e)
 
-pub parent_elsewhere : {A : Type 0} (tree : List TreeEntry) → IsTree tree → (q p : ProcessId) → is_listed tree q ≡ true
+pub parent_elsewhere : {A : Type 0} (tree : List TreeEntry) → IsTree tree → (q p : ProcessId)
+    → is_listed tree q ≡ true
     → IsChildRole (role_of tree q) p → q ≡ p → A
 parent_elsewhere tree t q p listed h same =
     never_climbs tree q (subst (λ (x : ProcessId). IsChildRole (role_of tree q) x) (sym same) h) (length tree)

@@ -48,7 +48,8 @@ goes_at tree (m ∷ ls) zero l g e =
     let f : m ≡ l = cc in subst (λ (x : Envelope). GoesBy tree x x.message) f g.0
 goes_at tree (m ∷ ls) (suc k) l g e = goes_at tree ls k l g.1 e
 
-module _ (tree : List TreeEntry) (me p : ProcessId) (leaf : role_of tree me ≡ AtLeaf p) (listed : is_listed tree me ≡ true)
+module _ (tree : List TreeEntry) (me p : ProcessId) (leaf : role_of tree me
+    ≡ AtLeaf p) (listed : is_listed tree me ≡ true)
     (net : List Envelope) where
   -- the process gave the case
   abbrev Own : Case → Type 0
@@ -123,7 +124,8 @@ module _ (tree : List TreeEntry) (me p : ProcessId) (leaf : role_of tree me ≡ 
   about_own d (Commit e) f g = absurd (f)
   about_own d (Abort e) f g = absurd (f)
 
-  given_so : (ls : List Envelope) → AllFit ls → (d : Case) → sent (is_about d) ls ≡ true → sent (gives_case d) net ≡ true
+  given_so : (ls : List Envelope) → AllFit ls → (d : Case) → sent (is_about d) ls ≡ true
+      → sent (gives_case d) net ≡ true
   unfolding sent
   given_so [] f d e = absurd (cc)
   given_so (l ∷ ls) f d e = elim (either (is_about d l.message) (sent (is_about d) ls) e) [
@@ -158,8 +160,17 @@ module _ (tree : List TreeEntry) (me p : ProcessId) (leaf : role_of tree me ≡ 
     module _ (h : Heard) (stands : InputStands net me h.input) where
       heard_goes : (m : Message) → Hears h m → (l : Envelope) × ((l.to ≡ me) × ((l.message ≡ m) × GoesBy tree l m))
       heard_goes m i =
-          let s : IsSent net me i.0 m = subst (λ (x : Input). InputStands net me x) i.1 stands in
-          (record { from = s.sender; to = me; message = m }, (refl, (refl, goes_at tree net (i.0 - 1) _ goes s.stands)))
+          let s : IsSent net me i.0 m = subst (λ (x : Input). InputStands net me x) i.1 stands in (
+            record { from = s.sender; to = me; message = m },
+            (
+              refl,
+              (
+                refl,
+                goes_at tree net (i.0 - 1) _ goes
+                    s.stands,
+              ),
+            ),
+          )
 
       heard_given : (m : Message) → Hears h m → (d : Case) → is_about d m ≡ true → sent (gives_case d) net ≡ true
       heard_given m i d e =
@@ -180,7 +191,8 @@ module _ (tree : List TreeEntry) (me p : ProcessId) (leaf : role_of tree me ≡ 
       joins : (d : Case) → Hears h (Join d) → (process_of d ≡ p) × IsParent tree d
       joins d i =
           let g = heard_goes (Join d) i in
-          let up : p ≡ g.0.from = subst (λ (x : Role). IsChildRole x g.0.from) (ap (role_of tree) g.1.0 ∙ leaf) g.1.1.1.1.1 in
+          let up : p ≡ g.0.from = subst (λ (x : Role). IsChildRole x g.0.from) (ap (role_of tree) g.1.0
+          ∙ leaf) g.1.1.1.1.1 in
           (g.1.1.1.0 ∙ sym up, g.1.1.1.1.0)
 
       acknowledged : (d : Case) (o : Outcome) (b : Bool) → Own d
@@ -188,7 +200,8 @@ module _ (tree : List TreeEntry) (me p : ProcessId) (leaf : role_of tree me ≡ 
       acknowledged d o true e = ((refl, (refl, e)), tt)
       acknowledged d o false e = tt
 
-      answers : (d : Case) (o : Outcome) → Hears h (tells_outcome o d) → AllFit (acknowledgement (leaf_of place p d) o)
+      answers : (d : Case) (o : Outcome) → Hears h (tells_outcome o d)
+          → AllFit (acknowledgement (leaf_of place p d) o)
       answers d o i = acknowledged d o (is_acknowledged d.txn.presumption o) (told d o i)
 
       waits_open : (x : Mark) → Waits x → is_open x ≡ true
@@ -239,16 +252,19 @@ module _ (tree : List TreeEntry) (me p : ProcessId) (leaf : role_of tree me ≡ 
       resumes_fit : (cs : List Case) → AllFit (flat_map (manager_resumes me p rs) cs)
       resumes_fit [] = tt
       resumes_fit (d ∷ cs) =
-          fit_both (manager_resumes me p rs d) (flat_map (manager_resumes me p rs) cs) (resumed_fits d) (resumes_fit cs)
+          fit_both (manager_resumes me p rs d) (flat_map (manager_resumes me p rs) cs) (resumed_fits d)
+          (resumes_fit cs)
 
-    reopened_none : {A : Type 0} (d : Case) (j : ℕ) → has (is_branch_record d) (reopens (AtLeaf p) (left_of n j)) ≡ true → A
+    reopened_none : {A : Type 0} (d : Case) (j : ℕ)
+        → has (is_branch_record d) (reopens (AtLeaf p) (left_of n j)) ≡ true → A
     unfolding has
     reopened_none d j e = absurd (cc)
 
     left_own : (j : ℕ) (d : Case)
         → is_open (mark_of (CaseBranch d) (left_of n j ++ reopens (AtLeaf p) (left_of n j))) ≡ true → Own d
     left_own j d e =
-        elim (in_either (is_branch_record d) (left_of n j) (reopens (AtLeaf p) (left_of n j)) (open_has_record d _ e)) [
+        elim (in_either (is_branch_record d) (left_of n j) (reopens (AtLeaf p) (left_of n j))
+        (open_has_record d _ e)) [
           | inl left ↦ elim (in_either (is_branch_record d) n.forced (take j n.unforced) left) [
             | inl front ↦ recorded d (in_first (is_branch_record d) n.forced n.unforced front)
             | inr rest ↦ recorded d
@@ -260,7 +276,8 @@ module _ (tree : List TreeEntry) (me p : ProcessId) (leaf : role_of tree me ≡ 
     pub letters_fit : (m : Move) → Stands net me m.step.happening → (e : Effect) (k : Node) → StepOf place n m e k
         → AllFit e.messages
     letters_fit m stands _ _ (handled i g hp np r) =
-        turn_fits (heard_in m i) (subst (λ (x : Happening). Stands net me x) hp stands) g (turn_of place n (heard_in m i) g r).turn
+        turn_fits (heard_in m i) (subst (λ (x : Happening). Stands net me x) hp stands) g (turn_of place n
+        (heard_in m i) g r).turn
     letters_fit m stands _ _ (failed_in i f g fl hp np r) = tt
     letters_fit m stands _ _ (passed i hp r) = tt
     letters_fit m stands _ _ (failed_passing i f fl hp r) = tt

@@ -35,7 +35,8 @@ manager_keeps tree es w run h m e w' p leaf stands made =
     (issues_in (role_of tree q) (place_of tree q) w.net (w.at q) (subst IsIssuer (sym leaf) tt) node.role) in
     let s = subst (λ (r : Role). StepOf (place r) (w.at q) m e at.node) leaf
     (step_of (place_of tree q) (w.at q) m e at.node at.made) in
-    let fit = letters_fit tree q p leaf listed w.net h.net h.about_given (w.at q) node.lasts.nested issues m stands e at.node s in
+    let fit = letters_fit tree q p leaf listed w.net h.net h.about_given (w.at q) node.lasts.nested issues m
+    stands e at.node s in
     let pairs = manager_process tree es w run m e w' p leaf stands made in
     record {
       holds = subst (λ (net : List Envelope). NodeHolds (place_of tree q) net (w'.at q)) left_net
@@ -61,6 +62,7 @@ coordinators_are_enough tree laws es w run h m e w' stands made =
     by_role (Below p) f law = law (subst IsCoordinator (sym f) tt) stands made
     by_role (AtLeaf p) f law = manager_keeps tree es w run h m e w' p f stands made
 
-pub headline_from_coordinators : (tree : List TreeEntry) → IsTree tree → CoordinatorLaws tree → (es : List Made) (w : World)
+pub headline_from_coordinators : (tree : List TreeEntry) → IsTree tree → CoordinatorLaws tree
+    → (es : List Made) (w : World)
     → IsRun tree es w → Headline tree es w
 headline_from_coordinators tree is_tree laws = headline tree is_tree (coordinators_are_enough tree laws)

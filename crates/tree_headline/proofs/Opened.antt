@@ -152,7 +152,8 @@ unfolding has memory_of in_list sent is_dead has_acked
 read_so true leaf part place c t f = refl
 read_so false leaf part place c t f = rw (f refl) refl
 
-opened_part : (tree : List TreeEntry) (c : Case) → is_root_ticket c.ticket ≡ false → takes_part tree opened_world c ≡ false
+opened_part : (tree : List TreeEntry) (c : Case) → is_root_ticket c.ticket ≡ false
+    → takes_part tree opened_world c ≡ false
 unfolding takes_part
 opened_part tree c e = by_climb (length tree) c.ticket refl
   where
@@ -166,7 +167,8 @@ opened_reading : (tree : List TreeEntry) (c : Case) (t : Ticket)
 unfolding is_commit_outcome has
 opened_reading tree c t =
     ap (λ (p : ParentHalf). reading_from (is_root_ticket c.ticket) (is_leaf (role_of tree t.child)) false
-    (takes_part tree opened_world c) p (child_half (place_of tree t.child) opened_node (child_case c.txn t)) (wire c t []))
+    (takes_part tree opened_world c) p (child_half (place_of tree t.child) opened_node (child_case c.txn t))
+    (wire c t []))
     (opened_up (place_of tree (process_of c)) c t)
     ∙ (ap (λ (k : ChildHalf). reading_from (is_root_ticket c.ticket) (is_leaf (role_of tree t.child)) false
     (takes_part tree opened_world c) (parent_half_at Unknown (memory_of (place_of tree (process_of c)) opened_node c)

@@ -43,7 +43,8 @@ module _ (tree : List TreeEntry) (is_tree : IsTree tree) (w : World) (h : WorldH
       (half_moves tree is_tree w h q at ls s.others s.keeps c t pair free)
       (part_moves tree is_tree w h q at ls s c t pair free)
 
-  common_then : (c : Case) (t : Ticket) → sent (is_joined_message c t) (w.net ++ ls) ≡ true → Common (behind_parts c t)
+  common_then : (c : Case) (t : Ticket) → sent (is_joined_message c t) (w.net ++ ls) ≡ true
+      → Common (behind_parts c t)
   common_then c t e =
       let j = joined_then tree is_tree w h q at ls s c t e in
       common_of c.txn.presumption (behind_parts c t) (two_stages c t j.0 j.1).invariant
@@ -105,7 +106,8 @@ module _ (tree : List TreeEntry) (is_tree : IsTree tree) (w : World) (h : WorldH
     joined : sent (is_joined_message of t) (w.net ++ ls) ≡ true
     agrees : Agrees of t
 
-  all_agree : (x : Txn) → is_commit_outcome later_world x ≡ true → (t : Ticket) → TakesPart later_world x t → Agreed x t
+  all_agree : (x : Txn) → is_commit_outcome later_world x ≡ true → (t : Ticket) → TakesPart later_world x t
+      → Agreed x t
   all_agree x committed _ (at_root t a) = record {
     of = root_case x;
     same = refl;

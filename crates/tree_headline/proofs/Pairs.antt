@@ -118,9 +118,11 @@ module _ (tree : List TreeEntry) (is_tree : IsTree tree) (w : World) (h : Standi
       let lower = reading_with tree w o d t in
       subst (λ (b : Bool). IsBelow (reading_from (is_root_ticket c.ticket) b o (takes_part tree w c) (up_half c u)
       (child_half place n d) v0) lower) (sym (cascaded_leaf (role_of tree u.child) u next.parent.role))
-      (subst (λ (x : ChildHalf). IsBelow (reading_from (is_root_ticket c.ticket) false o (takes_part tree w c) (up_half c u)
+      (subst (λ (x : ChildHalf). IsBelow (reading_from (is_root_ticket c.ticket) false o (takes_part tree w
+      c) (up_half c u)
       x v0) lower) (sym (half_as_child (standing_of place n d) (memory_of place n d) n d t none))
-      (is_below (is_root_ticket c.ticket) (is_leaf (role_of tree t.child)) o (takes_part tree w c) (takes_part tree w d)
+      (is_below (is_root_ticket c.ticket) (is_leaf (role_of tree t.child)) o (takes_part tree w c)
+      (takes_part tree w d)
       (has (is_commit d) n.life) (has (is_abort d) n.forced) (up_half c u) (parent_half place n d t) k v0 v
       e (gives w.net c u e) refl (takes c u pair e)))
 

@@ -27,13 +27,16 @@ use Rattle.tree_headline.proofs.Parts.{Standing, accepts, at_top, case_parts, pa
 use Rattle.tree_headline.proofs.Stages.{accepting_is_undecided, not_accepted_is_silent, part_stage}
 
 -- A step of one process, as the world sees it.
-pub record OneStep (tree : List TreeEntry) (w : World) (q : ProcessId) (at : ProcessId → Node) (ls : List Envelope) : Type 0 where
+pub record OneStep (tree : List TreeEntry) (w : World) (q : ProcessId) (at : ProcessId
+    → Node) (ls : List Envelope) : Type 0 where
   pub others : (p : ProcessId) → (p ≡ q → ⊥) → at p ≡ w.at p
   pub keeps : StepKeeps (place_of tree q) w.net ls (w.at q) (at q)
   pub unlisted : (p : ProcessId) → is_listed tree p ≡ false → at p ≡ opened_node
   pub joined_once : JoinedOnce (w.net ++ ls)
-  pub accepts_still : (p : ProcessId) (c : Case) (t : Ticket) → has_accepted (w.at p) c t ≡ true → has_accepted (at p) c t ≡ true
-  pub commits_still : (x : Txn) → is_commit_outcome w x ≡ true → is_commit_outcome (record { at = at; net = w.net ++ ls }) x ≡ true
+  pub accepts_still : (p : ProcessId) (c : Case) (t : Ticket) → has_accepted (w.at p) c t ≡ true
+      → has_accepted (at p) c t ≡ true
+  pub commits_still : (x : Txn) → is_commit_outcome w x ≡ true
+      → is_commit_outcome (record { at = at; net = w.net ++ ls }) x ≡ true
 
 not_true : (b : Bool) → (b ≡ true → ⊥) → b ≡ false
 not_true true f = absurd (f refl)
@@ -49,10 +52,12 @@ module _ (tree : List TreeEntry) (is_tree : IsTree tree) (w : World) (h : WorldH
 
   node_then : (p : ProcessId) → is_listed tree p ≡ true → NodeHolds (place_of tree p) (w.net ++ ls) (at p)
   node_then p listed = elim (same_process_tells p q) [
-    | inl same ↦ subst (λ (x : ProcessId). NodeHolds (place_of tree x) (w.net ++ ls) (at x)) (sym same.1) s.keeps.holds
+    | inl same ↦ subst (λ (x : ProcessId). NodeHolds (place_of tree x) (w.net ++ ls) (at x)) (sym same.1)
+        s.keeps.holds
     | inr other ↦ subst (λ (n : Node). NodeHolds (place_of tree p) (w.net ++ ls) n) (sym (s.others p other.1))
         (node_elsewhere (place_of tree p) w.net ls (w.at p)
-        (λ d t e own. other.1 (sym own ∙ joined_here tree q ls s.keeps.sent_here s.keeps.go d t e)) (h.nodes p listed))
+        (λ d t e own. other.1 (sym own ∙ joined_here tree q ls s.keeps.sent_here s.keeps.go d t e)) (h.nodes
+        p listed))
   ]
 
   pub then : Standing tree later_world
@@ -107,7 +112,8 @@ module _ (tree : List TreeEntry) (is_tree : IsTree tree) (w : World) (h : WorldH
     here : process_of c ≡ q
     here = elim (same_process_tells (process_of c) q) [
       | inl same ↦ same.1
-      | inr other ↦ absurd (let e = sym fresh ∙ (ap (λ (n : Node). has_accepted n c t) (sym (s.others (process_of c) other.1))
+      | inr other ↦ absurd (let e = sym fresh ∙ (ap (λ (n : Node). has_accepted n c t) (sym (s.others
+          (process_of c) other.1))
           ∙ accepted) in cc)
     ]
 
@@ -139,7 +145,8 @@ module _ (tree : List TreeEntry) (is_tree : IsTree tree) (w : World) (h : WorldH
 
     undecided_halfway : (halfway c t).outcome ≡ false
     undecided_halfway = accepting_is_undecided (halfway c t)
-        (common_of c.txn.presumption (halfway c t) (halves c t pair (joined_then c t joined).1).invariant) accepted part_up
+        (common_of c.txn.presumption (halfway c t) (halves c t pair (joined_then c t joined).1).invariant)
+        accepted part_up
         (silent (is_yes_message (child_case c.txn t)) silent_before.0
         (yes_here tree q ls s.keeps.sent_here s.keeps.go (child_case c.txn t)))
         (silent (is_read_message (child_case c.txn t)) silent_before.1
@@ -148,7 +155,8 @@ module _ (tree : List TreeEntry) (is_tree : IsTree tree) (w : World) (h : WorldH
     pub was_undecided : is_commit_outcome w c.txn ≡ false
     was_undecided = by_ticket c.ticket undecided_halfway
       where
-        by_ticket : (o : Option Ticket) → outcome_by o (is_commit_outcome later_world c.txn) (is_commit_outcome w c.txn) ≡ false
+        by_ticket : (o : Option Ticket) → outcome_by o (is_commit_outcome later_world c.txn)
+            (is_commit_outcome w c.txn) ≡ false
             → is_commit_outcome w c.txn ≡ false
         by_ticket None e = not_true (is_commit_outcome w c.txn) (λ f. let y = sym e ∙ s.commits_still c.txn f in cc)
         by_ticket (Some u) e = e
@@ -164,7 +172,8 @@ module _ (tree : List TreeEntry) (is_tree : IsTree tree) (w : World) (h : WorldH
   new_part x _ (below u t up a) e = by_part (takes_part tree w (child_case x u)) refl (new_part x u up)
     where
       by_part : (b : Bool) → takes_part tree w (child_case x u) ≡ b
-          → (takes_part tree w (child_case x u) ≡ false → is_commit_outcome w x ≡ false) → is_commit_outcome w x ≡ false
+          → (takes_part tree w (child_case x u) ≡ false → is_commit_outcome w x ≡ false)
+          → is_commit_outcome w x ≡ false
       by_part false f g = g f
       by_part true f g = was_undecided (child_case x u) t a
           (not_true (has_accepted (w.at u.child) (child_case x u) t)
@@ -195,7 +204,8 @@ module _ (tree : List TreeEntry) (is_tree : IsTree tree) (w : World) (h : WorldH
           let same = case_parts c c.txn (Some u) refl f in
           let part = told tree later_world then is_tree c.txn u (sym (ap (takes_part tree later_world) same) ∙ new) in
           let j = part_joined tree later_world then c.txn u part in (
-            ap (λ (o : Option Ticket). outcome_by o (is_commit_outcome later_world c.txn) (is_commit_outcome w c.txn)) f
+            ap (λ (o : Option Ticket). outcome_by o (is_commit_outcome later_world c.txn) (is_commit_outcome
+                w c.txn)) f
                 ∙ new_part c.txn u part (sym (ap (takes_part tree w) same) ∙ old),
             subst (λ (e : Case). sent (gives_case e) (w.net ++ ls) ≡ true)
                 (ap (λ (x : Txn). child_case x u) j.1.0 ∙ sym same) (gives (w.net ++ ls) j.0 u j.1.1),

@@ -38,11 +38,13 @@ accepts_at AtRoot place net n h c t e = h.0.accepted_was_joined c t e
 accepts_at (Below p) place net n h c t e = h.0.accepted_was_joined c t e
 accepts_at (AtLeaf p) place net n h c t e = absurd (nobody n.accepted h.0.accepts_none e)
   where
-    nobody : (xs : List (Case × Ticket)) → xs ≡ [] → list_any (λ a. same_case a.0 c && same_ticket a.1 t) xs ≡ true → ⊥
+    nobody : (xs : List (Case × Ticket)) → xs ≡ []
+        → list_any (λ a. same_case a.0 c && same_ticket a.1 t) xs ≡ true → ⊥
     nobody [] f e = absurd (cc)
     nobody (x ∷ xs) f e = absurd (cc)
 
-opened_accepts_none : {A : Type 0} (n : Node) → n ≡ opened_node → (c : Case) (t : Ticket) → has_accepted n c t ≡ true → A
+opened_accepts_none : {A : Type 0} (n : Node) → n ≡ opened_node → (c : Case) (t : Ticket)
+    → has_accepted n c t ≡ true → A
 opened_accepts_none n same c t e =
     absurd (let x = subst (λ (k : Node). has_accepted k c t ≡ true) same e in cc)
 
@@ -67,13 +69,15 @@ pub record Accepted (up : Case → Bool) (n : Node) (x : Txn) (t : Ticket) : Typ
 txn_is : (a b : Txn) → same_txn a b ≡ true → a ≡ b
 txn_is a b e = elim (same_txn_tells a b) [ inl t ↦ t.1 | inr g ↦ absurd (let k = g.0 in cc) ]
 
-pub accepted_one : (up : Case → Bool) (n : Node) (x : Txn) (t : Ticket) → accepted_by up n x t ≡ true → Accepted up n x t
+pub accepted_one : (up : Case → Bool) (n : Node) (x : Txn) (t : Ticket) → accepted_by up n x t ≡ true
+    → Accepted up n x t
 accepted_one up n x t e =
     let f = one n.accepted e in
     record { of = f.0; same = f.1.0; accepted = f.1.1.0; passes = f.1.1.1 }
   where
     one : (xs : List (Case × Ticket)) → list_any (λ a. (same_txn a.0.txn x && same_ticket a.1 t) && up a.0) xs ≡ true
-        → (c : Case) × ((c.txn ≡ x) × ((list_any (λ a. same_case a.0 c && same_ticket a.1 t) xs ≡ true) × (up c ≡ true)))
+        → (c : Case) × ((c.txn ≡ x) × ((list_any (λ a. same_case a.0 c && same_ticket a.1 t) xs
+        ≡ true) × (up c ≡ true)))
     one [] e = absurd (cc)
     one (a ∷ xs) e = elim (either _ (list_any (λ a. (same_txn a.0.txn x && same_ticket a.1 t) && up a.0) xs) e) [
       | inl now ↦
@@ -120,7 +124,8 @@ root_part tree w (suc k) x = refl
 pub case_parts : (c : Case) (x : Txn) (o : Option Ticket) → c.txn ≡ x → c.ticket ≡ o
     → c ≡ record { txn = x; ticket = o }
 case_parts c x o e f =
-    ap (λ (y : Txn). record { txn = y; ticket = c.ticket }) e ∙ ap (λ (y : Option Ticket). record { txn = x; ticket = y }) f
+    ap (λ (y : Txn). record { txn = y; ticket = c.ticket }) e
+    ∙ ap (λ (y : Option Ticket). record { txn = x; ticket = y }) f
 
 module _ (tree : List TreeEntry) (w : World) (h : Standing tree w) where
   pair_joined : (c : Case) (t : Ticket) → sent (is_joined_message c t) w.net ≡ true → IsPair tree c t
@@ -147,7 +152,8 @@ module _ (tree : List TreeEntry) (w : World) (h : Standing tree w) where
       (λ u same. told_within k x u (subst (λ (d : Case). part_within k tree w d ≡ true) same a.passes))
 
   -- and the other way, where the climb is long enough
-  pub tells_within : (x : Txn) (t : Ticket) → TakesPart w x t → (k : ℕ) → is_none (level_within k tree t.child) ≡ false
+  pub tells_within : (x : Txn) (t : Ticket) → TakesPart w x t → (k : ℕ)
+      → is_none (level_within k tree t.child) ≡ false
       → part_within k tree w (child_case x t) ≡ true
   tells_within x t part zero e = absurd (cc)
   tells_within x _ (at_root t a) (suc k) e =
@@ -164,7 +170,8 @@ module _ (tree : List TreeEntry) (w : World) (h : Standing tree w) where
       (one_accepted (part_within k tree w) (w.at u.child) (child_case x u) t a
       (tells_within x u up k (parent_climbs tree k t.child u.child pair.child e)))
 
-  pub part_joined : (x : Txn) (t : Ticket) → TakesPart w x t → (c : Case) × ((c.txn ≡ x) × (sent (is_joined_message c t) w.net ≡ true))
+  pub part_joined : (x : Txn) (t : Ticket) → TakesPart w x t → (c : Case) × ((c.txn
+      ≡ x) × (sent (is_joined_message c t) w.net ≡ true))
   part_joined x _ (at_root t a) = (root_case x, (refl, (accepts tree w h x.root (root_case x) t a).1))
   part_joined x _ (below u t up a) = (child_case x u, (refl, (accepts tree w h u.child (child_case x u) t a).1))
 
@@ -191,7 +198,8 @@ module _ (tree : List TreeEntry) (w : World) (h : Standing tree w) where
         by_ticket : (o : Option Ticket) (c : Case) → c.ticket ≡ o → has_accepted (w.at (process_of c)) c t ≡ true
             → takes_part tree w c ≡ true → TakesPart w c.txn t
         by_ticket None c f a up =
-            at_root t (subst (λ (d : Case). has_accepted (w.at (process_of d)) d t ≡ true) (case_parts c c.txn None refl f) a)
+            at_root t (subst (λ (d : Case). has_accepted (w.at (process_of d)) d t
+            ≡ true) (case_parts c c.txn None refl f) a)
         by_ticket (Some u) c f a up =
             let same = case_parts c c.txn (Some u) refl f in
             below u t (told c.txn u (subst (λ (d : Case). takes_part tree w d ≡ true) same up))
@@ -228,6 +236,7 @@ module _ (tree : List TreeEntry) (w : World) (h : Standing tree w) where
         same_test false false f g = refl
 
 -- the two say the same
-pub parts : (tree : List TreeEntry) (w : World) → IsTree tree → WorldHolds tree w → (x : Txn) (t : Ticket) → TellsPart tree w x t
+pub parts : (tree : List TreeEntry) (w : World) → IsTree tree → WorldHolds tree w → (x : Txn) (t : Ticket)
+    → TellsPart tree w x t
 parts tree w is_tree h x t =
     let s = standing_world tree w h in record { told = told tree w s is_tree x t; tells = tells tree w s is_tree x t }

@@ -47,18 +47,25 @@ pub outcome_stage : (p : Presumption) (leaf old new part : Bool) (up : ParentHal
     → InvariantOf p (reading_from false leaf old part up down v) → (old ≡ true → new ≡ true)
     → (new ≡ true → part ≡ true → ((reading_from false leaf old part up down v).refused ≡ false)
     × Consents (reading_from false leaf old part up down v))
-    → Follows (InvariantOf p) (reading_from false leaf old part up down v) (reading_from false leaf new part up down v)
+    → Follows (InvariantOf p) (reading_from false leaf old part up down v) (reading_from false leaf new part
+    up down v)
 outcome_stage p leaf true true part up down v h grows may = stays p (reading_from false leaf true part up down v) h
 outcome_stage p leaf true false part up down v h grows may = absurd (let x = grows refl in cc)
 outcome_stage p leaf false false part up down v h grows may = stays p (reading_from false leaf false part up down v) h
 outcome_stage p leaf false true part up down v h grows may =
-    keeps_committing p (reading_from false leaf false part up down v) h (record { cascaded = refl; consented = may refl })
+    keeps_committing p (reading_from false leaf false part up down v) h (record {
+      cascaded = refl;
+      consented
+          = may refl;
+    })
 
 -- A case that accepts a ticket that has said nothing: its transaction is undecided.
-pub accepting_is_undecided : (r : Reading) → Common r → r.took_part ≡ true → r.took_part_up ≡ true → r.sent_yes ≡ false
+pub accepting_is_undecided : (r : Reading) → Common r → r.took_part ≡ true → r.took_part_up ≡ true
+    → r.sent_yes ≡ false
     → r.sent_read ≡ false → r.outcome ≡ false
 accepting_is_undecided r h t u y d = grind arith
 
 -- A ticket that no case accepted has said nothing.
-pub not_accepted_is_silent : (r : Reading) → Common r → r.took_part ≡ false → (r.sent_yes ≡ false) × (r.sent_read ≡ false)
+pub not_accepted_is_silent : (r : Reading) → Common r → r.took_part ≡ false → (r.sent_yes
+    ≡ false) × (r.sent_read ≡ false)
 not_accepted_is_silent r h t = grind arith

@@ -29,7 +29,8 @@ use Rattle.tree_headline.proofs.PartSteps.{OneStep}
 
 module _ (tree : List TreeEntry) (is_tree : IsTree tree) (laws : ProcessLaws tree) where
   -- One step.
-  module _ (es : List Made) (w : World) (run : IsRun tree es w) (h : WorldHolds tree w) (m : Move) (e : Effect) (w' : World)
+  module _ (es : List Made) (w : World) (run : IsRun tree es w) (h : WorldHolds tree w) (m : Move) (e :
+      Effect) (w' : World)
       (stands : Stands w.net m.step.process m.step.happening) (made : world_makes tree w m ≡ Some (e, w')) where
     abbrev q : ProcessId
     q = m.step.process
@@ -37,7 +38,11 @@ module _ (tree : List TreeEntry) (is_tree : IsTree tree) (laws : ProcessLaws tre
     node : Node
     node = (makes_at tree w m e w' made).node
 
-    left_as : w' ≡ record { at = put_at m.step.process (makes_at tree w m e w' made).node w.at; net = w.net ++ e.messages }
+    left_as : w' ≡ record {
+      at = put_at m.step.process (makes_at tree w m e w' made).node w.at;
+      net = w.net
+          ++ e.messages;
+    }
     left_as = (makes_at tree w m e w' made).world
 
     net_then : w'.net ≡ w.net ++ e.messages
@@ -117,7 +122,8 @@ module _ (tree : List TreeEntry) (is_tree : IsTree tree) (laws : ProcessLaws tre
       → Stands w.net m.step.process m.step.happening → world_makes tree w m ≡ Some (e, w') → LaterHolds start w'
   later_step start w f m e w' stands made = record {
     holds = step_holds f.moves w f.run f.holds m e w' stands made;
-    later = λ c t pair free. later-later (pair_reading tree start c t) (pair_reading tree w c t) (pair_reading tree w' c t)
+    later = λ c t pair free. later-later (pair_reading tree start c t) (pair_reading tree w c t)
+        (pair_reading tree w' c t)
         (f.later c t pair (step_free f.moves w f.run f.holds m e w' stands made c t free))
         (step_later f.moves w f.run f.holds m e w' stands made c t pair free);
     net = λ test g. step_net f.moves w f.run f.holds m e w' stands made test (f.net test g);
@@ -125,7 +131,8 @@ module _ (tree : List TreeEntry) (is_tree : IsTree tree) (laws : ProcessLaws tre
     run = makes f.moves w m e w' f.run stands made;
   }
 
-  pub onward_holds : (es : List Made) (w : World) → IsRun tree es w → WorldHolds tree w → (fs : List Made) (w' : World)
+  pub onward_holds : (es : List Made) (w : World) → IsRun tree es w → WorldHolds tree w
+      → (fs : List Made) (w' : World)
       → Continues tree w fs w' → LaterHolds w w'
   onward_holds es w run h _ _ stays = record {
     holds = h;

@@ -19,7 +19,8 @@ pub fn parts()
         → TellsPart tree w x t }
 {}
 
-/// Where the world's invariant holds, the pair above a cascaded coordinator and each pair below it speak of one case.
+/// Where the world's invariant holds, the pair above a cascaded coordinator and each pair below it speak of
+/// one case.
 pub fn below()
     ensures { (tree : List TreeEntry) (w : World) → IsTree tree → WorldHolds tree w → (c : Case) (u t : Ticket)
         → IsPair tree c u → sent (is_joined_message c u) w.net ≡ true → IsPair tree (child_case c.txn u) t
@@ -31,8 +32,8 @@ pub fn agreement()
     ensures { (tree : List TreeEntry) (w : World) → IsTree tree → WorldHolds tree w → Agreement tree w }
 {}
 
-/// Where the world's invariant holds behind a run, the first vote heard of each participant of a committed transaction is
-/// YES or READ, and each manager's YES was sent with its promise in the forced front.
+/// Where the world's invariant holds behind a run, the first vote heard of each participant of a committed
+/// transaction is YES or READ, and each manager's YES was sent with its promise in the forced front.
 pub fn commit_rule()
     ensures { (tree : List TreeEntry) (es : List Made) (w : World) → IsTree tree → IsRun tree es w → WorldHolds tree w
         → CommitRule tree es w }
@@ -43,8 +44,8 @@ pub fn opened_world_holds()
     ensures { (tree : List TreeEntry) → WorldHolds tree opened_world }
 {}
 
-/// Where the steps of each process keep what `ProcessLaws` says, a step of a run keeps the world's invariant, and what was
-/// true of each pair for ever; so the world's invariant holds behind every run.
+/// Where the steps of each process keep what `ProcessLaws` says, a step of a run keeps the world's
+/// invariant, and what was true of each pair for ever; so the world's invariant holds behind every run.
 pub fn steps_keep_the_world()
     ensures step { (tree : List TreeEntry) → IsTree tree → ProcessLaws tree → (es : List Made) (w : World)
         → IsRun tree es w → WorldHolds tree w → (m : Move) (e : Effect) (later : World)
@@ -54,8 +55,8 @@ pub fn steps_keep_the_world()
         → IsRun tree es w → WorldHolds tree w }
 {}
 
-/// Where the steps of each process keep what `ProcessLaws` says, each COMMIT and each ABORT that finds its case in doubt
-/// tells the outcome, now and in every later world.
+/// Where the steps of each process keep what `ProcessLaws` says, each COMMIT and each ABORT that finds its
+/// case in doubt tells the outcome, now and in every later world.
 pub fn true_answers()
     ensures { (tree : List TreeEntry) → IsTree tree → ProcessLaws tree → (es : List Made) (w : World)
         → IsRun tree es w → WorldHolds tree w → TrueAnswers tree w }
@@ -67,8 +68,8 @@ pub fn headline_from_processes()
         → IsRun tree es w → Headline tree es w }
 {}
 
-/// Each step of each manager keeps what `ProcessLaws` says, so the laws of coordinators are enough: where each step of each
-/// coordinator keeps it, the headline holds of every run.
+/// Each step of each manager keeps what `ProcessLaws` says, so the laws of coordinators are enough: where
+/// each step of each coordinator keeps it, the headline holds of every run.
 pub fn headline_from_coordinators()
     ensures enough { (tree : List TreeEntry) → CoordinatorLaws tree → ProcessLaws tree }
     ensures headline { (tree : List TreeEntry) → IsTree tree → CoordinatorLaws tree → (es : List Made) (w : World)
