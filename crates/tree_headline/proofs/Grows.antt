@@ -47,13 +47,13 @@ go_on tree (l ∷ net) ls g h = (g.0, go_on tree net ls g.1 h)
 -- Who sends.
 
 -- a letter that this process sends passes the test
-record SentHere (tree : List TreeEntry) (q : ProcessId) (test : Message → Bool) : Type 0 where
-  letter : Envelope
-  here : letter.from ≡ q
-  goes : GoesBy tree letter letter.message
-  passes : test letter.message ≡ true
+pub record SentHere (tree : List TreeEntry) (q : ProcessId) (test : Message → Bool) : Type 0 where
+  pub letter : Envelope
+  pub here : letter.from ≡ q
+  pub goes : GoesBy tree letter letter.message
+  pub passes : test letter.message ≡ true
 
-some_letter : (tree : List TreeEntry) (q : ProcessId) (test : Message → Bool) (ls : List Envelope) → AllFrom q ls
+pub some_letter : (tree : List TreeEntry) (q : ProcessId) (test : Message → Bool) (ls : List Envelope) → AllFrom q ls
     → AllGo tree ls → sent test ls ≡ true → SentHere tree q test
 unfolding sent
 some_letter tree q test [] f g e = absurd (cc)
@@ -62,7 +62,7 @@ some_letter tree q test (l ∷ ls) f g e = elim (either (test l.message) (sent t
   | inr rest ↦ some_letter tree q test ls f.1 g.1 rest
 ]
 
-ticket_is : (c d : Ticket) → same_ticket c d ≡ true → c ≡ d
+pub ticket_is : (c d : Ticket) → same_ticket c d ≡ true → c ≡ d
 ticket_is c d e = elim (same_ticket_tells c d) [ inl t ↦ t.1 | inr g ↦ absurd (let k = g.0 in cc) ]
 
 -- it gave each ticket that it tells of

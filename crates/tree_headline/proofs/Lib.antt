@@ -18,3 +18,5 @@ pub mod Opened
 pub mod Headline
 pub mod ManagerLetters
 pub mod Managers
+pub mod Quiet
+pub mod Coordinators

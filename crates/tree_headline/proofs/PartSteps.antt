@@ -38,7 +38,7 @@ pub record OneStep (tree : List TreeEntry) (w : World) (q : ProcessId) (at : Pro
   pub commits_still : (x : Txn) → is_commit_outcome w x ≡ true
       → is_commit_outcome (record { at = at; net = w.net ++ ls }) x ≡ true
 
-not_true : (b : Bool) → (b ≡ true → ⊥) → b ≡ false
+pub not_true : (b : Bool) → (b ≡ true → ⊥) → b ≡ false
 not_true true f = absurd (f refl)
 not_true false f = refl
 

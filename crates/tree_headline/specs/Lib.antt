@@ -1,1 +1,2 @@
 pub mod ProcessLaws
+pub mod CoordinatorLaws

@@ -1,5 +1,6 @@
 //! The laws of one world, and of its steps.
 ghost use Rattle.std.specs.Prelude.{◌≡◌, List, Some, true};
+ghost use Rattle.tree_headline.specs.CoordinatorLaws.{CascadedLaws, RootLaws};
 ghost use Rattle.tree_headline.specs.ProcessLaws.{CoordinatorLaws, ProcessLaws};
 ghost use Rattle.tree_model.specs.Names.{child_case};
 ghost use Rattle.tree_model.specs.Nodes.{Effect};
@@ -74,4 +75,11 @@ pub fn headline_from_coordinators()
     ensures enough { (tree : List TreeEntry) → CoordinatorLaws tree → ProcessLaws tree }
     ensures headline { (tree : List TreeEntry) → IsTree tree → CoordinatorLaws tree → (es : List Made) (w : World)
         → IsRun tree es w → Headline tree es w }
+{}
+
+/// Of coordinators it is enough that each step of the root keeps what `RootLaws` says, and each step of a cascaded
+/// coordinator what `CascadedLaws` says: then the headline holds of every run.
+pub fn headline_from_root_and_cascaded()
+    ensures { (tree : List TreeEntry) → IsTree tree → RootLaws tree → CascadedLaws tree → (es : List Made)
+        (w : World) → IsRun tree es w → Headline tree es w }
 {}

@@ -152,7 +152,7 @@ pub numbers_are_given_once : (tree : List TreeEntry) (es : List Made) (w : World
 numbers_are_given_once tree es w run p i =
     numbers_of (place_of tree p) w.net (w.at p) (all_issued tree es w run p i)
 
-same_self : (place : Place) (n : Node) (c d : Case) → SameSelf (memory_of place n c) (memory_of place n d)
+pub same_self : (place : Place) (n : Node) (c d : Case) → SameSelf (memory_of place n c) (memory_of place n d)
 same_self place n c d =
     let e = self_same place n d c in record {
       begun = ap (λ (s : Self). s.begun) e;
@@ -161,7 +161,7 @@ same_self place n c d =
       active = ap (λ (s : Self). s.active) e;
     }
 
-boots_of : (n : Node) → Booted (logs_of n) → Boots n
+pub boots_of : (n : Node) → Booted (logs_of n) → Boots n
 boots_of n h = record { boot_is_forced = h.boot_is_forced; boot_only_rises = forced_below (logs_of n) h }
 
 manager_holds : (me p : ProcessId) (tree : List TreeEntry) (net : List Envelope) (n : Node) → (let place : Place = record
