@@ -9,15 +9,17 @@ use Rattle.tree_model.specs.Outcomes.{Headline}
 use Rattle.tree_model.specs.Trees.{IsTree}
 use Rattle.tree_model.specs.World.{IsRun, Made, Move, Stands, World, makes, world_makes}
 use Rattle.tree_model.proofs.RunLaws.{makes_at}
+use Rattle.tree_turns.proofs.Steps.{step_of}
 use Rattle.tree_nodes.specs.Numbers.{IsIssuer, Numbers}
 use Rattle.tree_nodes.specs.ProcessSteps.{ChildStep}
 use Rattle.tree_nodes.specs.WorldHolds.{IsChildRole, Issues, NodeHolds, RoleHolds}
 use Rattle.tree_nodes.proofs.ManagersHold.{all_booted, boots_of, numbers_are_given_once, same_self}
 use Rattle.tree_nodes.proofs.Worlds.{all_last}
-use Rattle.tree_headline.specs.ProcessLaws.{CoordinatorLaws, IsCoordinator, StepKeeps}
+use Rattle.tree_headline.specs.ProcessLaws.{AllFrom, CoordinatorLaws, IsCoordinator, StepKeeps}
 use Rattle.tree_headline.specs.CoordinatorLaws.{CascadedKeeps, CascadedLaws, GivesCases, RootKeeps, RootLaws}
 use Rattle.tree_headline.proofs.Managers.{headline_from_coordinators}
 use Rattle.tree_headline.proofs.Quiet.{elsewhere}
+use Rattle.tree_headline.proofs.Senders.{step_from}
 
 issues_by : (place : Place) (net : List Envelope) (n : Node) → Numbers place net n → GivesCases place net n
     → Issues place net n
@@ -60,6 +62,12 @@ module _ (tree : List TreeEntry) (es : List Made) (w : World) (run : IsRun tree 
     role = h;
   }
 
+  -- a coordinator sends each of its letters itself
+  sent : IsCoordinator (role_of tree m.step.process) → AllFrom m.step.process e.messages
+  sent is =
+      let at = makes_at tree w m e w' made in
+      step_from (place_of tree q) (w.at q) m is e at.node (step_of (place_of tree q) (w.at q) m e at.node at.made)
+
   by_role : (r : Role) → role_of tree m.step.process ≡ r
       → RoleHolds r (place_of tree m.step.process) (w.net ++ e.messages) (w'.at m.step.process)
       → RoleHolds (role_of tree m.step.process) (place_of tree m.step.process) (w.net ++ e.messages) (w'.at
@@ -71,12 +79,12 @@ module _ (tree : List TreeEntry) (es : List Made) (w : World) (run : IsRun tree 
       → StepKeeps (place_of tree m.step.process) w.net e.messages (w.at m.step.process) (w'.at m.step.process)
   root_keeps top h = record {
     holds = node_by_role (by_role AtRoot top (h.coordinates, h.begins));
-    sent_here = h.sends.sent_here;
+    sent_here = sent (subst IsCoordinator (sym top) tt);
     go = h.sends.go;
     about_given = h.sends.about_given;
     pairs_below = h.pairs_below;
     pairs_above = no_pair_above (place_of tree q) w.net e.messages (w.at q) (w'.at q) top;
-    pairs_elsewhere = elsewhere (place_of tree q) e.messages h.sends.sent_here h.sends.go;
+    pairs_elsewhere = elsewhere (place_of tree q) e.messages (sent (subst IsCoordinator (sym top) tt)) h.sends.go;
   }
 
   cascaded_keeps : (p : ProcessId) → role_of tree m.step.process ≡ Below p
@@ -92,12 +100,12 @@ module _ (tree : List TreeEntry) (es : List Made) (w : World) (run : IsRun tree 
           h.coordinates,
           (h.cascades, issues_by (place_of tree q) (w.net ++ e.messages) (w'.at q) numbers h.gives),
         ));
-        sent_here = h.sends.sent_here;
+        sent_here = sent (subst IsCoordinator (sym below) tt);
         go = h.sends.go;
         about_given = h.sends.about_given;
         pairs_below = h.pairs_below;
         pairs_above = h.pairs_above;
-        pairs_elsewhere = elsewhere (place_of tree q) e.messages h.sends.sent_here h.sends.go;
+        pairs_elsewhere = elsewhere (place_of tree q) e.messages (sent (subst IsCoordinator (sym below) tt)) h.sends.go;
       }
 
 pub coordinators_keep : (tree : List TreeEntry) → RootLaws tree → CascadedLaws tree → CoordinatorLaws tree

@@ -20,3 +20,4 @@ pub mod ManagerLetters
 pub mod Managers
 pub mod Quiet
 pub mod Coordinators
+pub mod Senders

@@ -13,11 +13,9 @@ use Rattle.tree_model.specs.World.{IsRun, Made, Move, Stands, World, world_makes
 use Rattle.tree_readings.specs.ReadingOf.{gives_case, is_prepare_message, is_promise}
 use Rattle.tree_nodes.specs.ProcessSteps.{ChildStep, ParentStep}
 use Rattle.tree_nodes.specs.WorldHolds.{AboutGiven, AllGo, Begins, Cascades, Coordinates, WorldHolds, is_record_of}
-use Rattle.tree_headline.specs.ProcessLaws.{AllFrom}
 
--- What a coordinator sends: it sends it itself, to where the message belongs, and of a case that was given.
+-- What a coordinator sends goes to where the message belongs, and is of a case that was given.
 pub record SendsWell (place : Place) (net ls : List Envelope) : Type 0 where
-  pub sent_here : AllFrom place.me ls
   pub go : AllGo place.tree ls
   pub about_given : AboutGiven (net ++ ls)
 
