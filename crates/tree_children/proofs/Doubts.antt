@@ -19,7 +19,8 @@ use Rattle.tree_nodes.proofs.Tests.{left, right, neither, not_both}
 use Rattle.tree_nodes.proofs.Orders.{mark_behind, mark_is, IsDecidedMark}
 use Rattle.tree_nodes.proofs.Worlds.{has_other}
 use Rattle.tree_nodes.proofs.Promises.{open_promised, open_mark}
-use Rattle.tree_children.proofs.Tables.{no_commit, no_abort, no_forgot, no_heuristic, no_record, has_heuristic, has_told, finished, not_forgotten, IsTold, IsLate, IsLast}
+use Rattle.tree_children.proofs.Tables.{no_commit, no_abort, no_forgot, no_heuristic, no_record, not_forgotten, IsTold, IsLate, IsLast}
+use Rattle.tree_children.proofs.PresentRecords.{has_heuristic, has_told, finished}
 
 first_false : (a b : Bool) → (a || b) ≡ false → a ≡ false
 first_false a b e = grind arith

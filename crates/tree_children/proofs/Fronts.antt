@@ -10,7 +10,8 @@ use Rattle.tree_readings.specs.ReadingOf.{is_promise, is_learnt_commit, is_learn
 use Rattle.tree_nodes.specs.Marks.{is_branch_record, may_follow, in_order_from}
 use Rattle.tree_nodes.proofs.Tests.{either, left, right, both, not_both, in_first, in_either}
 use Rattle.tree_nodes.proofs.Orders.{IsMarked, IsDecidedMark, mark_behind, other_leaves, order_front, order-append}
-use Rattle.tree_children.proofs.Tables.{after, MayStand, IsTold, IsLate, follows_so, decided_one, none_behind, no_commit, no_abort, no_heuristic, has_heuristic}
+use Rattle.tree_children.proofs.Tables.{after, MayStand, IsTold, IsLate, follows_so, no_commit, no_abort, no_heuristic}
+use Rattle.tree_children.proofs.PresentRecords.{decided_one, none_behind, has_heuristic}
 
 module _ (d : Case) where
   -- The promise comes first.

@@ -18,7 +18,8 @@ use Rattle.tree_nodes.specs.Marks.{is_branch_record, may_follow, in_order_from}
 use Rattle.tree_nodes.proofs.Tests.{right, neither, both, not_both, has-append}
 use Rattle.tree_nodes.proofs.Orders.{IsMarked, mark_behind, mark_is, order_front, order-append}
 use Rattle.tree_nodes.proofs.Worlds.{has_other}
-use Rattle.tree_children.proofs.Tables.{after, MayStand, IsTold, IsLate, follows_so, one_more, late_stays, no_heuristic, no_commit, no_abort, no_forgot, no_record, has_told, finished, IsOver}
+use Rattle.tree_children.proofs.Tables.{after, MayStand, IsTold, IsLate, follows_so, one_more, late_stays, no_heuristic, no_commit, no_abort, no_forgot, no_record}
+use Rattle.tree_children.proofs.PresentRecords.{has_told, finished, IsOver}
 use Rattle.tree_children.proofs.Fronts.{has_promise, late_or}
 
 none_by : (q r : Record → Bool) (xs : List Record) → ((x : Record) → q x ≡ true → r x ≡ true)

@@ -30,3 +30,4 @@ pub mod OwnLetters
 pub mod ManagerProcess
 pub mod FaultRecords
 pub mod FaultRows
+pub mod PresentRecords

@@ -24,3 +24,4 @@ pub mod ManagerBranches
 pub mod ManagersHold
 pub mod GivenCases
 pub mod JoinedOnce
+pub mod Unlisted

@@ -1,7 +1,7 @@
 //! The laws of single processes.
-ghost use Rattle.std.specs.Prelude.{◌≡◌, List, true};
+ghost use Rattle.std.specs.Prelude.{◌≡◌, List, false, true};
 ghost use Rattle.tree_model.specs.Names.{child_case};
-ghost use Rattle.tree_model.specs.Nodes.{AtLeaf, Below, is_listed, place_of, role_of};
+ghost use Rattle.tree_model.specs.Nodes.{AtLeaf, Below, is_listed, opened_node, place_of, role_of};
 ghost use Rattle.tree_model.specs.Outcomes.{StandingMismatches, YesIsForced, cascaded_ends, is_commit_outcome, sent};
 ghost use Rattle.tree_model.specs.declared.names.Case.{Case};
 ghost use Rattle.tree_model.specs.declared.names.Outcome.TheVariants.{Committed};
@@ -55,4 +55,10 @@ pub fn managers_hold()
 /// In every run of every tree JOINED gives each ticket to one case.
 pub fn tickets_have_one_case()
     ensures { (tree : List TreeEntry) (es : List Made) (w : World) → IsRun tree es w → JoinedOnce w.net }
+{}
+
+/// In every run of every tree a process that is not listed stays as it opened.
+pub fn unlisted_stay()
+    ensures { (tree : List TreeEntry) (es : List Made) (w : World) → IsRun tree es w → (q : ProcessId)
+        → is_listed tree q ≡ false → w.at q ≡ opened_node }
 {}
