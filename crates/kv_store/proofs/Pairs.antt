@@ -21,7 +21,8 @@ joined : {a b : Bool} → a ≡ true → b ≡ true → (a && b) ≡ true
 joined h k = grind (arith, common_steps)
 
 -- a key before all others is not among them
-behind_all : (k : List ℕ) (p : List ℕ × List ℕ) (ps : Pairs) → key_below k p.0 ≡ true → is_behind p.0 ps ≡ true → is_behind k ps ≡ true
+behind_all : (k : List ℕ) (p : List ℕ × List ℕ) (ps : Pairs) → key_below k p.0 ≡ true
+    → is_behind p.0 ps ≡ true → is_behind k ps ≡ true
 behind_all k p [] h r = refl
 behind_all k p (q ∷ ps) h r = below_both k p.0 q.0 h r
 
@@ -44,12 +45,14 @@ not_among k (p ∷ ps) behind rise =
 
 -- A pair is put in.
 
-behind_with : (j k v : List ℕ) (ps : Pairs) → is_behind j ps ≡ true → key_below j k ≡ true → is_behind j (with_pair k v ps) ≡ true
+behind_with : (j k v : List ℕ) (ps : Pairs) → is_behind j ps ≡ true → key_below j k ≡ true
+    → is_behind j (with_pair k v ps) ≡ true
 unfolding with_pair
 behind_with j k v [] behind before = before
 behind_with j k v (p ∷ ps) behind before = by_tests (same_bytes k p.0) (key_below k p.0)
   where
-    by_tests : (a b : Bool) → is_behind j (cond a ((k, v) ∷ ps) (cond b ((k, v) ∷ (p ∷ ps)) (p ∷ with_pair k v ps))) ≡ true
+    by_tests : (a b : Bool)
+        → is_behind j (cond a ((k, v) ∷ ps) (cond b ((k, v) ∷ (p ∷ ps)) (p ∷ with_pair k v ps))) ≡ true
     by_tests true b = before
     by_tests false true = before
     by_tests false false = behind
@@ -66,7 +69,8 @@ rise_with k v (p ∷ ps) rise =
     by_tests false true e f rest = joined f rise
     by_tests false false e f rest = joined (behind_with p.0 k v ps (both (is_behind p.0 ps) (keys_rise ps) rise).0 (below_either k p.0 e f)) rest
 
-found_with : (k v : List ℕ) (ps : Pairs) (l : List ℕ) → found_in (with_pair k v ps) l ≡ cond (same_bytes l k) (Some v) (found_in ps l)
+found_with : (k v : List ℕ) (ps : Pairs) (l : List ℕ)
+    → found_in (with_pair k v ps) l ≡ cond (same_bytes l k) (Some v) (found_in ps l)
 unfolding with_pair
 found_with k v [] l = refl
 found_with k v (p ∷ ps) l = by_tests (same_bytes k p.0) (key_below k p.0) refl (found_with k v ps l)
@@ -77,13 +81,15 @@ found_with k v (p ∷ ps) l = by_tests (same_bytes k p.0) (key_below k p.0) refl
         ≡ cond (same_bytes l k) (Some v) (cond (same_bytes l p.0) (Some p.1) (found_in ps l))
     by_tests true b e rest = by_own (same_bytes l k) refl
       where
-        by_own : (c : Bool) → same_bytes l k ≡ c → cond c (Some v) (found_in ps l) ≡ cond c (Some v) (cond (same_bytes l p.0) (Some p.1) (found_in ps l))
+        by_own : (c : Bool) → same_bytes l k ≡ c
+            → cond c (Some v) (found_in ps l) ≡ cond c (Some v) (cond (same_bytes l p.0) (Some p.1) (found_in ps l))
         by_own true f = refl
         by_own false f = ap (λ c. cond c (Some p.1) (found_in ps l)) (sym (ap (same_bytes l) (sym (same_is k p.0 e)) ∙ f))
     by_tests false true e rest = refl
     by_tests false false e rest = by_own (same_bytes l p.0) refl
       where
-        by_own : (c : Bool) → same_bytes l p.0 ≡ c → cond c (Some p.1) (found_in (with_pair k v ps) l) ≡ cond (same_bytes l k) (Some v) (cond c (Some p.1) (found_in ps l))
+        by_own : (c : Bool) → same_bytes l p.0 ≡ c
+            → cond c (Some p.1) (found_in (with_pair k v ps) l) ≡ cond (same_bytes l k) (Some v) (cond c (Some p.1) (found_in ps l))
         by_own true f =
             let other : same_bytes l k ≡ false = ap (λ j. same_bytes j k) (same_is l p.0 f) ∙ same_other_way p.0 k ∙ e in
             ap (λ c. cond c (Some v) (Some p.1)) (sym other)
@@ -91,7 +97,8 @@ found_with k v (p ∷ ps) l = by_tests (same_bytes k p.0) (key_below k p.0) refl
 
 -- A key is taken out.
 
-behind_without : (j k : List ℕ) (ps : Pairs) → is_behind j ps ≡ true → keys_rise ps ≡ true → is_behind j (without_key k ps) ≡ true
+behind_without : (j k : List ℕ) (ps : Pairs) → is_behind j ps ≡ true → keys_rise ps ≡ true
+    → is_behind j (without_key k ps) ≡ true
 unfolding without_key keys_rise
 behind_without j k [] behind rise = refl
 behind_without j k (p ∷ ps) behind rise = by_test (same_bytes k p.0)
@@ -107,7 +114,8 @@ rise_without k (p ∷ ps) rise =
     let parts = both (is_behind p.0 ps) (keys_rise ps) rise in
     by_test (same_bytes k p.0) parts.1 (behind_without p.0 k ps parts.0 parts.1) (rise_without k ps parts.1)
   where
-    by_test : (a : Bool) → keys_rise ps ≡ true → is_behind p.0 (without_key k ps) ≡ true → keys_rise (without_key k ps) ≡ true
+    by_test : (a : Bool) → keys_rise ps ≡ true → is_behind p.0 (without_key k ps) ≡ true
+        → keys_rise (without_key k ps) ≡ true
         → keys_rise (cond a ps (p ∷ without_key k ps)) ≡ true
     by_test true after behind rest = after
     by_test false after behind rest = joined behind rest
@@ -116,7 +124,8 @@ none_either : {A : Type 0} (c : Bool) → ◌≡◌ {A = Option A} None (cond c 
 none_either true = refl
 none_either false = refl
 
-found_without : (k : List ℕ) (ps : Pairs) (l : List ℕ) → keys_rise ps ≡ true → found_in (without_key k ps) l ≡ cond (same_bytes l k) None (found_in ps l)
+found_without : (k : List ℕ) (ps : Pairs) (l : List ℕ) → keys_rise ps ≡ true
+    → found_in (without_key k ps) l ≡ cond (same_bytes l k) None (found_in ps l)
 unfolding without_key keys_rise
 found_without k [] l rise = none_either (same_bytes l k)
 found_without k (p ∷ ps) l rise =
@@ -128,12 +137,14 @@ found_without k (p ∷ ps) l rise =
         → found_in (cond a ps (p ∷ without_key k ps)) l ≡ cond (same_bytes l k) None (cond (same_bytes l p.0) (Some p.1) (found_in ps l))
     by_test true e none rest = by_own (same_bytes l k) refl
       where
-        by_own : (c : Bool) → same_bytes l k ≡ c → found_in ps l ≡ cond c None (cond (same_bytes l p.0) (Some p.1) (found_in ps l))
+        by_own : (c : Bool) → same_bytes l k ≡ c
+            → found_in ps l ≡ cond c None (cond (same_bytes l p.0) (Some p.1) (found_in ps l))
         by_own true f = ap (found_in ps) (same_is l k f ∙ same_is k p.0 e) ∙ none
         by_own false f = ap (λ c. cond c (Some p.1) (found_in ps l)) (sym (ap (same_bytes l) (sym (same_is k p.0 e)) ∙ f))
     by_test false e none rest = by_own (same_bytes l p.0) refl
       where
-        by_own : (c : Bool) → same_bytes l p.0 ≡ c → cond c (Some p.1) (found_in (without_key k ps) l) ≡ cond (same_bytes l k) None (cond c (Some p.1) (found_in ps l))
+        by_own : (c : Bool) → same_bytes l p.0 ≡ c
+            → cond c (Some p.1) (found_in (without_key k ps) l) ≡ cond (same_bytes l k) None (cond c (Some p.1) (found_in ps l))
         by_own true f =
             let other : same_bytes l k ≡ false = ap (λ j. same_bytes j k) (same_is l p.0 f) ∙ same_other_way p.0 k ∙ e in
             ap (λ c. cond c None (Some p.1)) (sym other)
@@ -141,7 +152,8 @@ found_without k (p ∷ ps) l rise =
 
 -- Writes.
 
-rise_set : (k : List ℕ) (v : Option (List ℕ)) (ps : Pairs) → keys_rise ps ≡ true → keys_rise (set_key k v ps) ≡ true
+rise_set : (k : List ℕ) (v : Option (List ℕ)) (ps : Pairs) → keys_rise ps ≡ true
+    → keys_rise (set_key k v ps) ≡ true
 rise_set k (Some v) ps rise = rise_with k v ps rise
 rise_set k None ps rise = rise_without k ps rise
 
@@ -183,7 +195,8 @@ first_is_one p q ps qs rise rise' same = by_tests (same_bytes p.0 q.0) (key_belo
     by_tests false false e f =
         absurd (some_none q.1 (sym (found_here q qs) ∙ sym (same q.0) ∙ not_among q.0 (p ∷ ps) (below_either p.0 q.0 e f) rise))
 
-found_behind : (p q : List ℕ × List ℕ) (ps qs : Pairs) (k : List ℕ) → p.0 ≡ q.0 → is_behind p.0 ps ≡ true → keys_rise ps ≡ true
+found_behind : (p q : List ℕ × List ℕ) (ps qs : Pairs) (k : List ℕ) → p.0 ≡ q.0 → is_behind p.0 ps ≡ true
+    → keys_rise ps ≡ true
     → is_behind q.0 qs ≡ true → keys_rise qs ≡ true → found_in (p ∷ ps) k ≡ found_in (q ∷ qs) k
     → (c : Bool) → same_bytes k p.0 ≡ c → found_in ps k ≡ found_in qs k
 found_behind p q ps qs k key behind rise behind' rise' same true e =
@@ -193,7 +206,8 @@ found_behind p q ps qs k key behind rise behind' rise' same false e =
     sym (ap (λ c. cond c (Some p.1) (found_in ps k)) e) ∙ same
     ∙ ap (λ c. cond c (Some q.1) (found_in qs k)) (ap (same_bytes k) (sym key) ∙ e)
 
-pub same_pairs : (ps qs : Pairs) → keys_rise ps ≡ true → keys_rise qs ≡ true → ((k : List ℕ) → found_in ps k ≡ found_in qs k) → ps ≡ qs
+pub same_pairs : (ps qs : Pairs) → keys_rise ps ≡ true → keys_rise qs ≡ true
+    → ((k : List ℕ) → found_in ps k ≡ found_in qs k) → ps ≡ qs
 unfolding keys_rise
 same_pairs [] [] rise rise' same = refl
 same_pairs [] (q ∷ qs) rise rise' same = absurd (some_none q.1 (sym (found_here q qs) ∙ sym (same q.0)))
