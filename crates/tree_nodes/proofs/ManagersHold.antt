@@ -34,7 +34,7 @@ none_sent : {A : Type 0} (d : Case) (t : Ticket) → sent (is_joined_message d t
 unfolding sent
 none_sent d t e = absurd (cc)
 
-joined_is_own : (place : Place) (n : Node) (m : Move) (e : Effect) (k : Node) → StepOf place n m e k → (d : Case)
+pub joined_is_own : (place : Place) (n : Node) (m : Move) (e : Effect) (k : Node) → StepOf place n m e k → (d : Case)
     (t : Ticket) → sent (is_joined_message d t) e.messages ≡ true → t.child ≡ place.me
 joined_is_own place n m _ _ (handled i g hp np r) d t e =
     answer_is_own place n (heard_in m i) d t place.role

@@ -180,7 +180,7 @@ is_free net (l ∷ ls) c t sub once e =
 
 -- So the pair has the invariant.
 
-common_of : (p : Presumption) (r : Reading) → InvariantOf p r → Common r
+pub common_of : (p : Presumption) (r : Reading) → InvariantOf p r → Common r
 common_of PresumeAbort r h = h.common
 common_of PresumeCommit r h = h.common
 

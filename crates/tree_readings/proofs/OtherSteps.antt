@@ -58,7 +58,7 @@ made_somehow tree w m e w' h = stepped_at (is_listed tree m.step.process) w m.st
     (node_makes (place_of tree m.step.process) (w.at m.step.process) m) e w' h
 
 -- a list with no message of the pair leaves the wire
-or_none : (v : Wire) (ls : List Envelope) (c : Case) (t : Ticket) (net : List Envelope)
+pub or_none : (v : Wire) (ls : List Envelope) (c : Case) (t : Ticket) (net : List Envelope)
     → wire c t ls ≡ no_wire → wire c t (net ++ ls) ≡ wire c t net
 or_none v ls c t net e =
     simp (

@@ -1,0 +1,14 @@
+pub mod Levels
+pub mod Parts
+pub mod ChildOf
+pub mod Below
+pub mod Pairs
+pub mod Ends
+pub mod FirstVotes
+pub mod Clauses
+pub mod Grows
+pub mod Above
+pub mod Halves
+pub mod Stages
+pub mod PartSteps
+pub mod OutcomeSteps

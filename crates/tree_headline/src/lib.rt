@@ -1,0 +1,4 @@
+//! From the laws of single processes to the headline. The functions do nothing: each one's contract is a law.
+#![tactic(auto)]
+
+pub mod law;
