@@ -12,3 +12,5 @@ pub mod Addresses
 pub mod Promises
 pub mod Yesses
 pub mod PairOf
+pub mod Booting
+pub mod Boots

@@ -1,5 +1,6 @@
 pub mod Marks
 pub mod Lasts
 pub mod Owns
+pub mod BootsRise
 pub mod WorldHolds
 pub mod ProcessSteps

@@ -8,7 +8,7 @@ ghost use Rattle.tree_model.specs.declared.names.Outcome.TheVariants.{Committed}
 ghost use Rattle.tree_model.specs.declared.names.ProcessId.{ProcessId};
 ghost use Rattle.tree_model.specs.declared.names.Ticket.{Ticket};
 ghost use Rattle.tree_model.specs.declared.names.Txn.{Txn};
-ghost use Rattle.tree_nodes.specs.WorldHolds.{IsPair, WorldHolds, pair_reading};
+ghost use Rattle.tree_nodes.specs.WorldHolds.{Boots, IsPair, WorldHolds, pair_reading};
 ghost use Rattle.tree_pairs.specs.Invariant.{Common};
 ghost use Rattle.tree_readings.specs.ReadingOf.{gives_case};
 ghost use Rattle.tree_model.specs.World.{IsRun, Made, World};
@@ -24,6 +24,12 @@ pub fn mismatches_stand()
 /// the forced front, move by move, a repeated YES too.
 pub fn promises_are_forced()
     ensures { (tree : List TreeEntry) (es : List Made) (w : World) → IsRun tree es w → YesIsForced tree es }
+{}
+
+/// In every run of every tree, the boots of each process's log only rise, and the last of a process that is up is in the
+/// forced front.
+pub fn boots_rise()
+    ensures { (tree : List TreeEntry) (es : List Made) (w : World) → IsRun tree es w → (p : ProcessId) → Boots (w.at p) }
 {}
 
 /// Where the world's invariant holds, a case that JOINED gave is of a pair of the tree, which has the pair's
