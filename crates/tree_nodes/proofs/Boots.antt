@@ -147,6 +147,13 @@ rise_reopened_whole rs new a one =
     next : (b : ℕ) → b ≤ b + 1
     next b = omega arith
 
+-- the boot behind a restart
+pub reopened_boot : (role : Role) (rs : List Record) → boot_of (rs ++ reopens role rs) ≡ boot_of rs + 1
+reopened_boot role rs =
+    let one = reopens_one role rs in
+    boot_both rs (reopens role rs)
+    ∙ (ap (λ xs. fold boot_after (boot_of rs) xs) one.is_first ∙ same_boot (boot_of rs + 1) one.rest one.is_only)
+
 -- A trim keeps the last Opened, in front.
 
 unopened_stays : (role : Role) (whole behind : List Record) (r : Record) → is_opened r ≡ true
@@ -190,6 +197,14 @@ rise_trimmed role rs = (
   where
     from_zero : (b : ℕ) → 0 ≤ b
     from_zero b = omega arith
+
+-- the boot behind a trim
+pub trimmed_boot : (role : Role) (rs : List Record) → boot_of (trimmed role rs) ≡ boot_of rs
+unfolding trimmed boot_of
+trimmed_boot role rs =
+    same_boot _ (staying role rs rs ++ data_records role rs)
+    (in_none is_opened (staying role rs rs) (data_records role rs) (no_opened_stays role rs rs)
+    (no_opened_data role rs))
 
 -- The kinds of step.
 
@@ -301,7 +316,7 @@ all_boots tree _ _ (makes es w m e w' run stands step) p =
 
 -- What this says of the boot.
 
-behind_front : (xs ys : List Record) → AllRise 0 (xs ++ ys) → AllRise (boot_of xs) ys
+pub behind_front : (xs ys : List Record) → AllRise 0 (xs ++ ys) → AllRise (boot_of xs) ys
 unfolding boot_of
 behind_front xs ys a = rise_rest 0 xs ys a
 

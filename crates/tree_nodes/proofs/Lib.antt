@@ -14,3 +14,7 @@ pub mod Yesses
 pub mod PairOf
 pub mod Booting
 pub mod Boots
+pub mod RootMemories
+pub mod RootNumbers
+pub mod RootKnown
+pub mod RootNumbered

@@ -4,3 +4,4 @@ pub mod Owns
 pub mod BootsRise
 pub mod WorldHolds
 pub mod ProcessSteps
+pub mod RootCases

@@ -1,13 +1,14 @@
 //! The laws of single processes.
 ghost use Rattle.std.specs.Prelude.{◌≡◌, List, true};
 ghost use Rattle.tree_model.specs.Names.{child_case};
-ghost use Rattle.tree_model.specs.Nodes.{Below, is_listed, role_of};
+ghost use Rattle.tree_model.specs.Nodes.{AtRoot, Below, is_listed, place_of, role_of};
 ghost use Rattle.tree_model.specs.Outcomes.{StandingMismatches, YesIsForced, cascaded_ends, is_commit_outcome, sent};
 ghost use Rattle.tree_model.specs.declared.names.Case.{Case};
 ghost use Rattle.tree_model.specs.declared.names.Outcome.TheVariants.{Committed};
 ghost use Rattle.tree_model.specs.declared.names.ProcessId.{ProcessId};
 ghost use Rattle.tree_model.specs.declared.names.Ticket.{Ticket};
 ghost use Rattle.tree_model.specs.declared.names.Txn.{Txn};
+ghost use Rattle.tree_nodes.specs.RootCases.{RootCases};
 ghost use Rattle.tree_nodes.specs.WorldHolds.{Boots, IsPair, WorldHolds, pair_reading};
 ghost use Rattle.tree_pairs.specs.Invariant.{Common};
 ghost use Rattle.tree_readings.specs.ReadingOf.{gives_case};
@@ -26,10 +27,17 @@ pub fn promises_are_forced()
     ensures { (tree : List TreeEntry) (es : List Made) (w : World) → IsRun tree es w → YesIsForced tree es }
 {}
 
-/// In every run of every tree, the boots of each process's log only rise, and the last of a process that is up is in the
-/// forced front.
+/// In every run of every tree, the boots of each process's log only rise, and the last of a process that is up is
+/// in the forced front.
 pub fn boots_rise()
-    ensures { (tree : List TreeEntry) (es : List Made) (w : World) → IsRun tree es w → (p : ProcessId) → Boots (w.at p) }
+    ensures { (tree : List TreeEntry) (es : List Made) (w : World) → IsRun tree es w → (p : ProcessId)
+        → Boots (w.at p) }
+{}
+
+/// In every run of every tree, the records that a root keeps are of its own cases, with numbers that it gave out before.
+pub fn roots_own_their_cases()
+    ensures { (tree : List TreeEntry) (es : List Made) (w : World) → IsRun tree es w → (p : ProcessId)
+        → role_of tree p ≡ AtRoot → RootCases (place_of tree p) (w.at p) }
 {}
 
 /// Where the world's invariant holds, a case that JOINED gave is of a pair of the tree, which has the pair's
