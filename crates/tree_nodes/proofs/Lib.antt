@@ -18,3 +18,9 @@ pub mod RootMemories
 pub mod RootNumbers
 pub mod RootKnown
 pub mod RootNumbered
+pub mod Phases
+pub mod RootPhases
+pub mod RootTogether
+pub mod RootLogs
+pub mod RootRows
+pub mod RootAlikes

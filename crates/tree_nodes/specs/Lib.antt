@@ -5,3 +5,4 @@ pub mod BootsRise
 pub mod WorldHolds
 pub mod ProcessSteps
 pub mod RootCases
+pub mod RootAlike

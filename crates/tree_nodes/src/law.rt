@@ -8,6 +8,7 @@ ghost use Rattle.tree_model.specs.declared.names.Outcome.TheVariants.{Committed}
 ghost use Rattle.tree_model.specs.declared.names.ProcessId.{ProcessId};
 ghost use Rattle.tree_model.specs.declared.names.Ticket.{Ticket};
 ghost use Rattle.tree_model.specs.declared.names.Txn.{Txn};
+ghost use Rattle.tree_nodes.specs.RootAlike.{AllAlike};
 ghost use Rattle.tree_nodes.specs.RootCases.{RootCases};
 ghost use Rattle.tree_nodes.specs.WorldHolds.{Boots, IsPair, WorldHolds, pair_reading};
 ghost use Rattle.tree_pairs.specs.Invariant.{Common};
@@ -34,10 +35,18 @@ pub fn boots_rise()
         → Boots (w.at p) }
 {}
 
-/// In every run of every tree, the records that a root keeps are of its own cases, with numbers that it gave out before.
+/// In every run of every tree, the records that a root keeps are of its own cases, with numbers that it gave out
+/// before.
 pub fn roots_own_their_cases()
     ensures { (tree : List TreeEntry) (es : List Made) (w : World) → IsRun tree es w → (p : ProcessId)
         → role_of tree p ≡ AtRoot → RootCases (place_of tree p) (w.at p) }
+{}
+
+/// In every run of every tree, what a root that is up remembers of a case goes with the case's records: one that takes
+/// children is Active, votes are taken exactly where it stands at Collecting, and Presumed Abort writes no Collecting.
+pub fn root_memory_agrees()
+    ensures { (tree : List TreeEntry) (es : List Made) (w : World) → IsRun tree es w → (p : ProcessId)
+        → role_of tree p ≡ AtRoot → AllAlike (place_of tree p) (w.at p) }
 {}
 
 /// Where the world's invariant holds, a case that JOINED gave is of a pair of the tree, which has the pair's
