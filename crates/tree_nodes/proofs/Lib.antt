@@ -24,3 +24,5 @@ pub mod RootTogether
 pub mod RootLogs
 pub mod RootRows
 pub mod RootAlikes
+pub mod RootTakes
+pub mod RootAccepted

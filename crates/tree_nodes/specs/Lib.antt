@@ -6,3 +6,4 @@ pub mod WorldHolds
 pub mod ProcessSteps
 pub mod RootCases
 pub mod RootAlike
+pub mod RootAccepts

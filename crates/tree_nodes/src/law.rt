@@ -8,6 +8,7 @@ ghost use Rattle.tree_model.specs.declared.names.Outcome.TheVariants.{Committed}
 ghost use Rattle.tree_model.specs.declared.names.ProcessId.{ProcessId};
 ghost use Rattle.tree_model.specs.declared.names.Ticket.{Ticket};
 ghost use Rattle.tree_model.specs.declared.names.Txn.{Txn};
+ghost use Rattle.tree_nodes.specs.RootAccepts.{Accepts};
 ghost use Rattle.tree_nodes.specs.RootAlike.{AllAlike};
 ghost use Rattle.tree_nodes.specs.RootCases.{RootCases};
 ghost use Rattle.tree_nodes.specs.WorldHolds.{Boots, IsPair, WorldHolds, pair_reading};
@@ -47,6 +48,12 @@ pub fn roots_own_their_cases()
 pub fn root_memory_agrees()
     ensures { (tree : List TreeEntry) (es : List Made) (w : World) → IsRun tree es w → (p : ProcessId)
         → role_of tree p ≡ AtRoot → AllAlike (place_of tree p) (w.at p) }
+{}
+
+/// In every run of every tree, who is remembered in a root's case, or was heard to vote in it, was accepted into it.
+pub fn roots_accept_first()
+    ensures { (tree : List TreeEntry) (es : List Made) (w : World) → IsRun tree es w → (p : ProcessId)
+        → role_of tree p ≡ AtRoot → Accepts (place_of tree p) (w.at p) }
 {}
 
 /// Where the world's invariant holds, a case that JOINED gave is of a pair of the tree, which has the pair's
