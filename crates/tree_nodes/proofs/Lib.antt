@@ -26,3 +26,5 @@ pub mod RootRows
 pub mod RootAlikes
 pub mod RootTakes
 pub mod RootAccepted
+pub mod RootNaming
+pub mod RootNamed

@@ -50,10 +50,11 @@ use Rattle.tree_nodes.proofs.RootPhases.{active_accepted, collecting_accepted}
 use Rattle.tree_nodes.proofs.RootTakes.{Takes, keeps, empties, takes, taken}
 use Rattle.tree_nodes.proofs.Worlds.{put}
 
-abbrev took : Case → Ticket → List (Case × Ticket) → Bool
+abbrev pub took : Case → Ticket → List (Case × Ticket) → Bool
 took c t as' = list_any (λ a. same_case a.0 c && same_ticket a.1 t) as'
 
-took_before : (c : Case) (t : Ticket) (xs ys : List (Case × Ticket)) → took c t ys ≡ true → took c t (xs ++ ys) ≡ true
+pub took_before : (c : Case) (t : Ticket) (xs ys : List (Case × Ticket)) → took c t ys ≡ true
+    → took c t (xs ++ ys) ≡ true
 took_before c t xs ys e = list_any-append _ xs ys ∙ right (took c t xs) (took c t ys) e
 
 took_now : (c : Case) (t : Ticket) (xs ys : List (Case × Ticket)) → took c t xs ≡ true → took c t (xs ++ ys) ≡ true
@@ -64,7 +65,8 @@ in_longer : (ts : List Ticket) (u t : Ticket) → in_list (ts ++ u ∷ []) t ≡
 unfolding in_list
 in_longer ts u t e = last (either _ _ (sym (list_any-append _ ts (u ∷ [])) ∙ e))
   where
-    last : (in_list ts t ≡ true) ⊎ ((same_ticket u t || false) ≡ true) → (in_list ts t ≡ true) ⊎ (same_ticket u t ≡ true)
+    last : (in_list ts t ≡ true) ⊎ ((same_ticket u t || false) ≡ true)
+        → (in_list ts t ≡ true) ⊎ (same_ticket u t ≡ true)
     last (inl a) = inl a
     last (inr b) = inr (or_nothing (same_ticket u t) b)
       where
@@ -329,7 +331,7 @@ opened_accepts me tree = record {
   voted_accepted = λ c t w e. absurd (cc);
 }
 
-all_accepts : (tree : List TreeEntry) (es : List Made) (w : World) → IsRun tree es w → (p : ProcessId)
+pub all_accepts : (tree : List TreeEntry) (es : List Made) (w : World) → IsRun tree es w → (p : ProcessId)
     → role_of tree p ≡ AtRoot → Accepts (root_place p tree) (w.at p)
 all_accepts tree _ _ opens p role = opened_accepts p tree
 all_accepts tree _ _ (makes es w m e w' run stands step) p at_top =

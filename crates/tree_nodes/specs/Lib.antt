@@ -7,3 +7,4 @@ pub mod ProcessSteps
 pub mod RootCases
 pub mod RootAlike
 pub mod RootAccepts
+pub mod RootNames

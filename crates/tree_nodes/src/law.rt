@@ -11,6 +11,7 @@ ghost use Rattle.tree_model.specs.declared.names.Txn.{Txn};
 ghost use Rattle.tree_nodes.specs.RootAccepts.{Accepts};
 ghost use Rattle.tree_nodes.specs.RootAlike.{AllAlike};
 ghost use Rattle.tree_nodes.specs.RootCases.{RootCases};
+ghost use Rattle.tree_nodes.specs.RootNames.{NamesAccepted};
 ghost use Rattle.tree_nodes.specs.WorldHolds.{Boots, IsPair, WorldHolds, pair_reading};
 ghost use Rattle.tree_pairs.specs.Invariant.{Common};
 ghost use Rattle.tree_readings.specs.ReadingOf.{gives_case};
@@ -54,6 +55,12 @@ pub fn root_memory_agrees()
 pub fn roots_accept_first()
     ensures { (tree : List TreeEntry) (es : List Made) (w : World) → IsRun tree es w → (p : ProcessId)
         → role_of tree p ≡ AtRoot → Accepts (place_of tree p) (w.at p) }
+{}
+
+/// In every run of every tree, whom a record of a root's case names was accepted into the case.
+pub fn roots_name_whom_they_accepted()
+    ensures { (tree : List TreeEntry) (es : List Made) (w : World) → IsRun tree es w → (p : ProcessId)
+        → role_of tree p ≡ AtRoot → NamesAccepted (w.at p) }
 {}
 
 /// Where the world's invariant holds, a case that JOINED gave is of a pair of the tree, which has the pair's
