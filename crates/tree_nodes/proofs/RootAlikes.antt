@@ -26,7 +26,7 @@ use Rattle.tree_turns.specs.Steps.{StepOf, heard_in, handled, failed_in, passed,
 use Rattle.tree_turns.proofs.Operators.{reopens_none}
 use Rattle.tree_turns.proofs.Steps.{step_of, turn_of}
 use Rattle.tree_turns.proofs.CoordinatorReactions.{coordinator_turn_of}
-use Rattle.tree_nodes.specs.Lasts.{logs_of}
+use Rattle.tree_nodes.specs.Lasts.{logs_of, Nested}
 use Rattle.tree_nodes.specs.WorldHolds.{is_record_of}
 use Rattle.tree_nodes.specs.RootCases.{IsRoots, RootCases}
 use Rattle.tree_nodes.specs.RootAlike.{AllAlike}
@@ -41,9 +41,8 @@ use Rattle.tree_nodes.proofs.RootKnown.{stands_by_phase}
 use Rattle.tree_nodes.proofs.RootLogs.{reopened_collects_not, trim_together}
 use Rattle.tree_nodes.proofs.RootMemories.{remembered_is_begun}
 use Rattle.tree_nodes.proofs.RootNumbered.{all_root_cases, at_root}
-use Rattle.tree_nodes.proofs.RootNumbers.{roots_case}
 use Rattle.tree_nodes.proofs.RootRows.{is_needless, none_needless, effect_needs, AllTogether, effect_together}
-use Rattle.tree_nodes.proofs.Worlds.{put}
+use Rattle.tree_nodes.proofs.Worlds.{all_last, put}
 
 none_in_front : (q : Record → Bool) (xs ys : List Record) → has q (xs ++ ys) ≡ false → has q xs ≡ false
 none_in_front q xs ys e = by_test (has q xs) refl
@@ -67,7 +66,7 @@ module _ (me : ProcessId) (tree : List TreeEntry) where
   down : (n : Node) → n.failed ≡ true → has is_needless (kept n) ≡ false → Holds n
   down n e none = record { together = λ up. absurd (cc); needless = none }
 
-  module _ (n : Node) (cases : RootCases (root_place me tree) n) (h : Holds n) where
+  module _ (n : Node) (nested : Nested (logs_of n)) (cases : RootCases (root_place me tree) n) (h : Holds n) where
     module _ (i : Heard) (e : Effect) (t : TurnOf (root_place me tree) n i e)
         (r : reacts (root_place me tree) n i ≡ Does e)
       where
@@ -87,7 +86,7 @@ module _ (me : ProcessId) (tree : List TreeEntry) where
               (memory_of place (after n i e) (root_case x)).phase) (sym (kept-after n i e))
               (subst (λ (m : Memory). Together (kept n ++ new) (root_case x) m.phase)
               (sym (memory_of-after place n i e (root_case x) leaves_boot))
-              (effect_together me tree n i (h.together t.up) h.needless t.up cases e
+              (effect_together me tree n i (h.together t.up) h.needless t.up nested cases e
               (coordinator_turn_of place n i e r) x));
           needless = ap (has is_needless) (kept-after n i e) ∙ in_none is_needless (kept n) new h.needless needs;
         }
@@ -233,8 +232,8 @@ module _ (me : ProcessId) (tree : List TreeEntry) where
         by_test : (b : Bool) → has (is_record_of (record { txn = x; ticket = Some t })) (kept n) ≡ b
             → has (is_record_of (record { txn = x; ticket = Some t })) (kept n) ≡ false
         by_test true e = absurd (none
-            (roots_case me (boot_of (kept n)) (memory_of place n (some_case place)).begun
-            (record { txn = x; ticket = Some t }) (kept n) e (cases.begun_now up)))
+            (cases.begun_now up (record { txn = x; ticket = Some t })
+            (nested.kept_was_written (is_record_of (record { txn = x; ticket = Some t })) (λ k. refl) e)))
         by_test false e = e
 
         unrecorded : has (is_record_of (record { txn = x; ticket = Some t })) (kept n) ≡ false
@@ -273,7 +272,7 @@ all_alikes tree _ _ (makes es w m e w' run stands step) p at_top =
     let P : ProcessId → Node → Type 0 = λ x k. role_of tree x ≡ AtRoot → Alikes x tree k in
     subst (λ (x : World). P p (x.at p)) (sym at.world)
     (put P q p at.node w.at
-    (λ role. alikes_last q tree (w.at q) (all_root_cases tree es w run q role) (all_alikes tree es w run q role)
+    (λ role. alikes_last q tree (w.at q) (all_last tree es w run q).nested (all_root_cases tree es w run q role) (all_alikes tree es w run q role)
     m e at.node (subst (λ (x : Place). StepOf x (w.at q) m e at.node) (at_root tree q role) s))
     (all_alikes tree es w run p)) at_top
 
@@ -281,4 +280,4 @@ pub root_alike : (tree : List TreeEntry) (es : List Made) (w : World) → IsRun 
     → role_of tree p ≡ AtRoot → AllAlike (place_of tree p) (w.at p)
 root_alike tree es w run p e =
     subst (λ (x : Place). AllAlike x (w.at p)) (sym (at_root tree p e))
-    (all_alike p tree (w.at p) (all_root_cases tree es w run p e) (all_alikes tree es w run p e))
+    (all_alike p tree (w.at p) (all_last tree es w run p).nested (all_root_cases tree es w run p e) (all_alikes tree es w run p e))

@@ -17,13 +17,13 @@ use Rattle.tree_model.specs.CoordinatorRows.{Row}
 use Rattle.tree_model.specs.Views.{root_place}
 use Rattle.tree_model.proofs.BeginLaws.{same_begun}
 use Rattle.tree_turns.specs.CoordinatorTurns.{Decided, by_commit, by_abort, CaseTurn, rests, invites, accepts, sends_work, finds_nobody, asks_for_votes, gives_up, counts_vote, reads_only, commits, promises, hears_no, aborts, passes_commit, passes_abort, repeats_yes, asks, refuses, acknowledges, waits_for_acks, ends, answers, CoordinatorTurn, does_nothing, of_case, begins, gives_again, gives_fresh, presumes}
+use Rattle.tree_nodes.specs.Lasts.{logs_of, Nested}
 use Rattle.tree_nodes.specs.WorldHolds.{is_record_of}
 use Rattle.tree_nodes.specs.RootCases.{IsRoots, AllRoots, RootCases}
 use Rattle.tree_nodes.proofs.Tests.{not_both}
 use Rattle.tree_nodes.proofs.Worlds.{has_other}
 use Rattle.tree_nodes.proofs.Cases.{viewed}
 use Rattle.tree_nodes.proofs.RootMemories.{remembered_is_begun}
-use Rattle.tree_nodes.proofs.RootNumbers.{roots_case}
 
 -- A case with no record and no memory is unknown.
 
@@ -87,13 +87,13 @@ module _ (me : ProcessId) (tree : List TreeEntry) (n : Node) where
   ]
 
   -- a case that is known is the root's
-  pub known_roots : n.failed ≡ false → RootCases (root_place me tree) n → (c : Case)
+  pub known_roots : n.failed ≡ false → Nested (logs_of n) → RootCases (root_place me tree) n → (c : Case)
       → (coordinator_view (root_place me tree) n c).standing ≢ Unknown
       → IsRoots me (boot_of (kept n))
       (memory_of (root_place me tree) n (some_case (root_place me tree))).begun c
-  known_roots up h c known = elim (known_by place n c known) [
+  known_roots up nested h c known = elim (known_by place n c known) [
     | inl awake ↦ remembered_roots c awake
-    | inr recorded ↦ roots_case me boot count c (kept n) recorded (h.begun_now up)
+    | inr recorded ↦ h.begun_now up c (nested.kept_was_written (is_record_of c) (λ k. refl) recorded)
   ]
 
 -- What a turn writes is of a case that is known.

@@ -1,14 +1,15 @@
--- What a root keeps is of its own cases, over every run.
-use Rattle.std.proofs.Common.{◌≡◌, ◌∙◌, ◌≤◌, ◌<◌, ◌+◌, ◌⊎◌, inl, inr, ℕ, zero, suc, true, false, List, ◌++◌, take, drop, refl, sym, ap, subst, append_assoc, arith}
-use Rattle.std.specs.Prelude.{fold}
+-- What a root appended is of its own cases, over every run.
+use Rattle.std.proofs.Common.{◌≡◌, ◌∙◌, ◌≤◌, ◌<◌, ◌+◌, ◌⊎◌, inl, inr, ℕ, zero, suc, true, false, List, [], ◌++◌, take, drop, refl, sym, ap, subst, append_assoc, arith}
+use Rattle.std.specs.Prelude.{fold, reverse}
 use Rattle.std.proofs.lemmas.List.{append-nil, take-append-drop}
+use Rattle.tree_model.specs.declared.names.Case.{Case}
 use Rattle.tree_model.specs.declared.names.ProcessId.{ProcessId}
 use Rattle.tree_model.specs.declared.records.Record.{Record}
 use Rattle.tree_model.specs.declared.events.Act.TheVariants.{Begin, Join, Work, Commit, Abort, Ask, Decide, Forget}
 use Rattle.tree_model.specs.declared.events.Input.{Input}
 use Rattle.tree_model.specs.declared.events.Input.TheVariants.{Act as ActInput, Message as MessageInput}
 use Rattle.tree_model.specs.declared.trees.TreeEntry.{TreeEntry}
-use Rattle.tree_model.specs.Records.{boot_of}
+use Rattle.tree_model.specs.Records.{boot_of, has}
 use Rattle.tree_model.specs.Nodes.{Role, AtRoot, Place, place_of, role_of, Node, kept, Heard, Effect, opened_node, entries_written, is_any_forced, after, fails_in}
 use Rattle.tree_model.specs.Memory.{memory_of, remembers, fresh_memory}
 use Rattle.tree_model.specs.Standings.{some_case}
@@ -22,15 +23,17 @@ use Rattle.tree_model.proofs.RunLaws.{makes_at}
 use Rattle.tree_turns.specs.Steps.{StepOf, heard_in, handled, failed_in, passed, failed_passing, reopened, failed_reopening, trimmed as trims_log, failed_trimming, TurnOf}
 use Rattle.tree_turns.proofs.Steps.{step_of, turn_of}
 use Rattle.tree_turns.proofs.CoordinatorReactions.{coordinator_turn_of}
-use Rattle.tree_nodes.specs.Lasts.{Logs, logs_of}
+use Rattle.tree_nodes.specs.Lasts.{Logs, logs_of, Nested}
 use Rattle.tree_nodes.specs.BootsRise.{AllRise, BootsRise}
-use Rattle.tree_nodes.specs.RootCases.{AllRoots, RootCases}
-use Rattle.tree_nodes.proofs.Appends.{either_logs, loses, breaks_keeps}
+use Rattle.tree_nodes.specs.WorldHolds.{is_record_of}
+use Rattle.tree_nodes.proofs.Tests.{not_both, has-nil, has-reverse, in_first, in_second, in_either, in_front}
+use Rattle.tree_nodes.specs.RootCases.{IsRoots, RootCases}
+use Rattle.tree_nodes.proofs.Appends.{either_logs}
 use Rattle.tree_nodes.proofs.Booting.{same_boot, rise_front, boot_rises, boot_both}
 use Rattle.tree_nodes.proofs.Boots.{input_opens_none, boots_last, boots_of, all_boots, behind_front, reopened_boot, trimmed_boot}
 use Rattle.tree_nodes.proofs.RootKnown.{known_roots, effect_roots}
-use Rattle.tree_nodes.proofs.RootNumbers.{roots_later, roots_both, roots_take, roots_front, roots_reopens, roots_trimmed}
-use Rattle.tree_nodes.proofs.Worlds.{put}
+use Rattle.tree_nodes.proofs.RootNumbers.{case_later, roots_each, roots_case, roots_reopens}
+use Rattle.tree_nodes.proofs.Worlds.{all_last, put}
 
 -- Numbers.
 
@@ -66,15 +69,13 @@ begun_more k (ActInput (Decide c o)) = omega arith
 begun_more k (ActInput (Forget c)) = omega arith
 begun_more k (MessageInput j m) = omega arith
 
--- Records begun before a boot were begun before a later one.
-raised : (me : ProcessId) (b b' : ℕ) (rs : List Record) → b ≤ b' → AllRoots me (b + 1) 0 rs
-    → AllRoots me (b' + 1) 0 rs
-raised me b b' rs e a = roots_later me (b + 1) 0 (b' + 1) 0 (less_or_same b b' e) rs a
+-- A case begun before a boot was begun before a later one.
+raised : (me : ProcessId) (b b' : ℕ) (c : Case) → b ≤ b' → IsRoots me (b + 1) 0 c → IsRoots me (b' + 1) 0 c
+raised me b b' c e a = case_later me (b + 1) 0 (b' + 1) 0 (less_or_same b b' e) c a
 
--- and those begun in it, before the next
-passed_by : (me : ProcessId) (b k b' : ℕ) (rs : List Record) → b ≤ b' → AllRoots me b k rs
-    → AllRoots me (b' + 1) 0 rs
-passed_by me b k b' rs e a = roots_later me b k (b' + 1) 0 (inl (below_next b b' e)) rs a
+-- and one begun in it, before the next
+passed_by : (me : ProcessId) (b k b' : ℕ) (c : Case) → b ≤ b' → IsRoots me b k c → IsRoots me (b' + 1) 0 c
+passed_by me b k b' c e a = case_later me b k (b' + 1) 0 (inl (below_next b b' e)) c a
 
 -- the forced front only grows
 forced_grows : (l : Logs) (front more rest : List Record) → AllRise 0 ((front ++ more) ++ rest)
@@ -98,25 +99,41 @@ module _ (me : ProcessId) (tree : List TreeEntry) where
   abbrev Holds : Node → Type 0
   Holds n = RootCases (root_place me tree) n
 
+  -- each record of the list is of a case of the root
+  abbrev Each : ℕ → ℕ → List Record → Type 0
+  Each b k rs = (c : Case) → has (is_record_of c) rs ≡ true → IsRoots me b k c
+
+  each_both : (b k : ℕ) (new old : List Record) → Each b k new → Each b k old → Each b k (reverse new ++ old)
+  each_both b k new old f g c e = elim (in_either (is_record_of c) (reverse new) old e) [
+    | inl now ↦ f c (sym (has-reverse (is_record_of c) new) ∙ now)
+    | inr before ↦ g c before
+  ]
+
   -- a process that is up keeps both by what was begun now
-  by_now : (n : Node) → BootsRise (logs_of n) → n.failed ≡ false
-      → AllRoots me (boot_of (kept n)) (count n) (kept n) → Holds n
+  by_now : (n : Node) → BootsRise (logs_of n) → n.failed ≡ false → Each (boot_of (kept n)) (count n) n.life → Holds n
   by_now n boots up a = record {
-    begun_before = passed_by me (boot_of (kept n)) (count n) (boot_of n.forced) (kept n)
-        (same_is_most _ _ ((boots_of n boots).boot_is_forced up)) a;
-    begun_now = λ e. a;
+    begun_before = λ c e.
+        passed_by me (boot_of (kept n)) (count n) (boot_of n.forced) c
+        (same_is_most _ _ ((boots_of n boots).boot_is_forced up)) (a c e);
+    begun_now = λ u. a;
   }
 
   -- one that has failed by what was begun before
-  by_before : (n : Node) → n.failed ≡ true → AllRoots me (boot_of n.forced + 1) 0 (kept n) → Holds n
+  by_before : (n : Node) → n.failed ≡ true → Each (boot_of n.forced + 1) 0 n.life → Holds n
   by_before n down a = record { begun_before = a; begun_now = λ e. absurd (cc) }
 
-  module _ (n : Node) (boots : BootsRise (logs_of n)) (h : Holds n) where
+  module _ (n : Node) (boots : BootsRise (logs_of n)) (nested : Nested (logs_of n)) (h : Holds n) where
     module _ (i : Heard) (e : Effect) (t : TurnOf (root_place me tree) n i e)
-        (new_roots : AllRoots me (boot_of (kept n)) (count n) (entries_written e.written))
+        (r : reacts (root_place me tree) n i ≡ Does e)
       where
         abbrev new : List Record
         new = entries_written e.written
+
+        written_now : Each (boot_of (kept n)) (count n) new
+        written_now c k =
+            roots_case me (boot_of (kept n)) (count n) c new k
+            (effect_roots place n i me (boot_of (kept n)) (count n) (known_roots me tree n t.up nested h) e
+            (coordinator_turn_of place n i e r))
 
         leaves_boot : boot_of (kept n ++ new) ≡ boot_of (kept n)
         leaves_boot = boot_both (kept n) new ∙ same_boot (boot_of (kept n)) new (input_opens_none place n i e t)
@@ -128,46 +145,42 @@ module _ (me : ProcessId) (tree : List TreeEntry) where
             ∙ begun_step me (boot_of (kept n)) (some_case place) (memory_of place n (some_case place)) i.input))
             (begun_more (count n) i.input)
 
-        pub appended : BootsRise (logs_of (after n i e)) → Holds (after n i e)
+        life_then : (after n i e).life ≡ reverse new ++ n.life
+        life_then =
+            either_logs n new (is_any_forced e.written) (λ (l : Logs). l.life ≡ reverse new ++ n.life) (λ b. refl)
+            (λ b. refl)
+
+        appended : BootsRise (logs_of (after n i e)) → Holds (after n i e)
         appended boots' =
             let k = count (after n i e) in
             by_now (after n i e) boots' (after_up n i e ∙ t.up)
-            (subst (λ (rs : List Record). AllRoots me (boot_of rs) k rs) (sym (kept-after n i e))
-            (subst (λ (b : ℕ). AllRoots me b k (kept n ++ new)) (sym leaves_boot)
-            (roots_later me (boot_of (kept n)) (count n) (boot_of (kept n)) k (inr (refl, counts_on)) (kept n ++ new)
-            (roots_both me (boot_of (kept n)) (count n) (kept n) new (h.begun_now t.up) new_roots))))
+            (subst (Each (boot_of (kept (after n i e))) k) (sym life_then)
+            (subst (λ (b : ℕ). Each b k (reverse new ++ n.life)) (sym (ap boot_of (kept-after n i e) ∙ leaves_boot))
+            (λ c f. case_later me (boot_of (kept n)) (count n) (boot_of (kept n)) k (inr (refl, counts_on)) c
+            (each_both (boot_of (kept n)) (count n) new n.life written_now (h.begun_now t.up) c f))))
 
-        pub broken : (a f : ℕ) → BootsRise (logs_of (fails_in n i e a f)) → Holds (fails_in n i e a f)
+        broken : (a f : ℕ) → BootsRise (logs_of (fails_in n i e a f)) → Holds (fails_in n i e a f)
         broken a f boots' =
             let behind = n.unforced ++ take a new in
             let b = boot_of n.forced in
+            let same = same_is_most _ _ ((boots_of n boots).boot_is_forced t.up) in
             by_before (fails_in n i e a f) refl
-            (raised me b (boot_of (n.forced ++ take f behind)) _
+            (λ c k. raised me b (boot_of (n.forced ++ take f behind)) c
             (forced_grows (logs_of n) n.forced (take f behind) (drop f behind) boots'.rise)
-            (subst (AllRoots me (b + 1) 0) (sym (breaks_keeps (logs_of n) new a f))
-            (roots_both me (b + 1) 0 (kept n) (take a new) h.begun_before
-            (roots_take me (b + 1) 0 a new
-            (passed_by me (boot_of (kept n)) (count n) b new
-            (same_is_most _ _ ((boots_of n boots).boot_is_forced t.up)) new_roots)))))
+            (each_both (b + 1) 0 (take a new) n.life
+            (λ d j. passed_by me (boot_of (kept n)) (count n) b d same
+            (written_now d (in_front (is_record_of d) a new j)))
+            h.begun_before c k))
 
-    falls : (m : Node) → m.failed ≡ true → m.forced ≡ n.forced → m.unforced ≡ n.unforced → Holds m
+    falls : (m : Node) → m.failed ≡ true → m.forced ≡ n.forced → m.life ≡ n.life → Holds m
     falls m down e f = by_before m down
-        (subst (λ (xs : List Record). AllRoots me (boot_of xs + 1) 0 (xs ++ m.unforced)) (sym e)
-        (subst (λ (ys : List Record). AllRoots me (boot_of n.forced + 1) 0 (n.forced ++ ys)) (sym f)
-        h.begun_before))
+        (subst (λ (xs : List Record). Each (boot_of xs + 1) 0 m.life) (sym e)
+        (subst (λ (ys : List Record). Each (boot_of n.forced + 1) 0 ys) (sym f) h.begun_before))
 
     -- A restart.
 
     abbrev left : ℕ → List Record
     left k = n.forced ++ take k n.unforced
-
-    left_roots : (k : ℕ) → AllRoots me (boot_of n.forced + 1) 0 (left k)
-    left_roots k =
-        roots_front me (boot_of n.forced + 1) 0 (left k) (drop k n.unforced)
-        (subst (AllRoots me (boot_of n.forced + 1) 0)
-        (sym (append_assoc n.forced (take k n.unforced) (drop k n.unforced) ∙
-        ap (λ x. n.forced ++ x) (take-append-drop k n.unforced)))
-        h.begun_before)
 
     left_rises : (k : ℕ) → boot_of n.forced ≤ boot_of (left k)
     left_rises k =
@@ -177,16 +190,33 @@ module _ (me : ProcessId) (tree : List TreeEntry) where
         ap (λ x. n.forced ++ x) (take-append-drop k n.unforced)))
         boots.rise)
 
+    left_each : (k : ℕ) → Each (boot_of n.forced + 1) 0 (left k)
+    left_each k c e =
+        h.begun_before c (nested.kept_was_written (is_record_of c) (λ j. refl)
+        (was_kept (in_either (is_record_of c) n.forced (take k n.unforced) e)))
+      where
+        was_kept : (has (is_record_of c) n.forced ≡ true) ⊎ (has (is_record_of c) (take k n.unforced) ≡ true)
+            → has (is_record_of c) (kept n) ≡ true
+        was_kept (inl front) = in_first (is_record_of c) n.forced n.unforced front
+        was_kept (inr rest) =
+            in_second (is_record_of c) n.forced n.unforced (in_front (is_record_of c) k n.unforced rest)
+
+    reopens_each : (k : ℕ) → Each (boot_of n.forced + 1) 0 (reopens AtRoot (left k))
+    reopens_each k c e =
+        let b = boot_of n.forced + 1 in
+        roots_case me b 0 c (reopens AtRoot (left k)) e
+        (roots_reopens me b 0 (left k) (roots_each me b 0 (left k) (left_each k)))
+
     reopened_roots : (k : ℕ) → BootsRise (logs_of (restarted place n k)) → Holds (restarted place n k)
     unfolding memory_of
     reopened_roots k boots' =
         let rs = left k in
-        let old = raised me (boot_of n.forced) (boot_of rs) rs (left_rises k) (left_roots k) in
+        let new = reopens AtRoot rs in
         by_now (restarted place n k) boots' refl
-        (subst (λ (xs : List Record). AllRoots me (boot_of xs) 0 xs) (sym (append-nil (rs ++ reopens AtRoot rs)))
-        (subst (λ (b : ℕ). AllRoots me b 0 (rs ++ reopens AtRoot rs)) (sym (reopened_boot AtRoot rs))
-        (roots_both me (boot_of rs + 1) 0 rs (reopens AtRoot rs) old
-        (roots_reopens me (boot_of rs + 1) 0 rs old))))
+        (subst (λ (xs : List Record). Each (boot_of xs) 0 (reverse new ++ n.life)) (sym (append-nil (rs ++ new)))
+        (subst (λ (b : ℕ). Each b 0 (reverse new ++ n.life)) (sym (reopened_boot AtRoot rs))
+        (λ c e. raised me (boot_of n.forced) (boot_of rs) c (left_rises k)
+        (each_both (boot_of n.forced + 1) 0 new n.life (reopens_each k) h.begun_before c e))))
 
     reopening_failed : (k a f : ℕ) → BootsRise (logs_of (restart_fails place n k a f))
         → Holds (restart_fails place n k a f)
@@ -195,11 +225,10 @@ module _ (me : ProcessId) (tree : List TreeEntry) where
         let b = boot_of n.forced in
         let behind = take k n.unforced ++ take a (reopens AtRoot rs) in
         by_before (restart_fails place n k a f) refl
-        (raised me b (boot_of (n.forced ++ take f behind)) _
+        (λ c e. raised me b (boot_of (n.forced ++ take f behind)) c
         (forced_grows (logs_of n) n.forced (take f behind) (drop f behind) boots'.rise)
-        (subst (AllRoots me (b + 1) 0) (sym (breaks_keeps (loses (logs_of n) k) (reopens AtRoot rs) a f))
-        (roots_both me (b + 1) 0 rs (take a (reopens AtRoot rs)) (left_roots k)
-        (roots_take me (b + 1) 0 a (reopens AtRoot rs) (roots_reopens me (b + 1) 0 rs (left_roots k))))))
+        (each_both (b + 1) 0 (take a (reopens AtRoot rs)) n.life
+        (λ d j. reopens_each k d (in_front (is_record_of d) a (reopens AtRoot rs) j)) h.begun_before c e))
 
     -- A trim.
 
@@ -209,42 +238,38 @@ module _ (me : ProcessId) (tree : List TreeEntry) where
         ap (λ (b : ℕ). (fold (remembers me AtRoot b (some_case place)) fresh_memory n.heard).begun)
         (ap boot_of (append-nil (trimmed AtRoot (kept n))) ∙ trimmed_boot AtRoot (kept n))
 
+    same_life : (b k : ℕ) → Each b k n.life → Each b k (reverse [] ++ n.life)
+    same_life b k f = each_both b k [] n.life
+        (λ c e. not_both (is_record_of c) (has (is_record_of c) []) e (has-nil (is_record_of c))) f
+
     trimmed_roots : n.failed ≡ false → BootsRise (logs_of (trims place n)) → Holds (trims place n)
     trimmed_roots up boots' =
         let rs = kept n in
         let new = trimmed AtRoot rs in
+        let life = reverse [] ++ n.life in
         by_now (trims place n) boots' up
-        (subst (λ (xs : List Record). AllRoots me (boot_of xs) (count (trims place n)) xs)
-        (sym (append-nil new))
-        (subst (λ (k : ℕ). AllRoots me (boot_of new) k new) (sym same_count)
-        (subst (λ (b : ℕ). AllRoots me b (count n) new) (sym (trimmed_boot AtRoot rs))
-        (roots_trimmed me (boot_of rs) (count n) rs (h.begun_now up)))))
+        (subst (λ (xs : List Record). Each (boot_of xs) (count (trims place n)) life) (sym (append-nil new))
+        (subst (λ (k : ℕ). Each (boot_of new) k life) (sym same_count)
+        (subst (λ (b : ℕ). Each b (count n) life) (sym (trimmed_boot AtRoot rs))
+        (same_life (boot_of rs) (count n) (h.begun_now up)))))
 
     trimming_failed : (a : ℕ) → Holds (trim_fails place n a)
     trimming_failed zero = falls (trim_fails place n 0) refl refl refl
     trimming_failed (suc a) =
         let rs = kept n in
         by_before (trim_fails place n (suc a)) refl
-        (subst (AllRoots me (boot_of (trimmed AtRoot rs) + 1) 0) (sym (append-nil (trimmed AtRoot rs)))
-        (subst (λ (b : ℕ). AllRoots me (b + 1) 0 (trimmed AtRoot rs)) (sym (trimmed_boot AtRoot rs))
-        (roots_trimmed me (boot_of rs + 1) 0 rs
-        (raised me (boot_of n.forced) (boot_of rs) rs (boots_of n boots).boot_only_rises h.begun_before))))
-
-    written_roots : (i : Heard) (e : Effect) → TurnOf place n i e → reacts place n i ≡ Does e
-        → AllRoots me (boot_of (kept n)) (count n) (entries_written e.written)
-    written_roots i e t r = effect_roots place n i me (boot_of (kept n)) (count n)
-        (known_roots me tree n t.up h) e (coordinator_turn_of place n i e r)
+        (subst (λ (b : ℕ). Each (b + 1) 0 (reverse [] ++ n.life)) (sym (trimmed_boot AtRoot rs))
+        (λ c e. raised me (boot_of n.forced) (boot_of rs) c (boots_of n boots).boot_only_rises
+        (same_life (boot_of n.forced + 1) 0 h.begun_before c e)))
 
     pub root_cases_last : (m : Move) (e : Effect) (k : Node) → StepOf (root_place me tree) n m e k
         → BootsRise (logs_of k) → RootCases (root_place me tree) k
     root_cases_last m _ _ (handled i g hp np r) b =
-        let t = turn_of place n (heard_in m i) g r in
-        appended (heard_in m i) g t (written_roots (heard_in m i) g t r) b
+        appended (heard_in m i) g (turn_of place n (heard_in m i) g r) r b
     root_cases_last m _ _ (failed_in i f g fl hp np r) b =
-        let t = turn_of place n (heard_in m i) g r in
-        broken (heard_in m i) g t (written_roots (heard_in m i) g t r) f.appended f.forced b
+        broken (heard_in m i) g (turn_of place n (heard_in m i) g r) r f.appended f.forced b
     root_cases_last m _ _ (passed i hp r) b = h
-    root_cases_last m _ _ (failed_passing i f fl hp r) b = falls _ refl refl refl
+    root_cases_last m _ _ (failed_passing i f fl hp r) b = falls (record n { failed = true }) refl refl refl
     root_cases_last m _ _ (reopened k hp) b = reopened_roots k b
     root_cases_last m _ _ (failed_reopening k f fl hp) b = reopening_failed k f.appended f.forced b
     root_cases_last m _ _ (trims_log hp up) b = trimmed_roots up b
@@ -253,7 +278,8 @@ module _ (me : ProcessId) (tree : List TreeEntry) where
 -- Runs.
 
 opened_root : (place : Place) → RootCases place opened_node
-opened_root place = record { begun_before = (tt, tt); begun_now = λ up. (tt, tt) }
+unfolding has
+opened_root place = record { begun_before = λ c e. absurd (cc); begun_now = λ up c e. absurd (cc) }
 
 pub at_root : (tree : List TreeEntry) (q : ProcessId) → role_of tree q ≡ AtRoot → place_of tree q ≡ root_place q tree
 at_root tree q e = ap (λ (r : Role). record { me = q; role = r; tree = tree }) e
@@ -268,7 +294,8 @@ all_root_cases tree _ _ (makes es w m e w' run stands step) p at_top =
     let P : ProcessId → Node → Type 0 = λ x k. role_of tree x ≡ AtRoot → RootCases (root_place x tree) k in
     subst (λ (x : World). P p (x.at p)) (sym at.world)
     (put P q p at.node w.at
-    (λ role. root_cases_last q tree (w.at q) (all_boots tree es w run q) (all_root_cases tree es w run q role) m e
+    (λ role. root_cases_last q tree (w.at q) (all_boots tree es w run q) (all_last tree es w run q).nested
+    (all_root_cases tree es w run q role) m e
     at.node
     (subst (λ (x : Place). StepOf x (w.at q) m e at.node) (at_root tree q role) s)
     (boots_last (place_of tree q) (w.at q) (all_boots tree es w run q) m e at.node s))

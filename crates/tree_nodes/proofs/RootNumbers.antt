@@ -1,5 +1,5 @@
 -- The records of a root are of its own cases, with numbers that it gave out.
-use Rattle.std.proofs.Common.{◌≡◌, ◌∙◌, ◌≤◌, ◌<◌, ◌⊎◌, inl, inr, ℕ, zero, suc, Bool, true, false, Option, Some, None, List, [], ◌∷◌, ◌++◌, take, sym, subst, arith, if◌then◌else◌}
+use Rattle.std.proofs.Common.{◌≡◌, ◌∙◌, ◌≤◌, ◌<◌, ◌⊎◌, inl, inr, ℕ, zero, suc, Bool, true, false, Option, Some, None, List, [], ◌∷◌, ◌++◌, take, refl, ap, sym, subst, arith, if◌then◌else◌}
 use Rattle.std.specs.Prelude.{fold}
 use Rattle.std.specs.List.{flat_map}
 use Rattle.tree_model.specs.declared.names.Case.{Case}
@@ -7,14 +7,14 @@ use Rattle.tree_model.specs.declared.names.ProcessId.{ProcessId}
 use Rattle.tree_model.specs.declared.records.Record.{Record}
 use Rattle.tree_model.specs.declared.standings.Standing.{Standing}
 use Rattle.tree_model.specs.declared.standings.Standing.TheVariants.{Unknown, Active, Collecting, Prepared, Committing, Aborting, Heuristic}
-use Rattle.tree_model.specs.NameLaws.{same_case_tells}
+use Rattle.tree_model.specs.NameLaws.{same_case_tells, same_case-refl}
 use Rattle.tree_model.specs.Records.{has, has_case, record_case, with_case, with_record, cases_in}
 use Rattle.tree_model.specs.Nodes.{AtRoot}
 use Rattle.tree_model.specs.Standings.{CoordinatorView}
-use Rattle.tree_model.specs.Restarts.{recorded_view, restart_abort, aborts_collecting, reopens, stays, staying, trimmed}
+use Rattle.tree_model.specs.Restarts.{recorded_view, restart_abort, aborts_collecting, reopens}
 use Rattle.tree_nodes.specs.WorldHolds.{IsGivenOut, is_record_of, is_of}
 use Rattle.tree_nodes.specs.RootCases.{IsRoots, IsRootsRecord, AllRoots}
-use Rattle.tree_nodes.proofs.Tests.{either}
+use Rattle.tree_nodes.proofs.Tests.{either, left, right, has-cons}
 
 -- More numbers are given out, and later boots come.
 
@@ -35,18 +35,14 @@ given_later b k now count now' count' (inr f) (inr e) = inr (e.0 ∙ f.0, at_mos
     at_most x y z g h = omega (arith, g, h)
 
 module _ (me : ProcessId) where
-  pub roots_later : (b k b' k' : ℕ) → (b < b') ⊎ ((b ≡ b') × (k ≤ k')) → (rs : List Record)
-      → AllRoots me b k rs → AllRoots me b' k' rs
-  roots_later b k b' k' l [] a = tt
-  roots_later b k b' k' l (r ∷ rs) a = (of_record (record_case r) a.0, roots_later b k b' k' l rs a.1)
-    where
-      of_record : (o : Option Case) → IsRootsRecord me b k o → IsRootsRecord me b' k' o
-      of_record None i = tt
-      of_record (Some c) i = record {
-        no_ticket = i.no_ticket;
-        own = i.own;
-        number = given_later c.txn.boot c.txn.sequence b k b' k' l i.number;
-      }
+  -- a case of the root is one where more are given out
+  pub case_later : (b k b' k' : ℕ) → (b < b') ⊎ ((b ≡ b') × (k ≤ k')) → (c : Case) → IsRoots me b k c
+      → IsRoots me b' k' c
+  case_later b k b' k' l c i = record {
+    no_ticket = i.no_ticket;
+    own = i.own;
+    number = given_later c.txn.boot c.txn.sequence b k b' k' l i.number;
+  }
 
   module _ (b k : ℕ) where
     abbrev A : List Record → Type 0
@@ -55,10 +51,6 @@ module _ (me : ProcessId) where
     pub roots_both : (xs ys : List Record) → A xs → A ys → A (xs ++ ys)
     roots_both [] ys a c = c
     roots_both (x ∷ xs) ys a c = (a.0, roots_both xs ys a.1 c)
-
-    pub roots_front : (xs ys : List Record) → A (xs ++ ys) → A xs
-    roots_front [] ys a = tt
-    roots_front (x ∷ xs) ys a = (a.0, roots_front xs ys a.1)
 
     pub roots_take : (j : ℕ) (xs : List Record) → A xs → A (take j xs)
     roots_take zero xs a = tt
@@ -81,6 +73,18 @@ module _ (me : ProcessId) where
           | inl t ↦ subst (λ (x : Case). IsRoots me b k x) t.1 i
           | inr g ↦ absurd (let h = g.0 in cc)
         ]
+
+    -- such a list, by each of its cases
+    pub roots_each : (rs : List Record)
+        → ((c : Case) → has (is_record_of c) rs ≡ true → IsRoots me b k c) → A rs
+    roots_each [] f = tt
+    roots_each (r ∷ rs) f =
+        (of_record (record_case r) refl, roots_each rs (λ c e. f c (has-cons (is_record_of c) r rs ∙ right _ _ e)))
+      where
+        of_record : (o : Option Case) → record_case r ≡ o → IsRootsRecord me b k o
+        of_record None e = tt
+        of_record (Some c) e =
+            f c (has-cons (is_record_of c) r rs ∙ left _ _ (ap (is_of c) e ∙ same_case-refl c))
 
     -- What a restart appends.
 
@@ -127,18 +131,3 @@ module _ (me : ProcessId) where
 
     pub roots_reopens : (rs : List Record) → A rs → A (reopens AtRoot rs)
     roots_reopens rs a = (tt, roots_aborts rs (cases_in rs) (of_cases_in rs a))
-
-    -- What a trim leaves.
-
-    roots_staying : (whole rs : List Record) → A rs → A (staying AtRoot whole rs)
-    roots_staying whole [] a = tt
-    roots_staying whole (r ∷ rs) a = by_test (stays AtRoot whole rs r) (roots_staying whole rs a.1)
-      where
-        by_test : (e : Bool) → A (staying AtRoot whole rs)
-            → A (if e then r ∷ staying AtRoot whole rs else staying AtRoot whole rs)
-        by_test true i = (a.0, i)
-        by_test false i = i
-
-    pub roots_trimmed : (rs : List Record) → A rs → A (trimmed AtRoot rs)
-    unfolding trimmed
-    roots_trimmed rs a = (tt, roots_both (staying AtRoot rs rs) [] (roots_staying rs rs a) tt)

@@ -29,12 +29,12 @@ use Rattle.tree_model.specs.Views.{root_place, vote_message}
 use Rattle.tree_model.proofs.BeginLaws.{same_begun}
 use Rattle.tree_turns.specs.CoordinatorTurns.{CaseTurn, rests, invites, accepts, sends_work, finds_nobody, asks_for_votes, gives_up, counts_vote, reads_only, commits, promises, hears_no, aborts, passes_commit, passes_abort, repeats_yes, asks, refuses, acknowledges, waits_for_acks, ends, answers, CoordinatorTurn, does_nothing, of_case, begins, gives_again, gives_fresh, presumes, IsOfNoCase, unticketed, belongs_nowhere, not_taken, ChildSays, votes, acknowledged, inquires, IsNotTaken}
 use Rattle.tree_nodes.specs.WorldHolds.{is_record_of, IsGivenOut}
+use Rattle.tree_nodes.specs.Lasts.{logs_of, Nested}
 use Rattle.tree_nodes.specs.RootCases.{IsRoots, RootCases}
 use Rattle.tree_nodes.proofs.Tests.{not_both, has-nil}
 use Rattle.tree_nodes.proofs.Worlds.{has_other}
 use Rattle.tree_nodes.proofs.Phases.{standing_at, Together, unrecorded_stands}
 use Rattle.tree_nodes.proofs.RootKnown.{no_end, no_commit, no_abort, no_prepare, no_collecting}
-use Rattle.tree_nodes.proofs.RootNumbers.{roots_case}
 use Rattle.tree_nodes.proofs.RootPhases.{then_remembers, inquiry_left, ack_left, uncounted, vote_elsewhere}
 use Rattle.tree_nodes.proofs.RootTogether.{own_together, other_together}
 
@@ -214,85 +214,88 @@ module _ (me : ProcessId) (tree : List TreeEntry) (n : Node) where
 
     -- a transaction begins
 
-    module _ (up : n.failed ≡ false) (cases : RootCases (root_place me tree) n) where
-      abbrev boot : ℕ
-      boot = boot_of (kept n)
+    module _ (up : n.failed ≡ false) (nested : Nested (logs_of n)) (cases : RootCases (root_place me tree) n)
+      where
+        abbrev boot : ℕ
+        boot = boot_of (kept n)
 
-      abbrev memory : Txn → Memory
-      memory x = memory_of (root_place me tree) n (root_case x)
+        abbrev memory : Txn → Memory
+        memory x = memory_of (root_place me tree) n (root_case x)
 
-      abbrev count : ℕ
-      count = (memory_of (root_place me tree) n (some_case (root_place me tree))).begun
+        abbrev count : ℕ
+        count = (memory_of (root_place me tree) n (some_case (root_place me tree))).begun
 
-      not_given : (b k : ℕ) → IsGivenOut b (k + 1) b k → ⊥
-      not_given b k (inl e) = omega (arith, e)
-      not_given b k (inr e) = absurd (let f = e.1 in omega (arith, f))
+        not_given : (b k : ℕ) → IsGivenOut b (k + 1) b k → ⊥
+        not_given b k (inl e) = omega (arith, e)
+        not_given b k (inr e) = absurd (let f = e.1 in omega (arith, f))
 
-      fresh : (x : Txn) (p : Presumption) → next_txn me boot (memory x) p ≡ x
-          → has (is_record_of (root_case x)) (kept n) ≡ false
-      fresh x p e = by_test (has (is_record_of (root_case x)) (kept n)) refl
-        where
-          counted : (memory x).begun ≡ count
-          counted = same_begun me tree n (root_case x) (some_case (root_place me tree))
+        fresh : (x : Txn) (p : Presumption) → next_txn me boot (memory x) p ≡ x
+            → has (is_record_of (root_case x)) (kept n) ≡ false
+        fresh x p e = by_test (has (is_record_of (root_case x)) (kept n)) refl
+          where
+            counted : (memory x).begun ≡ count
+            counted = same_begun me tree n (root_case x) (some_case (root_place me tree))
 
-          given : IsRoots me boot count (root_case x) → ⊥
-          given r =
-              not_given boot count
-              (subst (λ (k : ℕ). IsGivenOut boot (k + 1) boot count) counted
-              (subst (λ (z : Txn). IsGivenOut z.boot z.sequence boot count) (sym e) r.number))
+            given : IsRoots me boot count (root_case x) → ⊥
+            given r =
+                not_given boot count
+                (subst (λ (k : ℕ). IsGivenOut boot (k + 1) boot count) counted
+                (subst (λ (z : Txn). IsGivenOut z.boot z.sequence boot count) (sym e) r.number))
 
-          by_test : (b : Bool) → has (is_record_of (root_case x)) (kept n) ≡ b
-              → has (is_record_of (root_case x)) (kept n) ≡ false
-          by_test true f = absurd (given (roots_case me boot count (root_case x) (kept n) f (cases.begun_now up)))
-          by_test false f = f
+            by_test : (b : Bool) → has (is_record_of (root_case x)) (kept n) ≡ b
+                → has (is_record_of (root_case x)) (kept n) ≡ false
+            by_test true f =
+                absurd (given (cases.begun_now up (root_case x)
+                (nested.kept_was_written (is_record_of (root_case x)) (λ k. refl) f)))
+            by_test false f = f
 
-      opened_together : (x : Txn) (p : Presumption) → next_txn me boot (memory x) p ≡ x
-          → Together (kept n) (root_case x) Open
-      opened_together x p e =
-          let none = fresh x p e in
-          let c = root_case x in
-          let s : standing_at (kept n) c Open ≡ Active =
-          unrecorded_stands (kept n) c Open (record {
-            no_end = no_end c (kept n) none;
-            no_commit = no_commit c (kept n) none;
-            no_abort = no_abort c (kept n) none;
-            no_prepare = no_prepare c (kept n) none;
-            no_collecting = no_collecting c (kept n) none;
-          }) in
-          record {
-            open_is_active = λ f. s;
-            asked_is_collecting = λ f. absurd (cc);
-            collecting_is_asked = λ f. absurd (not_so (sym s ∙ f));
-          }
-        where
-          not_so : Active ≡ Collecting → ⊥
-          not_so f = cc
+        opened_together : (x : Txn) (p : Presumption) → next_txn me boot (memory x) p ≡ x
+            → Together (kept n) (root_case x) Open
+        opened_together x p e =
+            let none = fresh x p e in
+            let c = root_case x in
+            let s : standing_at (kept n) c Open ≡ Active =
+            unrecorded_stands (kept n) c Open (record {
+              no_end = no_end c (kept n) none;
+              no_commit = no_commit c (kept n) none;
+              no_abort = no_abort c (kept n) none;
+              no_prepare = no_prepare c (kept n) none;
+              no_collecting = no_collecting c (kept n) none;
+            }) in
+            record {
+              open_is_active = λ f. s;
+              asked_is_collecting = λ f. absurd (cc);
+              collecting_is_asked = λ f. absurd (not_so (sym s ∙ f));
+            }
+          where
+            not_so : Active ≡ Collecting → ⊥
+            not_so f = cc
 
-      begun_by : (x : Txn) (p : Presumption) (b : Bool)
-          → same_case (root_case (next_txn me boot (memory x) p)) (root_case x) ≡ b
-          → let m = memory x in
-          Together (kept n) (root_case x)
-          (if b then opens_case (record m { begun = m.begun + 1 }) else record m { begun = m.begun + 1 }).phase
-      begun_by x p false e = old x
-      begun_by x p true e = elim (same_case_tells (root_case (next_txn me boot (memory x) p)) (root_case x)) [
-        | inl t ↦ opened_together x p (ap (λ (c : Case). c.txn) t.1)
-        | inr f ↦ absurd (let g = f.0 in cc)
-      ]
+        begun_by : (x : Txn) (p : Presumption) (b : Bool)
+            → same_case (root_case (next_txn me boot (memory x) p)) (root_case x) ≡ b
+            → let m = memory x in
+            Together (kept n) (root_case x)
+            (if b then opens_case (record m { begun = m.begun + 1 }) else record m { begun = m.begun + 1 }).phase
+        begun_by x p false e = old x
+        begun_by x p true e = elim (same_case_tells (root_case (next_txn me boot (memory x) p)) (root_case x)) [
+          | inl t ↦ opened_together x p (ap (λ (c : Case). c.txn) t.1)
+          | inr f ↦ absurd (let g = f.0 in cc)
+        ]
 
-      begins_together : (p : Presumption) → h.input ≡ ActInput (Begin p) → (x : Txn)
-          → Together (kept n ++ []) (root_case x) (next x)
-      begins_together p i x =
-          subst (λ (rs : List Record). Together rs (root_case x) (next x)) (sym (append-nil (kept n)))
-          (subst (λ (j : Input). Together (kept n) (root_case x)
-          (then_remembers me tree n h (root_case x) j).phase) (sym i)
-          (begun_by x p (same_case (root_case (next_txn me boot (memory x) p)) (root_case x)) refl))
+        begins_together : (p : Presumption) → h.input ≡ ActInput (Begin p) → (x : Txn)
+            → Together (kept n ++ []) (root_case x) (next x)
+        begins_together p i x =
+            subst (λ (rs : List Record). Together rs (root_case x) (next x)) (sym (append-nil (kept n)))
+            (subst (λ (j : Input). Together (kept n) (root_case x)
+            (then_remembers me tree n h (root_case x) j).phase) (sym i)
+            (begun_by x p (same_case (root_case (next_txn me boot (memory x) p)) (root_case x)) refl))
 
-      pub effect_together : (e : Effect) → CoordinatorTurn (root_place me tree) None n h e → (x : Txn)
-          → Together (kept n ++ entries_written e.written) (root_case x)
-          (then_remembers me tree n h (root_case x) h.input).phase
-      effect_together _ (does_nothing i) x = left x (nothing_left i x)
-      effect_together _ (of_case c row t) x = row_together c row t x
-      effect_together _ (begins p e i) x = begins_together p i x
-      effect_together _ (gives_again p d t e i a) x = absurd (cc)
-      effect_together _ (gives_fresh p d e i a) x = absurd (cc)
-      effect_together _ (presumes y t i e) x = left x (inquiry_left me tree n h (root_case x) t y i.0 i.1)
+        pub effect_together : (e : Effect) → CoordinatorTurn (root_place me tree) None n h e → (x : Txn)
+            → Together (kept n ++ entries_written e.written) (root_case x)
+            (then_remembers me tree n h (root_case x) h.input).phase
+        effect_together _ (does_nothing i) x = left x (nothing_left i x)
+        effect_together _ (of_case c row t) x = row_together c row t x
+        effect_together _ (begins p e i) x = begins_together p i x
+        effect_together _ (gives_again p d t e i a) x = absurd (cc)
+        effect_together _ (gives_fresh p d e i a) x = absurd (cc)
+        effect_together _ (presumes y t i e) x = left x (inquiry_left me tree n h (root_case x) t y i.0 i.1)

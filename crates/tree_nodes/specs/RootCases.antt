@@ -1,13 +1,13 @@
 -- The root's own cases: each is of a transaction that the root began, and has a number that it gave out.
-use Rattle.std.specs.Prelude.{◌≡◌, ◌+◌, ℕ, false, Option, Some, None, List, [], ◌∷◌}
+use Rattle.std.specs.Prelude.{◌≡◌, ◌+◌, ℕ, true, false, Option, Some, None, List, [], ◌∷◌}
 use Rattle.tree_model.specs.declared.names.Case.{Case}
 use Rattle.tree_model.specs.declared.names.ProcessId.{ProcessId}
 use Rattle.tree_model.specs.declared.records.Record.{Record}
-use Rattle.tree_model.specs.Records.{boot_of, record_case}
+use Rattle.tree_model.specs.Records.{has, boot_of, record_case}
 use Rattle.tree_model.specs.Nodes.{Place, Node, kept}
 use Rattle.tree_model.specs.Memory.{memory_of}
 use Rattle.tree_model.specs.Standings.{some_case}
-use Rattle.tree_nodes.specs.WorldHolds.{IsGivenOut}
+use Rattle.tree_nodes.specs.WorldHolds.{IsGivenOut, is_record_of}
 
 -- the case is the root's, and its number was given out, where so many were begun in this boot
 pub record IsRoots (me : ProcessId) (boot count : ℕ) (c : Case) : Type 0 where
@@ -25,9 +25,10 @@ abbrev pub AllRoots : ProcessId → ℕ → ℕ → List Record → Type 0
 AllRoots me boot count [] = Unit {0}
 AllRoots me boot count (r ∷ rs) = IsRootsRecord me boot count (record_case r) × AllRoots me boot count rs
 
--- The records that a root keeps are of its own cases, begun before; what it remembers while it is up is of
--- transactions that it began in this boot.
+-- The records that a root ever appended are of its own cases, begun before; where it is up, with the numbers given
+-- out by now.
 pub record RootCases (place : Place) (n : Node) : Type 0 where
-  pub begun_before : AllRoots place.me (boot_of n.forced + 1) 0 (kept n)
-  pub begun_now : n.failed ≡ false
-      → AllRoots place.me (boot_of (kept n)) (memory_of place n (some_case place)).begun (kept n)
+  pub begun_before : (c : Case) → has (is_record_of c) n.life ≡ true
+      → IsRoots place.me (boot_of n.forced + 1) 0 c
+  pub begun_now : n.failed ≡ false → (c : Case) → has (is_record_of c) n.life ≡ true
+      → IsRoots place.me (boot_of (kept n)) (memory_of place n (some_case place)).begun c

@@ -37,8 +37,8 @@ pub fn boots_rise()
         → Boots (w.at p) }
 {}
 
-/// In every run of every tree, the records that a root keeps are of its own cases, with numbers that it gave out
-/// before.
+/// In every run of every tree, the records that a root ever appended are of its own cases, with numbers that it gave
+/// out before.
 pub fn roots_own_their_cases()
     ensures { (tree : List TreeEntry) (es : List Made) (w : World) → IsRun tree es w → (p : ProcessId)
         → role_of tree p ≡ AtRoot → RootCases (place_of tree p) (w.at p) }
