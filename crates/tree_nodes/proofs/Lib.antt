@@ -28,3 +28,5 @@ pub mod RootTakes
 pub mod RootAccepted
 pub mod RootNaming
 pub mod RootNamed
+pub mod RootLive
+pub mod RootUncommitted

@@ -272,7 +272,8 @@ all_alikes tree _ _ (makes es w m e w' run stands step) p at_top =
     let P : ProcessId → Node → Type 0 = λ x k. role_of tree x ≡ AtRoot → Alikes x tree k in
     subst (λ (x : World). P p (x.at p)) (sym at.world)
     (put P q p at.node w.at
-    (λ role. alikes_last q tree (w.at q) (all_last tree es w run q).nested (all_root_cases tree es w run q role) (all_alikes tree es w run q role)
+    (λ role. alikes_last q tree (w.at q) (all_last tree es w run q).nested
+    (all_root_cases tree es w run q role) (all_alikes tree es w run q role)
     m e at.node (subst (λ (x : Place). StepOf x (w.at q) m e at.node) (at_root tree q role) s))
     (all_alikes tree es w run p)) at_top
 
@@ -280,4 +281,5 @@ pub root_alike : (tree : List TreeEntry) (es : List Made) (w : World) → IsRun 
     → role_of tree p ≡ AtRoot → AllAlike (place_of tree p) (w.at p)
 root_alike tree es w run p e =
     subst (λ (x : Place). AllAlike x (w.at p)) (sym (at_root tree p e))
-    (all_alike p tree (w.at p) (all_last tree es w run p).nested (all_root_cases tree es w run p e) (all_alikes tree es w run p e))
+    (all_alike p tree (w.at p) (all_last tree es w run p).nested (all_root_cases tree es w run p e)
+    (all_alikes tree es w run p e))

@@ -1,7 +1,9 @@
 -- A case that is known at the root is its own, and only such a case is written of.
-use Rattle.std.proofs.Common.{◌≡◌, ◌≢◌, ◌∙◌, ◌⊎◌, inl, inr, ℕ, Bool, true, false, None, List, refl, sym, subst, arith}
+use Rattle.std.proofs.Common.{◌+◌, ◌≡◌, ◌≢◌, ◌∙◌, ◌⊎◌, inl, inr, ℕ, Bool, true, false, None, List, refl, sym, subst, arith}
 use Rattle.tree_model.specs.declared.names.Case.{Case}
 use Rattle.tree_model.specs.declared.names.ProcessId.{ProcessId}
+use Rattle.tree_model.specs.declared.names.Txn.{Txn}
+use Rattle.tree_model.specs.Names.{root_case}
 use Rattle.tree_model.specs.declared.names.Outcome.{Outcome}
 use Rattle.tree_model.specs.declared.names.Presumption.{Presumption}
 use Rattle.tree_model.specs.declared.names.Presumption.TheVariants.{PresumeAbort, PresumeCommit}
@@ -11,14 +13,14 @@ use Rattle.tree_model.specs.declared.standings.Standing.TheVariants.{Unknown, Ac
 use Rattle.tree_model.specs.declared.trees.TreeEntry.{TreeEntry}
 use Rattle.tree_model.specs.Records.{has, is_end, is_commit, is_abort, is_prepare, is_collecting, boot_of}
 use Rattle.tree_model.specs.Nodes.{Place, Node, Heard, Effect, kept, entries_written}
-use Rattle.tree_model.specs.Memory.{Memory, Phase, Idle, memory_of}
+use Rattle.tree_model.specs.Memory.{Memory, Phase, Idle, memory_of, next_txn}
 use Rattle.tree_model.specs.Standings.{coordinator_view, coordinator_standing, phase_standing, some_case}
 use Rattle.tree_model.specs.CoordinatorRows.{Row}
 use Rattle.tree_model.specs.Views.{root_place}
 use Rattle.tree_model.proofs.BeginLaws.{same_begun}
 use Rattle.tree_turns.specs.CoordinatorTurns.{Decided, by_commit, by_abort, CaseTurn, rests, invites, accepts, sends_work, finds_nobody, asks_for_votes, gives_up, counts_vote, reads_only, commits, promises, hears_no, aborts, passes_commit, passes_abort, repeats_yes, asks, refuses, acknowledges, waits_for_acks, ends, answers, CoordinatorTurn, does_nothing, of_case, begins, gives_again, gives_fresh, presumes}
 use Rattle.tree_nodes.specs.Lasts.{logs_of, Nested}
-use Rattle.tree_nodes.specs.WorldHolds.{is_record_of}
+use Rattle.tree_nodes.specs.WorldHolds.{IsGivenOut, is_record_of}
 use Rattle.tree_nodes.specs.RootCases.{IsRoots, AllRoots, RootCases}
 use Rattle.tree_nodes.proofs.Tests.{not_both}
 use Rattle.tree_nodes.proofs.Worlds.{has_other}
@@ -95,6 +97,30 @@ module _ (me : ProcessId) (tree : List TreeEntry) (n : Node) where
     | inl awake ↦ remembered_roots c awake
     | inr recorded ↦ h.begun_now up c (nested.kept_was_written (is_record_of c) (λ k. refl) recorded)
   ]
+
+  -- no record was ever written of the transaction that begins next
+  pub fresh_ever : n.failed ≡ false → RootCases (root_place me tree) n → (x : Txn) (p : Presumption)
+      → next_txn me (boot_of (kept n)) (memory_of (root_place me tree) n (root_case x)) p ≡ x
+      → has (is_record_of (root_case x)) n.life ≡ false
+  fresh_ever up cases x p e = by_test (has (is_record_of (root_case x)) n.life) refl
+    where
+      not_given : (b k : ℕ) → IsGivenOut b (k + 1) b k → ⊥
+      not_given b k (inl f) = omega (arith, f)
+      not_given b k (inr f) = absurd (let g = f.1 in omega (arith, g))
+
+      counted : (memory_of place n (root_case x)).begun ≡ count
+      counted = same_begun me tree n (root_case x) (some_case (root_place me tree))
+
+      given : IsRoots me boot count (root_case x) → ⊥
+      given r =
+          not_given boot count
+          (subst (λ (k : ℕ). IsGivenOut boot (k + 1) boot count) counted
+          (subst (λ (z : Txn). IsGivenOut z.boot z.sequence boot count) (sym e) r.number))
+
+      by_test : (b : Bool) → has (is_record_of (root_case x)) n.life ≡ b
+          → has (is_record_of (root_case x)) n.life ≡ false
+      by_test true f = absurd (given (cases.begun_now up (root_case x) f))
+      by_test false f = f
 
 -- What a turn writes is of a case that is known.
 

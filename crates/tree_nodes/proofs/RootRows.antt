@@ -23,18 +23,17 @@ use Rattle.tree_model.specs.NameLaws.{same_case_tells, same_txn_tells}
 use Rattle.tree_model.specs.Records.{has, is_collecting, boot_of}
 use Rattle.tree_model.specs.Nodes.{Place, Node, kept, Heard, Effect, entries_written}
 use Rattle.tree_model.specs.Memory.{Memory, Phase, Open, memory_of, next_txn, opens_case, is_counted}
-use Rattle.tree_model.specs.Standings.{some_case, belongs, case_of_child}
+use Rattle.tree_model.specs.Standings.{belongs, case_of_child}
 use Rattle.tree_model.specs.CoordinatorRows.{Row}
 use Rattle.tree_model.specs.Views.{root_place, vote_message}
-use Rattle.tree_model.proofs.BeginLaws.{same_begun}
 use Rattle.tree_turns.specs.CoordinatorTurns.{CaseTurn, rests, invites, accepts, sends_work, finds_nobody, asks_for_votes, gives_up, counts_vote, reads_only, commits, promises, hears_no, aborts, passes_commit, passes_abort, repeats_yes, asks, refuses, acknowledges, waits_for_acks, ends, answers, CoordinatorTurn, does_nothing, of_case, begins, gives_again, gives_fresh, presumes, IsOfNoCase, unticketed, belongs_nowhere, not_taken, ChildSays, votes, acknowledged, inquires, IsNotTaken}
-use Rattle.tree_nodes.specs.WorldHolds.{is_record_of, IsGivenOut}
+use Rattle.tree_nodes.specs.WorldHolds.{is_record_of}
 use Rattle.tree_nodes.specs.Lasts.{logs_of, Nested}
-use Rattle.tree_nodes.specs.RootCases.{IsRoots, RootCases}
+use Rattle.tree_nodes.specs.RootCases.{RootCases}
 use Rattle.tree_nodes.proofs.Tests.{not_both, has-nil}
 use Rattle.tree_nodes.proofs.Worlds.{has_other}
 use Rattle.tree_nodes.proofs.Phases.{standing_at, Together, unrecorded_stands}
-use Rattle.tree_nodes.proofs.RootKnown.{no_end, no_commit, no_abort, no_prepare, no_collecting}
+use Rattle.tree_nodes.proofs.RootKnown.{fresh_ever, no_end, no_commit, no_abort, no_prepare, no_collecting}
 use Rattle.tree_nodes.proofs.RootPhases.{then_remembers, inquiry_left, ack_left, uncounted, vote_elsewhere}
 use Rattle.tree_nodes.proofs.RootTogether.{own_together, other_together}
 
@@ -222,31 +221,15 @@ module _ (me : ProcessId) (tree : List TreeEntry) (n : Node) where
         abbrev memory : Txn → Memory
         memory x = memory_of (root_place me tree) n (root_case x)
 
-        abbrev count : ℕ
-        count = (memory_of (root_place me tree) n (some_case (root_place me tree))).begun
-
-        not_given : (b k : ℕ) → IsGivenOut b (k + 1) b k → ⊥
-        not_given b k (inl e) = omega (arith, e)
-        not_given b k (inr e) = absurd (let f = e.1 in omega (arith, f))
-
         fresh : (x : Txn) (p : Presumption) → next_txn me boot (memory x) p ≡ x
             → has (is_record_of (root_case x)) (kept n) ≡ false
         fresh x p e = by_test (has (is_record_of (root_case x)) (kept n)) refl
           where
-            counted : (memory x).begun ≡ count
-            counted = same_begun me tree n (root_case x) (some_case (root_place me tree))
-
-            given : IsRoots me boot count (root_case x) → ⊥
-            given r =
-                not_given boot count
-                (subst (λ (k : ℕ). IsGivenOut boot (k + 1) boot count) counted
-                (subst (λ (z : Txn). IsGivenOut z.boot z.sequence boot count) (sym e) r.number))
-
             by_test : (b : Bool) → has (is_record_of (root_case x)) (kept n) ≡ b
                 → has (is_record_of (root_case x)) (kept n) ≡ false
             by_test true f =
-                absurd (given (cases.begun_now up (root_case x)
-                (nested.kept_was_written (is_record_of (root_case x)) (λ k. refl) f)))
+                not_both (is_record_of (root_case x)) (has (is_record_of (root_case x)) n.life)
+                (nested.kept_was_written (is_record_of (root_case x)) (λ k. refl) f) (fresh_ever me tree n up cases x p e)
             by_test false f = f
 
         opened_together : (x : Txn) (p : Presumption) → next_txn me boot (memory x) p ≡ x

@@ -104,7 +104,7 @@ module _ (me : ProcessId) (tree : List TreeEntry) (n : Node) (h : Heard) where
           ap (λ ts. all_voted ts (m.votes ++ (t, w) ∷ [])) (sym (collecting_accepted me tree n h c e))
           ∙ (ap (λ vs. all_voted v.accepted (vs ++ (t, w) ∷ [])) (sym (collecting_votes me tree n h c e)) ∙ f)
 
-      counts_phase : (t : Ticket) (w : Vote) → CountsVote place n h c t w → Consents w → (b : Bool)
+      pub counts_phase : (t : Ticket) (w : Vote) → CountsVote place n h c t w → Consents w → (b : Bool)
           → all_voted v.accepted (voted v t w).votes ≡ b → now ≡ (if b then Over else Asked)
       counts_phase t w i k b f =
           vote_phase me tree n h c t w i (was_asked i.stands)

@@ -8,3 +8,4 @@ pub mod RootCases
 pub mod RootAlike
 pub mod RootAccepts
 pub mod RootNames
+pub mod RootUndecided

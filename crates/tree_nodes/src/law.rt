@@ -12,6 +12,7 @@ ghost use Rattle.tree_nodes.specs.RootAccepts.{Accepts};
 ghost use Rattle.tree_nodes.specs.RootAlike.{AllAlike};
 ghost use Rattle.tree_nodes.specs.RootCases.{RootCases};
 ghost use Rattle.tree_nodes.specs.RootNames.{NamesAccepted};
+ghost use Rattle.tree_nodes.specs.RootUndecided.{OpenHasNoCommit};
 ghost use Rattle.tree_nodes.specs.WorldHolds.{Boots, IsPair, WorldHolds, pair_reading};
 ghost use Rattle.tree_pairs.specs.Invariant.{Common};
 ghost use Rattle.tree_readings.specs.ReadingOf.{gives_case};
@@ -61,6 +62,13 @@ pub fn roots_accept_first()
 pub fn roots_name_whom_they_accepted()
     ensures { (tree : List TreeEntry) (es : List Made) (w : World) → IsRun tree es w → (p : ProcessId)
         → role_of tree p ≡ AtRoot → NamesAccepted (w.at p) }
+{}
+
+/// In every run of every tree, no Commit was ever appended of a root's case that still takes children or votes, where
+/// the root is up.
+pub fn open_cases_have_no_commit()
+    ensures { (tree : List TreeEntry) (es : List Made) (w : World) → IsRun tree es w → (p : ProcessId)
+        → role_of tree p ≡ AtRoot → OpenHasNoCommit (place_of tree p) (w.at p) }
 {}
 
 /// Where the world's invariant holds, a case that JOINED gave is of a pair of the tree, which has the pair's
