@@ -66,7 +66,8 @@ module _ (me : ProcessId) (boot : ℕ) (c : Case) (m : Memory) where
 
   -- by what was heard; a transaction that begins aside
   heard_live : (x : Message) → Was (hears_child c m x)
-  heard_live (Joined d t) = if_was (same_case d c) (accepts_ticket m t m.phase) (same (accepts_ticket m t m.phase) (accepts_phase m t m.phase))
+  heard_live (Joined d t) =
+      let k = accepts_ticket m t m.phase in if_was (same_case d c) k (same k (accepts_phase m t m.phase))
   heard_live (Yes d) = of_children d _ (λ t. voted t VoteYes m.phase refl)
   heard_live (No d) = of_children d _ (λ t. voted t VoteNo m.phase refl)
   heard_live (Read d) = of_children d _ (λ t. voted t VoteRead m.phase refl)
@@ -97,7 +98,8 @@ module _ (me : ProcessId) (boot : ℕ) (c : Case) (m : Memory) where
   was_live (ActInput (WorkAct d q op)) l =
       let k = sends_work m (ticket_of_child m.accepted q) m.phase in
       inl (if_was (same_case d c) k (same k (works_phase m (ticket_of_child m.accepted q) m.phase)) l)
-  was_live (ActInput (CommitAct x)) l = inl (if_was (same_case (root_case x) c) (asks_votes m m.phase) (asked m.phase refl) l)
+  was_live (ActInput (CommitAct x)) l =
+      inl (if_was (same_case (root_case x) c) (asks_votes m m.phase) (asked m.phase refl) l)
   was_live (ActInput (AbortAct x)) l = inl (if_was (same_case (root_case x) c) (closes m m.phase) (closed m.phase) l)
   was_live (ActInput (JoinAct d q)) l = inl l
   was_live (ActInput (Ask d)) l = inl l

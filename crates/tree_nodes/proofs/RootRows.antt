@@ -229,7 +229,8 @@ module _ (me : ProcessId) (tree : List TreeEntry) (n : Node) where
                 → has (is_record_of (root_case x)) (kept n) ≡ false
             by_test true f =
                 not_both (is_record_of (root_case x)) (has (is_record_of (root_case x)) n.life)
-                (nested.kept_was_written (is_record_of (root_case x)) (λ k. refl) f) (fresh_ever me tree n up cases x p e)
+                (nested.kept_was_written (is_record_of (root_case x)) (λ k. refl) f)
+                (fresh_ever me tree n up cases x p e)
             by_test false f = f
 
         opened_together : (x : Txn) (p : Presumption) → next_txn me boot (memory x) p ≡ x
