@@ -45,6 +45,7 @@ use Rattle.tree_nodes.proofs.Appends.{breaks_keeps}
 use Rattle.tree_nodes.proofs.Booting.{same_boot, boot_both}
 use Rattle.tree_nodes.proofs.Boots.{input_opens_none, trimmed_boot}
 use Rattle.tree_nodes.proofs.RootAlikes.{root_alike}
+use Rattle.tree_nodes.proofs.RootMemories.{same_memory}
 use Rattle.tree_nodes.proofs.RootNumbered.{at_root}
 use Rattle.tree_nodes.proofs.RootPhases.{active_accepted, collecting_accepted}
 use Rattle.tree_nodes.proofs.RootTakes.{Takes, keeps, empties, takes, taken}
@@ -269,19 +270,12 @@ module _ (me : ProcessId) (tree : List TreeEntry) (n : Node) (alike : AllAlike (
         same_holds k a v
         (λ c t f. absurd (in_nobody t (ap (λ ts. in_list ts t) (sym (empty_memory me tree k c e)) ∙ f)))
 
-    same_memory : (k : Node) (c : Case) → k.heard ≡ n.heard → boot_of (kept k) ≡ boot_of (kept n)
-        → memory_of place k c ≡ memory_of place n c
-    unfolding memory_of
-    same_memory k c e b =
-        ap (λ hs. fold (remembers me AtRoot (boot_of (kept k)) c) fresh_memory hs) e
-        ∙ ap (λ (j : ℕ). fold (remembers me AtRoot j c) fresh_memory n.heard) b
-
     -- one that heard nothing, in the same boot
     quiet_holds : (k : Node) → k.accepted ≡ n.accepted → k.voted ≡ n.voted → k.heard ≡ n.heard
         → boot_of (kept k) ≡ boot_of (kept n) → Holds k
     quiet_holds k a v e b =
         same_holds k a v
-        (λ c t f. ap (λ (m : Memory). in_list m.accepted t) (sym (same_memory k c e b)) ∙ f)
+        (λ c t f. ap (λ (m : Memory). in_list m.accepted t) (sym (same_memory me tree n k c e b)) ∙ f)
 
     trims_boot : boot_of (trimmed AtRoot (kept n) ++ []) ≡ boot_of (kept n)
     trims_boot = ap boot_of (append-nil (trimmed AtRoot (kept n))) ∙ trimmed_boot AtRoot (kept n)

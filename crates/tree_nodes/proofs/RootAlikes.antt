@@ -1,6 +1,5 @@
 -- What a root remembers of its cases goes with their records, over every run.
 use Rattle.std.proofs.Common.{◌≡◌, ◌∙◌, ◌⊎◌, inl, inr, ℕ, zero, suc, Bool, true, false, Option, Some, None, List, [], ◌++◌, take, drop, refl, sym, ap, subst, append_assoc}
-use Rattle.std.specs.Prelude.{fold}
 use Rattle.std.proofs.lemmas.List.{append-nil, take-append-drop}
 use Rattle.tree_model.specs.declared.names.Case.{Case}
 use Rattle.tree_model.specs.declared.names.ProcessId.{ProcessId}
@@ -14,7 +13,7 @@ use Rattle.tree_model.specs.declared.trees.TreeEntry.{TreeEntry}
 use Rattle.tree_model.specs.Names.{root_case}
 use Rattle.tree_model.specs.Records.{has, boot_of}
 use Rattle.tree_model.specs.Nodes.{AtRoot, Place, place_of, role_of, Node, kept, Heard, Effect, opened_node, entries_written, after, fails_in}
-use Rattle.tree_model.specs.Memory.{Memory, Idle, Open, Asked, memory_of, remembers, fresh_memory}
+use Rattle.tree_model.specs.Memory.{Memory, Idle, Open, Asked, memory_of}
 use Rattle.tree_model.specs.Standings.{coordinator_view, phase_standing, some_case}
 use Rattle.tree_model.specs.Reactions.{Does, reacts}
 use Rattle.tree_model.specs.Restarts.{reopens, restarted, restart_fails, trims, trim_fails, trimmed}
@@ -39,7 +38,7 @@ use Rattle.tree_nodes.proofs.Cases.{viewed}
 use Rattle.tree_nodes.proofs.Phases.{standing_at, Together, over_together}
 use Rattle.tree_nodes.proofs.RootKnown.{stands_by_phase}
 use Rattle.tree_nodes.proofs.RootLogs.{reopened_collects_not, trim_together}
-use Rattle.tree_nodes.proofs.RootMemories.{remembered_is_begun}
+use Rattle.tree_nodes.proofs.RootMemories.{remembered_is_begun, same_memory}
 use Rattle.tree_nodes.proofs.RootNumbered.{all_root_cases, at_root}
 use Rattle.tree_nodes.proofs.RootRows.{is_needless, none_needless, effect_needs, AllTogether, effect_together}
 use Rattle.tree_nodes.proofs.Worlds.{all_last, put}
@@ -150,19 +149,14 @@ module _ (me : ProcessId) (tree : List TreeEntry) where
         by_test true e = was (trim_left is_needless (λ k. refl) AtRoot (kept n) e)
         by_test false e = e
 
-    same_memory : (c : Case) → memory_of place (trims place n) c ≡ memory_of place n c
-    unfolding memory_of
-    same_memory c =
-        ap (λ (b : ℕ). fold (remembers me AtRoot b c) fresh_memory n.heard)
-        (ap boot_of (append-nil (trimmed AtRoot (kept n))) ∙ trimmed_boot AtRoot (kept n))
-
     trimmed_alike : n.failed ≡ false → Holds (trims place n)
     trimmed_alike up = record {
       together = λ u x.
           subst (λ (xs : List Record). Together xs (root_case x)
           (memory_of place (trims place n) (root_case x)).phase) (sym (append-nil (trimmed AtRoot (kept n))))
           (subst (λ (m : Memory). Together (trimmed AtRoot (kept n)) (root_case x) m.phase)
-          (sym (same_memory (root_case x)))
+          (sym (same_memory me tree n (trims place n) (root_case x) refl
+          (ap boot_of (append-nil (trimmed AtRoot (kept n))) ∙ trimmed_boot AtRoot (kept n))))
           (trim_together (root_case x) (kept n) (memory_of place n (root_case x)).phase (h.together up x)));
       needless = ap (has is_needless) (append-nil (trimmed AtRoot (kept n))) ∙ trimmed_needs;
     }

@@ -1,5 +1,5 @@
 -- What the root remembers is of transactions that it began since its last restart.
-use Rattle.std.proofs.Common.{◌≡◌, ◌∙◌, ◌≤◌, ◌+◌, ◌⊎◌, inl, inr, ℕ, Bool, true, false, Option, Some, None, List, [], ◌∷◌, ◌++◌, refl, sym, subst, if◌then◌else◌, arith}
+use Rattle.std.proofs.Common.{◌≡◌, ◌∙◌, ◌≤◌, ◌+◌, ◌⊎◌, inl, inr, ℕ, Bool, true, false, Option, Some, None, List, [], ◌∷◌, ◌++◌, refl, sym, subst, if◌then◌else◌, arith, ap}
 use Rattle.std.specs.Prelude.{fold}
 use Rattle.tree_model.specs.declared.names.Case.{Case}
 use Rattle.tree_model.specs.declared.names.ProcessId.{ProcessId}
@@ -13,6 +13,8 @@ use Rattle.tree_model.specs.declared.standings.Vote.TheVariants.{Yes as VoteYes,
 use Rattle.tree_model.specs.declared.events.Act.TheVariants.{Begin, Join as JoinAct, Work as WorkAct, Commit as CommitAct, Abort as AbortAct, Ask, Decide, Forget}
 use Rattle.tree_model.specs.declared.events.Input.{Input}
 use Rattle.tree_model.specs.declared.events.Input.TheVariants.{Act as ActInput, Message as MessageInput}
+use Rattle.tree_model.specs.declared.trees.TreeEntry.{TreeEntry}
+use Rattle.tree_model.specs.Views.{root_place}
 use Rattle.tree_model.specs.Names.{same_case, same_txn, root_case}
 use Rattle.tree_model.specs.NameLaws.{same_case_tells}
 use Rattle.tree_model.specs.Records.{boot_of}
@@ -156,3 +158,12 @@ remembered_is_begun place e n c =
     subst (λ (r : Role). let m = fold (remembers place.me r (boot_of (kept n)) c) fresh_memory n.heard in
     (m.phase ≡ Idle) ⊎ IsBegun place.me (boot_of (kept n)) m.begun c) (sym e)
     (all_remembered place.me (boot_of (kept n)) c fresh_memory (inl refl) n.heard)
+
+-- what is remembered is the same where nothing more was heard, in the same boot
+pub same_memory : (me : ProcessId) (tree : List TreeEntry) (n k : Node) (c : Case) → k.heard ≡ n.heard
+    → boot_of (kept k) ≡ boot_of (kept n)
+    → memory_of (root_place me tree) k c ≡ memory_of (root_place me tree) n c
+unfolding memory_of
+same_memory me tree n k c e b =
+    ap (λ hs. fold (remembers me AtRoot (boot_of (kept k)) c) fresh_memory hs) e
+    ∙ ap (λ (j : ℕ). fold (remembers me AtRoot j c) fresh_memory n.heard) b

@@ -1,5 +1,5 @@
 -- The records of a root are of its own cases, with numbers that it gave out.
-use Rattle.std.proofs.Common.{◌≡◌, ◌∙◌, ◌≤◌, ◌<◌, ◌⊎◌, inl, inr, ℕ, zero, suc, Bool, true, false, Option, Some, None, List, [], ◌∷◌, ◌++◌, take, refl, ap, sym, subst, arith, if◌then◌else◌}
+use Rattle.std.proofs.Common.{◌≡◌, ◌∙◌, ◌≤◌, ◌<◌, ◌⊎◌, inl, inr, ℕ, Bool, true, false, Option, Some, None, List, [], ◌∷◌, ◌++◌, refl, ap, sym, subst, arith, if◌then◌else◌}
 use Rattle.std.specs.Prelude.{fold}
 use Rattle.std.specs.List.{flat_map}
 use Rattle.tree_model.specs.declared.names.Case.{Case}
@@ -51,11 +51,6 @@ module _ (me : ProcessId) where
     pub roots_both : (xs ys : List Record) → A xs → A ys → A (xs ++ ys)
     roots_both [] ys a c = c
     roots_both (x ∷ xs) ys a c = (a.0, roots_both xs ys a.1 c)
-
-    pub roots_take : (j : ℕ) (xs : List Record) → A xs → A (take j xs)
-    roots_take zero xs a = tt
-    roots_take (suc j) [] a = tt
-    roots_take (suc j) (x ∷ xs) a = (a.0, roots_take j xs a.1)
 
     -- a case of which there is a record
     pub roots_case : (c : Case) (rs : List Record) → has (is_record_of c) rs ≡ true → A rs → IsRoots me b k c

@@ -1,6 +1,6 @@
 -- No Commit was ever appended of a root's case that is open, over every run.
 use Rattle.std.proofs.Common.{◌≡◌, ◌∙◌, ◌⊎◌, inl, inr, ℕ, zero, suc, true, false, None, List, [], ◌∷◌, ◌++◌, refl, sym, ap, subst}
-use Rattle.std.specs.Prelude.{fold, reverse}
+use Rattle.std.specs.Prelude.{reverse}
 use Rattle.std.proofs.lemmas.List.{append-nil}
 use Rattle.tree_model.specs.declared.names.Case.{Case}
 use Rattle.tree_model.specs.declared.names.ProcessId.{ProcessId}
@@ -14,7 +14,7 @@ use Rattle.tree_model.specs.Names.{root_case}
 use Rattle.tree_model.specs.NameLaws.{same_case_tells}
 use Rattle.tree_model.specs.Records.{has, is_commit, boot_of}
 use Rattle.tree_model.specs.Nodes.{AtRoot, Place, place_of, role_of, Node, kept, Heard, Effect, opened_node, entries_written, is_any_forced, after, fails_in}
-use Rattle.tree_model.specs.Memory.{Memory, Phase, Open, Asked, Over, memory_of, remembers, fresh_memory}
+use Rattle.tree_model.specs.Memory.{Memory, Phase, Open, Asked, Over, memory_of}
 use Rattle.tree_model.specs.CoordinatorRows.{Row}
 use Rattle.tree_model.specs.Reactions.{Does, reacts}
 use Rattle.tree_model.specs.Restarts.{restarted, restart_fails, trims, trim_fails, trimmed}
@@ -38,6 +38,7 @@ use Rattle.tree_nodes.proofs.Cases.{viewed}
 use Rattle.tree_nodes.proofs.Phases.{Together}
 use Rattle.tree_nodes.proofs.RootAlikes.{root_alike}
 use Rattle.tree_nodes.proofs.RootLive.{IsLive, was_live}
+use Rattle.tree_nodes.proofs.RootMemories.{same_memory}
 use Rattle.tree_nodes.proofs.RootNumbered.{all_root_cases, at_root}
 use Rattle.tree_nodes.proofs.RootPhases.{then_remembers}
 use Rattle.tree_nodes.proofs.RootKnown.{fresh_ever, no_commit}
@@ -149,13 +150,6 @@ module _ (me : ProcessId) (tree : List TreeEntry) (n : Node) where
           ∙ effect_commits i t.up x now e (coordinator_turn_of place n i e r))
           (before i t.up x now)
 
-      same_memory : (k : Node) (c : Case) → k.heard ≡ n.heard → boot_of (kept k) ≡ boot_of (kept n)
-          → memory_of place k c ≡ memory_of place n c
-      unfolding memory_of
-      same_memory k c e b =
-          ap (λ hs. fold (remembers me AtRoot (boot_of (kept k)) c) fresh_memory hs) e
-          ∙ ap (λ (j : ℕ). fold (remembers me AtRoot j c) fresh_memory n.heard) b
-
       down : (k : Node) → k.failed ≡ true → Uncommitted me tree k
       down k e up x live = absurd (cc)
 
@@ -169,7 +163,7 @@ module _ (me : ProcessId) (tree : List TreeEntry) (n : Node) where
           ∙ in_none (is_commit (root_case x)) (reverse []) n.life
           (has-reverse (is_commit (root_case x)) [] ∙ has-nil (is_commit (root_case x)))
           (old up x (subst (λ (m : Memory). IsLive m.phase)
-          (same_memory (trims place n) (root_case x) refl
+          (same_memory me tree n (trims place n) (root_case x) refl
           (ap boot_of (append-nil (trimmed AtRoot (kept n))) ∙ trimmed_boot AtRoot (kept n))) live))
 
       trim_failed : (a : ℕ) → Uncommitted me tree (trim_fails place n a)
