@@ -13,6 +13,7 @@ pub mod Promises
 pub mod Yesses
 pub mod PairOf
 pub mod Boots
+pub mod BootsHold
 pub mod Selves
 pub mod Tickets
 pub mod Issuing
@@ -25,3 +26,19 @@ pub mod ManagersHold
 pub mod GivenCases
 pub mod JoinedOnce
 pub mod Unlisted
+pub mod RootMemories
+pub mod RootNumbers
+pub mod RootKnown
+pub mod RootNumbered
+pub mod Phases
+pub mod RootPhases
+pub mod RootTogether
+pub mod RootLogs
+pub mod RootRows
+pub mod RootAlikes
+pub mod RootTakes
+pub mod RootAccepted
+pub mod RootNaming
+pub mod RootNamed
+pub mod RootLive
+pub mod RootUncommitted
