@@ -1,5 +1,5 @@
 -- Boots rise along a log, and while a process is up its last one is in the forced front.
-use Rattle.std.proofs.Common.{◌≡◌, ◌∙◌, ◌≤◌, ◌<◌, ◌||◌, ◌+◌, ℕ, zero, suc, Bool, true, false, Option, Some, None, List, [], ◌∷◌, ◌++◌, take, drop, refl, sym, ap, subst, append_assoc, if◌then◌else◌, arith}
+use Rattle.std.proofs.Common.{◌≡◌, ◌∙◌, ◌≤◌, ◌<◌, ◌+◌, ℕ, zero, suc, Bool, true, false, Option, Some, None, List, [], ◌∷◌, ◌++◌, take, drop, refl, sym, ap, subst, append_assoc, if◌then◌else◌, arith}
 use Rattle.std.specs.Prelude.{fold}
 use Rattle.std.proofs.Math.Nat.{le_trans, le_refl}
 use Rattle.std.proofs.lemmas.Grind.{fold-append}
@@ -24,7 +24,7 @@ use Rattle.tree_turns.specs.Steps.{StepOf, heard_in, handled, failed_in, passed,
 use Rattle.tree_turns.proofs.Operators.{all_none}
 use Rattle.tree_turns.proofs.Steps.{turn_of}
 use Rattle.tree_nodes.specs.Lasts.{Logs, logs_of, standing}
-use Rattle.tree_nodes.proofs.Tests.{neither, has-cons, has-nil, in_none}
+use Rattle.tree_nodes.proofs.Tests.{neither, first_false, second_false, has-cons, has-nil, in_none}
 use Rattle.tree_nodes.proofs.Appends.{forces, writes, breaks, loses, replaces, either_logs, breaks_keeps}
 use Rattle.tree_nodes.proofs.Trims.{data_is_other}
 
@@ -53,12 +53,6 @@ rise_most b (x ∷ xs) h = le_trans h.0 (rise_most (boot_after b x) xs h.1)
 -- a record that is no Opened leaves the boot
 same_boot : (b : ℕ) (r : Record) → is_opened r ≡ false → boot_after b r ≡ b
 same_boot b r e = grind arith
-
-first_false : (a b : Bool) → (a || b) ≡ false → a ≡ false
-first_false a b e = grind arith
-
-second_false : (a b : Bool) → (a || b) ≡ false → b ≡ false
-second_false a b e = grind arith
 
 pub others_boot : (b : ℕ) (xs : List Record) → has is_opened xs ≡ false → fold boot_after b xs ≡ b
 unfolding has

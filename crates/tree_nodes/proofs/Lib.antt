@@ -26,6 +26,7 @@ pub mod ManagersHold
 pub mod GivenCases
 pub mod JoinedOnce
 pub mod Unlisted
+pub mod CaseOrders
 pub mod RootMemories
 pub mod RootNumbers
 pub mod RootKnown
@@ -42,3 +43,4 @@ pub mod RootNaming
 pub mod RootNamed
 pub mod RootLive
 pub mod RootUncommitted
+pub mod CoordinatorLogs

@@ -208,7 +208,7 @@ module _ (c : Case) where
       by_test true g = not_both q (has q (trimmed AtRoot rs)) (known_stays q f rs k g) e
       by_test false g = g
 
-  recorded_stands : (rs : List Record) → (recorded_view rs c).standing ≡ standing_at rs c Idle
+  pub recorded_stands : (rs : List Record) → (recorded_view rs c).standing ≡ standing_at rs c Idle
   unfolding recorded_view
   recorded_stands rs = view_standing (coordinator_standing rs c fresh_memory) rs c fresh_memory
 

@@ -14,7 +14,6 @@ use Rattle.tree_model.specs.declared.standings.Standing.TheVariants.{Unknown, Ac
 use Rattle.tree_model.specs.declared.standings.Vote.{Vote}
 use Rattle.tree_model.specs.declared.trees.TreeEntry.{TreeEntry}
 use Rattle.tree_model.specs.Names.{same_case, same_ticket}
-use Rattle.tree_model.specs.NameLaws.{same_case_tells}
 use Rattle.tree_model.specs.Records.{has, in_list, named_in, named_by, cases_in, boot_of}
 use Rattle.tree_model.specs.Nodes.{AtRoot, Place, Node, Heard, Effect, entries_written}
 use Rattle.tree_model.specs.Memory.{memory_of, yes_of, undecided_of}
@@ -28,7 +27,7 @@ use Rattle.tree_model.proofs.StandingLaws.{view_standing}
 use Rattle.tree_turns.specs.CoordinatorTurns.{CaseTurn, rests, invites, accepts, sends_work, finds_nobody, asks_for_votes, gives_up, counts_vote, reads_only, commits, promises, hears_no, aborts, passes_commit, passes_abort, repeats_yes, asks, refuses, acknowledges, waits_for_acks, ends, answers, CoordinatorTurn, does_nothing, of_case, begins, gives_again, gives_fresh, presumes}
 use Rattle.tree_nodes.specs.WorldHolds.{is_naming}
 use Rattle.tree_nodes.specs.RootAccepts.{Accepts}
-use Rattle.tree_nodes.proofs.Tests.{either, left, right, both, has-cons, in_either}
+use Rattle.tree_nodes.proofs.Tests.{either, left, right, both, has-cons, in_either, case_is}
 use Rattle.tree_nodes.proofs.RootPhases.{active_accepted, collecting_accepted}
 
 -- Lists of tickets.
@@ -88,9 +87,6 @@ module _ (c d : Case) (t : Ticket) (ts : List Ticket) where
   abort_tells : has (is_naming c t) (AbortRecord d ts ∷ []) ≡ true → Tells
   unfolding has
   abort_tells e = both (same_case d c) (in_list ts t) (alone _ e)
-
-case_is : (a b : Case) → same_case a b ≡ true → a ≡ b
-case_is a b f = elim (same_case_tells a b) [ inl x ↦ x.1 | inr y ↦ absurd (let z = y.0 in cc) ]
 
 -- What a row's record names.
 

@@ -9,3 +9,4 @@ pub mod RootAlike
 pub mod RootAccepts
 pub mod RootNames
 pub mod RootUndecided
+pub mod CaseOrder

@@ -1,7 +1,7 @@
 //! The laws of single processes.
 ghost use Rattle.std.specs.Prelude.{◌≡◌, List, false, true};
 ghost use Rattle.tree_model.specs.Names.{child_case};
-ghost use Rattle.tree_model.specs.Nodes.{AtLeaf, AtRoot, Below, is_listed, opened_node, place_of, role_of};
+ghost use Rattle.tree_model.specs.Nodes.{AtLeaf, AtRoot, Below, is_listed, kept, opened_node, place_of, role_of};
 ghost use Rattle.tree_model.specs.Outcomes.{StandingMismatches, YesIsForced, cascaded_ends, is_commit_outcome, sent};
 ghost use Rattle.tree_model.specs.declared.names.Case.{Case};
 ghost use Rattle.tree_model.specs.declared.names.Outcome.TheVariants.{Committed};
@@ -9,6 +9,7 @@ ghost use Rattle.tree_model.specs.declared.names.ProcessId.{ProcessId};
 ghost use Rattle.tree_model.specs.declared.names.Ticket.{Ticket};
 ghost use Rattle.tree_model.specs.declared.names.Txn.{Txn};
 ghost use Rattle.tree_nodes.specs.Numbers.{IsIssuer, Numbers};
+ghost use Rattle.tree_nodes.specs.CaseOrder.{CaseInOrder, IsCoordinator};
 ghost use Rattle.tree_nodes.specs.RootAccepts.{Accepts};
 ghost use Rattle.tree_nodes.specs.RootAlike.{AllAlike};
 ghost use Rattle.tree_nodes.specs.RootCases.{RootCases};
@@ -63,6 +64,13 @@ pub fn roots_accept_first()
 pub fn roots_name_whom_they_accepted()
     ensures { (tree : List TreeEntry) (es : List Made) (w : World) → IsRun tree es w → (p : ProcessId)
         → role_of tree p ≡ AtRoot → NamesAccepted (w.at p) }
+{}
+
+/// In every run of every tree, the records of each case of each coordinator stand in the order in which they are
+/// written, and decisions and promises name whom they should.
+pub fn cases_stand_in_order()
+    ensures { (tree : List TreeEntry) (es : List Made) (w : World) → IsRun tree es w → (p : ProcessId)
+        → IsCoordinator (role_of tree p) → (c : Case) → CaseInOrder c (kept (w.at p)) }
 {}
 
 /// In every run of every tree, no Commit was ever appended of a root's case that still takes children or votes, where
