@@ -1,0 +1,4 @@
+pub mod Sayings
+pub mod OwnNames
+pub mod CaseSayings
+pub mod Trimmed
