@@ -89,26 +89,60 @@ says_opened c n = record { ended = refl; owing = refl; deciding = refl; starting
 says_collecting : (c d : Case) (ts : List Ticket) (t : Bool) → t ≡ same_case d c
     → RecordSays c t (Collecting d ts) (Collecting d ts ∷ [])
 unfolding has none_of
-says_collecting c d ts t e = record { ended = no t; owing = no t; deciding = no t; starting = yes_second t (same_case d c) e; of_case = λ is. tt }
+says_collecting c d ts t e = record {
+  ended = no t;
+  owing = no t;
+  deciding = no t;
+  starting = yes_second t
+      (same_case d c) e;
+  of_case = λ is. tt;
+}
 
 says_prepare : (c d : Case) (ts : List Ticket) (t : Bool) → t ≡ same_case d c
     → RecordSays c t (Prepare d ts) (Prepare d ts ∷ [])
 unfolding has none_of
-says_prepare c d ts t e = record { ended = no t; owing = no t; deciding = no t; starting = yes_first t (same_case d c) e; of_case = λ is. tt }
+says_prepare c d ts t e = record {
+  ended = no t;
+  owing = no t;
+  deciding = no t;
+  starting = yes_first t
+      (same_case d c) e;
+  of_case = λ is. tt;
+}
 
 says_commit : (c d : Case) (ts : List Ticket) (t : Bool) → t ≡ same_case d c
     → RecordSays c t (Commit d ts) (Commit d ts ∷ [])
 unfolding has none_of
-says_commit c d ts t e = record { ended = no t; owing = owes_some t (same_case d c) ts e; deciding = yes_first t (same_case d c) e; starting = no t; of_case = λ is. tt }
+says_commit c d ts t e = record {
+  ended = no t;
+  owing = owes_some t (same_case d c) ts e;
+  deciding =
+      yes_first t (same_case d c) e;
+  starting = no t;
+  of_case = λ is. tt;
+}
 
 says_abort : (c d : Case) (ts : List Ticket) (t : Bool) → t ≡ same_case d c
     → RecordSays c t (Abort d ts) (Abort d ts ∷ [])
 unfolding has none_of
-says_abort c d ts t e = record { ended = no t; owing = owes_some t (same_case d c) ts e; deciding = yes_second t (same_case d c) e; starting = no t; of_case = λ is. tt }
+says_abort c d ts t e = record {
+  ended = no t;
+  owing = owes_some t (same_case d c) ts e;
+  deciding =
+      yes_second t (same_case d c) e;
+  starting = no t;
+  of_case = λ is. tt;
+}
 
 says_end : (c d : Case) (t : Bool) → t ≡ same_case d c → RecordSays c t (End d) (End d ∷ [])
 unfolding has none_of
-says_end c d t e = record { ended = yes t (same_case d c) e; owing = no t; deciding = no t; starting = no t; of_case = λ is. tt }
+says_end c d t e = record {
+  ended = yes t (same_case d c) e;
+  owing = no t;
+  deciding = no t;
+  starting = no t;
+  of_case = λ is. tt;
+}
 
 pub foreign_none : (role : Role) (p : Option ProcessId) (d : Case) (r : Record) → Coordinates role
     → foreign_to role p d r ≡ []
@@ -116,17 +150,20 @@ foreign_none AtRoot p d r h = refl
 foreign_none (Below q) p d r h = refl
 foreign_none (AtLeaf q) p d r h = absurd h
 
-module _ (place : Place) (p : Option ProcessId) (c : Case) (coordinates : Coordinates place.role) (own : is_own place p c ≡ true) (sound : IsSoundName p (CaseBranch c)) where
+module _ (place : Place) (p : Option ProcessId) (c : Case) (coordinates : Coordinates place.role) (own :
+    is_own place p c ≡ true) (sound : IsSoundName p (CaseBranch c)) where
   abbrev pub name : Xid
   name = name_xid p (CaseBranch c)
 
   by_own : (q : Option ProcessId) (d : Case) (r : Record) → IsSoundName q (CaseBranch d)
-      → (same name (name_xid q (CaseBranch d)) ≡ same_case d c → RecordSays c (same name (name_xid q (CaseBranch d))) r (r ∷ []))
+      → (same name (name_xid q (CaseBranch d)) ≡ same_case d c
+      → RecordSays c (same name (name_xid q (CaseBranch d))) r (r ∷ []))
       → (b : Bool) → is_own place q d ≡ b
       → RecordSays c (same name (name_xid q (CaseBranch d))) r (if b then r ∷ [] else foreign_to place.role q d r)
   by_own q d r h says true is = says (own_is place p c own sound q d h is)
   by_own q d r h says false is =
-      subst (λ rs. RecordSays c (same name (name_xid q (CaseBranch d))) r rs) (sym (foreign_none place.role q d r coordinates))
+      subst (λ rs. RecordSays c (same name (name_xid q (CaseBranch d))) r rs) (sym (foreign_none place.role q
+      d r coordinates))
       (silent c (same name (name_xid q (CaseBranch d))) r (other_is place p c own sound q d h is))
 
   pub record_says : (l : LogRecord) → IsSound Coordinator l
@@ -134,9 +171,13 @@ module _ (place : Place) (p : Option ProcessId) (c : Case) (coordinates : Coordi
   record_says l h = by_entry l.entry l.parent h
     where
       by_entry : (r : Record) (q : Option ProcessId) → IsSound Coordinator (record { entry = r; parent = q })
-          → RecordSays c (is_of name (record { entry = r; parent = q })) r (own_by place (record { entry = r; parent = q }) (record_case r))
+          → RecordSays c (is_of name (record { entry = r; parent = q })) r (own_by place (record {
+            entry = r;
+            parent = q;
+          }) (record_case r))
       by_entry (Opened n) q h = says_opened c n
-      by_entry (Collecting d ts) q h = by_own q d (Collecting d ts) h.0 (says_collecting c d ts _) (is_own place q d) refl
+      by_entry (Collecting d ts) q h = by_own q d (Collecting d ts) h.0 (says_collecting c d ts _) (is_own
+          place q d) refl
       by_entry (Prepare d ts) q h = by_own q d (Prepare d ts) h.0 (says_prepare c d ts _) (is_own place q d) refl
       by_entry (Commit d ts) q h = by_own q d (Commit d ts) h.0 (says_commit c d ts _) (is_own place q d) refl
       by_entry (Abort d ts) q h = by_own q d (Abort d ts) h.0 (says_abort c d ts _) (is_own place q d) refl
@@ -169,10 +210,14 @@ module _ (place : Place) (p : Option ProcessId) (c : Case) (coordinates : Coordi
   unfolding has
   one_more s entry t read rs says =
       by_test t refl ∙ sym (
-      ap (λ b. behind s b (has (owed c) (read ++ rs)) (has (decided c) (read ++ rs)) (has (started c) (read ++ rs))) (more (is_end c) (ends entry) says.ended)
-      ∙ ap (λ b. behind s ((t && ends entry) || has (is_end c) rs) b (has (decided c) (read ++ rs)) (has (started c) (read ++ rs))) (more (owed c) (owes entry) says.owing)
-      ∙ ap (λ b. behind s ((t && ends entry) || has (is_end c) rs) ((t && owes entry) || has (owed c) rs) b (has (started c) (read ++ rs))) (more (decided c) (decides entry) says.deciding)
-      ∙ ap (λ b. behind s ((t && ends entry) || has (is_end c) rs) ((t && owes entry) || has (owed c) rs) ((t && decides entry) || has (decided c) rs) b) (more (started c) (starts entry) says.starting))
+      ap (λ b. behind s b (has (owed c) (read ++ rs)) (has (decided c) (read ++ rs)) (has (started c) (read
+      ++ rs))) (more (is_end c) (ends entry) says.ended)
+      ∙ ap (λ b. behind s ((t && ends entry) || has (is_end c) rs) b (has (decided c) (read ++ rs)) (has
+      (started c) (read ++ rs))) (more (owed c) (owes entry) says.owing)
+      ∙ ap (λ b. behind s ((t && ends entry) || has (is_end c) rs) ((t && owes entry) || has (owed c) rs) b
+      (has (started c) (read ++ rs))) (more (decided c) (decides entry) says.deciding)
+      ∙ ap (λ b. behind s ((t && ends entry) || has (is_end c) rs) ((t && owes entry) || has (owed c) rs) ((t
+      && decides entry) || has (decided c) rs) b) (more (started c) (starts entry) says.starting))
     where
       more : (q : Record → Bool) (b : Bool) → has q read ≡ (t && b)
           → has q (read ++ rs) ≡ ((t && b) || has q rs)
@@ -180,8 +225,10 @@ module _ (place : Place) (p : Option ProcessId) (c : Case) (coordinates : Coordi
 
       by_test : (b : Bool) → t ≡ b
           → of_case (if b then said_after s entry else s) rs
-          ≡ behind s ((b && ends entry) || has (is_end c) rs) ((b && owes entry) || has (owed c) rs) ((b && decides entry) || has (decided c) rs) ((b && starts entry) || has (started c) rs)
-      by_test true is = said_one s entry (has (is_end c) rs) (has (owed c) rs) (has (decided c) rs) (has (started c) rs) (says.of_case is)
+          ≡ behind s ((b && ends entry) || has (is_end c) rs) ((b && owes entry) || has (owed c) rs) ((b &&
+          decides entry) || has (decided c) rs) ((b && starts entry) || has (started c) rs)
+      by_test true is = said_one s entry (has (is_end c) rs) (has (owed c) rs) (has (decided c) rs) (has
+          (started c) rs) (says.of_case is)
       by_test false is = refl
 
   -- what the records of the name say is what the records of the case say that the process reads
@@ -191,4 +238,5 @@ module _ (place : Place) (p : Option ProcessId) (c : Case) (coordinates : Coordi
   says [] s h = nothing_more s
   says (l ∷ ls) s h =
       says ls (said_behind name s l) h.1
-      ∙ one_more s l.entry (is_of name l) (own_by place l (record_case l.entry)) (own_records place ls) (record_says l h.0)
+      ∙ one_more s l.entry (is_of name l) (own_by place l (record_case l.entry)) (own_records place ls)
+      (record_says l h.0)

@@ -1,5 +1,5 @@
 -- What a coordinator reads of its log once it was trimmed.
-use Rattle.std.proofs.Common.{◌≡◌, Bool, true, false, not, ◌&&◌, ◌||◌, if◌then◌else◌, ℕ, List, [], ◌∷◌, ◌++◌, Option, Some, fold, refl, sym, ap, ◌∙◌, arith, append-nil, append_assoc}
+use Rattle.std.proofs.Common.{◌≡◌, Bool, true, false, not, ◌&&◌, ◌||◌, if◌then◌else◌, ℕ, List, [], ◌∷◌, ◌++◌, Option, Some, fold, refl, sym, ap, ◌∙◌, arith, append-nil}
 use Rattle.std.proofs.lemmas.Grind.{common_steps}
 use Rattle.std.specs.List.{AllByRecursion, list_any}
 use Rattle.xa_xid.specs.declared.xid.Xid.{Xid}
@@ -28,17 +28,10 @@ use Rattle.log_trim.specs.Trims.{front_of_trim, is_of, last_opened, opened_after
 use Rattle.log_sound.specs.Sound.{IsSound, IsSoundName}
 use Rattle.log_law.specs.ReadTrims.{Coordinates, CoordinatorsReadTrims}
 use Rattle.log_law.proofs.CaseSayings.{decided, foreign_none, owed, says, started}
+use Rattle.log_law.proofs.LastOpened.{ReadsBoot, opened_last, own_append}
 use Rattle.log_law.proofs.Sayings.{behind, live_is_known}
 
 -- Lists.
-
-own_append : (place : Place) (xs ys : List LogRecord)
-    → own_records place (xs ++ ys) ≡ own_records place xs ++ own_records place ys
-unfolding own_records
-own_append place [] ys = refl
-own_append place (x ∷ xs) ys =
-    ap (λ t. own_by place x (record_case x.entry) ++ t) (own_append place xs ys)
-    ∙ sym (append_assoc (own_by place x (record_case x.entry)) (own_records place xs) (own_records place ys))
 
 -- a test that one of two passes
 has_either : (q r : Record → Bool) (rs : List Record) → has (λ x. q x || r x) rs ≡ (has q rs || has r rs)
@@ -128,7 +121,8 @@ twice true = refl
 twice false = refl
 
 kept_if_live : (c : Case) (rs : List Record)
-    → is_live (behind Nothing (has (is_end c) rs) (has (owed c) rs) (has (decided c) rs) (has (started c) rs)) ≡ case_stays rs (Some c)
+    → is_live (behind Nothing (has (is_end c) rs) (has (owed c) rs) (has (decided c) rs) (has (started c)
+    rs)) ≡ case_stays rs (Some c)
 unfolding recorded_view
 kept_if_live c rs =
     let cm = has (is_commit c) rs in
@@ -140,10 +134,12 @@ kept_if_live c rs =
     let decisions : has (decided c) rs ≡ (cm || ab) = has_either (is_commit c) (is_abort c) rs in
     let starts : has (started c) rs ≡ (pr || co) = has_either (is_prepare c) (is_collecting c) rs in
     let nobody : not o ≡ none_of (owing_by c rs) = ap not (some_owed c rs) ∙ twice (none_of (owing_by c rs)) in
-    ap (λ d. is_live (behind Nothing e o d (has (started c) rs))) decisions ∙ ap (λ b. is_live (behind Nothing e o (cm || ab) b)) starts
+    ap (λ d. is_live (behind Nothing e o d (has (started c) rs))) decisions
+    ∙ ap (λ b. is_live (behind Nothing e o (cm || ab) b)) starts
     ∙ live_is_known e o cm ab pr co (λ some. sym decisions ∙ has_more (owed c) (decided c) rs (owed_decides c) some)
     ∙ ap (λ n. is_known (standing_by e cm ab pr co n Unknown)) nobody
-    ∙ ap (λ s. is_known (standing_by e cm ab pr co (none_of (owing_by c rs)) s)) (sym (idle_unknown c.txn.presumption))
+    ∙ ap (λ s. is_known (standing_by e cm ab pr co (none_of (owing_by c rs)) s)) (sym (idle_unknown
+    c.txn.presumption))
     ∙ sym (known_stays (coordinator_standing rs c fresh_memory) _ refl)
 
 -- A record stays as the model's does.
@@ -185,17 +181,20 @@ model_case_stays AtRoot rs after r h = refl
 model_case_stays (Below p) rs after r h = refl
 model_case_stays (AtLeaf p) rs after r h = absurd h
 
-module _ (place : Place) (ls : List LogRecord) (coordinates : Coordinates place.role) (sound : AllByRecursion (IsSound Coordinator) ls) where
+module _ (place : Place) (ls : List LogRecord) (coordinates : Coordinates place.role) (sound : AllByRecursion
+    (IsSound Coordinator) ls) where
   abbrev pub read : List Record
   read = own_records place ls
 
   -- a record of an own case stays where the case is kept
   case_as_model : (q : Option ProcessId) (d : Case) (rest : List LogRecord) → is_own place q d ≡ true
       → IsSoundName q (CaseBranch d)
-      → AllByRecursion (IsSound Coordinator) rest → stays_by ls rest (Some (name_xid q (CaseBranch d))) ≡ case_stays read (Some d)
+      → AllByRecursion (IsSound Coordinator) rest → stays_by ls rest (Some (name_xid q (CaseBranch d)))
+      ≡ case_stays read (Some d)
   unfolding said_of
   case_as_model q d rest own name h =
-      ap (λ b. is_live (said_of (name_xid q (CaseBranch d)) ls) && not b) (none_prepared (name_xid q (CaseBranch d)) rest h)
+      ap (λ b. is_live (said_of (name_xid q (CaseBranch d)) ls) && not b) (none_prepared (name_xid q
+      (CaseBranch d)) rest h)
       ∙ and_true (is_live (said_of (name_xid q (CaseBranch d)) ls))
       ∙ ap is_live (says place q d coordinates own name ls Nothing sound) ∙ kept_if_live d read
     where
@@ -212,56 +211,72 @@ module _ (place : Place) (ls : List LogRecord) (coordinates : Coordinates place.
   one_stays : (l : LogRecord) (rest : List LogRecord) (b : Bool)
       → own_by place l (record_case l.entry) ≡ l.entry ∷ []
       → stays ls rest l ≡ b → model_stays place.role read (own_records place rest) l.entry ≡ b
-      → own_records place (staying ls rest) ≡ model_staying place.role read (own_records place rest) → StaysAlike l rest
+      → own_records place (staying ls rest) ≡ model_staying place.role read (own_records place rest)
+      → StaysAlike l rest
   unfolding own_records
   one_stays l rest b own is model behind =
       ap (λ k. own_records place (if k then l ∷ staying ls rest else staying ls rest)) is ∙ by_test b
-      ∙ ap (λ k. if k then l.entry ∷ model_staying place.role read (own_records place rest) else model_staying place.role read (own_records place rest)) (sym model)
+      ∙ ap (λ k. if k then l.entry ∷ model_staying place.role read (own_records place rest) else
+      model_staying place.role read (own_records place rest)) (sym model)
       ∙ ap (λ t. model_staying place.role read (t ++ own_records place rest)) (sym own)
     where
       by_test : (k : Bool) → own_records place (if k then l ∷ staying ls rest else staying ls rest)
-          ≡ (if k then l.entry ∷ model_staying place.role read (own_records place rest) else model_staying place.role read (own_records place rest))
+          ≡ (if k then l.entry ∷ model_staying place.role read (own_records place rest) else model_staying
+          place.role read (own_records place rest))
       by_test true = ap (λ t. t ++ own_records place (staying ls rest)) own ∙ ap (λ t. l.entry ∷ t) behind
       by_test false = behind
 
   none_stays : (l : LogRecord) (rest : List LogRecord) (b : Bool) → own_by place l (record_case l.entry) ≡ []
       → stays ls rest l ≡ b
-      → own_records place (staying ls rest) ≡ model_staying place.role read (own_records place rest) → StaysAlike l rest
+      → own_records place (staying ls rest) ≡ model_staying place.role read (own_records place rest)
+      → StaysAlike l rest
   unfolding own_records
   none_stays l rest b none is behind =
       ap (λ k. own_records place (if k then l ∷ staying ls rest else staying ls rest)) is ∙ by_test b
       ∙ ap (λ t. model_staying place.role read (t ++ own_records place rest)) (sym none)
     where
       by_test : (k : Bool)
-          → own_records place (if k then l ∷ staying ls rest else staying ls rest) ≡ model_staying place.role read (own_records place rest)
+          → own_records place (if k then l ∷ staying ls rest else staying ls rest)
+          ≡ model_staying place.role read (own_records place rest)
       by_test true = ap (λ t. t ++ own_records place (staying ls rest)) none ∙ behind
       by_test false = behind
 
   case_stays_alike : (q : Option ProcessId) (d : Case) (r : Record) (rest : List LogRecord)
       → record_case r ≡ Some d
-      → log_name (record { entry = r; parent = q }) ≡ Some (name_xid q (CaseBranch d)) → IsSoundName q (CaseBranch d) → AllByRecursion (IsSound Coordinator) rest
+      → log_name (record { entry = r; parent = q }) ≡ Some (name_xid q (CaseBranch d))
+      → IsSoundName q (CaseBranch d) → AllByRecursion (IsSound Coordinator) rest
       → own_records place (staying ls rest) ≡ model_staying place.role read (own_records place rest)
       → (b : Bool) → is_own place q d ≡ b → StaysAlike (record { entry = r; parent = q }) rest
   case_stays_alike q d r rest of named name h behind true own =
       let l : LogRecord = record { entry = r; parent = q } in
-      let is : own_by place l (record_case r) ≡ r ∷ [] = ap (own_by place l) of ∙ ap (λ b. if b then r ∷ [] else foreign_to place.role q d r) own in
+      let is : own_by place l (record_case r) ≡ r ∷ [] = ap (own_by place l) of
+      ∙ ap (λ b. if b then r ∷ [] else foreign_to place.role q d r) own in
       one_stays l rest (case_stays read (Some d)) is (ap (stays_by ls rest) named ∙ case_as_model q d rest own name h)
       (model_case_stays place.role read (own_records place rest) r coordinates ∙ ap (case_stays read) of) behind
   case_stays_alike q d r rest of named name h behind false own =
       let l : LogRecord = record { entry = r; parent = q } in
-      let none : own_by place l (record_case r) ≡ [] = ap (own_by place l) of ∙ ap (λ b. if b then r ∷ [] else foreign_to place.role q d r) own
+      let none : own_by place l (record_case r) ≡ [] = ap (own_by place l) of
+      ∙ ap (λ b. if b then r ∷ [] else foreign_to place.role q d r) own
       ∙ foreign_none place.role q d r coordinates in
       none_stays l rest (stays ls rest l) none refl behind
 
-  record_stays : (r : Record) (q : Option ProcessId) (rest : List LogRecord) → IsSound Coordinator (record { entry = r; parent = q }) → AllByRecursion (IsSound Coordinator) rest
-      → own_records place (staying ls rest) ≡ model_staying place.role read (own_records place rest) → StaysAlike (record { entry = r; parent = q }) rest
+  record_stays : (r : Record) (q : Option ProcessId) (rest : List LogRecord)
+      → IsSound Coordinator (record { entry = r; parent = q }) → AllByRecursion (IsSound Coordinator) rest
+      → own_records place (staying ls rest) ≡ model_staying place.role read (own_records place rest)
+      → StaysAlike (record { entry = r; parent = q }) rest
   record_stays (Opened n) q rest s h behind =
-      one_stays (record { entry = Opened n; parent = q }) rest false refl refl (model_case_stays place.role read (own_records place rest) (Opened n) coordinates) behind
-  record_stays (Collecting d ts) q rest s h behind = case_stays_alike q d (Collecting d ts) rest refl refl s.0 h behind (is_own place q d) refl
-  record_stays (Prepare d ts) q rest s h behind = case_stays_alike q d (Prepare d ts) rest refl refl s.0 h behind (is_own place q d) refl
-  record_stays (Commit d ts) q rest s h behind = case_stays_alike q d (Commit d ts) rest refl refl s.0 h behind (is_own place q d) refl
-  record_stays (Abort d ts) q rest s h behind = case_stays_alike q d (Abort d ts) rest refl refl s.0 h behind (is_own place q d) refl
-  record_stays (End d) q rest s h behind = case_stays_alike q d (End d) rest refl refl s h behind (is_own place q d) refl
+      one_stays (record { entry = Opened n; parent = q }) rest false refl refl (model_case_stays place.role
+      read (own_records place rest) (Opened n) coordinates) behind
+  record_stays (Collecting d ts) q rest s h behind = case_stays_alike q d (Collecting d ts) rest refl refl
+      s.0 h behind (is_own place q d) refl
+  record_stays (Prepare d ts) q rest s h behind = case_stays_alike q d (Prepare d ts) rest refl refl s.0 h
+      behind (is_own place q d) refl
+  record_stays (Commit d ts) q rest s h behind = case_stays_alike q d (Commit d ts) rest refl refl s.0 h
+      behind (is_own place q d) refl
+  record_stays (Abort d ts) q rest s h behind = case_stays_alike q d (Abort d ts) rest refl refl s.0 h behind
+      (is_own place q d) refl
+  record_stays (End d) q rest s h behind = case_stays_alike q d (End d) rest refl refl s h behind (is_own
+      place q d) refl
   record_stays (Prepared b ws) q rest s h behind = absurd s.1
   record_stays (Committed b) q rest s h behind = absurd s.1
   record_stays (RolledBack b) q rest s h behind = absurd s.1
@@ -281,92 +296,43 @@ module _ (place : Place) (ls : List LogRecord) (coordinates : Coordinates place.
 
 -- The last Opened.
 
--- what a record makes of the last Opened and of the boot
-abbrev pub OpensAlike : Place → List LogRecord → ℕ → LogRecord → Type 0
-OpensAlike place o b l = own_records place o ≡ Opened b ∷ []
-    → own_records place (opened_after o l) ≡ Opened (fold boot_after b (own_by place l (record_case l.entry))) ∷ []
+case_boot : (place : Place) (q : Option ProcessId) (d : Case) (r : Record) → Coordinates place.role
+    → record_case r ≡ Some d → is_opened r ≡ false
+    → ((b : ℕ) → boot_after b r ≡ b) → ReadsBoot place (record { entry = r; parent = q })
+case_boot place q d r coordinates of none leaves = record {
+  opened = λ is. absurd (cc);
+  other = λ is b. ap (λ o. fold boot_after b (own_by place (record { entry = r; parent = q }) o)) of
+      ∙ by_own b (is_own place q d);
+}
+  where
+    by_own : (b : ℕ) (own : Bool) → fold boot_after b (if own then r ∷ [] else foreign_to place.role q d r) ≡ b
+    by_own b true = leaves b
+    by_own b false = ap (fold boot_after b) (foreign_none place.role q d r coordinates)
 
-boot_stays : (place : Place) (q : Option ProcessId) (d : Case) (r : Record) (b : ℕ) → Coordinates place.role
-    → boot_after b r ≡ b
-    → (own : Bool) → fold boot_after b (if own then r ∷ [] else foreign_to place.role q d r) ≡ b
-boot_stays place q d r b coordinates e true = e
-boot_stays place q d r b coordinates e false = ap (fold boot_after b) (foreign_none place.role q d r coordinates)
+boot_read : (place : Place) (r : Record) (q : Option ProcessId) → Coordinates place.role
+    → IsSound Coordinator (record { entry = r; parent = q })
+    → ReadsBoot place (record { entry = r; parent = q })
+boot_read place (Opened n) q c s = record { opened = λ is b. refl; other = λ is. absurd (cc) }
+boot_read place (Collecting d ts) q c s = case_boot place q d (Collecting d ts) c refl refl (λ b. refl)
+boot_read place (Prepare d ts) q c s = case_boot place q d (Prepare d ts) c refl refl (λ b. refl)
+boot_read place (Commit d ts) q c s = case_boot place q d (Commit d ts) c refl refl (λ b. refl)
+boot_read place (Abort d ts) q c s = case_boot place q d (Abort d ts) c refl refl (λ b. refl)
+boot_read place (End d) q c s = case_boot place q d (End d) c refl refl (λ b. refl)
+boot_read place (Prepared k ws) q c s = absurd s.1
+boot_read place (Committed k) q c s = absurd s.1
+boot_read place (RolledBack k) q c s = absurd s.1
+boot_read place (Direct k ws) q c s = absurd s.1
+boot_read place (HeurCommit k) q c s = absurd s.1
+boot_read place (HeurRollback k) q c s = absurd s.1
+boot_read place (Told k x) q c s = absurd s.1
+boot_read place (Forgot k) q c s = absurd s.1
+boot_read place (Base n) q c s = absurd s.1
+boot_read place (Pair k v) q c s = absurd s.1
 
-fold_append : (b : ℕ) (xs ys : List Record)
-    → fold boot_after b (xs ++ ys) ≡ fold boot_after (fold boot_after b xs) ys
-fold_append b [] ys = refl
-fold_append b (x ∷ xs) ys = fold_append (boot_after b x) xs ys
-
-behind_case : (place : Place) (q : Option ProcessId) (d : Case) (r : Record) (ls : List LogRecord) (b : ℕ)
-    → Coordinates place.role → boot_after b r ≡ b
-    → fold boot_after b (own_records place ls)
-    ≡ fold boot_after b ((if is_own place q d then r ∷ [] else foreign_to place.role q d r) ++ own_records place ls)
-behind_case place q d r ls b c e =
-    sym (fold_append b (if is_own place q d then r ∷ [] else foreign_to place.role q d r) (own_records place ls)
-    ∙ ap (λ n. fold boot_after n (own_records place ls)) (boot_stays place q d r b c e (is_own place q d)))
-
--- the boot behind a record: its own where it is an Opened, else the same
-boot_one : (place : Place) (r : Record) (q : Option ProcessId) (o : List LogRecord) (b : ℕ) → Coordinates place.role → IsSound Coordinator (record { entry = r; parent = q })
-    → OpensAlike place o b (record { entry = r; parent = q })
-unfolding own_records
-boot_one place (Opened n) q o b c s h = refl
-boot_one place (Collecting d ts) q o b c s h = h ∙ ap (λ n. Opened n ∷ []) (sym (boot_stays place q d (Collecting d ts) b c refl (is_own place q d)))
-boot_one place (Prepare d ts) q o b c s h = h ∙ ap (λ n. Opened n ∷ []) (sym (boot_stays place q d (Prepare d ts) b c refl (is_own place q d)))
-boot_one place (Commit d ts) q o b c s h = h ∙ ap (λ n. Opened n ∷ []) (sym (boot_stays place q d (Commit d ts) b c refl (is_own place q d)))
-boot_one place (Abort d ts) q o b c s h = h ∙ ap (λ n. Opened n ∷ []) (sym (boot_stays place q d (Abort d ts) b c refl (is_own place q d)))
-boot_one place (End d) q o b c s h = h ∙ ap (λ n. Opened n ∷ []) (sym (boot_stays place q d (End d) b c refl (is_own place q d)))
-boot_one place (Prepared k ws) q o b c s h = absurd s.1
-boot_one place (Committed k) q o b c s h = absurd s.1
-boot_one place (RolledBack k) q o b c s h = absurd s.1
-boot_one place (Direct k ws) q o b c s h = absurd s.1
-boot_one place (HeurCommit k) q o b c s h = absurd s.1
-boot_one place (HeurRollback k) q o b c s h = absurd s.1
-boot_one place (Told k x) q o b c s h = absurd s.1
-boot_one place (Forgot k) q o b c s h = absurd s.1
-boot_one place (Base n) q o b c s h = absurd s.1
-boot_one place (Pair k v) q o b c s h = absurd s.1
-
--- once there is an Opened
-opened_since : (place : Place) (o ls : List LogRecord) (b : ℕ) → Coordinates place.role
-    → AllByRecursion (IsSound Coordinator) ls → own_records place o ≡ Opened b ∷ []
-    → own_records place (fold opened_after o ls) ≡ Opened (fold boot_after b (own_records place ls)) ∷ []
-unfolding own_records
-opened_since place o [] b c h e = e
-opened_since place o (l ∷ ls) b c h e =
-    opened_since place (opened_after o l) ls (fold boot_after b (own_by place l (record_case l.entry))) c h.1 (boot_one place l.entry l.parent o b c h.0 e)
-    ∙ ap (λ n. Opened n ∷ []) (sym (fold_append b (own_by place l (record_case l.entry)) (own_records place ls)))
-
--- the first Opened, behind records that are none
-first_one : (place : Place) (r : Record) (q : Option ProcessId) (ls : List LogRecord) (b : ℕ)
-    → Coordinates place.role
-    → IsSound Coordinator (record { entry = r; parent = q }) → AllByRecursion (IsSound Coordinator) ls → (is_opened r || list_any (λ l. is_opened l.entry) ls) ≡ true
-    → (list_any (λ l. is_opened l.entry) ls ≡ true → own_records place (fold opened_after [] ls) ≡ Opened (fold boot_after b (own_records place ls)) ∷ [])
-    → own_records place (fold opened_after (opened_after [] (record { entry = r; parent = q })) ls)
-    ≡ Opened (fold boot_after b (own_by place (record { entry = r; parent = q }) (record_case r) ++ own_records place ls)) ∷ []
-unfolding own_records
-first_one place (Opened n) q ls b c s h e more = opened_since place (record { entry = Opened n; parent = q } ∷ []) ls n c h refl
-first_one place (Collecting d ts) q ls b c s h e more = more e ∙ ap (λ n. Opened n ∷ []) (behind_case place q d (Collecting d ts) ls b c refl)
-first_one place (Prepare d ts) q ls b c s h e more = more e ∙ ap (λ n. Opened n ∷ []) (behind_case place q d (Prepare d ts) ls b c refl)
-first_one place (Commit d ts) q ls b c s h e more = more e ∙ ap (λ n. Opened n ∷ []) (behind_case place q d (Commit d ts) ls b c refl)
-first_one place (Abort d ts) q ls b c s h e more = more e ∙ ap (λ n. Opened n ∷ []) (behind_case place q d (Abort d ts) ls b c refl)
-first_one place (End d) q ls b c s h e more = more e ∙ ap (λ n. Opened n ∷ []) (behind_case place q d (End d) ls b c refl)
-first_one place (Prepared k ws) q ls b c s h e more = absurd s.1
-first_one place (Committed k) q ls b c s h e more = absurd s.1
-first_one place (RolledBack k) q ls b c s h e more = absurd s.1
-first_one place (Direct k ws) q ls b c s h e more = absurd s.1
-first_one place (HeurCommit k) q ls b c s h e more = absurd s.1
-first_one place (HeurRollback k) q ls b c s h e more = absurd s.1
-first_one place (Told k x) q ls b c s h e more = absurd s.1
-first_one place (Forgot k) q ls b c s h e more = absurd s.1
-first_one place (Base n) q ls b c s h e more = absurd s.1
-first_one place (Pair k v) q ls b c s h e more = absurd s.1
-
-opened_first : (place : Place) (ls : List LogRecord) (b : ℕ) → Coordinates place.role
-    → AllByRecursion (IsSound Coordinator) ls → list_any (λ l. is_opened l.entry) ls ≡ true
-    → own_records place (fold opened_after [] ls) ≡ Opened (fold boot_after b (own_records place ls)) ∷ []
-unfolding own_records
-opened_first place [] b c h e = absurd (cc)
-opened_first place (l ∷ ls) b c h e = first_one place l.entry l.parent ls b c h.0 h.1 e (λ some. opened_first place ls b c h.1 some)
+boots_read : (place : Place) (ls : List LogRecord) → Coordinates place.role
+    → AllByRecursion (IsSound Coordinator) ls → AllByRecursion (ReadsBoot place) ls
+boots_read place [] c h = tt
+boots_read place (l ∷ ls) c h = (boot_read place l.entry l.parent c h.0, boots_read place ls c h.1)
 
 no_data : (role : Role) (rs : List Record) → Coordinates role → data_records role rs ≡ []
 no_data AtRoot rs h = refl
@@ -378,7 +344,7 @@ unfolding front_of_trim last_opened trimmed boot_of
 coordinators_read_trims place ls c sound opened =
     let rs = own_records place ls in
     own_append place (fold opened_after [] ls) (staying ls ls)
-    ∙ ap (λ t. t ++ own_records place (staying ls ls)) (opened_first place ls 0 c sound opened)
+    ∙ ap (λ t. t ++ own_records place (staying ls ls)) (opened_last place ls 0 (boots_read place ls c sound) opened)
     ∙ ap (λ t. Opened (fold boot_after 0 rs) ∷ t) (staying_alike place ls c sound ls sound)
     ∙ sym (append-nil (Opened (fold boot_after 0 rs) ∷ model_staying place.role rs rs))
     ∙ ap (λ t. (Opened (fold boot_after 0 rs) ∷ model_staying place.role rs rs) ++ t) (sym (no_data place.role rs c))
