@@ -54,7 +54,8 @@ module _ {X : Type 0} where
   }
 
   -- where the map does not change and has nothing at a key, the list there is what any change makes of an empty one
-  pub becomes_idle : (es fs : List (Vec ℕ × Vec X)) (k : List ℕ) (change : List X → List X) → fs ≡ es → found es k ≡ None → change [] ≡ []
+  pub becomes_idle : (es fs : List (Vec ℕ × Vec X)) (k : List ℕ) (change : List X → List X) → fs ≡ es
+      → found es k ≡ None → change [] ≡ []
       → Becomes (table_of es) (table_of fs) k (change (list_at (table_of es) k))
   becomes_idle es fs k change stays none idle =
       let nothing : list_at (table_of es) k ≡ [] = list_at_key es k ∙ ap items_in none in
@@ -64,7 +65,8 @@ module _ {X : Type 0} where
       })
 
   -- one change of a key behind another
-  pub becomes_then : (t u v : List (List ℕ × List X)) (k : List ℕ) (xs ys : List X) → Becomes t u k xs → Becomes u v k ys → ys ≡ xs → Becomes t v k xs
+  pub becomes_then : (t u v : List (List ℕ × List X)) (k : List ℕ) (xs ys : List X) → Becomes t u k xs
+      → Becomes u v k ys → ys ≡ xs → Becomes t v k xs
   becomes_then t u v k xs ys first next one = record {
     own = next.own ∙ one;
     others = λ l apart. next.others l apart ∙ first.others l apart;

@@ -13,7 +13,8 @@ use Rattle.kv_locks.specs.Locks.{are_shared, blocked_by, given, holds, is_exclus
 pub same_is : (a b : Xid) → same a b ≡ true → a ≡ b
 same_is a b h = search rules
 
-all_filter : {X : Type 0} (p q : X → Bool) (xs : List X) → list_all p xs ≡ true → list_all p (filter q xs) ≡ true
+all_filter : {X : Type 0} (p q : X → Bool) (xs : List X) → list_all p xs ≡ true
+    → list_all p (filter q xs) ≡ true
 all_filter p q [] h = refl
 all_filter p q (x ∷ xs) h = grind (arith, common_steps, all_filter p q xs)
 
@@ -38,18 +39,21 @@ pub without_twice : (hs : List Holder) (x : Xid) → without (without hs x) x �
 without_twice hs x = without_idle (without hs x) x (without_itself hs x)
 
 -- of holders of which none is in the way of a shared lock and none is the branch, each is shared and another one
-all_apart : (g : Holder) (hs : List Holder) (x : Xid) → list_all (are_shared g) hs ≡ true → not (same g.xid x) ≡ true → is_exclusive g.mode ≡ false
+all_apart : (g : Holder) (hs : List Holder) (x : Xid) → list_all (are_shared g) hs ≡ true
+    → not (same g.xid x) ≡ true → is_exclusive g.mode ≡ false
     → list_all (are_shared g) (hs ++ record { xid = x; mode = Shared } ∷ []) ≡ true
 all_apart g [] x all other shared = grind (arith, common_steps)
 all_apart g (h ∷ hs) x all other shared = grind (arith, common_steps, all_apart g hs x)
 
-rule_push : (hs : List Holder) (x : Xid) → keeps_rule hs ≡ true → holds hs x ≡ false → blocked_by hs x Shared ≡ None
+rule_push : (hs : List Holder) (x : Xid) → keeps_rule hs ≡ true → holds hs x ≡ false
+    → blocked_by hs x Shared ≡ None
     → keeps_rule (hs ++ record { xid = x; mode = Shared } ∷ []) ≡ true
 unfolding keeps_rule
 rule_push [] x rule held free = refl
 rule_push (g ∷ hs) x rule held free = grind (arith, common_steps, rule_push hs x, all_apart g hs x)
 
-pub rule_given : (hs : List Holder) (x : Xid) (m : Mode) → keeps_rule hs ≡ true → blocked_by hs x m ≡ None → keeps_rule (given hs x m) ≡ true
+pub rule_given : (hs : List Holder) (x : Xid) (m : Mode) → keeps_rule hs ≡ true → blocked_by hs x m ≡ None
+    → keeps_rule (given hs x m) ≡ true
 unfolding keeps_rule
 rule_given hs x Exclusive rule free = refl
 rule_given hs x Shared rule free = by_test (holds hs x) refl
@@ -58,7 +62,8 @@ rule_given hs x Shared rule free = by_test (holds hs x) refl
     by_test true e = rule
     by_test false e = rule_push hs x rule e free
 
-pub holds_given : (hs : List Holder) (x y : Xid) (m : Mode) → holds (given hs x m) y ≡ true → (holds hs y ≡ true) ⊎ (same x y ≡ true)
+pub holds_given : (hs : List Holder) (x y : Xid) (m : Mode) → holds (given hs x m) y ≡ true
+    → (holds hs y ≡ true) ⊎ (same x y ≡ true)
 holds_given hs x y Exclusive h = inr (grind (arith, common_steps))
 holds_given hs x y Shared h = by_test (holds hs x) h
   where

@@ -12,7 +12,8 @@ use Rattle.kv_locks.specs.Locks.{IsKept, KeepsKeys, LockTable, Releases, blocked
 use Rattle.kv_locks.proofs.Holding.{same_is, rule_given, holds_given, rule_without, holds_without, without_idle, without_itself, without_twice}
 
 -- nothing is held, and nothing is listed
-pub kept_nothing : (es : List (Vec ℕ × Vec Holder)) (held : List (Xid × Vec (Vec ℕ))) → es ≡ [] → held ≡ [] → IsKept (table_of es) held
+pub kept_nothing : (es : List (Vec ℕ × Vec Holder)) (held : List (Xid × Vec (Vec ℕ))) → es ≡ [] → held ≡ []
+    → IsKept (table_of es) held
 unfolding keeps_rule
 kept_nothing es held none free = subst (λ fs. IsKept (table_of fs) held) (sym none) (subst (λ ks. IsKept [] ks) (sym free) (record {
   rule = λ k. refl;
@@ -57,7 +58,8 @@ kept_given t u held more x k m kept free made more_names named = record {
         (ap keeps_rule made.own ∙ rule_given (holders_of t k) x m (kept.rule k) free)
     ruled l false e = ap keeps_rule (made.others l e) ∙ kept.rule l
 
-    listed : (y : Xid) (l : List ℕ) → holds (holders_of u l) y ≡ true → (b : Bool) → same_key k l ≡ b → names_key (keys_of more y) l ≡ true
+    listed : (y : Xid) (l : List ℕ) → holds (holders_of u l) y ≡ true → (b : Bool) → same_key k l ≡ b
+        → names_key (keys_of more y) l ≡ true
     listed y l h true e =
         let one : k ≡ l = search rules in
         let held_there : holds (given (holders_of t k) x m) y ≡ true = ap (λ hs. holds hs y) (sym made.own) ∙ ap (λ j. holds (holders_of u j) y) one ∙ h in
@@ -77,7 +79,8 @@ kept_released t u held rest x kept released others = record {
   listed = λ y k h. listed y k (ap (λ hs. holds hs y) (sym (released.each k)) ∙ h) (same x y) refl;
 }
   where
-    listed : (y : Xid) (k : List ℕ) → holds (without (holders_of t k) x) y ≡ true → (b : Bool) → same x y ≡ b → names_key (keys_of rest y) k ≡ true
+    listed : (y : Xid) (k : List ℕ) → holds (without (holders_of t k) x) y ≡ true → (b : Bool) → same x y ≡ b
+        → names_key (keys_of rest y) k ≡ true
     listed y k h true e =
         let one : x ≡ y = same_is x y e in
         let gone : holds (without (holders_of t k) x) y ≡ false = ap (λ z. holds (without (holders_of t k) x) z) (sym one) ∙ without_itself (holders_of t k) x in
@@ -89,25 +92,29 @@ pub record IsReleasing (t u : LockTable) (rest : List (Vec ℕ)) (x : Xid) : Typ
   pub others : (k : List ℕ) → without (holders_of u k) x ≡ without (holders_of t k) x
   pub left : (k : List ℕ) → holds (holders_of u k) x ≡ true → names_key rest k ≡ true
 
-pub releasing_begins : (t : LockTable) (ks : List (Vec ℕ)) (x : Xid) → ((k : List ℕ) → holds (holders_of t k) x ≡ true → names_key ks k ≡ true)
+pub releasing_begins : (t : LockTable) (ks : List (Vec ℕ)) (x : Xid)
+    → ((k : List ℕ) → holds (holders_of t k) x ≡ true → names_key ks k ≡ true)
     → IsReleasing t t ks x
 releasing_begins t ks x all = record { others = λ k. refl; left = all }
 
-pub releasing_goes_on : (t u v : LockTable) (k : Vec ℕ) (rest : List (Vec ℕ)) (x : Xid) → IsReleasing t u (k ∷ rest) x
+pub releasing_goes_on : (t u v : LockTable) (k : Vec ℕ) (rest : List (Vec ℕ)) (x : Xid)
+    → IsReleasing t u (k ∷ rest) x
     → Becomes u v k.items (without (holders_of u k.items) x) → IsReleasing t v rest x
 releasing_goes_on t u v k rest x so_far out = record {
   others = λ l. others l (same_key k.items l) refl;
   left = λ l h. left l h (same_key k.items l) refl;
 }
   where
-    others : (l : List ℕ) (b : Bool) → same_key k.items l ≡ b → without (holders_of v l) x ≡ without (holders_of t l) x
+    others : (l : List ℕ) (b : Bool) → same_key k.items l ≡ b
+        → without (holders_of v l) x ≡ without (holders_of t l) x
     others l true e =
         let one : k.items ≡ l = search rules in
         subst (λ j. without (holders_of v j) x ≡ without (holders_of t j) x) one
         (ap (λ hs. without hs x) out.own ∙ without_twice (holders_of u k.items) x ∙ so_far.others k.items)
     others l false e = ap (λ hs. without hs x) (out.others l e) ∙ so_far.others l
 
-    left : (l : List ℕ) → holds (holders_of v l) x ≡ true → (b : Bool) → same_key k.items l ≡ b → names_key rest l ≡ true
+    left : (l : List ℕ) → holds (holders_of v l) x ≡ true → (b : Bool) → same_key k.items l ≡ b
+        → names_key rest l ≡ true
     left l h true e =
         let one : k.items ≡ l = search rules in
         let held : holds (without (holders_of u k.items) x) x ≡ true = ap (λ hs. holds hs x) (sym out.own) ∙ ap (λ j. holds (holders_of v j) x) one ∙ h in
@@ -127,7 +134,8 @@ releasing_ends t u x so_far = record {
     idle k false e = e
 
 -- nothing is listed for the branch, so it holds nothing
-pub released_nothing : (t : LockTable) (held : List (Xid × Vec (Vec ℕ))) (x : Xid) → IsKept t held → keys_of held x ≡ [] → Releases t t x
+pub released_nothing : (t : LockTable) (held : List (Xid × Vec (Vec ℕ))) (x : Xid) → IsKept t held
+    → keys_of held x ≡ [] → Releases t t x
 released_nothing t held x kept none = releasing_ends t t x (record {
   others = λ k. refl;
   left = λ k h. ap (λ ks. names_key ks k) (sym none) ∙ kept.listed x k h;

@@ -59,6 +59,14 @@ unfoldable pub keeps_rule : List Holder → Bool
 keeps_rule [] = true
 keeps_rule (h ∷ hs) = list_all (are_shared h) hs && keeps_rule hs
 
+-- a branch takes a key in this mode
+abbrev pub Takes : LockTable → LockTable → Xid → List ℕ → Mode → Type 0
+Takes old new x k m = Becomes old new k (given (holders_of old k) x m)
+
+-- a branch lets a key go
+abbrev pub LetsGo : LockTable → LockTable → Xid → List ℕ → Type 0
+LetsGo old new x k = Becomes old new k (without (holders_of old k) x)
+
 -- the branch holds nothing any more, and all others hold what they held, in their order
 pub record Releases (old new : LockTable) (x : Xid) : Type 0 where
   pub each : (k : List ℕ) → holders_of new k ≡ without (holders_of old k) x
@@ -66,7 +74,7 @@ pub record Releases (old new : LockTable) (x : Xid) : Type 0 where
 -- a lock was given: nobody was in its way
 pub record Gives (old new : LockTable) (x : Xid) (k : List ℕ) (m : Mode) : Type 0 where
   pub free : blocked_by (holders_of old k) x m ≡ None
-  pub made : Becomes old new k (given (holders_of old k) x m)
+  pub made : Takes old new x k m
 
 -- why a lock was not given; nothing changed
 abbrev pub Refuses : LockTable → LockTable → Xid → List ℕ → Mode → LockError → Type 0
@@ -90,9 +98,14 @@ keys_of held x = keys_in (lookup (same x) held)
 
 -- each key that was listed for a branch still is
 abbrev pub KeepsKeys : List (Xid × Vec (Vec ℕ)) → List (Xid × Vec (Vec ℕ)) → Type 0
-KeepsKeys old new = (y : Xid) (l : List ℕ) → names_key (keys_of old y) l ≡ true → names_key (keys_of new y) l ≡ true
+KeepsKeys old new =
+    (y : Xid) (l : List ℕ) → names_key (keys_of old y) l ≡ true → names_key (keys_of new y) l ≡ true
+
+-- all keys that a branch holds are among these
+abbrev pub HoldsAtMost : LockTable → Xid → List (Vec ℕ) → Type 0
+HoldsAtMost t x ks = (k : List ℕ) → holds (holders_of t k) x ≡ true → names_key ks k ≡ true
 
 -- the lock rule holds of each key, and each key of a branch is listed for it
 pub record IsKept (t : LockTable) (held : List (Xid × Vec (Vec ℕ))) : Type 0 where
   pub rule : (k : List ℕ) → keeps_rule (holders_of t k) ≡ true
-  pub listed : (x : Xid) (k : List ℕ) → holds (holders_of t k) x ≡ true → names_key (keys_of held x) k ≡ true
+  pub listed : (x : Xid) → HoldsAtMost t x (keys_of held x)

@@ -2,8 +2,21 @@
 
 ghost use Rattle.std.specs.Prelude.{◌≡◌, ◌↔◌, ℕ, List, [], true, false, IsTrue, IfErr, OnOk, OnErr, Some, None};
 ghost use Rattle.kv_locks.specs.declared.holders.Mode.TheVariants as mode;
-ghost use Rattle.key_tables.specs.Tables.{Becomes, table_of};
-ghost use Rattle.kv_locks.specs.Locks.{Gives, KeepsKeys, Refuses, Releases, blocked_by, given, holders_of, holds, keeps_rule, keys_of, names_key, without};
+ghost use Rattle.key_tables.specs.Tables.{table_of};
+ghost use Rattle.kv_locks.specs.Locks.{
+  Gives,
+  HoldsAtMost,
+  KeepsKeys,
+  LetsGo,
+  Refuses,
+  Releases,
+  Takes,
+  blocked_by,
+  holders_of,
+  keeps_rule,
+  keys_of,
+  names_key,
+};
 
 use crate::holders::{Holder, Mode, blocked_by, given, holds, remove};
 use indexmap::IndexMap;
@@ -18,7 +31,7 @@ pub enum LockError {
     /// There was no memory.
     #[error("no memory")]
     Memory,
-    /// Another branch holds the key, and the two would not both be shared: of those, the one that took it first.
+    /// Another branch holds the key, and the two would not both be shared: the one of those that took it first.
     #[error("held by another branch")]
     Held(Xid),
 }
@@ -72,8 +85,8 @@ impl Locks {
         }
     }
 
-    /// A shared lock for a branch, which keeps what it holds. Held: another branch holds the key exclusively. Either
-    /// refusal changes nothing.
+    /// A shared lock for a branch, which keeps what it holds. Held: another branch holds the key exclusively.
+    /// Either refusal changes nothing.
     pub fn shared(&mut self, xid: &Xid, key: &[u8]) -> Result<(), LockError>
         ensures ok { OnOk result (Gives self.old self.new xid.now key.now mode.Shared) }
         ensures err { IfErr result (Refuses self.old self.new xid.now key.now mode.Shared) }
@@ -81,8 +94,8 @@ impl Locks {
         self.take(xid, key, Mode::Shared)
     }
 
-    /// An exclusive lock for a branch, in place of a shared one that it holds alone. Held: another branch holds the key.
-    /// Either refusal changes nothing.
+    /// An exclusive lock for a branch, in place of a shared one that it holds alone. Held: another branch holds the
+    /// key. Either refusal changes nothing.
     pub fn exclusive(&mut self, xid: &Xid, key: &[u8]) -> Result<(), LockError>
         ensures ok { OnOk result (Gives self.old self.new xid.now key.now mode.Exclusive) }
         ensures err { IfErr result (Refuses self.old self.new xid.now key.now mode.Exclusive) }
@@ -106,7 +119,7 @@ impl Locks {
     /// Gives a lock that nobody is in the way of.
     fn give(&mut self, xid: &Xid, key: &[u8], mode: Mode) -> Result<(), AllocError>
         requires { blocked_by (holders_of self.old key.now) xid.now mode ≡ None }
-        ensures ok { OnOk result (Becomes self.old self.new key.now (given (holders_of self.old key.now) xid.now mode)) }
+        ensures ok { OnOk result (Takes self.old self.new xid.now key.now mode) }
         ensures err { OnErr result (self.new ≡ self.old) }
     {
         let list = given(self.alloc, self.holders(key), xid, mode)?;
@@ -173,7 +186,7 @@ fn add_key(alloc: Global, keys: &mut Keys, xid: &Xid, key: &[u8]) -> Result<(), 
 
 /// The branch releases each of these keys, which are all that it holds.
 fn release_each(holders: &mut Holders, keys: &[Vec<u8>], xid: &Xid)
-    requires { (k : List ℕ) → holds (holders_of (table_of holders.old.entries) k) xid.now ≡ true → names_key keys.now k ≡ true }
+    requires { HoldsAtMost (table_of holders.old.entries) xid.now keys.now }
     ensures { Releases (table_of holders.old.entries) (table_of holders.new.entries) xid.now }
 {
     let mut rest = keys;
@@ -185,7 +198,7 @@ fn release_each(holders: &mut Holders, keys: &[Vec<u8>], xid: &Xid)
 
 /// The branch releases a key.
 fn release_key(holders: &mut Holders, key: &[u8], xid: &Xid)
-    ensures { Becomes (table_of holders.old.entries) (table_of holders.new.entries) key.now (without (holders_of (table_of holders.old.entries) key.now) xid.now) }
+    ensures { LetsGo (table_of holders.old.entries) (table_of holders.new.entries) xid.now key.now }
 {
     take_out(holders, key, xid);
     if is_idle(holders, key) {
@@ -194,7 +207,7 @@ fn release_key(holders: &mut Holders, key: &[u8], xid: &Xid)
 }
 
 fn take_out(holders: &mut Holders, key: &[u8], xid: &Xid)
-    ensures { Becomes (table_of holders.old.entries) (table_of holders.new.entries) key.now (without (holders_of (table_of holders.old.entries) key.now) xid.now) }
+    ensures { LetsGo (table_of holders.old.entries) (table_of holders.new.entries) xid.now key.now }
 {
     match holders.get_mut(key) {
         Some(list) => remove(list, xid),

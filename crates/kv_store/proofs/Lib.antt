@@ -1,3 +1,5 @@
 pub mod Values
 pub mod Tables
 pub mod Stages
+pub mod Order
+pub mod Pairs

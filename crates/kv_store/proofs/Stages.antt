@@ -38,7 +38,8 @@ pub adding_begins : (t : Table) (n : ℕ) (ws : List Write) → IsAdding t t n w
 unfolding made
 adding_begins t n ws = record { done = []; front = refl; adds = λ k. sym (append_none (list_at t k)) }
 
-pub adding_goes_on : (t u v : Table) (n : ℕ) (ws : List Write) (w : Write) (rest : List Write) → IsAdding t u n ws (w ∷ rest)
+pub adding_goes_on : (t u v : Table) (n : ℕ) (ws : List Write) (w : Write) (rest : List Write)
+    → IsAdding t u n ws (w ∷ rest)
     → Becomes u v w.key (list_at u w.key ++ record { count = n; value = w.value } ∷ []) → IsAdding t v n ws rest
 unfolding made
 adding_goes_on t u v n ws w rest so_far one = record {
@@ -47,7 +48,8 @@ adding_goes_on t u v n ws w rest so_far one = record {
   adds = λ k. added k (same_key w.key k) refl ∙ ap (λ vs. list_at t k ++ vs) (sym (made_append n so_far.done (w ∷ []) k));
 }
   where
-    added : (k : List ℕ) (b : Bool) → same_key w.key k ≡ b → list_at v k ≡ list_at t k ++ (made n so_far.done k ++ made n (w ∷ []) k)
+    added : (k : List ℕ) (b : Bool) → same_key w.key k ≡ b
+        → list_at v k ≡ list_at t k ++ (made n so_far.done k ++ made n (w ∷ []) k)
     added k true e =
         let same : w.key ≡ k = search rules in
         let one_more : made n (w ∷ []) k ≡ record { count = n; value = w.value } ∷ [] = ap (λ b. cond b (record { count = n; value = w.value } ∷ []) []) e in
@@ -61,7 +63,8 @@ adding_goes_on t u v n ws w rest so_far one = record {
         one.others k e ∙ so_far.adds k ∙ ap (λ vs. list_at t k ++ vs) (sym (append_none (made n so_far.done k)))
         ∙ ap (λ vs. list_at t k ++ (made n so_far.done k ++ vs)) (sym none)
 
-pub adding_stops : (t u v : Table) (n : ℕ) (ws rest : List Write) → IsAdding t u n ws rest → SameLists u v → AddsFront t v n ws
+pub adding_stops : (t u v : Table) (n : ℕ) (ws rest : List Write) → IsAdding t u n ws rest → SameLists u v
+    → AddsFront t v n ws
 adding_stops t u v n ws rest so_far stays = record {
   done = so_far.done;
   behind = rest;
@@ -80,7 +83,8 @@ pub record IsTakingBack (t u : Table) (n : ℕ) (ws rest : List Write) : Type 0 
   pub front : ws ≡ done ++ rest
   pub takes : TakesBack t u n done
 
-names_append : (us : List Write) (w : Write) (k : List ℕ) → names_key (us ++ w ∷ []) k ≡ (names_key us k || same_key w.key k)
+names_append : (us : List Write) (w : Write) (k : List ℕ)
+    → names_key (us ++ w ∷ []) k ≡ (names_key us k || same_key w.key k)
 names_append us w k = grind (arith, common_steps, list_any-append)
 
 up_to_twice : (n : ℕ) (vs : List Version) → up_to n (up_to n vs) ≡ up_to n vs
@@ -90,7 +94,8 @@ up_to_twice n (v ∷ vs) = grind (arith, common_steps, up_to_twice n vs)
 pub taking_begins : (t : Table) (n : ℕ) (ws : List Write) → IsTakingBack t t n ws ws
 taking_begins t n ws = record { done = []; front = refl; takes = record { own = λ k no. absurd (cc); others = λ k yes. refl } }
 
-pub taking_goes_on : (t u v : Table) (n : ℕ) (ws : List Write) (w : Write) (rest : List Write) → IsTakingBack t u n ws (w ∷ rest)
+pub taking_goes_on : (t u v : Table) (n : ℕ) (ws : List Write) (w : Write) (rest : List Write)
+    → IsTakingBack t u n ws (w ∷ rest)
     → Becomes u v w.key (up_to n (list_at u w.key)) → IsTakingBack t v n ws rest
 taking_goes_on t u v n ws w rest so_far one = record {
   done = so_far.done ++ w ∷ [];
@@ -104,15 +109,18 @@ taking_goes_on t u v n ws w rest so_far one = record {
     taken : (k : List ℕ) → same_key w.key k ≡ true → list_at v k ≡ up_to n (list_at u k)
     taken k e = let same : w.key ≡ k = search rules in subst (λ j. list_at v j ≡ up_to n (list_at u j)) same one.own
 
-    before : (k : List ℕ) (b : Bool) → names_key so_far.done k ≡ b → up_to n (list_at u k) ≡ up_to n (list_at t k)
+    before : (k : List ℕ) (b : Bool) → names_key so_far.done k ≡ b
+        → up_to n (list_at u k) ≡ up_to n (list_at t k)
     before k true e = ap (up_to n) (so_far.takes.own k e) ∙ up_to_twice n (list_at t k)
     before k false e = ap (up_to n) (so_far.takes.others k e)
 
-    own : (k : List ℕ) (b : Bool) → same_key w.key k ≡ b → (names_key so_far.done k || same_key w.key k) ≡ true → list_at v k ≡ up_to n (list_at t k)
+    own : (k : List ℕ) (b : Bool) → same_key w.key k ≡ b
+        → (names_key so_far.done k || same_key w.key k) ≡ true → list_at v k ≡ up_to n (list_at t k)
     own k true e named = taken k e ∙ before k (names_key so_far.done k) refl
     own k false e named = one.others k e ∙ so_far.takes.own k (grind (arith, common_steps))
 
-    others : (k : List ℕ) (b : Bool) → same_key w.key k ≡ b → (names_key so_far.done k || same_key w.key k) ≡ false → list_at v k ≡ list_at t k
+    others : (k : List ℕ) (b : Bool) → same_key w.key k ≡ b
+        → (names_key so_far.done k || same_key w.key k) ≡ false → list_at v k ≡ list_at t k
     others k true e other = absurd (grind (arith, common_steps))
     others k false e other = one.others k e ∙ so_far.takes.others k (grind (arith, common_steps))
 
@@ -120,7 +128,8 @@ pub taking_ends : (t u : Table) (n : ℕ) (ws : List Write) → IsTakingBack t u
 taking_ends t u n ws so_far = subst (λ us. TakesBack t u n us) (sym (so_far.front ∙ append_none so_far.done)) so_far.takes
 
 -- what a front of the writes added is taken back, so that each key has what it had
-pub taken_back : (t u v : Table) (n : ℕ) (ws : List Write) → ((k : List ℕ) → none_above n (list_at t k) ≡ true)
+pub taken_back : (t u v : Table) (n : ℕ) (ws : List Write)
+    → ((k : List ℕ) → none_above n (list_at t k) ≡ true)
     → AddsFront t u (n + 1) ws → TakesBack u v n ws → SameLists t v
 taken_back t u v n ws settled some back k = by_test (names_key ws k) refl
   where
@@ -141,7 +150,8 @@ kept_same base n t u kept stays = record {
   next = λ k. ap (none_above (n + 1)) (stays k) ∙ kept.next k;
 }
 
-pub kept_staged : (base n : ℕ) (t u : Table) (ws : List Write) → IsKept base n false t → Adds t u (n + 1) ws → IsKept base n true u
+pub kept_staged : (base n : ℕ) (t u : Table) (ws : List Write) → IsKept base n false t → Adds t u (n + 1) ws
+    → IsKept base n true u
 kept_staged base n t u ws kept adds = record {
   starts = kept.starts;
   rises = λ k. ap (λ vs. rises_from 0 vs) (adds k) ∙ rises_made (n + 1) 0 (list_at t k) ws k (kept.rises k) (kept.next k) (omega arith);
@@ -161,7 +171,8 @@ stages s s' ws kept base count staged adds = record {
       ∙ ap (written ws k) (value_later s.count (s.count + 1) None (list_at s.versions k) (kept.settled refl k) (omega arith));
 }
 
-pub same_data : (s s' : VersionTable) → s'.base ≡ s.base → s'.count ≡ s.count → s'.is_staged ≡ s.is_staged → SameLists s.versions s'.versions → SameData s s'
+pub same_data : (s s' : VersionTable) → s'.base ≡ s.base → s'.count ≡ s.count → s'.is_staged ≡ s.is_staged
+    → SameLists s.versions s'.versions → SameData s s'
 same_data s s' base count staged stays = record {
   base = base;
   count = count;
@@ -187,7 +198,8 @@ same_lists t u k one l = by_test (same_key k l) refl
     by_test false e = one.others l e
 
 -- a table that has been filled from nothing
-pub kept_filled : (n : ℕ) (t u : Table) (ws : List Write) → ((k : List ℕ) → list_at t k ≡ []) → Adds t u n ws → IsKept n n false u
+pub kept_filled : (n : ℕ) (t u : Table) (ws : List Write) → ((k : List ℕ) → list_at t k ≡ []) → Adds t u n ws
+    → IsKept n n false u
 unfolding rises_from
 kept_filled n t u ws nothing adds = record {
   starts = omega arith;

@@ -16,7 +16,8 @@ kept_nothing n es none = subst (λ fs. IsKept n n false (table_of fs)) (sym none
   next = λ k. refl;
 })
 
-pub kept_published : (base n : ℕ) (t : List (List ℕ × List Version)) → IsKept base n true t → IsKept base (n + 1) false t
+pub kept_published : (base n : ℕ) (t : List (List ℕ × List Version)) → IsKept base n true t
+    → IsKept base (n + 1) false t
 kept_published base n t kept = record {
   starts = let starts = kept.starts in omega arith;
   rises = kept.rises;

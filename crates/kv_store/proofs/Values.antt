@@ -13,14 +13,16 @@ all_stay n [] h = refl
 all_stay n (v ∷ vs) h = grind (arith, common_steps, nat_tests, all_stay n vs)
 
 -- those made at a later count go, and no other
-pub made_go : (n : ℕ) (vs : List Version) (ws : List Write) (k : List ℕ) → none_above n vs ≡ true → up_to n (vs ++ made (n + 1) ws k) ≡ vs
+pub made_go : (n : ℕ) (vs : List Version) (ws : List Write) (k : List ℕ) → none_above n vs ≡ true
+    → up_to n (vs ++ made (n + 1) ws k) ≡ vs
 unfolding made
 made_go n [] [] k h = refl
 made_go n [] (w ∷ ws) k h = grind (arith, common_steps, nat_tests, made_go n [] ws k)
 made_go n (v ∷ vs) ws k h = grind (arith, common_steps, nat_tests, made_go n vs ws k)
 
 -- where none is above, the last version counts, also with others behind it that are above
-pub value_front : (n : ℕ) (b : Option (List ℕ)) (vs : List Version) (ws : List Write) (k : List ℕ) (m : ℕ) → m < n
+pub value_front : (n : ℕ) (b : Option (List ℕ)) (vs : List Version) (ws : List Write) (k : List ℕ) (m : ℕ)
+    → m < n
     → value_by m b (vs ++ made n ws k) ≡ value_by m b vs
 unfolding made value_by
 value_front n b [] [] k m below = refl
@@ -28,31 +30,36 @@ value_front n b [] (w ∷ ws) k m below = grind (arith, common_steps, nat_tests,
 value_front n b (v ∷ vs) ws k m below = grind (arith, common_steps, nat_tests, value_front n v.value vs ws k m)
 
 -- the value behind versions none of which is above is that of the last of those behind them
-pub value_behind : (n : ℕ) (b : Option (List ℕ)) (vs us : List Version) → none_above n vs ≡ true → value_by n b (vs ++ us) ≡ value_by n (value_by n b vs) us
+pub value_behind : (n : ℕ) (b : Option (List ℕ)) (vs us : List Version) → none_above n vs ≡ true
+    → value_by n b (vs ++ us) ≡ value_by n (value_by n b vs) us
 unfolding value_by
 value_behind n b [] us h = refl
 value_behind n b (v ∷ vs) us h = grind (arith, common_steps, nat_tests, value_behind n v.value vs us)
 
 -- the value of the versions that writes make is what the writes leave
-pub value_made : (n : ℕ) (b : Option (List ℕ)) (ws : List Write) (k : List ℕ) → value_by n b (made n ws k) ≡ written ws k b
+pub value_made : (n : ℕ) (b : Option (List ℕ)) (ws : List Write) (k : List ℕ)
+    → value_by n b (made n ws k) ≡ written ws k b
 unfolding made written value_by
 value_made n b [] k = refl
 value_made n b (w ∷ ws) k = grind (arith, common_steps, nat_tests, value_made n b ws k, value_made n w.value ws k)
 
 -- a value does not change where more commits are counted of which there is no version
-pub value_later : (n m : ℕ) (b : Option (List ℕ)) (vs : List Version) → none_above n vs ≡ true → n ≤ m → value_by m b vs ≡ value_by n b vs
+pub value_later : (n m : ℕ) (b : Option (List ℕ)) (vs : List Version) → none_above n vs ≡ true → n ≤ m
+    → value_by m b vs ≡ value_by n b vs
 unfolding value_by
 value_later n m b [] h le = refl
 value_later n m b (v ∷ vs) h le = grind (arith, common_steps, nat_tests, value_later n m v.value vs)
 
-pub rises_made : (n m : ℕ) (vs : List Version) (ws : List Write) (k : List ℕ) → rises_from m vs ≡ true → none_above n vs ≡ true → m ≤ n
+pub rises_made : (n m : ℕ) (vs : List Version) (ws : List Write) (k : List ℕ) → rises_from m vs ≡ true
+    → none_above n vs ≡ true → m ≤ n
     → rises_from m (vs ++ made n ws k) ≡ true
 unfolding rises_from made
 rises_made n m [] [] k h all le = refl
 rises_made n m [] (w ∷ ws) k h all le = grind (arith, common_steps, nat_tests, rises_made n m [] ws k, rises_made n n [] ws k)
 rises_made n m (v ∷ vs) ws k h all le = grind (arith, common_steps, nat_tests, rises_made n v.count vs ws k)
 
-pub none_above_made : (n : ℕ) (vs : List Version) (ws : List Write) (k : List ℕ) → none_above n vs ≡ true → none_above n (vs ++ made n ws k) ≡ true
+pub none_above_made : (n : ℕ) (vs : List Version) (ws : List Write) (k : List ℕ) → none_above n vs ≡ true
+    → none_above n (vs ++ made n ws k) ≡ true
 unfolding made
 none_above_made n [] [] k all = refl
 none_above_made n [] (w ∷ ws) k all = grind (arith, common_steps, nat_tests, none_above_made n [] ws k)
@@ -74,13 +81,15 @@ unfolding rises_from
 rises_down m n [] le h = refl
 rises_down m n (v ∷ vs) le h = grind (arith, common_steps, nat_tests)
 
-all_from : (m : ℕ) (vs : List Version) (j : ℕ) (d : Version) → rises_from m vs ≡ true → j < length vs → m ≤ (slice_index_or vs j d).count
+all_from : (m : ℕ) (vs : List Version) (j : ℕ) (d : Version) → rises_from m vs ≡ true → j < length vs
+    → m ≤ (slice_index_or vs j d).count
 unfolding rises_from
 all_from m [] j d h within = absurd (omega arith)
 all_from m (v ∷ vs) zero d h within = grind (arith, common_steps, nat_tests)
 all_from m (v ∷ vs) (suc j) d h within = all_from m vs j d (rises_down m v.count vs (grind (arith, common_steps, nat_tests)) (grind (arith, common_steps, nat_tests))) (omega arith)
 
-pub rising_is_partitioned : (n m : ℕ) (vs : List Version) → rises_from m vs ≡ true → IsPartitionedBy (is_up_to n) vs
+pub rising_is_partitioned : (n m : ℕ) (vs : List Version) → rises_from m vs ≡ true
+    → IsPartitionedBy (is_up_to n) vs
 unfolding rises_from
 rising_is_partitioned n m [] h i j d le within up = absurd (omega arith)
 rising_is_partitioned n m (v ∷ vs) h zero zero d le within up = up
@@ -96,7 +105,8 @@ abbrev pub before_place : Option (List ℕ) → List Version → ℕ → Version
 before_place b vs zero d = b
 before_place b vs (suc j) d = (slice_index_or vs j d).value
 
-pub value_at_place : (n : ℕ) (b : Option (List ℕ)) (vs : List Version) (i : ℕ) (d : Version) → IsPlace n vs i → value_by n b vs ≡ before_place b vs i d
+pub value_at_place : (n : ℕ) (b : Option (List ℕ)) (vs : List Version) (i : ℕ) (d : Version) → IsPlace n vs i
+    → value_by n b vs ≡ before_place b vs i d
 unfolding value_by
 value_at_place n b [] zero d h = refl
 value_at_place n b [] (suc i) d h = absurd (let le = h.0 in omega arith)
@@ -114,7 +124,8 @@ value_at_place n b (v ∷ vs) (suc i) d h =
     by_place zero = refl
     by_place (suc j) = refl
 
-pub value_past : (n : ℕ) (b : Option (List ℕ)) (vs : List Version) (i : ℕ) (d : Version) → IsPlace n vs i → 0 < i
+pub value_past : (n : ℕ) (b : Option (List ℕ)) (vs : List Version) (i : ℕ) (d : Version) → IsPlace n vs i
+    → 0 < i
     → value_by n b vs ≡ (slice_index_or vs (i - 1) d).value
 value_past n b vs zero d h some = absurd (omega arith)
 value_past n b vs (suc j) d h some =

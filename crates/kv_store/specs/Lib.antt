@@ -1,1 +1,2 @@
 pub mod Versions
+pub mod Pairs

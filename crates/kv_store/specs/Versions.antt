@@ -2,11 +2,11 @@
 use Rattle.std.specs.Prelude.{◌≡◌, ◌≤◌, ◌+◌, ℕ, Bool, true, false, ◌&&◌, if◌then◌else◌, nat_le, nat_lt, Option, Some, None, List, [], ◌∷◌, ◌++◌, length, filter}
 use Rattle.std.specs.List.{list_any, list_all}
 use Rattle.std.specs.List.Sorted.{IsPartitionPoint}
-use Rattle.key_tables.specs.Tables.{list_at, same_key}
+use Rattle.key_tables.specs.Tables.{Becomes, list_at, same_key}
 use Rattle.tree_model.specs.declared.records.Write.{Write}
 use Rattle.kv_store.specs.declared.version.Version.{Version}
 
--- the count of the base and of the last commit, whether writes are staged, and the versions of each key, rising by count
+-- the count of the base and of the last commit, whether writes are staged, and each key's versions, rising by count
 pub record VersionTable : Type 0 where
   pub base : ℕ
   pub count : ℕ
@@ -26,6 +26,12 @@ value_at s n k = value_by n None (list_at s.versions k)
 unfoldable pub written : List Write → List ℕ → Option (List ℕ) → Option (List ℕ)
 written [] k before = before
 written (w ∷ ws) k before = written ws k (if same_key w.key k then w.value else before)
+
+-- what is found at a key is what it was behind so many commits, and that is kept
+pub record ReadsAt (s : VersionTable) (n : ℕ) (k : List ℕ) (found : Option (List ℕ)) : Type 0 where
+  pub value : found ≡ value_at s n k
+  pub since_base : s.base ≤ n
+  pub made : n ≤ s.count
 
 -- the data do not change
 pub record SameData (old new : VersionTable) : Type 0 where
@@ -90,30 +96,43 @@ up_to n vs = filter (is_up_to n) vs
 -- the versions of a key that these writes make at a count
 unfoldable pub made : ℕ → List Write → List ℕ → List Version
 made n [] k = []
-made n (w ∷ ws) k = if same_key w.key k then record { count = n; value = w.value } ∷ made n ws k else made n ws k
+made n (w ∷ ws) k =
+    if same_key w.key k then record { count = n; value = w.value } ∷ made n ws k else made n ws k
 
 -- a write of this key is in the list
 abbrev pub names_key : List Write → List ℕ → Bool
 names_key ws k = list_any (λ w. same_key w.key k) ws
 
+-- what the map of keys is: the versions of each
+abbrev pub KeyTable : Type 0
+KeyTable = List (List ℕ × List Version)
+
+-- a key has one version more
+abbrev pub AddsVersion : KeyTable → KeyTable → List ℕ → Version → Type 0
+AddsVersion old new k v = Becomes old new k (list_at old k ++ v ∷ [])
+
+-- a key loses its versions of later commits
+abbrev pub KeepsUpTo : KeyTable → KeyTable → ℕ → List ℕ → Type 0
+KeepsUpTo old new n k = Becomes old new k (up_to n (list_at old k))
+
 -- each key has one version more of each of its writes
-abbrev pub Adds : List (List ℕ × List Version) → List (List ℕ × List Version) → ℕ → List Write → Type 0
+abbrev pub Adds : KeyTable → KeyTable → ℕ → List Write → Type 0
 Adds old new n ws = (k : List ℕ) → list_at new k ≡ list_at old k ++ made n ws k
 
 -- each key has one version more of each of its writes in a front of these
-pub record AddsFront (old new : List (List ℕ × List Version)) (n : ℕ) (ws : List Write) : Type 0 where
+pub record AddsFront (old new : KeyTable) (n : ℕ) (ws : List Write) : Type 0 where
   pub done : List Write
   pub behind : List Write
   pub front : ws ≡ done ++ behind
   pub adds : Adds old new n done
 
 -- the keys of these writes lose the versions of later commits, and the others lose none
-pub record TakesBack (old new : List (List ℕ × List Version)) (n : ℕ) (ws : List Write) : Type 0 where
+pub record TakesBack (old new : KeyTable) (n : ℕ) (ws : List Write) : Type 0 where
   pub own : (k : List ℕ) → names_key ws k ≡ true → list_at new k ≡ up_to n (list_at old k)
   pub others : (k : List ℕ) → names_key ws k ≡ false → list_at new k ≡ list_at old k
 
 -- the versions rise, and none is of a later commit than the last, or the next where its writes are staged
-pub record IsKept (base count : ℕ) (is_staged : Bool) (t : List (List ℕ × List Version)) : Type 0 where
+pub record IsKept (base count : ℕ) (is_staged : Bool) (t : KeyTable) : Type 0 where
   pub starts : base ≤ count
   pub rises : (k : List ℕ) → rises_from 0 (list_at t k) ≡ true
   pub settled : is_staged ≡ false → (k : List ℕ) → none_above count (list_at t k) ≡ true
@@ -121,4 +140,5 @@ pub record IsKept (base count : ℕ) (is_staged : Bool) (t : List (List ℕ × L
 
 -- so many versions are of commits up to this one, and the others of later ones
 abbrev pub IsPlace : ℕ → List Version → ℕ → Type 0
-IsPlace n vs i = (i ≤ length vs) × IsPartitionPoint (λ v. is_up_to n v ≡ true) (λ v. is_up_to n v ≡ false) vs i
+IsPlace n vs i =
+    (i ≤ length vs) × IsPartitionPoint (λ v. is_up_to n v ≡ true) (λ v. is_up_to n v ≡ false) vs i

@@ -9,6 +9,7 @@
 //! ```
 #![tactic(auto)]
 
+pub mod law;
 mod version;
 mod versions;
 

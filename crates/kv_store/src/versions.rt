@@ -1,8 +1,23 @@
 //! The versions of all keys.
 
 ghost use Rattle.std.specs.Prelude.{◌≡◌, ◌≤◌, ◌<◌, ◌+◌, ◌^◌, ◌⊎◌, ◌++◌, ◌∷◌, ℕ, List, [], true, false, IfOk, OnOk, OnErr, None, map, option_map};
-ghost use Rattle.key_tables.specs.Tables.{Becomes, SameLists, list_at, table_of};
-ghost use Rattle.kv_store.specs.Versions.{Adds, AddsFront, Applies, Holds, Publishes, SameData, Stages, TakesBack, pair_write, rises_from, up_to, value_at};
+ghost use Rattle.key_tables.specs.Tables.{SameLists, list_at, table_of};
+ghost use Rattle.kv_store.specs.Versions.{
+  Adds,
+  AddsFront,
+  AddsVersion,
+  Applies,
+  Holds,
+  KeepsUpTo,
+  Publishes,
+  ReadsAt,
+  SameData,
+  Stages,
+  TakesBack,
+  pair_write,
+  rises_from,
+  value_at,
+};
 
 use crate::version::{Version, keep_up_to, value_by};
 use indexmap::IndexMap;
@@ -97,7 +112,7 @@ impl Versions {
 
     /// What a key was behind so many commits. Gone: that is before the base, or so many were not made yet.
     pub fn read_at(&self, count: u64, key: &[u8]) -> Result<Option<&[u8]>, Gone>
-        ensures ok { IfOk result (λ found. (option_map (λ v. v.now) found ≡ value_at self.now count key.now) × (self.now.base ≤ count) × (count ≤ self.now.count)) }
+        ensures ok { IfOk result (λ found. ReadsAt self.now count key.now (option_map (λ v. v.now) found)) }
         ensures err { OnErr result ((count < self.now.base) ⊎ (self.now.count < count)) }
     {
         if count < self.base || self.count < count {
@@ -192,8 +207,7 @@ fn version_of(alloc: Global, count: u64, write: &Write) -> Result<Version, Alloc
 
 /// Gives a key one version more.
 fn push(alloc: Global, keys: &mut Keys, key: &[u8], version: Version) -> Result<(), AllocError>
-    ensures ok { OnOk result (Becomes (table_of keys.old.entries) (table_of keys.new.entries) key.now
-        (list_at (table_of keys.old.entries) key.now ++ version ∷ [])) }
+    ensures ok { OnOk result (AddsVersion (table_of keys.old.entries) (table_of keys.new.entries) key.now version) }
     ensures err { OnErr result (SameLists (table_of keys.old.entries) (table_of keys.new.entries)) }
 {
     match keys.get_mut(key) {
@@ -209,8 +223,8 @@ fn push(alloc: Global, keys: &mut Keys, key: &[u8], version: Version) -> Result<
 
 /// Gives the key of a write one version more.
 fn push_write(alloc: Global, keys: &mut Keys, count: u64, write: &Write) -> Result<(), AllocError>
-    ensures ok { OnOk result (Becomes (table_of keys.old.entries) (table_of keys.new.entries) write.now.key
-        (list_at (table_of keys.old.entries) write.now.key ++ record { count = count; value = write.now.value } ∷ [])) }
+    ensures ok { OnOk result (AddsVersion (table_of keys.old.entries) (table_of keys.new.entries) write.now.key
+        (record { count = count; value = write.now.value })) }
     ensures err { OnErr result (SameLists (table_of keys.old.entries) (table_of keys.new.entries)) }
 {
     let version = version_of(alloc, count, write)?;
@@ -243,7 +257,7 @@ fn take_back(keys: &mut Keys, count: u64, writes: &[Write])
 
 /// Drops a key's versions of commits behind this one.
 fn keep_key_up_to(keys: &mut Keys, key: &[u8], count: u64)
-    ensures { Becomes (table_of keys.old.entries) (table_of keys.new.entries) key.now (up_to count (list_at (table_of keys.old.entries) key.now)) }
+    ensures { KeepsUpTo (table_of keys.old.entries) (table_of keys.new.entries) count key.now }
 {
     match keys.get_mut(key) {
         Some(list) => keep_up_to(list, count),

@@ -2,3 +2,6 @@ pub mod Names
 pub mod Parts
 pub mod Records
 pub mod Sizes
+pub mod Cuts
+pub mod CutNames
+pub mod CutRecords

@@ -1,6 +1,7 @@
 //! A sound record's payload reads as this record.
 
 ghost use Rattle.log_sound.specs.Sound.{NamesReadBack, RecordsFitFrames, RecordsReadBack};
+ghost use Rattle.log_sound.specs.Written.{ReadIsWritten};
 
 /// The XID that a log writes for a whole name reads as this name.
 pub fn names_read_back()
@@ -15,4 +16,9 @@ pub fn records_read_back()
 /// A sound record fits a frame.
 pub fn records_fit_frames()
     ensures { RecordsFitFrames }
+{}
+
+/// The record that a frame reads as is written as this frame.
+pub fn what_is_read_was_written()
+    ensures { ReadIsWritten }
 {}

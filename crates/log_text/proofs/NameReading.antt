@@ -55,7 +55,7 @@ parts_are : (x y : XidParts) → x.format ≡ y.format → x.gtrid ≡ y.gtrid �
 parts_are x y f g b =
     let e : record { format = x.format; gtrid = x.gtrid; bqual = x.bqual } ≡ record { format = y.format; gtrid = y.gtrid; bqual = y.bqual } = rw (f, g, b) refl in e
 
-same_xid_is : (x y : XidParts) → same_xid x y ≡ true → x ≡ y
+pub same_xid_is : (x y : XidParts) → same_xid x y ≡ true → x ≡ y
 unfolding same_xid
 same_xid_is x y h =
     let p = and_parts _ _ h in

@@ -19,11 +19,11 @@ with_all_more : (xs : List LogRecord) (l : LogRecord) (r : LogReading) → with_
 with_all_more [] l r = refl
 with_all_more (x ∷ xs) l r = ap (with_first x) (with_all_more xs l r)
 
-with_all_whole : (xs : List LogRecord) (torn : ℕ) → with_all xs (Whole [] torn) ≡ Whole xs torn
+pub with_all_whole : (xs : List LogRecord) (torn : ℕ) → with_all xs (Whole [] torn) ≡ Whole xs torn
 with_all_whole [] torn = refl
 with_all_whole (x ∷ xs) torn = ap (with_first x) (with_all_whole xs torn)
 
-with_all_damaged : (xs : List LogRecord) (place : ℕ) → with_all xs (Damaged place) ≡ Damaged place
+pub with_all_damaged : (xs : List LogRecord) (place : ℕ) → with_all xs (Damaged place) ≡ Damaged place
 with_all_damaged [] place = refl
 with_all_damaged (x ∷ xs) place = ap (with_first x) (with_all_damaged xs place)
 
@@ -36,7 +36,7 @@ passed_read p place s (suc k) [] = refl
 passed_read p place s (suc k) (b ∷ bs) = passed_read p place s k bs
 
 -- what one frame makes of the reading
-abbrev reads_one : Kind → ℕ → SeenLog → Cut → LogReading
+abbrev pub reads_one : Kind → ℕ → SeenLog → Cut → LogReading
 reads_one p place s c = record_by place s (read_record p c.0 c.1) (λ t. read_frames p (place + 3 + length c.1) t 0 c.2)
 
 seen_by_same : (place : ℕ) (l : LogRecord) (o : Option SeenLog) (f g : SeenLog → LogReading) → ((t : SeenLog) → f t ≡ g t) → seen_by place l o f ≡ seen_by place l o g
@@ -56,7 +56,7 @@ step_read_by p place s a b d rest c k e =
     (λ t. passed_read p (place + 3 + length c.1) t (length c.1) rest
     ∙ ap (read_frames p (place + 3 + length c.1) t 0) (ap (λ n. drop n rest) (ap (λ z. length z.1) k.is ∙ taken (b * 256 + d) rest k.fits) ∙ ap (λ z. z.2) (sym k.is)))
 
-step_read : (p : Kind) (place : ℕ) (s : SeenLog) (xs : List ℕ) (c : Cut) → first_frame xs ≡ Some c → read_frames p place s 0 xs ≡ reads_one p place s c
+pub step_read : (p : Kind) (place : ℕ) (s : SeenLog) (xs : List ℕ) (c : Cut) → first_frame xs ≡ Some c → read_frames p place s 0 xs ≡ reads_one p place s c
 step_read p place s [] c e = absurd (cc)
 step_read p place s (a ∷ []) c e = absurd (cc)
 step_read p place s (a ∷ b ∷ []) c e = absurd (cc)
@@ -137,7 +137,7 @@ reads_on p bytes rest s t c l h e r f =
           ∙ ap (λ ls. with_all ls (read_frames p (5 + length (h.sound ++ a.frame)) t 0 c.2)) (sym all);
     }
 
-torn_read : (p : Kind) (place : ℕ) (s : SeenLog) (rest : List ℕ) → first_frame rest ≡ None → read_frames p place s 0 rest ≡ Whole [] (length rest)
+pub torn_read : (p : Kind) (place : ℕ) (s : SeenLog) (rest : List ℕ) → first_frame rest ≡ None → read_frames p place s 0 rest ≡ Whole [] (length rest)
 unfolding read_frames
 torn_read p place s [] e = refl
 torn_read p place s (b ∷ bs) e = ap (λ o. frame_by p place s (suc (length bs)) o (λ at t k. read_frames p at t k bs)) e

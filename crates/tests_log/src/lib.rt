@@ -7,3 +7,5 @@ mod damage;
 mod faults;
 #[cfg(test)]
 mod trims;
+#[cfg(test)]
+mod writing;

@@ -13,7 +13,8 @@ use Rattle.tree_turns.proofs.Steps.{step_of}
 use Rattle.tree_nodes.specs.Numbers.{IsIssuer, Numbers}
 use Rattle.tree_nodes.specs.ProcessSteps.{ChildStep}
 use Rattle.tree_nodes.specs.WorldHolds.{IsChildRole, Issues, NodeHolds, RoleHolds}
-use Rattle.tree_nodes.proofs.ManagersHold.{all_booted, boots_of, numbers_are_given_once, same_self}
+use Rattle.tree_nodes.proofs.BootsHold.{all_booted, boots_of}
+use Rattle.tree_nodes.proofs.ManagersHold.{numbers_are_given_once, same_self}
 use Rattle.tree_nodes.proofs.Worlds.{all_last}
 use Rattle.tree_headline.specs.ProcessLaws.{AllFrom, CoordinatorLaws, IsCoordinator, StepKeeps}
 use Rattle.tree_headline.specs.CoordinatorLaws.{CascadedKeeps, CascadedLaws, GivesCases, RootKeeps, RootLaws}

@@ -1,5 +1,5 @@
 -- Boots rise along a log, and while a process is up its last one is in the forced front.
-use Rattle.std.proofs.Common.{◌≡◌, ◌∙◌, ◌≤◌, ◌<◌, ◌||◌, ◌+◌, ℕ, zero, suc, Bool, true, false, Option, Some, None, List, [], ◌∷◌, ◌++◌, take, drop, refl, sym, ap, subst, append_assoc, if◌then◌else◌, arith}
+use Rattle.std.proofs.Common.{◌≡◌, ◌∙◌, ◌≤◌, ◌<◌, ◌+◌, ℕ, zero, suc, Bool, true, false, Option, Some, None, List, [], ◌∷◌, ◌++◌, take, drop, refl, sym, ap, subst, append_assoc, if◌then◌else◌, arith}
 use Rattle.std.specs.Prelude.{fold}
 use Rattle.std.proofs.Math.Nat.{le_trans, le_refl}
 use Rattle.std.proofs.lemmas.Grind.{fold-append}
@@ -24,7 +24,7 @@ use Rattle.tree_turns.specs.Steps.{StepOf, heard_in, handled, failed_in, passed,
 use Rattle.tree_turns.proofs.Operators.{all_none}
 use Rattle.tree_turns.proofs.Steps.{turn_of}
 use Rattle.tree_nodes.specs.Lasts.{Logs, logs_of, standing}
-use Rattle.tree_nodes.proofs.Tests.{neither, has-cons, has-nil, in_none}
+use Rattle.tree_nodes.proofs.Tests.{neither, first_false, second_false, has-cons, has-nil, in_none}
 use Rattle.tree_nodes.proofs.Appends.{forces, writes, breaks, loses, replaces, either_logs, breaks_keeps}
 use Rattle.tree_nodes.proofs.Trims.{data_is_other}
 
@@ -38,7 +38,7 @@ rise_push : (b : ℕ) (xs ys : List Record) → BootsRise b xs → BootsRise (fo
 rise_push b [] ys h k = k
 rise_push b (x ∷ xs) ys h k = (h.0, rise_push (boot_after b x) xs ys h.1 k)
 
-rise_front : (b : ℕ) (xs ys : List Record) → BootsRise b (xs ++ ys) → BootsRise b xs
+pub rise_front : (b : ℕ) (xs ys : List Record) → BootsRise b (xs ++ ys) → BootsRise b xs
 rise_front b [] ys h = tt
 rise_front b (x ∷ xs) ys h = (h.0, rise_front (boot_after b x) xs ys h.1)
 
@@ -53,12 +53,6 @@ rise_most b (x ∷ xs) h = le_trans h.0 (rise_most (boot_after b x) xs h.1)
 -- a record that is no Opened leaves the boot
 same_boot : (b : ℕ) (r : Record) → is_opened r ≡ false → boot_after b r ≡ b
 same_boot b r e = grind arith
-
-first_false : (a b : Bool) → (a || b) ≡ false → a ≡ false
-first_false a b e = grind arith
-
-second_false : (a b : Bool) → (a || b) ≡ false → b ≡ false
-second_false a b e = grind arith
 
 pub others_boot : (b : ℕ) (xs : List Record) → has is_opened xs ≡ false → fold boot_after b xs ≡ b
 unfolding has
@@ -76,14 +70,14 @@ others_rise b (x ∷ xs) e =
       others_rise (boot_after b x) xs (second_false (is_opened x) (has is_opened xs) e),
     )
 
-boot_append : (xs ys : List Record) → boot_of (xs ++ ys) ≡ fold boot_after (boot_of xs) ys
+pub boot_append : (xs ys : List Record) → boot_of (xs ++ ys) ≡ fold boot_after (boot_of xs) ys
 unfolding boot_of
 boot_append xs ys = fold-append boot_after 0 xs ys
 
 boot_others : (xs ys : List Record) → has is_opened ys ≡ false → boot_of (xs ++ ys) ≡ boot_of xs
 boot_others xs ys e = boot_append xs ys ∙ others_boot (boot_of xs) ys e
 
-abbrev Rises : List Record → Type 0
+abbrev pub Rises : List Record → Type 0
 Rises rs = BootsRise 0 rs
 
 rest_rises : (xs ys : List Record) → Rises (xs ++ ys) → BootsRise (boot_of xs) ys
@@ -94,7 +88,7 @@ push_rises : (xs ys : List Record) → Rises xs → BootsRise (boot_of xs) ys �
 unfolding boot_of
 push_rises xs ys h k = rise_push 0 xs ys h k
 
-front_below : (xs ys : List Record) → Rises (xs ++ ys) → boot_of xs ≤ boot_of (xs ++ ys)
+pub front_below : (xs ys : List Record) → Rises (xs ++ ys) → boot_of xs ≤ boot_of (xs ++ ys)
 front_below xs ys h = subst (λ y. boot_of xs ≤ y) (sym (boot_append xs ys))
     (rise_most (boot_of xs) ys (rest_rises xs ys h))
 
@@ -192,7 +186,7 @@ booted_breaks l new a f h k = record {
   boot_is_forced = λ up. absurd (cc);
 }
 
-lost_rises : (l : Logs) (k : ℕ) → Rises (standing l) → Rises (standing (loses l k))
+pub lost_rises : (l : Logs) (k : ℕ) → Rises (standing l) → Rises (standing (loses l k))
 lost_rises l k h =
     rise_front 0 (l.forced ++ take k l.unforced) (drop k l.unforced)
     (subst Rises (sym (append_assoc l.forced (take k l.unforced) (drop k l.unforced)
@@ -216,6 +210,10 @@ reopens_boot : (role : Role) (rs : List Record) → fold boot_after (boot_of rs)
 reopens_boot (AtLeaf p) rs = refl
 reopens_boot AtRoot rs = others_boot (boot_of rs + 1) _ (all_none is_opened (λ c ts. refl) rs (cases_in rs))
 reopens_boot (Below p) rs = others_boot (boot_of rs + 1) _ (all_none is_opened (λ c ts. refl) rs (cases_in rs))
+
+-- the boot behind a restart is the next
+pub reopened_boot : (role : Role) (rs : List Record) → boot_of (rs ++ reopens role rs) ≡ boot_of rs + 1
+reopened_boot role rs = boot_append rs (reopens role rs) ∙ reopens_boot role rs
 
 -- What a trim leaves.
 
@@ -324,13 +322,10 @@ module _ (place : Place) (n : Node) (h : Booted (logs_of n)) where
   left_below : (k : ℕ) → boot_of n.forced ≤ boot_of (left_of n k)
   left_below k = front_below n.forced (take k n.unforced) (lost_rises (logs_of n) k h.rises)
 
-  reopened_boot : (k : ℕ) → boot_of (restarted place n k).forced ≡ boot_of (left_of n k) + 1
-  reopened_boot k = boot_append (left_of n k) (reopens place.role (left_of n k)) ∙ reopens_boot place.role (left_of n k)
-
   pub restart_rises : (k : ℕ) → boot_of n.forced < boot_of (kept (restarted place n k))
   restart_rises k =
       subst (λ y. boot_of n.forced < y)
-      (sym (ap boot_of (append-nil (left_of n k ++ reopens place.role (left_of n k))) ∙ reopened_boot k))
+      (sym (ap boot_of (append-nil (left_of n k ++ reopens place.role (left_of n k))) ∙ reopened_boot place.role (left_of n k)))
       (below_next (boot_of n.forced) (boot_of (left_of n k)) (left_below k))
     where
       below_next : (a b : ℕ) → a ≤ b → a < b + 1
@@ -353,7 +348,7 @@ module _ (place : Place) (n : Node) (h : Booted (logs_of n)) where
   forced_rises m _ _ (passed i hp r) = le_refl (boot_of n.forced)
   forced_rises m _ _ (failed_passing i f fl hp r) = le_refl (boot_of n.forced)
   forced_rises m _ _ (reopened k hp) =
-      subst (λ y. boot_of n.forced ≤ y) (sym (reopened_boot k)) (le_trans (left_below k) (next_boot (boot_of (left_of n k))))
+      subst (λ y. boot_of n.forced ≤ y) (sym (reopened_boot place.role (left_of n k))) (le_trans (left_below k) (next_boot (boot_of (left_of n k))))
   forced_rises m _ _ (failed_reopening k f fl hp) =
       fault_below (take f.forced (take k n.unforced ++ take f.appended (reopens place.role (left_of n k)))) m _ _ (failed_reopening k f fl hp) refl
   forced_rises m _ _ (trims_log hp up) = trimmed_below

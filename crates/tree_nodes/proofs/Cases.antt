@@ -159,7 +159,7 @@ view_standing Committing rs c m = refl
 view_standing Aborting rs c m = refl
 view_standing Heuristic rs c m = refl
 
-viewed : (place : Place) (n : Node) (c : Case)
+pub viewed : (place : Place) (n : Node) (c : Case)
     → (coordinator_view place n c).standing ≡ coordinator_standing (kept n) c (memory_of place n c)
 unfolding coordinator_view
 viewed place n c = view_standing (coordinator_standing (kept n) c (memory_of place n c)) (kept n) c

@@ -1,5 +1,5 @@
 -- Over every run each ticket number is given once, and each manager keeps its part of the world's invariant.
-use Rattle.std.proofs.Common.{◌≡◌, ◌∙◌, inl, inr, true, List, [], ◌++◌, refl, sym, ap, subst, arith}
+use Rattle.std.proofs.Common.{◌≡◌, ◌∙◌, inl, inr, true, List, [], ◌++◌, refl, sym, ap, subst}
 use Rattle.tree_model.specs.declared.names.Case.{Case}
 use Rattle.tree_model.specs.declared.names.ProcessId.{ProcessId}
 use Rattle.tree_model.specs.declared.names.Ticket.{Ticket}
@@ -18,15 +18,16 @@ use Rattle.tree_turns.specs.Steps.{StepOf, heard_in, handled, failed_in, passed,
 use Rattle.tree_turns.proofs.Steps.{step_of, turn_of}
 use Rattle.tree_nodes.specs.Lasts.{logs_of, Lasts}
 use Rattle.tree_nodes.specs.Numbers.{IsIssuer, Numbers}
-use Rattle.tree_nodes.specs.WorldHolds.{NodeHolds, Boots, SameSelf}
-use Rattle.tree_nodes.proofs.Boots.{Booted, still_booted, forced_below}
+use Rattle.tree_nodes.specs.WorldHolds.{NodeHolds, SameSelf}
+use Rattle.tree_nodes.proofs.Boots.{Booted}
+use Rattle.tree_nodes.proofs.BootsHold.{all_booted, boots_of}
 use Rattle.tree_nodes.proofs.Issuing.{Issued, self_at, issued_elsewhere, still_issued}
 use Rattle.tree_nodes.proofs.GivenCases.{Remembered, remembered_elsewhere}
 use Rattle.tree_nodes.proofs.ManagerBranches.{still_remembered}
 use Rattle.tree_nodes.proofs.Promises.{quiet_resumes}
 use Rattle.tree_nodes.proofs.Selves.{Self, self_same}
 use Rattle.tree_nodes.proofs.Tickets.{active_found, active_is_own, joined_answers, answer_is_own}
-use Rattle.tree_nodes.proofs.Worlds.{all_last, put}
+use Rattle.tree_nodes.proofs.Worlds.{all_last}
 
 -- JOINED is sent for tickets of the sender only.
 
@@ -58,21 +59,6 @@ put_or_other P Q q p k at now other old = elim (same_process_tells q p) [
   | inl t ↦ rw t.0 (subst (λ (x : ProcessId). Q x k) t.1 now)
   | inr f ↦ rw f.0 (other f.1 old)
 ]
-
-opened_booted : Booted (logs_of opened_node)
-opened_booted = record { rises = (omega arith, tt); boot_is_forced = λ up. refl }
-
-pub all_booted : (tree : List TreeEntry) (es : List Made) (w : World) → IsRun tree es w → (p : ProcessId)
-    → Booted (logs_of (w.at p))
-all_booted tree _ _ opens p = opened_booted
-all_booted tree _ _ (makes es w m e w' run stands step) p =
-    let at = makes_at tree w m e w' step in
-    let q = m.step.process in
-    let s = step_of (place_of tree q) (w.at q) m e at.node at.made in
-    subst (λ (x : World). Booted (logs_of (x.at p))) (sym at.world)
-    (put (λ x k. Booted (logs_of k)) q p at.node w.at
-    (still_booted (place_of tree q) (w.at q) (all_booted tree es w run q) m e at.node s)
-    (all_booted tree es w run p))
 
 abbrev IssuedBy : List TreeEntry → List Envelope → ProcessId → Node → Type 0
 IssuedBy tree net p k = IsIssuer (role_of tree p) → Issued (place_of tree p) net k
@@ -160,9 +146,6 @@ same_self place n c d =
       issued = ap (λ (s : Self). s.issued) e;
       active = ap (λ (s : Self). s.active) e;
     }
-
-pub boots_of : (n : Node) → Booted (logs_of n) → Boots n
-boots_of n h = record { boot_is_forced = h.boot_is_forced; boot_only_rises = forced_below (logs_of n) h }
 
 manager_holds : (me p : ProcessId) (tree : List TreeEntry) (net : List Envelope) (n : Node) → (let place : Place = record
     { me = me; role = AtLeaf p; tree = tree } in Lasts (AtLeaf p) (logs_of n) → Booted (logs_of n)

@@ -4,8 +4,11 @@ use Rattle.std.specs.Prelude.{reverse, not}
 use Rattle.std.proofs.lemmas.List.{take-append-drop}
 use Rattle.std.proofs.lemmas.List.Folds.{list_any-append}
 use Rattle.std.proofs.lemmas.List.Sorted.{IsPermutation-reverse, list_any-IsPermutation}
+use Rattle.tree_model.specs.declared.names.Case.{Case}
 use Rattle.tree_model.specs.declared.records.Record.{Record}
 use Rattle.tree_model.specs.Records.{has}
+use Rattle.tree_model.specs.Names.{same_case}
+use Rattle.tree_model.specs.NameLaws.{same_case_tells}
 use Rattle.tree_model.specs.Outcomes.{has_last}
 
 pub either : (a b : Bool) → (a || b) ≡ true → (a ≡ true) ⊎ (b ≡ true)
@@ -24,6 +27,12 @@ pub both : (a b : Bool) → (a && b) ≡ true → (a ≡ true) × (b ≡ true)
 both true true e = (refl, refl)
 both true false e = absurd (cc)
 both false b e = absurd (cc)
+
+pub first_false : (a b : Bool) → (a || b) ≡ false → a ≡ false
+first_false a b e = grind arith
+
+pub second_false : (a b : Bool) → (a || b) ≡ false → b ≡ false
+second_false a b e = grind arith
 
 pub and : (a b : Bool) → a ≡ true → b ≡ true → (a && b) ≡ true
 and a b e f = grind arith
@@ -72,6 +81,10 @@ module _ (q : Record → Bool) where
       by_front : (b : Bool) → has q (take k xs) ≡ b → has q (take k xs) ≡ false
       by_front true f = not_both (has q xs) (in_front k xs f) e
       by_front false f = f
+
+-- two cases that are one
+pub case_is : (c d : Case) → same_case c d ≡ true → c ≡ d
+case_is c d e = elim (same_case_tells c d) [ inl t ↦ t.1 | inr f ↦ absurd (let g = f.0 in cc) ]
 
 -- a record that passes the first test stands with none behind it that passes the second, or there is one
 -- that does

@@ -1,7 +1,7 @@
 //! The laws of single processes.
 ghost use Rattle.std.specs.Prelude.{◌≡◌, List, false, true};
 ghost use Rattle.tree_model.specs.Names.{child_case};
-ghost use Rattle.tree_model.specs.Nodes.{AtLeaf, Below, is_listed, opened_node, place_of, role_of};
+ghost use Rattle.tree_model.specs.Nodes.{AtLeaf, AtRoot, Below, is_listed, kept, opened_node, place_of, role_of};
 ghost use Rattle.tree_model.specs.Outcomes.{StandingMismatches, YesIsForced, cascaded_ends, is_commit_outcome, sent};
 ghost use Rattle.tree_model.specs.declared.names.Case.{Case};
 ghost use Rattle.tree_model.specs.declared.names.Outcome.TheVariants.{Committed};
@@ -9,7 +9,13 @@ ghost use Rattle.tree_model.specs.declared.names.ProcessId.{ProcessId};
 ghost use Rattle.tree_model.specs.declared.names.Ticket.{Ticket};
 ghost use Rattle.tree_model.specs.declared.names.Txn.{Txn};
 ghost use Rattle.tree_nodes.specs.Numbers.{IsIssuer, Numbers};
-ghost use Rattle.tree_nodes.specs.WorldHolds.{IsPair, JoinedOnce, NodeHolds, WorldHolds, pair_reading};
+ghost use Rattle.tree_nodes.specs.CaseOrder.{CaseInOrder, IsCoordinator};
+ghost use Rattle.tree_nodes.specs.RootAccepts.{Accepts};
+ghost use Rattle.tree_nodes.specs.RootAlike.{AllAlike};
+ghost use Rattle.tree_nodes.specs.RootCases.{RootCases};
+ghost use Rattle.tree_nodes.specs.RootNames.{NamesAccepted};
+ghost use Rattle.tree_nodes.specs.RootUndecided.{OpenHasNoCommit};
+ghost use Rattle.tree_nodes.specs.WorldHolds.{Boots, IsPair, JoinedOnce, NodeHolds, WorldHolds, pair_reading};
 ghost use Rattle.tree_pairs.specs.Invariant.{Common};
 ghost use Rattle.tree_readings.specs.ReadingOf.{gives_case};
 ghost use Rattle.tree_model.specs.World.{IsRun, Made, World};
@@ -25,6 +31,53 @@ pub fn mismatches_stand()
 /// the forced front, move by move, a repeated YES too.
 pub fn promises_are_forced()
     ensures { (tree : List TreeEntry) (es : List Made) (w : World) → IsRun tree es w → YesIsForced tree es }
+{}
+
+/// In every run of every tree, the boots of each process's log only rise, and the last of a process that is up is
+/// in the forced front.
+pub fn boots_rise()
+    ensures { (tree : List TreeEntry) (es : List Made) (w : World) → IsRun tree es w → (p : ProcessId)
+        → Boots (w.at p) }
+{}
+
+/// In every run of every tree, the records that a root ever appended are of its own cases, with numbers that it gave
+/// out before.
+pub fn roots_own_their_cases()
+    ensures { (tree : List TreeEntry) (es : List Made) (w : World) → IsRun tree es w → (p : ProcessId)
+        → role_of tree p ≡ AtRoot → RootCases (place_of tree p) (w.at p) }
+{}
+
+/// In every run of every tree, what a root that is up remembers of a case goes with the case's records: one that takes
+/// children is Active, votes are taken exactly where it stands at Collecting, and Presumed Abort writes no Collecting.
+pub fn root_memory_agrees()
+    ensures { (tree : List TreeEntry) (es : List Made) (w : World) → IsRun tree es w → (p : ProcessId)
+        → role_of tree p ≡ AtRoot → AllAlike (place_of tree p) (w.at p) }
+{}
+
+/// In every run of every tree, who is remembered in a root's case, or was heard to vote in it, was accepted into it.
+pub fn roots_accept_first()
+    ensures { (tree : List TreeEntry) (es : List Made) (w : World) → IsRun tree es w → (p : ProcessId)
+        → role_of tree p ≡ AtRoot → Accepts (place_of tree p) (w.at p) }
+{}
+
+/// In every run of every tree, whom a record of a root's case names was accepted into the case.
+pub fn roots_name_whom_they_accepted()
+    ensures { (tree : List TreeEntry) (es : List Made) (w : World) → IsRun tree es w → (p : ProcessId)
+        → role_of tree p ≡ AtRoot → NamesAccepted (w.at p) }
+{}
+
+/// In every run of every tree, the records of each case of each coordinator stand in the order in which they are
+/// written, and decisions and promises name whom they should.
+pub fn cases_stand_in_order()
+    ensures { (tree : List TreeEntry) (es : List Made) (w : World) → IsRun tree es w → (p : ProcessId)
+        → IsCoordinator (role_of tree p) → (c : Case) → CaseInOrder c (kept (w.at p)) }
+{}
+
+/// In every run of every tree, no Commit was ever appended of a root's case that still takes children or votes, where
+/// the root is up.
+pub fn open_cases_have_no_commit()
+    ensures { (tree : List TreeEntry) (es : List Made) (w : World) → IsRun tree es w → (p : ProcessId)
+        → role_of tree p ≡ AtRoot → OpenHasNoCommit (place_of tree p) (w.at p) }
 {}
 
 /// Where the world's invariant holds, a case that JOINED gave is of a pair of the tree, which has the pair's

@@ -28,12 +28,12 @@ unfolding has_case
 pushed cs c d true e = e
 pushed cs c d false e = grind (arith, list_any-append)
 
-has_case-more : (cs : List Case) (o : Option Case) (d : Case) → has_case cs d ≡ true
+pub has_case-more : (cs : List Case) (o : Option Case) (d : Case) → has_case cs d ≡ true
     → has_case (with_case cs o) d ≡ true
 has_case-more cs None d e = e
 has_case-more cs (Some c) d e = pushed cs c d (has_case cs c) e
 
-found : (cs : List Case) (c d : Case) (b : Bool) → has_case cs c ≡ b → c ≡ d
+pub found : (cs : List Case) (c d : Case) (b : Bool) → has_case cs c ≡ b → c ≡ d
     → has_case (if b then cs else cs ++ c ∷ []) d ≡ true
 unfolding has_case
 found cs c d true e same = ap (λ x. list_any (λ a. same_case a x) cs) (sym same) ∙ e

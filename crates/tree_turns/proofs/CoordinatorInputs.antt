@@ -26,11 +26,11 @@ use Rattle.tree_model.specs.declared.events.Input.TheVariants.{Act as ActInput, 
 use Rattle.tree_model.specs.Names.{root_case, child_case, presumed}
 use Rattle.tree_model.specs.Records.{in_list, none_of}
 use Rattle.tree_model.specs.Nodes.{Place, Node, Effect, is_child, is_leaf, role_of}
-use Rattle.tree_model.specs.Memory.{has_child, is_counted, all_voted, yes_of, works_of, memory_of, active_ticket, ticket_of_child, Memory}
+use Rattle.tree_model.specs.Memory.{has_child, is_counted, all_voted, yes_of, works_of, memory_of, active_ticket, ticket_of_child}
 use Rattle.tree_model.specs.Standings.{CoordinatorView, unknown_view, coordinator_view, case_of_child}
 use Rattle.tree_model.specs.CoordinatorRows.{Seat, Row, quiet, sends, post, posted_up, plain, up, each, prepares, tells_outcome, active_work, active_commit, active_commit_alone, active_commit_with, acknowledges_abort, active_abort, prepared_ask, abort_heard_above, collecting_abort_by, collecting_abort, Reason, ByVote, ByAct, ByAbort, collecting_read_only, read_only_end, decides, root_commits, collecting_full, collecting_after, prepared_commit_by, prepared_abort_by, unknown_commit_by, decided_ack_by, other_tickets, on_vote, on_ack, on_inquiry, on_joined, on_prepare, on_commit, on_abort}
 use Rattle.tree_model.specs.Reactions.{Reacts, Refused, Does, row_effect, seat_of, coordinator_acts, begins_at, join_by, work_by, work_for, commit_by, abort_by, ask_by, live_by, vote_for, ack_for, inquiry_for, hears_from_child, cascaded_hears, joins_with, child_says}
-use Rattle.tree_turns.specs.Written.{AtMostOne, wrote_none, wrote_one, IsForCase, IsFromCase, down, upward, invites, AllSent, IsAnswer, is_active, is_next, Writes, writes_nothing, for_act, for_child, for_parent, presumes, gives}
+use Rattle.tree_turns.specs.Written.{AtMostOne, wrote_none, wrote_one, IsForCase, IsFromCase, down, upward, invites, AllSent, is_active, is_next, Writes, writes_nothing, for_act, for_child, for_parent, presumes, gives}
 
 -- Messages.
 

@@ -1,3 +1,4 @@
 pub mod LeafTurns
 pub mod Written
 pub mod Steps
+pub mod CoordinatorTurns

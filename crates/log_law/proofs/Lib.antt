@@ -1,0 +1,7 @@
+pub mod Sayings
+pub mod OwnNames
+pub mod CaseSayings
+pub mod LastOpened
+pub mod Trimmed
+pub mod Branches
+pub mod ManagerTrims

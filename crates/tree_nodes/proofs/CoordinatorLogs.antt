@@ -1,0 +1,393 @@
+-- Each record of a coordinator's log fits what stands before it, over every run.
+use Rattle.std.proofs.Common.{◌≡◌, ◌∙◌, ◌+◌, ℕ, zero, suc, Bool, true, false, Option, Some, None, List, [], ◌∷◌, ◌++◌, take, drop, refl, sym, ap, subst, append_assoc, if◌then◌else◌}
+use Rattle.std.specs.List.{flat_map}
+use Rattle.std.proofs.lemmas.List.{append-nil, take-append-drop}
+use Rattle.tree_model.specs.declared.names.Case.{Case}
+use Rattle.tree_model.specs.declared.names.ProcessId.{ProcessId}
+use Rattle.tree_model.specs.declared.names.Ticket.{Ticket}
+use Rattle.tree_model.specs.declared.names.Presumption.TheVariants.{PresumeAbort, PresumeCommit}
+use Rattle.tree_model.specs.declared.records.Record.{Record}
+use Rattle.tree_model.specs.declared.records.Record.TheVariants.{Opened, Collecting as CollectingRecord, Prepare as PrepareRecord, Commit as CommitRecord, Abort as AbortRecord}
+use Rattle.tree_model.specs.declared.standings.Standing.{Standing}
+use Rattle.tree_model.specs.declared.standings.Standing.TheVariants.{Unknown, Active, Collecting, Prepared, Committing, Aborting, Heuristic}
+use Rattle.tree_model.specs.declared.trees.TreeEntry.{TreeEntry}
+use Rattle.tree_model.specs.Records.{has, none_of, is_collecting, is_prepare, is_commit, is_abort, is_end, promised_by, owing_by, boot_of, cases_in}
+use Rattle.tree_model.specs.Nodes.{Role, AtRoot, Below, AtLeaf, Place, place_of, role_of, Node, kept, Heard, Effect, entries_written, is_any_forced, after}
+use Rattle.tree_model.specs.Memory.{Idle, memory_of}
+use Rattle.tree_model.specs.Standings.{CoordinatorView, coordinator_view, phase_standing, standing_by, view_at}
+use Rattle.tree_model.specs.CoordinatorRows.{Row}
+use Rattle.tree_model.specs.Reactions.{Does, reacts}
+use Rattle.tree_model.specs.Restarts.{recorded_view, restart_abort, aborts_collecting, coordinator_reopens, reopens, trim_fails, trimmed, staying, stays, data_records}
+use Rattle.tree_model.specs.World.{World, Move, Made, IsRun, opens, makes}
+use Rattle.tree_model.proofs.StandingLaws.{phase_unprepared}
+use Rattle.tree_model.proofs.RunLaws.{makes_at}
+use Rattle.tree_turns.specs.CoordinatorTurns.{CaseTurn, rests, invites, accepts, sends_work, finds_nobody, asks_for_votes, gives_up, counts_vote, reads_only, commits, promises, hears_no, aborts, passes_commit, passes_abort, repeats_yes, asks, refuses, acknowledges, waits_for_acks, ends, answers, CoordinatorTurn, does_nothing, of_case, begins, gives_again, gives_fresh, presumes}
+use Rattle.tree_turns.specs.Steps.{StepOf, heard_in, handled, failed_in, passed, failed_passing, reopened, failed_reopening, trimmed as trims_log, failed_trimming}
+use Rattle.tree_turns.proofs.Steps.{step_of}
+use Rattle.tree_turns.proofs.CoordinatorReactions.{CoordinatorTurnAt, coordinator_turn_of}
+use Rattle.tree_nodes.specs.Lasts.{Logs, logs_of, standing}
+use Rattle.tree_nodes.specs.CaseOrder.{IsCoordinator, CaseInOrder}
+use Rattle.tree_nodes.proofs.Tests.{has-nil, has-cons, has-append, neither, first_false, second_false, in_none}
+use Rattle.tree_nodes.proofs.Appends.{loses, either_logs, breaks_keeps}
+use Rattle.tree_nodes.proofs.CaseOrders.{CommitNames, AbortNames, Uncommitted, Undecided, Fits, AllFit, fit_front, fit_both, in_order, names, promise_names, collects_by_commit}
+use Rattle.tree_nodes.proofs.Cases.{viewed}
+use Rattle.tree_nodes.proofs.Phases.{standing_at, collecting_undecided, active_unrecorded}
+use Rattle.tree_nodes.proofs.RootLogs.{idle_standing, recorded_stands}
+use Rattle.tree_nodes.proofs.Worlds.{put}
+
+-- What a row writes.
+
+-- the records of a case that is Prepared
+record PromisedFacts (E C A P : Bool) : Type 0 where
+  no_end : E ≡ false
+  no_commit : C ≡ false
+  no_abort : A ≡ false
+  promised : P ≡ true
+
+promised_facts : (E C A P K N : Bool) (s : Standing) → (s ≡ Prepared → ⊥) → standing_by E C A P K N s ≡ Prepared
+    → PromisedFacts E C A P
+promised_facts true C A P K N s f e = absurd (cc)
+promised_facts false true A P K true s f e = absurd (cc)
+promised_facts false true A P K false s f e = absurd (cc)
+promised_facts false false true P K true s f e = absurd (cc)
+promised_facts false false true P K false s f e = absurd (cc)
+promised_facts false false false true K N s f e =
+    record { no_end = refl; no_commit = refl; no_abort = refl; promised = refl }
+promised_facts false false false false true N s f e = absurd (cc)
+promised_facts false false false false false N s f e = absurd (f e)
+
+module _ (place : Place) (parent : Option ProcessId) (n : Node) (h : Heard) (c : Case) where
+  abbrev v : CoordinatorView
+  v = coordinator_view place n c
+
+  at_collecting : (coordinator_view place n c).standing ≡ Collecting → Undecided (kept n) c
+  at_collecting e =
+      let u = collecting_undecided (kept n) c (memory_of place n c).phase (sym (viewed place n c) ∙ e) in
+      record { no_end = u.no_end; no_commit = u.no_commit; no_abort = u.no_abort }
+
+  ends_not : Undecided (kept n) c → Uncommitted (kept n) c
+  ends_not u = record { no_end = u.no_end; no_commit = u.no_commit }
+
+  at_prepared : (coordinator_view place n c).standing ≡ Prepared
+      → PromisedFacts (has (is_end c) (kept n)) (has (is_commit c) (kept n)) (has (is_abort c) (kept n))
+      (has (is_prepare c) (kept n))
+  at_prepared e =
+      let m = memory_of place n c in
+      promised_facts (has (is_end c) (kept n)) (has (is_commit c) (kept n)) (has (is_abort c) (kept n))
+      (has (is_prepare c) (kept n)) (has (is_collecting c) (kept n)) (none_of (owing_by c (kept n)))
+      (phase_standing c.txn.presumption m.phase) (phase_unprepared c.txn.presumption m.phase)
+      (sym (viewed place n c) ∙ e)
+
+  promised_undecided : (coordinator_view place n c).standing ≡ Prepared → Undecided (kept n) c
+  promised_undecided e =
+      let f = at_prepared e in
+      record { no_end = f.no_end; no_commit = f.no_commit; no_abort = f.no_abort }
+
+  -- its view has whom the promise names
+  promised_view : (coordinator_view place n c).standing ≡ Prepared
+      → (coordinator_view place n c).promised ≡ promised_by c (kept n)
+  unfolding coordinator_view
+  promised_view e =
+      ap (λ (s : Standing). (view_at s (kept n) c (memory_of place n c)).promised) (sym (viewed place n c) ∙ e)
+
+  names_some : (ts : List Ticket) → c.txn.presumption ≡ PresumeAbort → none_of ts ≡ false
+      → CommitNames c.txn.presumption ts
+  names_some ts p e = subst (λ x. CommitNames x ts) (sym p) e
+
+  commit_nobody : c.txn.presumption ≡ PresumeCommit → CommitNames c.txn.presumption []
+  unfolding none_of
+  commit_nobody p = subst (λ x. CommitNames x []) (sym p) refl
+
+  abort_nobody : c.txn.presumption ≡ PresumeAbort → AbortNames c.txn.presumption []
+  unfolding none_of
+  abort_nobody p = subst (λ x. AbortNames x []) (sym p) refl
+
+  abort_anybody : (ts : List Ticket) → c.txn.presumption ≡ PresumeCommit → AbortNames c.txn.presumption ts
+  abort_anybody ts p = subst (λ x. AbortNames x ts) (sym p) tt
+
+  fits_turn : AllFit [] (kept n) → (row : Row) → CaseTurn place parent n h c row
+      → AllFit (kept n) (entries_written row.written)
+  fits_turn a _ (asks_for_votes PresumeCommit i e f g) =
+      let u = active_unrecorded (kept n) c (memory_of place n c).phase (sym (viewed place n c) ∙ e) in (
+        (
+          g,
+          (record { no_end = u.no_end; no_commit = u.no_commit; no_abort = u.no_abort }, u.no_prepare),
+        ),
+        tt,
+      )
+  fits_turn a _ (commits t w ys PresumeAbort i e f g) = ((names_some ys g e, at_collecting i.vote.stands), tt)
+  fits_turn a _ (commits t w ys PresumeCommit i e f g) = ((commit_nobody g, at_collecting i.vote.stands), tt)
+  fits_turn a _ (promises t w ys p i e f) = ((e, at_collecting i.vote.stands), tt)
+  fits_turn a _ (hears_no t us PresumeAbort i e f) = ((abort_nobody f, ends_not (at_collecting i.stands)), tt)
+  fits_turn a _ (hears_no t us PresumeCommit i e f) = ((abort_anybody us f, ends_not (at_collecting i.stands)), tt)
+  fits_turn a _ (aborts why us PresumeAbort i e f g) = ((abort_nobody g, ends_not (at_collecting e)), tt)
+  fits_turn a _ (aborts why us PresumeCommit i e f g) = ((abort_anybody us g, ends_not (at_collecting e)), tt)
+  fits_turn a _ (passes_commit PresumeAbort i e f) = (
+    (
+      names_some (coordinator_view place n c).promised f
+          (ap none_of (promised_view e) ∙ promise_names c (kept n) a (at_prepared e).promised),
+      promised_undecided e,
+    ),
+    tt,
+  )
+  fits_turn a _ (passes_commit PresumeCommit i e f) = ((commit_nobody f, promised_undecided e), tt)
+  fits_turn a _ (passes_abort PresumeAbort i e f) = ((abort_nobody f, ends_not (promised_undecided e)), tt)
+  fits_turn a _ (passes_abort PresumeCommit i e f) =
+      ((abort_anybody (coordinator_view place n c).promised f, ends_not (promised_undecided e)), tt)
+  fits_turn a _ (reads_only t w ys PresumeAbort i e f) = tt
+  fits_turn a _ (reads_only t w ys PresumeCommit i e f) = (tt, tt)
+  fits_turn a _ (ends t o i e f g) = (tt, tt)
+  fits_turn a _ (rests r) = tt
+  fits_turn a _ (invites q i e f g) = tt
+  fits_turn a _ (accepts t i e f) = tt
+  fits_turn a _ (sends_work q t op i e f g) = tt
+  fits_turn a _ (finds_nobody i e f) = tt
+  fits_turn a _ (asks_for_votes PresumeAbort i e f g) = tt
+  fits_turn a _ (gives_up why p i e f) = tt
+  fits_turn a _ (counts_vote t w i f e) = tt
+  fits_turn a _ (repeats_yes j i e) = tt
+  fits_turn a _ (asks i e) = tt
+  fits_turn a _ (refuses j i e) = tt
+  fits_turn a _ (acknowledges o i e) = tt
+  fits_turn a _ (waits_for_acks t o i e f g) = tt
+  fits_turn a _ (answers t o i e) = tt
+
+pub fits_effect : (place : Place) (parent : Option ProcessId) (n : Node) (h : Heard) (e : Effect)
+    → CoordinatorTurn place parent n h e → AllFit [] (kept n) → AllFit (kept n) (entries_written e.written)
+fits_effect place parent n h _ (of_case c row t) a = fits_turn place parent n h c a row t
+fits_effect place parent n h _ (does_nothing i) a = tt
+fits_effect place parent n h _ (begins p e i) a = tt
+fits_effect place parent n h _ (gives_again p d t e i f) a = tt
+fits_effect place parent n h _ (gives_fresh p d e i f) a = tt
+fits_effect place parent n h _ (presumes x t i e) a = tt
+
+-- What a restart appends.
+
+-- what stands in neither is of the first alone, but for what a restart appends
+abbrev NoMore : List Record → List Record → Type 0
+NoMore rs pre = (q : Record → Bool) → ((k : ℕ) → q (Opened k) ≡ false)
+    → ((d : Case) (ts : List Ticket) → q (AbortRecord d ts) ≡ false) → has q rs ≡ false → has q pre ≡ false
+
+one_none : (q : Record → Bool) (r : Record) → q r ≡ false → has q (r ∷ []) ≡ false
+one_none q r e = has-cons q r [] ∙ neither (q r) (has q []) e (has-nil q)
+
+module _ (rs : List Record) (whole : AllFit [] rs) where
+  fits_abort : (pre : List Record) → NoMore rs pre → (d : Case) (s : Standing)
+      → (recorded_view rs d).standing ≡ s
+      → AllFit pre (restart_abort d (recorded_view rs d) s)
+  fits_abort pre more d Collecting e =
+      let at : standing_at rs d Idle ≡ Collecting = sym (recorded_stands d rs) ∙ e in
+      let u = collecting_undecided rs d Idle at in
+      let p = collects_by_commit d rs whole (idle_standing d rs at) in (
+        (
+          subst (λ x. AbortNames x (recorded_view rs d).named) (sym p) tt,
+          record {
+            no_end = more (is_end d) (λ k. refl) (λ b ts. refl) u.no_end;
+            no_commit = more (is_commit d) (λ k. refl) (λ b ts. refl) u.no_commit;
+          },
+        ),
+        tt,
+      )
+  fits_abort pre more d Unknown e = tt
+  fits_abort pre more d Active e = tt
+  fits_abort pre more d Prepared e = tt
+  fits_abort pre more d Committing e = tt
+  fits_abort pre more d Aborting e = tt
+  fits_abort pre more d Heuristic e = tt
+
+  abort_none : (q : Record → Bool) → ((d : Case) (ts : List Ticket) → q (AbortRecord d ts) ≡ false) → (d : Case)
+      (v : CoordinatorView) (s : Standing) → has q (restart_abort d v s) ≡ false
+  abort_none q f d v Collecting = one_none q (AbortRecord d v.named) (f d v.named)
+  abort_none q f d v Unknown = has-nil q
+  abort_none q f d v Active = has-nil q
+  abort_none q f d v Prepared = has-nil q
+  abort_none q f d v Committing = has-nil q
+  abort_none q f d v Aborting = has-nil q
+  abort_none q f d v Heuristic = has-nil q
+
+  fits_aborts : (pre : List Record) → NoMore rs pre → (cs : List Case)
+      → AllFit pre (flat_map (aborts_collecting rs) cs)
+  fits_aborts pre more [] = tt
+  fits_aborts pre more (d ∷ cs) =
+      let w = recorded_view rs d in
+      fit_both pre (aborts_collecting rs d) (flat_map (aborts_collecting rs) cs)
+      (fits_abort pre more d w.standing refl)
+      (fits_aborts (pre ++ aborts_collecting rs d)
+      (λ q f g e. in_none q pre (aborts_collecting rs d) (more q f g e) (abort_none q g d w w.standing)) cs)
+
+  fits_reopens : AllFit rs (coordinator_reopens rs)
+  fits_reopens = (
+    tt,
+    fits_aborts (rs ++ Opened (boot_of rs + 1) ∷ [])
+        (λ q f g e. in_none q rs (Opened (boot_of rs + 1) ∷ []) e (one_none q _ (f (boot_of rs + 1)))) (cases_in rs),
+  )
+
+-- What a trim leaves.
+
+abbrev Less : List Record → List Record → Type 0
+Less rs less = (q : Record → Bool) → ((k : ℕ) → q (Opened k) ≡ false) → has q rs ≡ false → has q less ≡ false
+
+fits_less : (rs less : List Record) → Less rs less → (x : Record) → Fits rs x → Fits less x
+fits_less rs less l (CollectingRecord c ts) f = (
+  f.0,
+  (
+    record {
+      no_end = l (is_end c) (λ k. refl) f.1.0.no_end;
+      no_commit = l (is_commit c) (λ k. refl) f.1.0.no_commit;
+      no_abort = l (is_abort c) (λ k. refl) f.1.0.no_abort;
+    },
+    l (is_prepare c) (λ k. refl) f.1.1,
+  ),
+)
+fits_less rs less l (PrepareRecord c ts) f = (
+  f.0,
+  record {
+    no_end = l (is_end c) (λ k. refl) f.1.no_end;
+    no_commit = l (is_commit c) (λ k. refl) f.1.no_commit;
+    no_abort = l (is_abort c) (λ k. refl) f.1.no_abort;
+  },
+)
+fits_less rs less l (CommitRecord c ts) f = (
+  f.0,
+  record {
+    no_end = l (is_end c) (λ k. refl) f.1.no_end;
+    no_commit = l (is_commit c) (λ k. refl) f.1.no_commit;
+    no_abort = l (is_abort c) (λ k. refl) f.1.no_abort;
+  },
+)
+fits_less rs less l (AbortRecord c ts) f = (
+  f.0,
+  record {
+    no_end = l (is_end c) (λ k. refl) f.1.no_end;
+    no_commit = l (is_commit c) (λ k. refl) f.1.no_commit;
+  },
+)
+fits_less rs less l x f = tt
+
+fits_staying : (role : Role) (whole rs less xs : List Record) → Less rs less → AllFit rs xs
+    → AllFit less (staying role whole xs)
+fits_staying role whole rs less [] l f = tt
+fits_staying role whole rs less (x ∷ xs) l f =
+    by_test (stays role whole xs x)
+    (fits_staying role whole (rs ++ x ∷ []) (less ++ x ∷ []) xs
+    (λ q g e. in_none q less (x ∷ []) (l q g (first_false _ _ (sym (has-append q rs (x ∷ [])) ∙ e)))
+    (second_false _ _ (sym (has-append q rs (x ∷ [])) ∙ e))) f.1)
+    (fits_staying role whole (rs ++ x ∷ []) less xs
+    (λ q g e. l q g (first_false _ _ (sym (has-append q rs (x ∷ [])) ∙ e))) f.1)
+  where
+    by_test : (b : Bool) → AllFit (less ++ x ∷ []) (staying role whole xs) → AllFit less (staying role whole xs)
+        → AllFit less (if b then x ∷ staying role whole xs else staying role whole xs)
+    by_test true g k = (fits_less rs less l x f.0, g)
+    by_test false g k = k
+
+fits_trimmed : (role : Role) (rs : List Record) → data_records role rs ≡ [] → AllFit [] rs → AllFit [] (trimmed role rs)
+unfolding trimmed
+fits_trimmed role rs e f =
+    subst (λ (ds : List Record). AllFit [] ((Opened (boot_of rs) ∷ staying role rs rs) ++ ds)) (sym e)
+    (subst (AllFit []) (sym (append-nil (Opened (boot_of rs) ∷ staying role rs rs))) (
+      tt,
+      fits_staying role rs [] (Opened (boot_of rs) ∷ []) rs
+          (λ q g k. one_none q _ (g (boot_of rs))) f,
+    ))
+
+-- Steps.
+
+-- what a coordinator's role makes of a restart and a trim
+record Coordinating (role : Role) : Type 0 where
+  reopens_so : (rs : List Record) → reopens role rs ≡ coordinator_reopens rs
+  no_data : (rs : List Record) → data_records role rs ≡ []
+
+abbrev Fitting : Node → Type 0
+Fitting n = AllFit [] (kept n)
+
+module _ (place : Place) (role : Coordinating place.role) (n : Node) (old : Fitting n)
+    (turns : (h : Heard) (e : Effect) → reacts place n h ≡ Does e → AllFit (kept n) (entries_written e.written))
+  where
+    all_of : (h : Heard) (e : Effect) → reacts place n h ≡ Does e → AllFit [] (kept n ++ entries_written e.written)
+    all_of h e r = fit_both [] (kept n) (entries_written e.written) old (turns h e r)
+
+    a_front : (xs ys : List Record) (a : ℕ) → AllFit [] (xs ++ ys) → AllFit [] (xs ++ take a ys)
+    a_front xs ys a f =
+        fit_front [] (xs ++ take a ys) (drop a ys)
+        (subst (AllFit [])
+        (sym (append_assoc xs (take a ys) (drop a ys) ∙ ap (λ z. xs ++ z) (take-append-drop a ys))) f)
+
+    appended : (h : Heard) (e : Effect) → reacts place n h ≡ Does e → Fitting (after n h e)
+    appended h e r =
+        let new = entries_written e.written in
+        either_logs n new (is_any_forced e.written) (λ (l : Logs). AllFit [] (standing l))
+        (λ b. subst (AllFit []) (sym (append-nil (kept n ++ new))) (all_of h e r))
+        (λ b. subst (AllFit []) (append_assoc n.forced n.unforced new) (all_of h e r))
+
+    left_fits : (k : ℕ) → AllFit [] (n.forced ++ take k n.unforced)
+    left_fits k = a_front n.forced n.unforced k old
+
+    reopened_fits : (k : ℕ) → let rs = n.forced ++ take k n.unforced in AllFit [] (rs ++ reopens place.role rs)
+    reopened_fits k =
+        let rs = n.forced ++ take k n.unforced in
+        subst (λ (x : List Record). AllFit [] (rs ++ x)) (sym (role.reopens_so rs))
+        (fit_both [] rs (coordinator_reopens rs) (left_fits k) (fits_reopens rs (left_fits k)))
+
+    trimmed_fits : AllFit [] (trimmed place.role (kept n) ++ [])
+    trimmed_fits =
+        subst (AllFit []) (sym (append-nil (trimmed place.role (kept n))))
+        (fits_trimmed place.role (kept n) (role.no_data (kept n)) old)
+
+    trim_failed : (a : ℕ) → Fitting (trim_fails place n a)
+    trim_failed zero = old
+    trim_failed (suc a) = trimmed_fits
+
+    fits_last : (m : Move) (e : Effect) (k : Node) → StepOf place n m e k → Fitting k
+    fits_last m _ _ (handled i g hp np r) = appended (heard_in m i) g r
+    fits_last m _ _ (failed_in i f g fl hp np r) =
+        let new = entries_written g.written in
+        subst (AllFit []) (sym (breaks_keeps (logs_of n) new f.appended f.forced))
+        (a_front (kept n) new f.appended (all_of (heard_in m i) g r))
+    fits_last m _ _ (passed i hp r) = old
+    fits_last m _ _ (failed_passing i f fl hp r) = old
+    fits_last m _ _ (reopened k hp) =
+        let rs = n.forced ++ take k n.unforced in
+        subst (AllFit []) (sym (append-nil (rs ++ reopens place.role rs))) (reopened_fits k)
+    fits_last m _ _ (failed_reopening k f fl hp) =
+        let rs = n.forced ++ take k n.unforced in
+        let new = reopens place.role rs in
+        subst (AllFit []) (sym (breaks_keeps (loses (logs_of n) k) new f.appended f.forced))
+        (a_front rs new f.appended (reopened_fits k))
+    fits_last m _ _ (trims_log hp up) = trimmed_fits
+    fits_last m _ _ (failed_trimming f fl hp up) = trim_failed f.appended
+
+-- Runs.
+
+coordinating : (role : Role) → IsCoordinator role → Coordinating role
+coordinating AtRoot i = record { reopens_so = λ rs. refl; no_data = λ rs. refl }
+coordinating (Below p) i = record { reopens_so = λ rs. refl; no_data = λ rs. refl }
+coordinating (AtLeaf p) i = absurd i
+
+fits_at : (role : Role) → IsCoordinator role → (place : Place) (n : Node) (h : Heard) (e : Effect)
+    → CoordinatorTurnAt role place n h e → AllFit [] (kept n) → AllFit (kept n) (entries_written e.written)
+fits_at AtRoot i place n h e t a = fits_effect place None n h e t a
+fits_at (Below p) i place n h e t a = fits_effect place (Some p) n h e t a
+fits_at (AtLeaf p) i place n h e t a = absurd i
+
+pub all_fit : (tree : List TreeEntry) (es : List Made) (w : World) → IsRun tree es w → (p : ProcessId)
+    → IsCoordinator (role_of tree p) → AllFit [] (kept (w.at p))
+all_fit tree _ _ opens p i = (tt, tt)
+all_fit tree _ _ (makes es w m e w' run stands step) p i =
+    let at = makes_at tree w m e w' step in
+    let q = m.step.process in
+    let s = step_of (place_of tree q) (w.at q) m e at.node at.made in
+    let P : ProcessId → Node → Type 0 = λ x k. IsCoordinator (role_of tree x) → AllFit [] (kept k) in
+    subst (λ (x : World). P p (x.at p)) (sym at.world)
+    (put P q p at.node w.at
+    (λ c. let old = all_fit tree es w run q c in
+    fits_last (place_of tree q) (coordinating (role_of tree q) c) (w.at q) old
+    (λ h g r. fits_at (role_of tree q) c (place_of tree q) (w.at q) h g
+    (coordinator_turn_of (place_of tree q) (w.at q) h g r) old) m e at.node s)
+    (all_fit tree es w run p)) i
+
+pub cases_in_order : (tree : List TreeEntry) (es : List Made) (w : World) → IsRun tree es w → (p : ProcessId)
+    → IsCoordinator (role_of tree p) → (c : Case) → CaseInOrder c (kept (w.at p))
+cases_in_order tree es w run p i c =
+    let f = all_fit tree es w run p i in
+    let rs = kept (w.at p) in
+    record { in_order = in_order c rs f; names = names c rs f; promise_names = promise_names c rs f }

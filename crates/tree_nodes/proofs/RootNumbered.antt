@@ -1,0 +1,300 @@
+-- What a root appended is of its own cases, over every run.
+use Rattle.std.proofs.Common.{◌≡◌, ◌∙◌, ◌≤◌, ◌<◌, ◌+◌, ◌⊎◌, inl, inr, ℕ, zero, suc, true, false, List, [], ◌++◌, take, drop, refl, sym, ap, subst, arith}
+use Rattle.std.specs.Prelude.{fold, reverse}
+use Rattle.std.proofs.lemmas.List.{append-nil}
+use Rattle.tree_model.specs.declared.names.Case.{Case}
+use Rattle.tree_model.specs.declared.names.ProcessId.{ProcessId}
+use Rattle.tree_model.specs.declared.records.Record.{Record}
+use Rattle.tree_model.specs.declared.events.Act.TheVariants.{Begin, Join, Work, Commit, Abort, Ask, Decide, Forget}
+use Rattle.tree_model.specs.declared.events.Input.{Input}
+use Rattle.tree_model.specs.declared.events.Input.TheVariants.{Act as ActInput, Message as MessageInput}
+use Rattle.tree_model.specs.declared.trees.TreeEntry.{TreeEntry}
+use Rattle.tree_model.specs.Records.{boot_of, has}
+use Rattle.tree_model.specs.Nodes.{Role, AtRoot, Place, place_of, role_of, Node, kept, Heard, Effect, opened_node, entries_written, is_any_forced, after, fails_in}
+use Rattle.tree_model.specs.Memory.{memory_of, remembers, fresh_memory}
+use Rattle.tree_model.specs.Standings.{some_case}
+use Rattle.tree_model.specs.Restarts.{reopens, restarted, restart_fails, trims, trim_fails, trimmed}
+use Rattle.tree_model.specs.Views.{root_place}
+use Rattle.tree_model.specs.Reactions.{Does, reacts}
+use Rattle.tree_model.specs.World.{World, Move, Made, IsRun, opens, makes}
+use Rattle.tree_model.proofs.BeginLaws.{begun_step, begun_next}
+use Rattle.tree_model.proofs.ListLaws.{kept-after, memory_of-after}
+use Rattle.tree_model.proofs.RunLaws.{makes_at}
+use Rattle.tree_turns.specs.Steps.{StepOf, heard_in, handled, failed_in, passed, failed_passing, reopened, failed_reopening, trimmed as trims_log, failed_trimming, TurnOf}
+use Rattle.tree_turns.proofs.Steps.{step_of, turn_of}
+use Rattle.tree_turns.proofs.CoordinatorReactions.{coordinator_turn_of}
+use Rattle.tree_nodes.specs.Lasts.{Logs, logs_of, Nested}
+use Rattle.tree_nodes.specs.WorldHolds.{is_record_of}
+use Rattle.tree_nodes.proofs.Tests.{not_both, has-nil, has-reverse, in_first, in_second, in_either, in_front}
+use Rattle.tree_nodes.specs.RootCases.{IsRoots, RootCases}
+use Rattle.tree_nodes.proofs.Appends.{either_logs}
+use Rattle.tree_nodes.proofs.Boots.{Booted, Rises, others_boot, rise_front, boot_append, front_below, lost_rises, still_booted, reopened_boot, trimmed_boot, turn_none}
+use Rattle.tree_nodes.proofs.BootsHold.{all_booted, boots_of}
+use Rattle.tree_nodes.proofs.RootKnown.{known_roots, effect_roots}
+use Rattle.tree_nodes.proofs.RootNumbers.{case_later, roots_each, roots_case, roots_reopens}
+use Rattle.tree_nodes.proofs.Worlds.{all_last, put}
+
+-- Numbers.
+
+at_most : (x y z : ℕ) → x ≤ y → y ≤ z → x ≤ z
+at_most x y z e f = omega (arith, e, f)
+
+same_is_most : (x y : ℕ) → x ≡ y → x ≤ y
+same_is_most x y e = omega (arith, e)
+
+below_next : (x y : ℕ) → x ≤ y → x < y + 1
+below_next x y e = omega (arith, e)
+
+one_more : (x y : ℕ) → x + 1 ≡ y + 1 → suc x + 1 ≡ suc y + 1
+one_more x y e = omega (arith, e)
+
+less_or_same : (x y : ℕ) → x ≤ y → (x + 1 < y + 1) ⊎ ((x + 1 ≡ y + 1) × (0 ≤ 0))
+less_or_same zero zero e = inr (refl, omega arith)
+less_or_same zero (suc y) e = inl (omega arith)
+less_or_same (suc x) zero e = absurd (omega (arith, e))
+less_or_same (suc x) (suc y) e = elim (less_or_same x y (omega (arith, e))) [
+  | inl l ↦ inl (omega (arith, l))
+  | inr s ↦ inr (one_more x y s.0, omega arith)
+]
+
+begun_more : (k : ℕ) (i : Input) → k ≤ begun_next k i
+begun_more k (ActInput (Begin p)) = omega arith
+begun_more k (ActInput (Join c q)) = omega arith
+begun_more k (ActInput (Work c q op)) = omega arith
+begun_more k (ActInput (Commit x)) = omega arith
+begun_more k (ActInput (Abort x)) = omega arith
+begun_more k (ActInput (Ask c)) = omega arith
+begun_more k (ActInput (Decide c o)) = omega arith
+begun_more k (ActInput (Forget c)) = omega arith
+begun_more k (MessageInput j m) = omega arith
+
+-- A case begun before a boot was begun before a later one.
+raised : (me : ProcessId) (b b' : ℕ) (c : Case) → b ≤ b' → IsRoots me (b + 1) 0 c → IsRoots me (b' + 1) 0 c
+raised me b b' c e a = case_later me (b + 1) 0 (b' + 1) 0 (less_or_same b b' e) c a
+
+-- and one begun in it, before the next
+passed_by : (me : ProcessId) (b k b' : ℕ) (c : Case) → b ≤ b' → IsRoots me b k c → IsRoots me (b' + 1) 0 c
+passed_by me b k b' c e a = case_later me b k (b' + 1) 0 (inl (below_next b b' e)) c a
+
+-- the forced front only grows
+forced_grows : (front more rest : List Record) → Rises ((front ++ more) ++ rest)
+    → boot_of front ≤ boot_of (front ++ more)
+forced_grows front more rest a = front_below front more (rise_front 0 (front ++ more) rest a)
+
+after_up : (n : Node) (h : Heard) (e : Effect) → (after n h e).failed ≡ n.failed
+after_up n h e =
+    either_logs n (entries_written e.written) (is_any_forced e.written) (λ (l : Logs). l.failed ≡ n.failed)
+    (λ b. refl) (λ b. refl)
+
+module _ (me : ProcessId) (tree : List TreeEntry) where
+  abbrev place : Place
+  place = root_place me tree
+
+  abbrev count : Node → ℕ
+  count n = (memory_of (root_place me tree) n (some_case (root_place me tree))).begun
+
+  abbrev Holds : Node → Type 0
+  Holds n = RootCases (root_place me tree) n
+
+  -- each record of the list is of a case of the root
+  abbrev Each : ℕ → ℕ → List Record → Type 0
+  Each b k rs = (c : Case) → has (is_record_of c) rs ≡ true → IsRoots me b k c
+
+  each_both : (b k : ℕ) (new old : List Record) → Each b k new → Each b k old → Each b k (reverse new ++ old)
+  each_both b k new old f g c e = elim (in_either (is_record_of c) (reverse new) old e) [
+    | inl now ↦ f c (sym (has-reverse (is_record_of c) new) ∙ now)
+    | inr before ↦ g c before
+  ]
+
+  -- a process that is up keeps both by what was begun now
+  by_now : (n : Node) → Booted (logs_of n) → n.failed ≡ false → Each (boot_of (kept n)) (count n) n.life → Holds n
+  by_now n boots up a = record {
+    begun_before = λ c e.
+        passed_by me (boot_of (kept n)) (count n) (boot_of n.forced) c
+        (same_is_most _ _ ((boots_of n boots).boot_is_forced up)) (a c e);
+    begun_now = λ u. a;
+  }
+
+  -- one that has failed by what was begun before
+  by_before : (n : Node) → n.failed ≡ true → Each (boot_of n.forced + 1) 0 n.life → Holds n
+  by_before n down a = record { begun_before = a; begun_now = λ e. absurd (cc) }
+
+  module _ (n : Node) (boots : Booted (logs_of n)) (nested : Nested (logs_of n)) (h : Holds n) where
+    module _ (i : Heard) (e : Effect) (t : TurnOf (root_place me tree) n i e)
+        (r : reacts (root_place me tree) n i ≡ Does e)
+      where
+        abbrev new : List Record
+        new = entries_written e.written
+
+        written_now : Each (boot_of (kept n)) (count n) new
+        written_now c k =
+            roots_case me (boot_of (kept n)) (count n) c new k
+            (effect_roots place n i me (boot_of (kept n)) (count n) (known_roots me tree n t.up nested h) e
+            (coordinator_turn_of place n i e r))
+
+        leaves_boot : boot_of (kept n ++ new) ≡ boot_of (kept n)
+        leaves_boot = boot_append (kept n) new ∙ others_boot (boot_of (kept n)) new (turn_none AtRoot place n i e t.turn)
+
+        counts_on : count n ≤ count (after n i e)
+        counts_on =
+            subst (λ (k : ℕ). count n ≤ k)
+            (sym (ap (λ m. m.begun) (memory_of-after place n i e (some_case place) leaves_boot)
+            ∙ begun_step me (boot_of (kept n)) (some_case place) (memory_of place n (some_case place)) i.input))
+            (begun_more (count n) i.input)
+
+        life_then : (after n i e).life ≡ reverse new ++ n.life
+        life_then =
+            either_logs n new (is_any_forced e.written) (λ (l : Logs). l.life ≡ reverse new ++ n.life) (λ b. refl)
+            (λ b. refl)
+
+        appended : Booted (logs_of (after n i e)) → Holds (after n i e)
+        appended boots' =
+            let k = count (after n i e) in
+            by_now (after n i e) boots' (after_up n i e ∙ t.up)
+            (subst (Each (boot_of (kept (after n i e))) k) (sym life_then)
+            (subst (λ (b : ℕ). Each b k (reverse new ++ n.life)) (sym (ap boot_of (kept-after n i e) ∙ leaves_boot))
+            (λ c f. case_later me (boot_of (kept n)) (count n) (boot_of (kept n)) k (inr (refl, counts_on)) c
+            (each_both (boot_of (kept n)) (count n) new n.life written_now (h.begun_now t.up) c f))))
+
+        broken : (a f : ℕ) → Booted (logs_of (fails_in n i e a f)) → Holds (fails_in n i e a f)
+        broken a f boots' =
+            let behind = n.unforced ++ take a new in
+            let b = boot_of n.forced in
+            let same = same_is_most _ _ ((boots_of n boots).boot_is_forced t.up) in
+            by_before (fails_in n i e a f) refl
+            (λ c k. raised me b (boot_of (n.forced ++ take f behind)) c
+            (forced_grows n.forced (take f behind) (drop f behind) boots'.rises)
+            (each_both (b + 1) 0 (take a new) n.life
+            (λ d j. passed_by me (boot_of (kept n)) (count n) b d same
+            (written_now d (in_front (is_record_of d) a new j)))
+            h.begun_before c k))
+
+    falls : (m : Node) → m.failed ≡ true → m.forced ≡ n.forced → m.life ≡ n.life → Holds m
+    falls m down e f = by_before m down
+        (subst (λ (xs : List Record). Each (boot_of xs + 1) 0 m.life) (sym e)
+        (subst (λ (ys : List Record). Each (boot_of n.forced + 1) 0 ys) (sym f) h.begun_before))
+
+    -- A restart.
+
+    abbrev left : ℕ → List Record
+    left k = n.forced ++ take k n.unforced
+
+    left_rises : (k : ℕ) → boot_of n.forced ≤ boot_of (left k)
+    left_rises k =
+        front_below n.forced (take k n.unforced) (lost_rises (logs_of n) k boots.rises)
+
+    left_each : (k : ℕ) → Each (boot_of n.forced + 1) 0 (left k)
+    left_each k c e =
+        h.begun_before c (nested.kept_was_written (is_record_of c) (λ j. refl)
+        (was_kept (in_either (is_record_of c) n.forced (take k n.unforced) e)))
+      where
+        was_kept : (has (is_record_of c) n.forced ≡ true) ⊎ (has (is_record_of c) (take k n.unforced) ≡ true)
+            → has (is_record_of c) (kept n) ≡ true
+        was_kept (inl front) = in_first (is_record_of c) n.forced n.unforced front
+        was_kept (inr rest) =
+            in_second (is_record_of c) n.forced n.unforced (in_front (is_record_of c) k n.unforced rest)
+
+    reopens_each : (k : ℕ) → Each (boot_of n.forced + 1) 0 (reopens AtRoot (left k))
+    reopens_each k c e =
+        let b = boot_of n.forced + 1 in
+        roots_case me b 0 c (reopens AtRoot (left k)) e
+        (roots_reopens me b 0 (left k) (roots_each me b 0 (left k) (left_each k)))
+
+    reopened_roots : (k : ℕ) → Booted (logs_of (restarted place n k)) → Holds (restarted place n k)
+    unfolding memory_of
+    reopened_roots k boots' =
+        let rs = left k in
+        let new = reopens AtRoot rs in
+        by_now (restarted place n k) boots' refl
+        (subst (λ (xs : List Record). Each (boot_of xs) 0 (reverse new ++ n.life)) (sym (append-nil (rs ++ new)))
+        (subst (λ (b : ℕ). Each b 0 (reverse new ++ n.life)) (sym (reopened_boot AtRoot rs))
+        (λ c e. raised me (boot_of n.forced) (boot_of rs) c (left_rises k)
+        (each_both (boot_of n.forced + 1) 0 new n.life (reopens_each k) h.begun_before c e))))
+
+    reopening_failed : (k a f : ℕ) → Booted (logs_of (restart_fails place n k a f))
+        → Holds (restart_fails place n k a f)
+    reopening_failed k a f boots' =
+        let rs = left k in
+        let b = boot_of n.forced in
+        let behind = take k n.unforced ++ take a (reopens AtRoot rs) in
+        by_before (restart_fails place n k a f) refl
+        (λ c e. raised me b (boot_of (n.forced ++ take f behind)) c
+        (forced_grows n.forced (take f behind) (drop f behind) boots'.rises)
+        (each_both (b + 1) 0 (take a (reopens AtRoot rs)) n.life
+        (λ d j. reopens_each k d (in_front (is_record_of d) a (reopens AtRoot rs) j)) h.begun_before c e))
+
+    -- A trim.
+
+    same_count : count (trims place n) ≡ count n
+    unfolding memory_of
+    same_count =
+        ap (λ (b : ℕ). (fold (remembers me AtRoot b (some_case place)) fresh_memory n.heard).begun)
+        (ap boot_of (append-nil (trimmed AtRoot (kept n))) ∙ trimmed_boot AtRoot (kept n))
+
+    same_life : (b k : ℕ) → Each b k n.life → Each b k (reverse [] ++ n.life)
+    same_life b k f = each_both b k [] n.life
+        (λ c e. not_both (is_record_of c) (has (is_record_of c) []) e (has-nil (is_record_of c))) f
+
+    trimmed_roots : n.failed ≡ false → Booted (logs_of (trims place n)) → Holds (trims place n)
+    trimmed_roots up boots' =
+        let rs = kept n in
+        let new = trimmed AtRoot rs in
+        let life = reverse [] ++ n.life in
+        by_now (trims place n) boots' up
+        (subst (λ (xs : List Record). Each (boot_of xs) (count (trims place n)) life) (sym (append-nil new))
+        (subst (λ (k : ℕ). Each (boot_of new) k life) (sym same_count)
+        (subst (λ (b : ℕ). Each b (count n) life) (sym (trimmed_boot AtRoot rs))
+        (same_life (boot_of rs) (count n) (h.begun_now up)))))
+
+    trimming_failed : (a : ℕ) → Holds (trim_fails place n a)
+    trimming_failed zero = falls (trim_fails place n 0) refl refl refl
+    trimming_failed (suc a) =
+        let rs = kept n in
+        by_before (trim_fails place n (suc a)) refl
+        (subst (λ (b : ℕ). Each (b + 1) 0 (reverse [] ++ n.life)) (sym (trimmed_boot AtRoot rs))
+        (λ c e. raised me (boot_of n.forced) (boot_of rs) c (boots_of n boots).boot_only_rises
+        (same_life (boot_of n.forced + 1) 0 h.begun_before c e)))
+
+    pub root_cases_last : (m : Move) (e : Effect) (k : Node) → StepOf (root_place me tree) n m e k
+        → Booted (logs_of k) → RootCases (root_place me tree) k
+    root_cases_last m _ _ (handled i g hp np r) b =
+        appended (heard_in m i) g (turn_of place n (heard_in m i) g r) r b
+    root_cases_last m _ _ (failed_in i f g fl hp np r) b =
+        broken (heard_in m i) g (turn_of place n (heard_in m i) g r) r f.appended f.forced b
+    root_cases_last m _ _ (passed i hp r) b = h
+    root_cases_last m _ _ (failed_passing i f fl hp r) b = falls (record n { failed = true }) refl refl refl
+    root_cases_last m _ _ (reopened k hp) b = reopened_roots k b
+    root_cases_last m _ _ (failed_reopening k f fl hp) b = reopening_failed k f.appended f.forced b
+    root_cases_last m _ _ (trims_log hp up) b = trimmed_roots up b
+    root_cases_last m _ _ (failed_trimming f fl hp up) b = trimming_failed f.appended
+
+-- Runs.
+
+opened_root : (place : Place) → RootCases place opened_node
+unfolding has
+opened_root place = record { begun_before = λ c e. absurd (cc); begun_now = λ up c e. absurd (cc) }
+
+pub at_root : (tree : List TreeEntry) (q : ProcessId) → role_of tree q ≡ AtRoot → place_of tree q ≡ root_place q tree
+at_root tree q e = ap (λ (r : Role). record { me = q; role = r; tree = tree }) e
+
+pub all_root_cases : (tree : List TreeEntry) (es : List Made) (w : World) → IsRun tree es w → (p : ProcessId)
+    → role_of tree p ≡ AtRoot → RootCases (root_place p tree) (w.at p)
+all_root_cases tree _ _ opens p role = opened_root (root_place p tree)
+all_root_cases tree _ _ (makes es w m e w' run stands step) p at_top =
+    let at = makes_at tree w m e w' step in
+    let q = m.step.process in
+    let s = step_of (place_of tree q) (w.at q) m e at.node at.made in
+    let P : ProcessId → Node → Type 0 = λ x k. role_of tree x ≡ AtRoot → RootCases (root_place x tree) k in
+    subst (λ (x : World). P p (x.at p)) (sym at.world)
+    (put P q p at.node w.at
+    (λ role. root_cases_last q tree (w.at q) (all_booted tree es w run q) (all_last tree es w run q).nested
+    (all_root_cases tree es w run q role) m e
+    at.node
+    (subst (λ (x : Place). StepOf x (w.at q) m e at.node) (at_root tree q role) s)
+    (still_booted (place_of tree q) (w.at q) (all_booted tree es w run q) m e at.node s))
+    (all_root_cases tree es w run p)) at_top
+
+pub root_cases_hold : (tree : List TreeEntry) (es : List Made) (w : World) → IsRun tree es w → (p : ProcessId)
+    → role_of tree p ≡ AtRoot → RootCases (place_of tree p) (w.at p)
+root_cases_hold tree es w run p e =
+    subst (λ (x : Place). RootCases x (w.at p)) (sym (at_root tree p e)) (all_root_cases tree es w run p e)

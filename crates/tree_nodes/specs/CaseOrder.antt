@@ -1,0 +1,20 @@
+-- The records of a coordinator's case: their order, and whom they name.
+use Rattle.std.specs.Prelude.{◌≡◌, true, false, List}
+use Rattle.tree_model.specs.declared.names.Case.{Case}
+use Rattle.tree_model.specs.declared.records.Record.{Record}
+use Rattle.tree_model.specs.Records.{has, none_of, is_prepare, promised_by}
+use Rattle.tree_model.specs.Nodes.{Role, AtRoot, Below, AtLeaf}
+use Rattle.tree_nodes.specs.WorldHolds.{InOrder, NamesBy}
+
+-- the role is a coordinator's
+abbrev pub IsCoordinator : Role → Type 0
+IsCoordinator AtRoot = Unit {0}
+IsCoordinator (Below p) = Unit {0}
+IsCoordinator (AtLeaf p) = ⊥
+
+-- the records of the case stand in the order in which they are written, decisions name whom they should by the
+-- presumption, and a promise names somebody
+pub record CaseInOrder (c : Case) (rs : List Record) : Type 0 where
+  pub in_order : InOrder c rs
+  pub names : NamesBy c.txn.presumption c rs
+  pub promise_names : has (is_prepare c) rs ≡ true → none_of (promised_by c rs) ≡ false

@@ -1,0 +1,34 @@
+-- The root's own cases: each is of a transaction that the root began, and has a number that it gave out.
+use Rattle.std.specs.Prelude.{◌≡◌, ◌+◌, ℕ, true, false, Option, Some, None, List, [], ◌∷◌}
+use Rattle.tree_model.specs.declared.names.Case.{Case}
+use Rattle.tree_model.specs.declared.names.ProcessId.{ProcessId}
+use Rattle.tree_model.specs.declared.records.Record.{Record}
+use Rattle.tree_model.specs.Records.{has, boot_of, record_case}
+use Rattle.tree_model.specs.Nodes.{Place, Node, kept}
+use Rattle.tree_model.specs.Memory.{memory_of}
+use Rattle.tree_model.specs.Standings.{some_case}
+use Rattle.tree_nodes.specs.WorldHolds.{IsGivenOut, is_record_of}
+
+-- the case is the root's, and its number was given out, where so many were begun in this boot
+pub record IsRoots (me : ProcessId) (boot count : ℕ) (c : Case) : Type 0 where
+  pub no_ticket : c.ticket ≡ None
+  pub own : c.txn.root ≡ me
+  pub number : IsGivenOut c.txn.boot c.txn.sequence boot count
+
+-- such a record: it is of no case, or of such a case
+abbrev pub IsRootsRecord : ProcessId → ℕ → ℕ → Option Case → Type 0
+IsRootsRecord me boot count None = Unit {0}
+IsRootsRecord me boot count (Some c) = IsRoots me boot count c
+
+-- each record is of such a case
+abbrev pub AllRoots : ProcessId → ℕ → ℕ → List Record → Type 0
+AllRoots me boot count [] = Unit {0}
+AllRoots me boot count (r ∷ rs) = IsRootsRecord me boot count (record_case r) × AllRoots me boot count rs
+
+-- The records that a root ever appended are of its own cases, begun before; where it is up, with the numbers given
+-- out by now.
+pub record RootCases (place : Place) (n : Node) : Type 0 where
+  pub begun_before : (c : Case) → has (is_record_of c) n.life ≡ true
+      → IsRoots place.me (boot_of n.forced + 1) 0 c
+  pub begun_now : n.failed ≡ false → (c : Case) → has (is_record_of c) n.life ≡ true
+      → IsRoots place.me (boot_of (kept n)) (memory_of place n (some_case place)).begun c
