@@ -30,6 +30,7 @@ pub mod CaseOrders
 pub mod RootMemories
 pub mod RootNumbers
 pub mod RootKnown
+pub mod RootHistories
 pub mod RootNumbered
 pub mod Phases
 pub mod RootPhases
@@ -44,3 +45,4 @@ pub mod RootNamed
 pub mod RootLive
 pub mod RootUncommitted
 pub mod CoordinatorLogs
+pub mod RootJoined

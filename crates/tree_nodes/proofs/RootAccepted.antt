@@ -44,14 +44,12 @@ use Rattle.tree_nodes.proofs.Tests.{either, left, right, both, front_none}
 use Rattle.tree_nodes.proofs.Appends.{breaks_keeps}
 use Rattle.tree_nodes.proofs.Boots.{others_boot, boot_append, turn_none, trimmed_boot}
 use Rattle.tree_nodes.proofs.RootAlikes.{root_alike}
+use Rattle.tree_nodes.proofs.RootHistories.{took}
 use Rattle.tree_nodes.proofs.RootMemories.{same_memory}
 use Rattle.tree_nodes.proofs.RootNumbered.{at_root}
 use Rattle.tree_nodes.proofs.RootPhases.{active_accepted, collecting_accepted}
 use Rattle.tree_nodes.proofs.RootTakes.{Takes, keeps, empties, takes, taken}
 use Rattle.tree_nodes.proofs.Worlds.{put}
-
-abbrev pub took : Case → Ticket → List (Case × Ticket) → Bool
-took c t as' = list_any (λ a. same_case a.0 c && same_ticket a.1 t) as'
 
 pub took_before : (c : Case) (t : Ticket) (xs ys : List (Case × Ticket)) → took c t ys ≡ true
     → took c t (xs ++ ys) ≡ true

@@ -23,7 +23,8 @@ use Rattle.tree_nodes.specs.RootAccepts.{Accepts}
 use Rattle.tree_nodes.specs.RootNames.{NamesAccepted}
 use Rattle.tree_nodes.proofs.Tests.{has-reverse, has-nil, in_first, in_second, in_either, in_front, not_both}
 use Rattle.tree_nodes.proofs.Appends.{either_logs}
-use Rattle.tree_nodes.proofs.RootAccepted.{took, took_before, all_accepts}
+use Rattle.tree_nodes.proofs.RootAccepted.{took_before, all_accepts}
+use Rattle.tree_nodes.proofs.RootHistories.{took}
 use Rattle.tree_nodes.proofs.RootNaming.{effect_names, reopens_name}
 use Rattle.tree_nodes.proofs.RootNumbered.{at_root}
 use Rattle.tree_nodes.proofs.Worlds.{all_last, put}

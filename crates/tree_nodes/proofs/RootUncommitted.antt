@@ -40,7 +40,7 @@ use Rattle.tree_nodes.proofs.RootLive.{IsLive, was_live}
 use Rattle.tree_nodes.proofs.RootMemories.{same_memory}
 use Rattle.tree_nodes.proofs.RootNumbered.{all_root_cases, at_root}
 use Rattle.tree_nodes.proofs.RootPhases.{then_remembers}
-use Rattle.tree_nodes.proofs.RootKnown.{fresh_ever, no_commit}
+use Rattle.tree_nodes.proofs.RootKnown.{fresh_unrecorded, no_commit}
 use Rattle.tree_nodes.proofs.RootTogether.{counts_phase}
 use Rattle.tree_nodes.proofs.Worlds.{all_last, put}
 
@@ -130,7 +130,7 @@ module _ (me : ProcessId) (tree : List TreeEntry) (n : Node) where
               elim (was_live me (boot_of (kept n)) (root_case x) (memory_of place n (root_case x)) h.input live) [
                 | inl was ↦ old up x was
                 | inr begun ↦ no_commit (root_case x) n.life
-                    (fresh_ever me tree n up cases x begun.0 (ap (λ (c : Case). c.txn) begun.1.1))
+                    (fresh_unrecorded me tree n up cases x begun.0 (ap (λ (c : Case). c.txn) begun.1.1))
               ]
 
       appended : (i : Heard) (e : Effect) → TurnOf (root_place me tree) n i e → reacts (root_place me tree) n i ≡ Does e

@@ -40,8 +40,8 @@ pub fn boots_rise()
         → Boots (w.at p) }
 {}
 
-/// In every run of every tree, the records that a root ever appended are of its own cases, with numbers that it gave
-/// out before.
+/// In every run of every tree, each case in a root's histories is its own, with a number that it gave out before: each
+/// of which it appended a record, accepted a ticket or told an outcome, that it began, or that a restart found undecided.
 pub fn roots_own_their_cases()
     ensures { (tree : List TreeEntry) (es : List Made) (w : World) → IsRun tree es w → (p : ProcessId)
         → role_of tree p ≡ AtRoot → RootCases (place_of tree p) (w.at p) }
