@@ -27,6 +27,10 @@ pub mod GivenCases
 pub mod JoinedOnce
 pub mod Unlisted
 pub mod CaseOrders
+pub mod RootAlike
+pub mod RootAccepts
+pub mod RootNames
+pub mod RootUndecided
 pub mod RootMemories
 pub mod RootNumbers
 pub mod RootKnown
@@ -39,6 +43,7 @@ pub mod RootLogs
 pub mod RootRows
 pub mod RootAlikes
 pub mod RootTakes
+pub mod RootCounts
 pub mod RootAccepted
 pub mod RootNaming
 pub mod RootNamed
@@ -46,3 +51,6 @@ pub mod RootLive
 pub mod RootUncommitted
 pub mod CoordinatorLogs
 pub mod RootJoined
+pub mod RootVotes
+pub mod RootVoted
+pub mod RootsHold

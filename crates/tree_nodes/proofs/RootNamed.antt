@@ -19,8 +19,8 @@ use Rattle.tree_turns.proofs.Steps.{step_of}
 use Rattle.tree_turns.proofs.CoordinatorReactions.{coordinator_turn_of}
 use Rattle.tree_nodes.specs.Lasts.{Logs, logs_of, Nested}
 use Rattle.tree_nodes.specs.WorldHolds.{is_naming}
-use Rattle.tree_nodes.specs.RootAccepts.{Accepts}
-use Rattle.tree_nodes.specs.RootNames.{NamesAccepted}
+use Rattle.tree_nodes.proofs.RootAccepts.{Accepts}
+use Rattle.tree_nodes.proofs.RootNames.{NamesAccepted}
 use Rattle.tree_nodes.proofs.Tests.{has-reverse, has-nil, in_first, in_second, in_either, in_front, not_both}
 use Rattle.tree_nodes.proofs.Appends.{either_logs}
 use Rattle.tree_nodes.proofs.RootAccepted.{took_before, all_accepts}

@@ -5,8 +5,4 @@ pub mod WorldHolds
 pub mod ProcessSteps
 pub mod Numbers
 pub mod RootCases
-pub mod RootAlike
-pub mod RootAccepts
-pub mod RootNames
-pub mod RootUndecided
 pub mod CaseOrder
