@@ -54,3 +54,4 @@ pub mod RootJoined
 pub mod RootVotes
 pub mod RootVoted
 pub mod RootsHold
+pub mod RootAwake

@@ -310,13 +310,16 @@ begins_next me tree n h p x i g =
     subst (λ (j : Input). IsRoots me (boot_of (kept n)) (begun_next count j) (root_case x)) (sym i)
     (subst (λ (y : Txn). IsRoots me (boot_of (kept n)) (count + 1) (root_case y))
     (txn_is (next_begun (root_place me tree) n p) x (or_nothing _ g))
-    (record { no_ticket = refl; own = refl; number = inr (refl, whole (count + 1)) }))
+    (record { no_ticket = refl; own = refl; counted = one_at_least count; number = inr (refl, whole (count + 1)) }))
   where
     or_nothing : (b : Bool) → (b || false) ≡ true → b ≡ true
     or_nothing b f = grind arith
 
     whole : (k : ℕ) → k ≤ k
     whole k = omega arith
+
+    one_at_least : (k : ℕ) → 1 ≤ k + 1
+    one_at_least k = omega arith
 
     txn_is : (y z : Txn) → same_txn y z ≡ true → y ≡ z
     txn_is y z f = elim (same_txn_tells y z) [ inl t ↦ t.1 | inr u ↦ absurd (let v = u.0 in cc) ]

@@ -85,7 +85,7 @@ module _ (me : ProcessId) (tree : List TreeEntry) (n : Node) where
   remembered_roots c awake = elim (remembered_is_begun place refl n c) [
     | inl idle ↦ absurd (awake idle)
     | inr b ↦ subst (λ (k : ℕ). IsRoots me boot k c) (same_begun me tree n c (some_case place))
-        (record { no_ticket = b.no_ticket; own = b.own; number = inr (b.in_boot, b.number) })
+        (record { no_ticket = b.no_ticket; own = b.own; counted = b.counted; number = inr (b.in_boot, b.number) })
   ]
 
   -- a case that is known is the root's

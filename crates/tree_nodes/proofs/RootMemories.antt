@@ -26,6 +26,7 @@ pub record IsBegun (me : ProcessId) (boot count : ℕ) (c : Case) : Type 0 where
   pub no_ticket : c.ticket ≡ None
   pub own : c.txn.root ≡ me
   pub in_boot : c.txn.boot ≡ boot
+  pub counted : 1 ≤ c.txn.sequence
   pub number : c.txn.sequence ≤ count
 
 module _ (me : ProcessId) (boot : ℕ) (c : Case) where
@@ -116,10 +117,13 @@ module _ (me : ProcessId) (boot : ℕ) (c : Case) where
   whole : (b : ℕ) → b ≤ b
   whole b = omega arith
 
+  one_at_least : (b : ℕ) → 1 ≤ b + 1
+  one_at_least b = omega arith
+
   counted : (m : Memory) → O m → O (record m { begun = m.begun + 1 })
   counted m (inl idle) = inl idle
   counted m (inr b) = inr (record
-      { no_ticket = b.no_ticket; own = b.own; in_boot = b.in_boot; number = more c.txn.sequence m.begun b.number })
+      { no_ticket = b.no_ticket; own = b.own; in_boot = b.in_boot; counted = b.counted; number = more c.txn.sequence m.begun b.number })
 
   begun_if : (m : Memory) (p : Presumption) → O m → (b : Bool)
       → same_case (root_case (next_txn me boot m p)) c ≡ b
@@ -128,7 +132,13 @@ module _ (me : ProcessId) (boot : ℕ) (c : Case) where
   begun_if m p o true e =
       let same : root_case (next_txn me boot m p) ≡ c = is_same (root_case (next_txn me boot m p)) c e in
       inr (subst (λ (d : Case). IsBegun me boot (m.begun + 1) d) same
-      (record { no_ticket = refl; own = refl; in_boot = refl; number = whole (m.begun + 1) }))
+      (record {
+        no_ticket = refl;
+        own = refl;
+        in_boot = refl;
+        counted = one_at_least m.begun;
+        number = whole (m.begun + 1);
+      }))
     where
       is_same : (a b : Case) → same_case a b ≡ true → a ≡ b
       is_same a b f = elim (same_case_tells a b) [ inl t ↦ t.1 | inr g ↦ absurd (let k = g.0 in cc) ]

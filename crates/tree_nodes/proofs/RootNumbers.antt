@@ -41,6 +41,7 @@ module _ (me : ProcessId) where
   case_later b k b' k' l c i = record {
     no_ticket = i.no_ticket;
     own = i.own;
+    counted = i.counted;
     number = given_later c.txn.boot c.txn.sequence b k b' k' l i.number;
   }
 

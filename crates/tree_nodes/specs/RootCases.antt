@@ -1,5 +1,5 @@
 -- The root's own cases: each is of a transaction that the root began, and has a number that it gave out.
-use Rattle.std.specs.Prelude.{◌≡◌, ◌+◌, ℕ, true, false, Option, Some, None, List, [], ◌∷◌}
+use Rattle.std.specs.Prelude.{◌≡◌, ◌≤◌, ◌+◌, ℕ, true, false, Option, Some, None, List, [], ◌∷◌}
 use Rattle.std.specs.List.{list_any}
 use Rattle.tree_model.specs.declared.names.Case.{Case}
 use Rattle.tree_model.specs.declared.names.ProcessId.{ProcessId}
@@ -19,6 +19,7 @@ use Rattle.tree_nodes.specs.WorldHolds.{IsGivenOut, is_record_of}
 pub record IsRoots (me : ProcessId) (boot count : ℕ) (c : Case) : Type 0 where
   pub no_ticket : c.ticket ≡ None
   pub own : c.txn.root ≡ me
+  pub counted : 1 ≤ c.txn.sequence
   pub number : IsGivenOut c.txn.boot c.txn.sequence boot count
 
 -- such a record: it is of no case, or of such a case
