@@ -55,3 +55,6 @@ pub mod RootVotes
 pub mod RootVoted
 pub mod RootsHold
 pub mod RootAwake
+pub mod RootWrites
+pub mod RootTraces
+pub mod RootBegun

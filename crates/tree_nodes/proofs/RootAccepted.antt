@@ -4,7 +4,6 @@ use Rattle.std.specs.Prelude.{fold}
 use Rattle.std.specs.List.{list_any}
 use Rattle.std.proofs.lemmas.List.{append-nil}
 use Rattle.std.proofs.lemmas.List.Folds.{list_any-append}
-use Rattle.std.proofs.lemmas.Grind.{fold-append}
 use Rattle.tree_model.specs.declared.names.Case.{Case}
 use Rattle.tree_model.specs.declared.names.ProcessId.{ProcessId}
 use Rattle.tree_model.specs.declared.names.Ticket.{Ticket}
@@ -44,7 +43,7 @@ use Rattle.tree_nodes.proofs.Boots.{others_boot, boot_append, turn_none, trimmed
 use Rattle.tree_nodes.proofs.RootAlikes.{root_alike}
 use Rattle.tree_nodes.proofs.RootCounts.{HeardSo, effect_counts}
 use Rattle.tree_nodes.proofs.RootHistories.{took}
-use Rattle.tree_nodes.proofs.RootMemories.{same_memory}
+use Rattle.tree_nodes.proofs.RootMemories.{memory_heard, same_memory}
 use Rattle.tree_nodes.proofs.RootNumbered.{at_root}
 use Rattle.tree_nodes.proofs.RootPhases.{active_accepted, collecting_accepted}
 use Rattle.tree_nodes.proofs.RootTakes.{Takes, keeps, empties, takes, taken}
@@ -177,15 +176,6 @@ module _ (me : ProcessId) (tree : List TreeEntry) (n : Node) (alike : AllAlike (
     abbrev Holds : Node → Type 0
     Holds k = Accepts (root_place me tree) k
 
-    -- what is remembered behind an input, where the boot stays
-    memory_heard : (h : Heard) (k : Node) (c : Case) → k.heard ≡ n.heard ++ h ∷ [] → boot_of (kept k) ≡ boot_of (kept n)
-        → memory_of place k c ≡ root_remembers me (boot_of (kept n)) c (memory_of place n c) h.input
-    unfolding memory_of
-    memory_heard h k c e b =
-        ap (λ hs. fold (remembers me AtRoot (boot_of (kept k)) c) fresh_memory hs) e
-        ∙ (ap (λ (j : ℕ). fold (remembers me AtRoot j c) fresh_memory (n.heard ++ h ∷ [])) b
-        ∙ fold-append _ _ n.heard (h ∷ []))
-
     -- a node with the histories of an input
     heard_holds : (h : Heard) (e : Effect) → n.failed ≡ false → reacts (root_place me tree) n h ≡ Does e → (k : Node)
         → k.heard ≡ n.heard ++ h ∷ [] → boot_of (kept k) ≡ boot_of (kept n)
@@ -193,7 +183,7 @@ module _ (me : ProcessId) (tree : List TreeEntry) (n : Node) (alike : AllAlike (
     heard_holds h e up r k i b a v = record {
       remembered_accepted = λ c t f.
           ap (took c t) a
-          ∙ remembered_then h e up r c t (ap (λ (m : Memory). in_list m.accepted t) (sym (memory_heard h k c i b)) ∙ f);
+          ∙ remembered_then h e up r c t (ap (λ (m : Memory). in_list m.accepted t) (sym (memory_heard me tree n h k c i b)) ∙ f);
       voted_accepted = λ c t w f.
           ap (took c t) a
           ∙ took_before c t e.accepts n.accepted

@@ -195,11 +195,12 @@ same_history n m c l a b t u (found_undecided x i g) = found_undecided x i (ap (
 
 -- What a turn adds is of a case that is known, or of the transaction that begins.
 
-module _ (place : Place) (n : Node) (h : Heard) (me : ProcessId) (b k : ℕ)
-    (own : (c : Case) → (coordinator_view place n c).standing ≢ Unknown → IsRoots me b k c)
+module _ (place : Place) (n : Node) (h : Heard) (A : Case → Type 0)
+    (own : (c : Case) → (coordinator_view place n c).standing ≢ Unknown → A c)
+    (unticketed : (c : Case) → (coordinator_view place n c).standing ≢ Unknown → c.ticket ≡ None)
   where
     as_known : (c : Case) (st : Standing) → (coordinator_view place n c).standing ≡ st → (st ≡ Unknown → ⊥)
-        → IsRoots me b k c
+        → A c
     as_known c st e f = own c (λ g. f (sym e ∙ g))
 
     or_nothing : (x : Bool) → (x || false) ≡ true → x ≡ true
@@ -207,9 +208,9 @@ module _ (place : Place) (n : Node) (h : Heard) (me : ProcessId) (b k : ℕ)
 
     row_accepts : (c d : Case) (t : Ticket) (row : Row) → CaseTurn place None n h c row
         → took d t (row_effect c row).accepts ≡ true
-        → IsRoots me b k d
+        → A d
     row_accepts c d t _ (accepts u i e f) g =
-        subst (λ (x : Case). IsRoots me b k x)
+        subst A
         (case_is c d (both (same_case c d) (same_ticket u t) (or_nothing _ g)).0) (as_known c Active e (λ x. cc))
     row_accepts c d t _ (rests r) g = absurd (cc)
     row_accepts c d t _ (invites q i e f a) g = absurd (cc)
@@ -244,17 +245,17 @@ module _ (place : Place) (n : Node) (h : Heard) (me : ProcessId) (b k : ℕ)
     told_so : (c : Case) (x : Txn) (a : Conclusion) (st : Standing)
         → (coordinator_view place n c).standing ≡ st
         → (st ≡ Unknown → ⊥) → list_any (is_told_of_txn x) (told_first (told_of c.txn (Some a)) []) ≡ true
-        → IsRoots me b k (root_case x)
+        → A (root_case x)
     told_so c x a st e f g =
-        let r = as_known c st e f in
-        subst (λ (o : Option Ticket). IsRoots me b k (record { txn = x; ticket = o })) r.no_ticket
-        (subst (λ (y : Txn). IsRoots me b k (record { txn = y; ticket = c.ticket })) (txn_is c.txn x (or_nothing _ g)) r)
+        subst (λ (o : Option Ticket). A (record { txn = x; ticket = o })) (unticketed c (λ y. f (sym e ∙ y)))
+        (subst (λ (y : Txn). A (record { txn = y; ticket = c.ticket })) (txn_is c.txn x (or_nothing _ g))
+        (as_known c st e f))
       where
         txn_is : (y z : Txn) → same_txn y z ≡ true → y ≡ z
         txn_is y z f = elim (same_txn_tells y z) [ inl t ↦ t.1 | inr u ↦ absurd (let v = u.0 in cc) ]
 
     row_tells : (c : Case) (x : Txn) (row : Row) → CaseTurn place None n h c row → Tells x (row_effect c row)
-        → IsRoots me b k (root_case x)
+        → A (root_case x)
     row_tells c x _ (finds_nobody i e f) g = told_so c x ReadOnly Active e (λ y. cc) g
     row_tells c x _ (gives_up why p i e f) g = told_so c x ConcludedAborted Active e (λ y. cc) g
     row_tells c x _ (reads_only u w ys p i e f) g = told_so c x ReadOnly Collecting i.vote.stands (λ y. cc) g
@@ -283,7 +284,7 @@ module _ (place : Place) (n : Node) (h : Heard) (me : ProcessId) (b k : ℕ)
     row_tells c x _ (answers u o i e) g = absurd (cc)
 
     pub effect_accepts : (e : Effect) → CoordinatorTurn place None n h e → (d : Case) (t : Ticket)
-        → took d t e.accepts ≡ true → IsRoots me b k d
+        → took d t e.accepts ≡ true → A d
     effect_accepts _ (of_case c row r) d t g = row_accepts c d t row r g
     effect_accepts _ (does_nothing i) d t g = absurd (cc)
     effect_accepts _ (begins p e i) d t g = absurd (cc)
@@ -292,7 +293,7 @@ module _ (place : Place) (n : Node) (h : Heard) (me : ProcessId) (b k : ℕ)
     effect_accepts _ (presumes y u i e) d t g = absurd (cc)
 
     pub effect_tells : (e : Effect) → CoordinatorTurn place None n h e → (x : Txn) → Tells x e
-        → IsRoots me b k (root_case x)
+        → A (root_case x)
     effect_tells _ (of_case c row r) x g = row_tells c x row r g
     effect_tells _ (does_nothing i) x g = absurd (cc)
     effect_tells _ (begins p e i) x g = absurd (cc)
@@ -349,9 +350,9 @@ module _ (me : ProcessId) (tree : List TreeEntry) (n : Node) (h : Heard) where
       roots_case me b next c (entries_written e.written) g
       (effect_roots (root_place me tree) n h me b next own e t)
   effect_new own e t c (accepts_into u g) =
-      effect_accepts (root_place me tree) n h me (boot_of (kept n)) next own e t c u g
+      effect_accepts (root_place me tree) n h (IsRoots me (boot_of (kept n)) next) own (λ d k. (own d k).no_ticket) e t c u g
   effect_new own e t c (begins_it x i g) =
       subst (λ (d : Case). IsRoots me (boot_of (kept n)) next d) (sym i) (begun_new e t x g)
   effect_new own e t c (tells_of x i g) =
       subst (λ (d : Case). IsRoots me (boot_of (kept n)) next d) (sym i)
-      (effect_tells (root_place me tree) n h me (boot_of (kept n)) next own e t x g)
+      (effect_tells (root_place me tree) n h (IsRoots me (boot_of (kept n)) next) own (λ d k. (own d k).no_ticket) e t x g)

@@ -1,6 +1,7 @@
 -- What the root remembers is of transactions that it began since its last restart.
 use Rattle.std.proofs.Common.{◌≡◌, ◌∙◌, ◌≤◌, ◌+◌, ◌⊎◌, inl, inr, ℕ, Bool, true, false, Option, Some, None, List, [], ◌∷◌, ◌++◌, refl, sym, subst, if◌then◌else◌, arith, ap}
 use Rattle.std.specs.Prelude.{fold}
+use Rattle.std.proofs.lemmas.Grind.{fold-append}
 use Rattle.tree_model.specs.declared.names.Case.{Case}
 use Rattle.tree_model.specs.declared.names.ProcessId.{ProcessId}
 use Rattle.tree_model.specs.declared.names.Ticket.{Ticket}
@@ -177,3 +178,14 @@ unfolding memory_of
 same_memory me tree n k c e b =
     ap (λ hs. fold (remembers me AtRoot (boot_of (kept k)) c) fresh_memory hs) e
     ∙ ap (λ (j : ℕ). fold (remembers me AtRoot j c) fresh_memory n.heard) b
+
+-- what is remembered behind an input, where the boot stays
+pub memory_heard : (me : ProcessId) (tree : List TreeEntry) (n : Node) (h : Heard) (k : Node) (c : Case)
+    → k.heard ≡ n.heard ++ h ∷ [] → boot_of (kept k) ≡ boot_of (kept n)
+    → memory_of (root_place me tree) k c
+    ≡ root_remembers me (boot_of (kept n)) c (memory_of (root_place me tree) n c) h.input
+unfolding memory_of
+memory_heard me tree n h k c e b =
+    ap (λ hs. fold (remembers me AtRoot (boot_of (kept k)) c) fresh_memory hs) e
+    ∙ (ap (λ (j : ℕ). fold (remembers me AtRoot j c) fresh_memory (n.heard ++ h ∷ [])) b
+    ∙ fold-append _ _ n.heard (h ∷ []))
