@@ -27,6 +27,7 @@ pub mod GivenCases
 pub mod JoinedOnce
 pub mod Unlisted
 pub mod CaseOrders
+pub mod RootCases
 pub mod RootAlike
 pub mod RootAccepts
 pub mod RootNames
@@ -58,3 +59,4 @@ pub mod RootAwake
 pub mod RootWrites
 pub mod RootTraces
 pub mod RootBegun
+pub mod RootBegins

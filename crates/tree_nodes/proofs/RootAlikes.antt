@@ -27,7 +27,7 @@ use Rattle.tree_turns.proofs.Steps.{step_of, turn_of}
 use Rattle.tree_turns.proofs.CoordinatorReactions.{coordinator_turn_of}
 use Rattle.tree_nodes.specs.Lasts.{logs_of, Nested}
 use Rattle.tree_nodes.specs.WorldHolds.{is_record_of}
-use Rattle.tree_nodes.specs.RootCases.{IsRoots, recorded, RootCases}
+use Rattle.tree_nodes.proofs.RootCases.{IsRoots, recorded, RootCases}
 use Rattle.tree_nodes.proofs.RootAlike.{AllAlike}
 use Rattle.tree_nodes.proofs.Tests.{not_both, in_first, in_none, front_none, has-nil}
 use Rattle.tree_nodes.proofs.Appends.{loses, breaks_keeps}

@@ -22,7 +22,7 @@ use Rattle.tree_readings.specs.ReadingOf.{is_begun, is_told_of_txn}
 use Rattle.tree_turns.specs.Steps.{StepOf, heard_in, handled, failed_in, passed, failed_passing, reopened, failed_reopening, trimmed as trims_log, failed_trimming, TurnOf}
 use Rattle.tree_turns.proofs.Steps.{turn_of}
 use Rattle.tree_nodes.specs.Lasts.{Logs, logs_of, Nested}
-use Rattle.tree_nodes.specs.RootCases.{InHistory, recorded, RootCases}
+use Rattle.tree_nodes.proofs.RootCases.{InHistory, recorded, RootCases}
 use Rattle.tree_nodes.specs.WorldHolds.{is_record_of, has_begun}
 use Rattle.tree_nodes.proofs.Tests.{has-nil, has-reverse, in_first, in_second, in_either, in_front, not_both, front_none}
 use Rattle.tree_nodes.proofs.Appends.{either_logs, breaks_keeps}
@@ -33,7 +33,7 @@ use Rattle.tree_nodes.proofs.RootMemories.{same_memory}
 use Rattle.tree_nodes.proofs.RootTraces.{BegunSo, traces, if_remembered, if_told, if_found, if_committed, told_more, among_kept, heard_holds, born}
 
 -- nothing is remembered where nothing was heard
-forgotten : (me : ProcessId) (tree : List TreeEntry) (k : Node) (c : Case) → k.heard ≡ []
+pub forgotten : (me : ProcessId) (tree : List TreeEntry) (k : Node) (c : Case) → k.heard ≡ []
     → is_begun (memory_of (root_place me tree) k c).phase ≡ false
 unfolding memory_of
 forgotten me tree k c e =
@@ -201,7 +201,7 @@ module _ (me : ProcessId) (tree : List TreeEntry) (n : Node) (nested : Nested (l
     trim_failed zero = falls
     trim_failed (suc a) = trimmed_begun (trim_fails place n (suc a)) refl trims_boot refl refl refl refl refl
 
-    begun_last : (m : Move) (e : Effect) (k : Node) → StepOf (root_place me tree) n m e k → BegunSo me tree k
+    pub begun_last : (m : Move) (e : Effect) (k : Node) → StepOf (root_place me tree) n m e k → BegunSo me tree k
     begun_last m _ _ (handled i g hp np r) = appended (heard_in m i) g (turn_of place n (heard_in m i) g r) r
     begun_last m _ _ (failed_in i f g fl hp np r) =
         broken (heard_in m i) g (turn_of place n (heard_in m i) g r) r f.appended f.forced

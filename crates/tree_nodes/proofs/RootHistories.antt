@@ -27,7 +27,7 @@ use Rattle.tree_model.specs.Views.{root_place, next_begun}
 use Rattle.tree_readings.specs.ReadingOf.{is_told_of_txn}
 use Rattle.tree_turns.specs.CoordinatorTurns.{CaseTurn, rests, invites, accepts, sends_work, finds_nobody, asks_for_votes, gives_up, counts_vote, reads_only, commits, promises, hears_no, aborts, passes_commit, passes_abort, repeats_yes, asks, refuses, acknowledges, waits_for_acks, ends, answers, CoordinatorTurn, does_nothing, of_case, begins, gives_again, gives_fresh, presumes}
 use Rattle.tree_nodes.specs.Lasts.{Logs}
-use Rattle.tree_nodes.specs.RootCases.{IsRoots, InHistory, recorded, accepted, begun, told, found_undecided}
+use Rattle.tree_nodes.proofs.RootCases.{IsRoots, InHistory, recorded, accepted, begun, told, found_undecided}
 use Rattle.tree_nodes.specs.WorldHolds.{is_record_of}
 use Rattle.tree_nodes.proofs.Tests.{either, both, right, has-reverse, in_either, in_front, case_is}
 use Rattle.tree_nodes.proofs.Appends.{either_logs}

@@ -26,7 +26,7 @@ use Rattle.tree_turns.proofs.CoordinatorReactions.{CoordinatorTurnAt, coordinato
 use Rattle.tree_nodes.specs.CaseOrder.{IsCoordinator}
 use Rattle.tree_nodes.proofs.Tests.{either, right}
 use Rattle.tree_nodes.proofs.Deliveries.{was_sent}
-use Rattle.tree_nodes.specs.RootCases.{IsRoots, accepted}
+use Rattle.tree_nodes.proofs.RootCases.{IsRoots, accepted}
 use Rattle.tree_readings.proofs.Lists.{sent-append}
 use Rattle.tree_nodes.proofs.RootHistories.{took}
 use Rattle.tree_nodes.proofs.RootNumbered.{all_root_cases}
@@ -147,7 +147,7 @@ all_joined tree _ _ (makes es w m e w' run stands step) p i =
     (λ c. more_sent w.net e.messages (w.at p) (all_joined tree es w run p c))) i
 
 -- a root's case is its own
-own_case : (me : ProcessId) (b k : ℕ) (c : Case) → IsRoots me b k c → process_of c ≡ me
+pub own_case : (me : ProcessId) (b k : ℕ) (c : Case) → IsRoots me b k c → process_of c ≡ me
 own_case me b k c r =
     subst (λ (o : Option Ticket). process_of (record { txn = c.txn; ticket = o }) ≡ me) (sym r.no_ticket) r.own
 

@@ -26,7 +26,7 @@ use Rattle.tree_turns.proofs.CoordinatorReactions.{coordinator_turn_of}
 use Rattle.tree_nodes.specs.Lasts.{Logs, logs_of, Nested}
 use Rattle.tree_nodes.specs.WorldHolds.{is_record_of}
 use Rattle.tree_nodes.proofs.Tests.{not_both, has-nil, has-reverse, in_first, in_second, in_either, in_front}
-use Rattle.tree_nodes.specs.RootCases.{IsRoots, InHistory, recorded, accepted, begun, told, found_undecided, RootCases}
+use Rattle.tree_nodes.proofs.RootCases.{IsRoots, InHistory, recorded, accepted, begun, told, found_undecided, RootCases}
 use Rattle.tree_nodes.proofs.Appends.{either_logs}
 use Rattle.tree_nodes.proofs.Boots.{Booted, Rises, others_boot, rise_front, boot_append, front_below, lost_rises, still_booted, reopened_boot, trimmed_boot, turn_none}
 use Rattle.tree_nodes.proofs.BootsHold.{all_booted, boots_of}
@@ -284,7 +284,7 @@ module _ (me : ProcessId) (tree : List TreeEntry) where
 
 -- Runs.
 
-none_opened : {A : Type 0} (c : Case) → InHistory opened_node c → A
+pub none_opened : {A : Type 0} (c : Case) → InHistory opened_node c → A
 unfolding has
 none_opened c (recorded e) = absurd (cc)
 none_opened c (accepted t e) = absurd (cc)

@@ -29,7 +29,7 @@ use Rattle.tree_model.specs.Views.{root_place, vote_message}
 use Rattle.tree_turns.specs.CoordinatorTurns.{CaseTurn, rests, invites, accepts, sends_work, finds_nobody, asks_for_votes, gives_up, counts_vote, reads_only, commits, promises, hears_no, aborts, passes_commit, passes_abort, repeats_yes, asks, refuses, acknowledges, waits_for_acks, ends, answers, CoordinatorTurn, does_nothing, of_case, begins, gives_again, gives_fresh, presumes, IsOfNoCase, unticketed, belongs_nowhere, not_taken, ChildSays, votes, acknowledged, inquires, IsNotTaken}
 use Rattle.tree_nodes.specs.WorldHolds.{is_record_of}
 use Rattle.tree_nodes.specs.Lasts.{logs_of, Nested}
-use Rattle.tree_nodes.specs.RootCases.{RootCases}
+use Rattle.tree_nodes.proofs.RootCases.{RootCases}
 use Rattle.tree_nodes.proofs.Tests.{not_both, has-nil}
 use Rattle.tree_nodes.proofs.Worlds.{has_other}
 use Rattle.tree_nodes.proofs.Phases.{standing_at, Together, unrecorded_stands}

@@ -27,7 +27,7 @@ use Rattle.tree_readings.specs.ReadingOf.{is_begun, is_told_of_txn}
 use Rattle.tree_turns.specs.CoordinatorTurns.{CoordinatorTurn, does_nothing, of_case, begins, gives_again, gives_fresh, presumes}
 use Rattle.tree_turns.proofs.CoordinatorReactions.{coordinator_turn_of}
 use Rattle.tree_nodes.specs.Lasts.{logs_of, Nested}
-use Rattle.tree_nodes.specs.RootCases.{InHistory, recorded, RootCases}
+use Rattle.tree_nodes.proofs.RootCases.{InHistory, recorded, RootCases}
 use Rattle.tree_nodes.specs.WorldHolds.{is_record_of, has_begun}
 use Rattle.tree_nodes.proofs.Tests.{either, right}
 use Rattle.tree_nodes.proofs.RootAwake.{awake_by, begins_open}

@@ -28,7 +28,7 @@ use Rattle.tree_turns.proofs.Steps.{step_of, turn_of}
 use Rattle.tree_turns.proofs.CoordinatorReactions.{coordinator_turn_of}
 use Rattle.tree_nodes.specs.Lasts.{Logs, logs_of, Nested}
 use Rattle.tree_nodes.proofs.RootAlike.{AllAlike}
-use Rattle.tree_nodes.specs.RootCases.{RootCases}
+use Rattle.tree_nodes.proofs.RootCases.{RootCases}
 use Rattle.tree_nodes.proofs.RootUndecided.{OpenHasNoCommit}
 use Rattle.tree_nodes.proofs.Tests.{in_none, has-reverse, has-nil}
 use Rattle.tree_nodes.proofs.Appends.{either_logs}

@@ -36,7 +36,7 @@ use Rattle.tree_turns.proofs.Steps.{step_of, turn_of}
 use Rattle.tree_turns.proofs.CoordinatorReactions.{coordinator_turn_of}
 use Rattle.tree_nodes.proofs.RootAccepts.{Accepts}
 use Rattle.tree_nodes.proofs.RootAlike.{AllAlike}
-use Rattle.tree_nodes.specs.RootCases.{InHistory, RootCases, accepted}
+use Rattle.tree_nodes.proofs.RootCases.{InHistory, RootCases, accepted}
 use Rattle.tree_nodes.proofs.Tests.{both, case_is}
 use Rattle.tree_nodes.proofs.Boots.{others_boot, boot_append, turn_none, trimmed_boot}
 use Rattle.tree_nodes.proofs.RootAccepted.{all_accepts}

@@ -4,5 +4,5 @@ pub mod Owns
 pub mod WorldHolds
 pub mod ProcessSteps
 pub mod Numbers
-pub mod RootCases
 pub mod CaseOrder
+pub mod RootBegins

@@ -10,7 +10,7 @@ ghost use Rattle.tree_model.specs.declared.names.Ticket.{Ticket};
 ghost use Rattle.tree_model.specs.declared.names.Txn.{Txn};
 ghost use Rattle.tree_nodes.specs.Numbers.{IsIssuer, Numbers};
 ghost use Rattle.tree_nodes.specs.CaseOrder.{CaseInOrder, IsCoordinator};
-ghost use Rattle.tree_nodes.specs.RootCases.{RootCases};
+ghost use Rattle.tree_nodes.specs.RootBegins.{OwnTransactions};
 ghost use Rattle.tree_nodes.specs.WorldHolds.{Boots, Coordinates, IsPair, JoinedOnce, NodeHolds, WorldHolds, pair_reading};
 ghost use Rattle.tree_pairs.specs.Invariant.{Common};
 ghost use Rattle.tree_readings.specs.ReadingOf.{gives_case};
@@ -36,11 +36,12 @@ pub fn boots_rise()
         → Boots (w.at p) }
 {}
 
-/// In every run of every tree, each case in a root's histories is its own, with a number that it gave out before: each
-/// of which it appended a record, accepted a ticket or told an outcome, that it began, or that a restart found undecided.
+/// In every run of every tree, each transaction that a root has begun is its own, with a number that it gave out before,
+/// in a boot that is in the forced front; and each case that the root recorded, remembers, or accepted a ticket into, is
+/// of such a transaction.
 pub fn roots_own_their_cases()
     ensures { (tree : List TreeEntry) (es : List Made) (w : World) → IsRun tree es w → (p : ProcessId)
-        → role_of tree p ≡ AtRoot → RootCases (place_of tree p) (w.at p) }
+        → role_of tree p ≡ AtRoot → OwnTransactions (place_of tree p) (w.at p) }
 {}
 
 /// In every run of every tree, each root keeps its part of the world's invariant as a coordinator: what it remembers of
