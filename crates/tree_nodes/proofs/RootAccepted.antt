@@ -183,7 +183,8 @@ module _ (me : ProcessId) (tree : List TreeEntry) (n : Node) (alike : AllAlike (
     heard_holds h e up r k i b a v = record {
       remembered_accepted = λ c t f.
           ap (took c t) a
-          ∙ remembered_then h e up r c t (ap (λ (m : Memory). in_list m.accepted t) (sym (memory_heard me tree n h k c i b)) ∙ f);
+          ∙ remembered_then h e up r c t
+          (ap (λ (m : Memory). in_list m.accepted t) (sym (memory_heard me tree n h k c i b)) ∙ f);
       voted_accepted = λ c t w f.
           ap (took c t) a
           ∙ took_before c t e.accepts n.accepted

@@ -1,5 +1,5 @@
 -- All in a root's memory and histories is of transactions that it began, and those leave a trace: over every run.
-use Rattle.std.proofs.Common.{◌≡◌, ◌∙◌, ◌⊎◌, inl, inr, ℕ, zero, suc, Bool, true, false, List, [], ◌++◌, take, refl, sym, ap, if◌then◌else◌}
+use Rattle.std.proofs.Common.{◌≡◌, ◌∙◌, ◌⊎◌, inl, inr, ℕ, zero, suc, Bool, true, false, List, [], ◌++◌, take, refl, sym, ap}
 use Rattle.std.specs.Prelude.{filter, reverse, fold}
 use Rattle.std.specs.List.{list_any}
 use Rattle.std.proofs.lemmas.List.{append-nil}
@@ -11,7 +11,7 @@ use Rattle.tree_model.specs.declared.records.Record.{Record}
 use Rattle.tree_model.specs.declared.trees.TreeEntry.{TreeEntry}
 use Rattle.tree_model.specs.Names.{root_case}
 use Rattle.tree_model.specs.Records.{has, is_commit, is_opened, boot_of}
-use Rattle.tree_model.specs.Nodes.{AtRoot, Place, Node, kept, Heard, Effect, entries_written, is_any_forced, after, fails_in}
+use Rattle.tree_model.specs.Nodes.{AtRoot, Place, Node, kept, Heard, Effect, entries_written, after, fails_in}
 use Rattle.tree_model.specs.Memory.{Memory, memory_of, remembers, fresh_memory}
 use Rattle.tree_model.specs.Reactions.{Does, reacts}
 use Rattle.tree_model.specs.Restarts.{is_undecided, reopens, restarted, restart_fails, trims, trim_fails, trimmed}
@@ -21,13 +21,13 @@ use Rattle.tree_model.proofs.ListLaws.{kept-after}
 use Rattle.tree_readings.specs.ReadingOf.{is_begun, is_told_of_txn}
 use Rattle.tree_turns.specs.Steps.{StepOf, heard_in, handled, failed_in, passed, failed_passing, reopened, failed_reopening, trimmed as trims_log, failed_trimming, TurnOf}
 use Rattle.tree_turns.proofs.Steps.{turn_of}
-use Rattle.tree_nodes.specs.Lasts.{Logs, logs_of, Nested}
+use Rattle.tree_nodes.specs.Lasts.{logs_of, Nested}
 use Rattle.tree_nodes.proofs.RootCases.{InHistory, recorded, RootCases}
 use Rattle.tree_nodes.specs.WorldHolds.{is_record_of, has_begun}
 use Rattle.tree_nodes.proofs.Tests.{has-nil, has-reverse, in_first, in_second, in_either, in_front, not_both, front_none}
-use Rattle.tree_nodes.proofs.Appends.{either_logs, breaks_keeps}
+use Rattle.tree_nodes.proofs.Appends.{breaks_keeps}
 use Rattle.tree_nodes.proofs.Boots.{others_boot, boot_append, turn_none, trimmed_boot}
-use Rattle.tree_nodes.proofs.RootHistories.{among, after_history, fails_history, reopened_history, reopening_history, same_history}
+use Rattle.tree_nodes.proofs.RootHistories.{among, after_life, after_found, after_history, fails_history, reopened_history, reopening_history, same_history}
 use Rattle.tree_nodes.proofs.RootLogs.{reopened_record}
 use Rattle.tree_nodes.proofs.RootMemories.{same_memory}
 use Rattle.tree_nodes.proofs.RootTraces.{BegunSo, traces, if_remembered, if_told, if_found, if_committed, told_more, among_kept, heard_holds, born}
@@ -57,36 +57,16 @@ module _ (me : ProcessId) (tree : List TreeEntry) (n : Node) (nested : Nested (l
         new = entries_written e.written
 
         leaves_boot : boot_of (kept n ++ new) ≡ boot_of (kept n)
-        leaves_boot = boot_append (kept n) new ∙ others_boot (boot_of (kept n)) new (turn_none AtRoot place n h e t.turn)
+        leaves_boot =
+            boot_append (kept n) new ∙ others_boot (boot_of (kept n)) new (turn_none AtRoot place n h e t.turn)
 
         appended : BegunSo me tree (after n h e)
         appended =
-            heard_holds me tree n nested cases old h e t.up r (after n h e) refl (ap boot_of (kept-after n h e) ∙ leaves_boot) refl
+            heard_holds me tree n nested cases old h e t.up r (after n h e) refl
+            (ap boot_of (kept-after n h e) ∙ leaves_boot) refl
             (λ x g. told_more x e.told n.told g)
-            (either_found (is_any_forced e.written))
-            (λ q g. ap (has q) life_then ∙ longer new q g)
+            (after_found n h e) (λ q g. ap (has q) (after_life n h e) ∙ longer new q g)
             (λ c x. after_history n h e c x) (born me tree n nested cases old h e t.up r)
-          where
-            life_then : (after n h e).life ≡ reverse (entries_written e.written) ++ n.life
-            life_then =
-                either_logs n (entries_written e.written) (is_any_forced e.written)
-                (λ (l : Logs). l.life ≡ reverse (entries_written e.written) ++ n.life) (λ b. refl) (λ b. refl)
-
-            either_found : (b : Bool)
-                → (if b
-                then record n {
-                  forced = kept n ++ entries_written e.written;
-                  unforced = [];
-                  life = reverse (entries_written e.written) ++ n.life;
-                  durable = entries_written e.written ++ (kept n ++ n.durable);
-                }
-                else record n {
-                  unforced = n.unforced ++ entries_written e.written;
-                  life = reverse (entries_written e.written) ++ n.life;
-                }).found_undecided
-                ≡ n.found_undecided
-            either_found true = refl
-            either_found false = refl
 
         broken : (a f : ℕ) → BegunSo me tree (fails_in n h e a f)
         broken a f =
@@ -208,8 +188,8 @@ module _ (me : ProcessId) (tree : List TreeEntry) (n : Node) (nested : Nested (l
     begun_last m _ _ (passed i hp r) = old
     begun_last m _ _ (failed_passing i f fl hp r) = falls
     begun_last m _ _ (reopened k hp) =
-        restarted_holds k (restarted place n k) (reopens AtRoot (n.forced ++ take k n.unforced)) refl refl refl refl refl
-        (λ c x. reopened_history me tree n k c x)
+        restarted_holds k (restarted place n k) (reopens AtRoot (n.forced ++ take k n.unforced)) refl refl refl refl
+        refl (λ c x. reopened_history me tree n k c x)
     begun_last m _ _ (failed_reopening k f fl hp) =
         restarted_holds k (restart_fails place n k f.appended f.forced)
         (take f.appended (reopens AtRoot (n.forced ++ take k n.unforced))) refl refl refl refl refl

@@ -54,6 +54,31 @@ pub data NewIn (e : Effect) (c : Case) : Type 0 where
   begins_it : (x : Txn) → c ≡ root_case x → among x (begun_first e.begun []) ≡ true → NewIn e c
   tells_of : (x : Txn) → c ≡ root_case x → list_any (is_told_of_txn x) (told_first e.told []) ≡ true → NewIn e c
 
+pub after_life : (n : Node) (h : Heard) (e : Effect)
+    → (after n h e).life ≡ reverse (entries_written e.written) ++ n.life
+after_life n h e =
+    let new = entries_written e.written in
+    either_logs n new (is_any_forced e.written) (λ (l : Logs). l.life ≡ reverse new ++ n.life) (λ b. refl) (λ b. refl)
+
+pub after_found : (n : Node) (h : Heard) (e : Effect) → (after n h e).found_undecided ≡ n.found_undecided
+after_found n h e = by_force (is_any_forced e.written)
+  where
+    by_force : (b : Bool)
+        → (if b
+        then record n {
+          forced = kept n ++ entries_written e.written;
+          unforced = [];
+          life = reverse (entries_written e.written) ++ n.life;
+          durable = entries_written e.written ++ (kept n ++ n.durable);
+        }
+        else record n {
+          unforced = n.unforced ++ entries_written e.written;
+          life = reverse (entries_written e.written) ++ n.life;
+        }).found_undecided
+        ≡ n.found_undecided
+    by_force true = refl
+    by_force false = refl
+
 module _ (n : Node) (h : Heard) (e : Effect) (c : Case) where
   begun_in : (x : Txn) (o : Option Txn) → among x (begun_first o n.begun) ≡ true
       → (among x (begun_first o []) ≡ true) ⊎ (among x n.begun ≡ true)
@@ -107,23 +132,8 @@ module _ (n : Node) (h : Heard) (e : Effect) (c : Case) where
 
   pub after_history : InHistory (after n h e) c → InHistory n c ⊎ NewIn e c
   after_history =
-      let new = entries_written e.written in
-      or_new new (λ r. writes_of r) (after n h e)
-      (either_logs n new (is_any_forced e.written) (λ (l : Logs). l.life ≡ reverse new ++ n.life) (λ b. refl) (λ b. refl))
-      refl refl (λ x g. told_in x e.told g) (undecided_left (is_any_forced e.written))
-    where
-      undecided_left : (b : Bool)
-          → (if b
-          then record n {
-            forced = kept n ++ entries_written e.written;
-            unforced = [];
-            life = reverse (entries_written e.written) ++ n.life;
-            durable = entries_written e.written ++ (kept n ++ n.durable);
-          }
-          else record n { unforced = n.unforced ++ entries_written e.written; life = reverse (entries_written e.written) ++ n.life }).found_undecided
-          ≡ n.found_undecided
-      undecided_left true = refl
-      undecided_left false = refl
+      or_new (entries_written e.written) (λ r. writes_of r) (after n h e) (after_life n h e) refl refl
+      (λ x g. told_in x e.told g) (after_found n h e)
 
   pub fails_history : (a f : ℕ) → InHistory (fails_in n h e a f) c → InHistory n c ⊎ NewIn e c
   fails_history a f =
@@ -259,10 +269,14 @@ module _ (place : Place) (n : Node) (h : Heard) (A : Case → Type 0)
     row_tells c x _ (finds_nobody i e f) g = told_so c x ReadOnly Active e (λ y. cc) g
     row_tells c x _ (gives_up why p i e f) g = told_so c x ConcludedAborted Active e (λ y. cc) g
     row_tells c x _ (reads_only u w ys p i e f) g = told_so c x ReadOnly Collecting i.vote.stands (λ y. cc) g
-    row_tells c x _ (commits u w ys PresumeAbort i e f a) g = told_so c x ConcludedCommitted Collecting i.vote.stands (λ y. cc) g
-    row_tells c x _ (commits u w ys PresumeCommit i e f a) g = told_so c x ConcludedCommitted Collecting i.vote.stands (λ y. cc) g
-    row_tells c x _ (hears_no u us PresumeAbort i e f) g = told_so c x ConcludedAborted Collecting i.stands (λ y. cc) g
-    row_tells c x _ (hears_no u us PresumeCommit i e f) g = told_so c x ConcludedAborted Collecting i.stands (λ y. cc) g
+    row_tells c x _ (commits u w ys PresumeAbort i e f a) g =
+        told_so c x ConcludedCommitted Collecting i.vote.stands (λ y. cc) g
+    row_tells c x _ (commits u w ys PresumeCommit i e f a) g =
+        told_so c x ConcludedCommitted Collecting i.vote.stands (λ y. cc) g
+    row_tells c x _ (hears_no u us PresumeAbort i e f) g =
+        told_so c x ConcludedAborted Collecting i.stands (λ y. cc) g
+    row_tells c x _ (hears_no u us PresumeCommit i e f) g =
+        told_so c x ConcludedAborted Collecting i.stands (λ y. cc) g
     row_tells c x _ (aborts why us PresumeAbort i e f a) g = told_so c x ConcludedAborted Collecting e (λ y. cc) g
     row_tells c x _ (aborts why us PresumeCommit i e f a) g = told_so c x ConcludedAborted Collecting e (λ y. cc) g
     row_tells c x _ (accepts u i e f) g = absurd (cc)
@@ -350,9 +364,11 @@ module _ (me : ProcessId) (tree : List TreeEntry) (n : Node) (h : Heard) where
       roots_case me b next c (entries_written e.written) g
       (effect_roots (root_place me tree) n h me b next own e t)
   effect_new own e t c (accepts_into u g) =
-      effect_accepts (root_place me tree) n h (IsRoots me (boot_of (kept n)) next) own (λ d k. (own d k).no_ticket) e t c u g
+      effect_accepts (root_place me tree) n h (IsRoots me (boot_of (kept n)) next) own (λ d k. (own d k).no_ticket) e t
+      c u g
   effect_new own e t c (begins_it x i g) =
       subst (λ (d : Case). IsRoots me (boot_of (kept n)) next d) (sym i) (begun_new e t x g)
   effect_new own e t c (tells_of x i g) =
       subst (λ (d : Case). IsRoots me (boot_of (kept n)) next d) (sym i)
-      (effect_tells (root_place me tree) n h (IsRoots me (boot_of (kept n)) next) own (λ d k. (own d k).no_ticket) e t x g)
+      (effect_tells (root_place me tree) n h (IsRoots me (boot_of (kept n)) next) own (λ d k. (own d k).no_ticket) e t
+      x g)

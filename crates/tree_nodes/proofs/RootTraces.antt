@@ -108,7 +108,8 @@ pub told_more : (x : Txn) (o : Option Told) (ts : List Told) → list_any (is_to
 told_more x None ts e = e
 told_more x (Some y) ts e = right (is_told_of_txn x y) (list_any (is_told_of_txn x) ts) e
 
-pub among_kept : (x : Txn) (f : Txn → Bool) (ys : List Txn) → f x ≡ true → among x ys ≡ true → among x (filter f ys) ≡ true
+pub among_kept : (x : Txn) (f : Txn → Bool) (ys : List Txn) → f x ≡ true → among x ys ≡ true
+    → among x (filter f ys) ≡ true
 among_kept x f [] e g = g
 among_kept x f (y ∷ ys) e g = by_first (either (same_txn y x) (among x ys) g) (among_kept x f ys e)
   where
@@ -166,7 +167,8 @@ module _ (me : ProcessId) (tree : List TreeEntry) (n : Node) (nested : Nested (l
 
       begins_so : (p : Presumption) → h.input ≡ ActInput (Begin p) → e.begun ≡ Some (next_begun place n p)
       begins_so p i =
-          ap (λ (g : Effect). g.begun) (sym (does_so (begin_effect (next_begun place n p)) (sym (reacts_begin p i) ∙ r)))
+          ap (λ (g : Effect). g.begun)
+          (sym (does_so (begin_effect (next_begun place n p)) (sym (reacts_begin p i) ∙ r)))
         where
           does_so : (g : Effect) → Does g ≡ Does e → g ≡ e
           does_so g q = cc

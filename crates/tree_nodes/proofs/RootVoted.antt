@@ -203,7 +203,8 @@ module _ (me : ProcessId) (tree : List TreeEntry) (n : Node) (alike : AllAlike (
             no_vote : (u : Ticket) (w : Vote) → CountedVote c m h.input u w → ⊥
             no_vote u w x = not_begun w (sym next.1.0 ∙ x.hears)
               where
-                not_begun : (z : Vote) → ActInput (Begin next.0) ≡ MessageInput x.number (vote_message z (child_case x.txn u)) → ⊥
+                not_begun : (z : Vote)
+                    → ActInput (Begin next.0) ≡ MessageInput x.number (vote_message z (child_case x.txn u)) → ⊥
                 not_begun z f = cc
 
             fresh : next_txn me (boot_of (kept n))
@@ -313,6 +314,7 @@ all_votes tree _ _ (makes es w m e w' run stands step) p at_top =
     (put P q p at.node w.at
     (λ role. votes_last q tree (w.at q)
     (subst (λ (x : Place). AllAlike x (w.at q)) (at_root tree q role) (root_alike tree es w run q role))
-    (all_accepts tree es w run q role) (all_root_cases tree es w run q role) (all_votes tree es w run q role) m e at.node
+    (all_accepts tree es w run q role) (all_root_cases tree es w run q role) (all_votes tree es w run q role) m e
+    at.node
     (subst (λ (x : Place). StepOf x (w.at q) m e at.node) (at_root tree q role) s))
     (all_votes tree es w run p)) at_top

@@ -182,7 +182,8 @@ module _ (me : ProcessId) (boot : ℕ) (c : Case) (m : Memory) where
     by_txn true e = by_ticket d.ticket refl e
     by_txn false e = keeps
         (λ u v x. not_so
-        (subst (λ (y : Txn). same_txn y c.txn ≡ true) (sym (ap (λ (y : Case). y.txn) (is_of_case u v x))) x.same) e) refl
+        (subst (λ (y : Txn). same_txn y c.txn ≡ true) (sym (ap (λ (y : Case). y.txn) (is_of_case u v x))) x.same) e)
+        refl
       where
         not_so : same_txn d.txn c.txn ≡ true → same_txn d.txn c.txn ≡ false → ⊥
         not_so f g = cc
