@@ -57,8 +57,11 @@ fit_front rs (x ∷ xs) ys f = (f.0, fit_front (rs ++ x ∷ []) xs ys f.1)
 
 pub fit_both : (rs xs ys : List Record) → AllFit rs xs → AllFit (rs ++ xs) ys → AllFit rs (xs ++ ys)
 fit_both rs [] ys f g = subst (λ (z : List Record). AllFit z ys) (append-nil rs) g
-fit_both rs (x ∷ xs) ys f g =
-    (f.0, fit_both (rs ++ x ∷ []) xs ys f.1 (subst (λ (z : List Record). AllFit z ys) (sym (append_assoc rs (x ∷ []) xs)) g))
+fit_both rs (x ∷ xs) ys f g = (
+  f.0,
+  fit_both (rs ++ x ∷ []) xs ys f.1
+      (subst (λ (z : List Record). AllFit z ys) (sym (append_assoc rs (x ∷ []) xs)) g),
+)
 
 at_end : (q : Record → Bool) (rs : List Record) (x : Record) → q x ≡ true → has q (rs ++ x ∷ []) ≡ true
 at_end q rs x e = in_second q rs (x ∷ []) (has-cons q x [] ∙ left (q x) (has q []) e)
@@ -169,7 +172,8 @@ module _ (c : Case) where
       by_first (inl now) (inl too) k = not_one x now too
       by_first (inl now) (inr rest) k =
           not_both (is_abort c) _ rest
-          (none_later (is_abort c) (is_commit c) abort_bars_commit (rs ++ x ∷ []) xs f.1 (at_end (is_commit c) rs x now))
+          (none_later (is_abort c) (is_commit c) abort_bars_commit (rs ++ x ∷ []) xs f.1
+          (at_end (is_commit c) rs x now))
       by_first (inr rest) (inl now) k =
           not_both (is_commit c) _ rest
           (none_later (is_commit c) (is_abort c) commit_bars_abort (rs ++ x ∷ []) xs f.1 (at_end (is_abort c) rs x now))
@@ -241,7 +245,8 @@ module _ (c : Case) where
 
   module _ (p : c.txn.presumption ≡ PresumeAbort) where
     commit_names : (rs : List Record) (x : Record) → Fits rs x → is_commit c x ≡ true → none_of (owing_in c x) ≡ false
-    commit_names rs (Commit d ts) f e = named_so d ts false e (presumed_of (λ x. CommitNames x ts) PresumeAbort d p e f.0)
+    commit_names rs (Commit d ts) f e =
+        named_so d ts false e (presumed_of (λ x. CommitNames x ts) PresumeAbort d p e f.0)
     commit_names rs x f e = absurd (cc)
 
     abort_names : (rs : List Record) (x : Record) → Fits rs x → is_commit c x ≡ false → none_of (owing_in c x) ≡ true

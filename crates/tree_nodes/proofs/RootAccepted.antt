@@ -1,19 +1,16 @@
 -- Who is remembered at a root, or was heard to vote, was accepted: over every run.
-use Rattle.std.proofs.Common.{◌≡◌, ◌∙◌, ◌&&◌, ◌||◌, ◌⊎◌, inl, inr, ℕ, zero, suc, Bool, true, false, not, None, List, [], ◌∷◌, ◌++◌, take, refl, sym, ap, subst, arith, if◌then◌else◌}
+use Rattle.std.proofs.Common.{◌≡◌, ◌∙◌, ◌&&◌, ◌||◌, ◌⊎◌, inl, inr, ℕ, zero, suc, Bool, true, false, not, List, [], ◌∷◌, ◌++◌, take, refl, sym, ap, subst, arith, if◌then◌else◌}
 use Rattle.std.specs.Prelude.{fold}
 use Rattle.std.specs.List.{list_any}
 use Rattle.std.proofs.lemmas.List.{append-nil}
 use Rattle.std.proofs.lemmas.List.Folds.{list_any-append}
-use Rattle.std.proofs.lemmas.Grind.{fold-append}
 use Rattle.tree_model.specs.declared.names.Case.{Case}
 use Rattle.tree_model.specs.declared.names.ProcessId.{ProcessId}
 use Rattle.tree_model.specs.declared.names.Ticket.{Ticket}
-use Rattle.tree_model.specs.declared.names.Presumption.TheVariants.{PresumeAbort, PresumeCommit}
 use Rattle.tree_model.specs.declared.messages.Message.TheVariants.{Joined}
 use Rattle.tree_model.specs.declared.standings.Standing.{Standing}
 use Rattle.tree_model.specs.declared.standings.Standing.TheVariants.{Active}
 use Rattle.tree_model.specs.declared.standings.Vote.{Vote}
-use Rattle.tree_model.specs.declared.standings.Vote.TheVariants.{No as VoteNo}
 use Rattle.tree_model.specs.declared.events.Input.{Input}
 use Rattle.tree_model.specs.declared.events.Input.TheVariants.{Message as MessageInput}
 use Rattle.tree_model.specs.declared.events.StepError.TheVariants.{NoSuch}
@@ -24,7 +21,7 @@ use Rattle.tree_model.specs.Records.{in_list, is_opened, boot_of}
 use Rattle.tree_model.specs.Nodes.{AtRoot, Place, place_of, role_of, Node, kept, Heard, Effect, opened_node, entries_written, after, fails_in}
 use Rattle.tree_model.specs.Memory.{Memory, Open, memory_of, remembers, root_remembers, fresh_memory, has_child, has_voted, is_counted}
 use Rattle.tree_model.specs.Standings.{CoordinatorView, coordinator_view}
-use Rattle.tree_model.specs.CoordinatorRows.{Row, on_joined}
+use Rattle.tree_model.specs.CoordinatorRows.{on_joined}
 use Rattle.tree_model.specs.Reactions.{Refused, Does, reacts, handles, act_is_listed, row_effect}
 use Rattle.tree_model.specs.Restarts.{restarted, restart_fails, trims, trim_fails, trimmed}
 use Rattle.tree_model.specs.Views.{root_place}
@@ -33,25 +30,24 @@ use Rattle.tree_model.specs.Outcomes.{has_accepted, has_heard_vote}
 use Rattle.tree_model.proofs.ListLaws.{kept-after}
 use Rattle.tree_model.proofs.RunLaws.{makes_at}
 use Rattle.tree_readings.specs.ReadingOf.{is_vote}
-use Rattle.tree_turns.specs.CoordinatorTurns.{CountsVote, CaseTurn, rests, invites, accepts, sends_work, finds_nobody, asks_for_votes, gives_up, counts_vote, reads_only, commits, promises, hears_no, aborts, passes_commit, passes_abort, repeats_yes, asks, refuses, acknowledges, waits_for_acks, ends, answers, CoordinatorTurn, does_nothing, of_case, begins, gives_again, gives_fresh, presumes}
+use Rattle.tree_turns.specs.CoordinatorTurns.{CountsVote}
 use Rattle.tree_turns.specs.Steps.{StepOf, heard_in, handled, failed_in, passed, failed_passing, reopened, failed_reopening, trimmed as trims_log, failed_trimming, TurnOf}
 use Rattle.tree_turns.proofs.Steps.{step_of, turn_of}
 use Rattle.tree_turns.proofs.CoordinatorReactions.{coordinator_turn_of}
 use Rattle.tree_nodes.specs.Lasts.{logs_of}
-use Rattle.tree_nodes.specs.RootAccepts.{Accepts}
-use Rattle.tree_nodes.specs.RootAlike.{AllAlike}
+use Rattle.tree_nodes.proofs.RootAccepts.{Accepts}
+use Rattle.tree_nodes.proofs.RootAlike.{AllAlike}
 use Rattle.tree_nodes.proofs.Tests.{either, left, right, both, front_none}
 use Rattle.tree_nodes.proofs.Appends.{breaks_keeps}
 use Rattle.tree_nodes.proofs.Boots.{others_boot, boot_append, turn_none, trimmed_boot}
 use Rattle.tree_nodes.proofs.RootAlikes.{root_alike}
-use Rattle.tree_nodes.proofs.RootMemories.{same_memory}
+use Rattle.tree_nodes.proofs.RootCounts.{HeardSo, effect_counts}
+use Rattle.tree_nodes.proofs.RootHistories.{took}
+use Rattle.tree_nodes.proofs.RootMemories.{memory_heard, same_memory}
 use Rattle.tree_nodes.proofs.RootNumbered.{at_root}
 use Rattle.tree_nodes.proofs.RootPhases.{active_accepted, collecting_accepted}
 use Rattle.tree_nodes.proofs.RootTakes.{Takes, keeps, empties, takes, taken}
 use Rattle.tree_nodes.proofs.Worlds.{put}
-
-abbrev pub took : Case → Ticket → List (Case × Ticket) → Bool
-took c t as' = list_any (λ a. same_case a.0 c && same_ticket a.1 t) as'
 
 pub took_before : (c : Case) (t : Ticket) (xs ys : List (Case × Ticket)) → took c t ys ≡ true
     → took c t (xs ++ ys) ≡ true
@@ -149,15 +145,12 @@ module _ (me : ProcessId) (tree : List TreeEntry) (n : Node) (alike : AllAlike (
     -- Votes.
 
     module _ (h : Heard) (c : Case) (t : Ticket) (q : Vote → Bool) where
-      abbrev IsHeard : List (Case × (Ticket × Vote)) → Type 0
-      IsHeard vs = list_any (λ a. same_case a.0 c && (same_ticket a.1.0 t && q a.1.1)) vs ≡ true
-
       counted_in : (ts : List Ticket) (vs : List (Ticket × Vote)) (u : Ticket) → is_counted ts vs u ≡ true
           → in_list ts u ≡ true
       counted_in ts vs u e = (both (in_list ts u) (not (has_voted vs u)) e).0
 
       counts_one : (d : Case) (u : Ticket) (w : Vote) → CountsVote (root_place me tree) n h d u w
-          → IsHeard ((d, (u, w)) ∷ []) → has_accepted n c t ≡ true
+          → HeardSo c t q ((d, (u, w)) ∷ []) → has_accepted n c t ≡ true
       counts_one d u w i f =
           let v = coordinator_view place n d in
           let there : has_accepted n d u ≡ true =
@@ -178,55 +171,10 @@ module _ (me : ProcessId) (tree : List TreeEntry) (n : Node) (alike : AllAlike (
           ticket_is : (a b : Ticket) → same_ticket a b ≡ true → a ≡ b
           ticket_is a b f = elim (same_ticket_tells a b) [ inl x ↦ x.1 | inr y ↦ absurd (let z = y.0 in cc) ]
 
-      row_counts : (d : Case) (row : Row) → CaseTurn (root_place me tree) None n h d row
-          → IsHeard (row_effect d row).counts → has_accepted n c t ≡ true
-      row_counts d _ (counts_vote u w i k a) f = counts_one d u w i f
-      row_counts d _ (reads_only u w ys p i k a) f = counts_one d u w i.vote f
-      row_counts d _ (commits u w ys p i k a b) f = counts_one d u w i.vote f
-      row_counts d _ (promises u w ys p i k a) f = absurd (cc)
-      row_counts d _ (hears_no u us p i k a) f = counts_one d u VoteNo i f
-      row_counts d _ (rests r) f = absurd (cc)
-      row_counts d _ (invites p i k a b) f = absurd (cc)
-      row_counts d _ (accepts u i k a) f = absurd (cc)
-      row_counts d _ (sends_work p u op i k a b) f = absurd (cc)
-      row_counts d _ (finds_nobody i k a) f = absurd (cc)
-      row_counts d _ (asks_for_votes PresumeAbort i k a b) f = absurd (cc)
-      row_counts d _ (asks_for_votes PresumeCommit i k a b) f = absurd (cc)
-      row_counts d _ (gives_up why p i k a) f = absurd (cc)
-      row_counts d _ (aborts why us PresumeAbort i k a b) f = absurd (cc)
-      row_counts d _ (aborts why us PresumeCommit i k a b) f = absurd (cc)
-      row_counts d _ (passes_commit p i k a) f = absurd (let g = i.is_parent in cc)
-      row_counts d _ (passes_abort p i k a) f = absurd (let g = i.is_parent in cc)
-      row_counts d _ (repeats_yes j i k) f = absurd (cc)
-      row_counts d _ (asks i k) f = absurd (cc)
-      row_counts d _ (refuses j i k) f = absurd (cc)
-      row_counts d _ (acknowledges o i k) f = absurd (cc)
-      row_counts d _ (waits_for_acks u o i k a b) f = absurd (cc)
-      row_counts d _ (ends u o i k a b) f = absurd (cc)
-      row_counts d _ (answers u o i k) f = absurd (cc)
-
-      pub effect_counts : (e : Effect) → CoordinatorTurn (root_place me tree) None n h e → IsHeard e.counts
-          → has_accepted n c t ≡ true
-      effect_counts _ (does_nothing i) f = absurd (cc)
-      effect_counts _ (of_case d row k) f = row_counts d row k f
-      effect_counts _ (begins p k i) f = absurd (cc)
-      effect_counts _ (gives_again p d u k i a) f = absurd (cc)
-      effect_counts _ (gives_fresh p d k i a) f = absurd (cc)
-      effect_counts _ (presumes x u i k) f = absurd (cc)
-
     -- Steps.
 
     abbrev Holds : Node → Type 0
     Holds k = Accepts (root_place me tree) k
-
-    -- what is remembered behind an input, where the boot stays
-    memory_heard : (h : Heard) (k : Node) (c : Case) → k.heard ≡ n.heard ++ h ∷ [] → boot_of (kept k) ≡ boot_of (kept n)
-        → memory_of place k c ≡ root_remembers me (boot_of (kept n)) c (memory_of place n c) h.input
-    unfolding memory_of
-    memory_heard h k c e b =
-        ap (λ hs. fold (remembers me AtRoot (boot_of (kept k)) c) fresh_memory hs) e
-        ∙ (ap (λ (j : ℕ). fold (remembers me AtRoot j c) fresh_memory (n.heard ++ h ∷ [])) b
-        ∙ fold-append _ _ n.heard (h ∷ []))
 
     -- a node with the histories of an input
     heard_holds : (h : Heard) (e : Effect) → n.failed ≡ false → reacts (root_place me tree) n h ≡ Does e → (k : Node)
@@ -235,7 +183,8 @@ module _ (me : ProcessId) (tree : List TreeEntry) (n : Node) (alike : AllAlike (
     heard_holds h e up r k i b a v = record {
       remembered_accepted = λ c t f.
           ap (took c t) a
-          ∙ remembered_then h e up r c t (ap (λ (m : Memory). in_list m.accepted t) (sym (memory_heard h k c i b)) ∙ f);
+          ∙ remembered_then h e up r c t
+          (ap (λ (m : Memory). in_list m.accepted t) (sym (memory_heard me tree n h k c i b)) ∙ f);
       voted_accepted = λ c t w f.
           ap (took c t) a
           ∙ took_before c t e.accepts n.accepted
@@ -247,7 +196,9 @@ module _ (me : ProcessId) (tree : List TreeEntry) (n : Node) (alike : AllAlike (
             → (list_any (λ x. same_case x.0 c && (same_ticket x.1.0 t && is_vote w x.1.1)) e.counts ≡ true)
             ⊎ (has_heard_vote n c t (is_vote w) ≡ true)
             → has_accepted n c t ≡ true
-        voted_then c t w (inl now) = effect_counts h c t (is_vote w) e (coordinator_turn_of place n h e r) now
+        voted_then c t w (inl now) =
+            effect_counts place n h c t (is_vote w) (has_accepted n c t ≡ true) (counts_one h c t (is_vote w)) e
+            (coordinator_turn_of place n h e r) now
         voted_then c t w (inr before) = old.voted_accepted c t w before
 
     -- one with the same histories, that remembers no more

@@ -27,8 +27,8 @@ use Rattle.tree_turns.proofs.Steps.{step_of, turn_of}
 use Rattle.tree_turns.proofs.CoordinatorReactions.{coordinator_turn_of}
 use Rattle.tree_nodes.specs.Lasts.{logs_of, Nested}
 use Rattle.tree_nodes.specs.WorldHolds.{is_record_of}
-use Rattle.tree_nodes.specs.RootCases.{IsRoots, RootCases}
-use Rattle.tree_nodes.specs.RootAlike.{AllAlike}
+use Rattle.tree_nodes.proofs.RootCases.{IsRoots, recorded, RootCases}
+use Rattle.tree_nodes.proofs.RootAlike.{AllAlike}
 use Rattle.tree_nodes.proofs.Tests.{not_both, in_first, in_none, front_none, has-nil}
 use Rattle.tree_nodes.proofs.Appends.{loses, breaks_keeps}
 use Rattle.tree_nodes.proofs.Trims.{trim_left}
@@ -226,7 +226,7 @@ module _ (me : ProcessId) (tree : List TreeEntry) where
             → has (is_record_of (record { txn = x; ticket = Some t })) (kept n) ≡ false
         by_test true e = absurd (none
             (cases.begun_now up (record { txn = x; ticket = Some t })
-            (nested.kept_was_written (is_record_of (record { txn = x; ticket = Some t })) (λ k. refl) e)))
+            (recorded (nested.kept_was_written (is_record_of (record { txn = x; ticket = Some t })) (λ k. refl) e))))
         by_test false e = e
 
         unrecorded : has (is_record_of (record { txn = x; ticket = Some t })) (kept n) ≡ false

@@ -21,7 +21,7 @@ use Rattle.tree_model.proofs.BeginLaws.{same_begun}
 use Rattle.tree_turns.specs.CoordinatorTurns.{Decided, by_commit, by_abort, CaseTurn, rests, invites, accepts, sends_work, finds_nobody, asks_for_votes, gives_up, counts_vote, reads_only, commits, promises, hears_no, aborts, passes_commit, passes_abort, repeats_yes, asks, refuses, acknowledges, waits_for_acks, ends, answers, CoordinatorTurn, does_nothing, of_case, begins, gives_again, gives_fresh, presumes}
 use Rattle.tree_nodes.specs.Lasts.{logs_of, Nested}
 use Rattle.tree_nodes.specs.WorldHolds.{IsGivenOut, is_record_of}
-use Rattle.tree_nodes.specs.RootCases.{IsRoots, AllRoots, RootCases}
+use Rattle.tree_nodes.proofs.RootCases.{IsRoots, AllRoots, InHistory, recorded, RootCases}
 use Rattle.tree_nodes.proofs.Tests.{not_both}
 use Rattle.tree_nodes.proofs.Worlds.{has_other}
 use Rattle.tree_nodes.proofs.Cases.{viewed}
@@ -85,7 +85,7 @@ module _ (me : ProcessId) (tree : List TreeEntry) (n : Node) where
   remembered_roots c awake = elim (remembered_is_begun place refl n c) [
     | inl idle ↦ absurd (awake idle)
     | inr b ↦ subst (λ (k : ℕ). IsRoots me boot k c) (same_begun me tree n c (some_case place))
-        (record { no_ticket = b.no_ticket; own = b.own; number = inr (b.in_boot, b.number) })
+        (record { no_ticket = b.no_ticket; own = b.own; counted = b.counted; number = inr (b.in_boot, b.number) })
   ]
 
   -- a case that is known is the root's
@@ -95,14 +95,15 @@ module _ (me : ProcessId) (tree : List TreeEntry) (n : Node) where
       (memory_of (root_place me tree) n (some_case (root_place me tree))).begun c
   known_roots up nested h c known = elim (known_by place n c known) [
     | inl awake ↦ remembered_roots c awake
-    | inr recorded ↦ h.begun_now up c (nested.kept_was_written (is_record_of c) (λ k. refl) recorded)
+    | inr stands ↦ h.begun_now up c
+        (recorded (nested.kept_was_written (is_record_of c) (λ k. refl) stands))
   ]
 
-  -- no record was ever written of the transaction that begins next
+  -- no history has the transaction that begins next
   pub fresh_ever : n.failed ≡ false → RootCases (root_place me tree) n → (x : Txn) (p : Presumption)
       → next_txn me (boot_of (kept n)) (memory_of (root_place me tree) n (root_case x)) p ≡ x
-      → has (is_record_of (root_case x)) n.life ≡ false
-  fresh_ever up cases x p e = by_test (has (is_record_of (root_case x)) n.life) refl
+      → InHistory n (root_case x) → ⊥
+  fresh_ever up cases x p e f = given (cases.begun_now up (root_case x) f)
     where
       not_given : (b k : ℕ) → IsGivenOut b (k + 1) b k → ⊥
       not_given b k (inl f) = omega (arith, f)
@@ -117,9 +118,15 @@ module _ (me : ProcessId) (tree : List TreeEntry) (n : Node) where
           (subst (λ (k : ℕ). IsGivenOut boot (k + 1) boot count) counted
           (subst (λ (z : Txn). IsGivenOut z.boot z.sequence boot count) (sym e) r.number))
 
+  -- no record was ever written of it
+  pub fresh_unrecorded : n.failed ≡ false → RootCases (root_place me tree) n → (x : Txn) (p : Presumption)
+      → next_txn me (boot_of (kept n)) (memory_of (root_place me tree) n (root_case x)) p ≡ x
+      → has (is_record_of (root_case x)) n.life ≡ false
+  fresh_unrecorded up cases x p e = by_test (has (is_record_of (root_case x)) n.life) refl
+    where
       by_test : (b : Bool) → has (is_record_of (root_case x)) n.life ≡ b
           → has (is_record_of (root_case x)) n.life ≡ false
-      by_test true f = absurd (given (cases.begun_now up (root_case x) f))
+      by_test true f = absurd (fresh_ever up cases x p e (recorded f))
       by_test false f = f
 
 -- What a turn writes is of a case that is known.

@@ -23,6 +23,10 @@ IsLive Asked = Unit {0}
 IsLive Idle = ⊥
 IsLive Over = ⊥
 
+pub is_live : (ph : Phase) → (ph ≡ Open) ⊎ (ph ≡ Asked) → IsLive ph
+is_live ph (inl e) = subst IsLive (sym e) tt
+is_live ph (inr e) = subst IsLive (sym e) tt
+
 module _ (me : ProcessId) (boot : ℕ) (c : Case) (m : Memory) where
   -- it was so before
   abbrev Was : Memory → Type 0

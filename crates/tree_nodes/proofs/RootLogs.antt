@@ -1,12 +1,12 @@
 -- What a root's restart and trim leave of where its cases stand.
-use Rattle.std.proofs.Common.{◌≡◌, ◌∙◌, ◌⊎◌, inl, inr, ◌+◌, ℕ, Bool, true, false, Option, Some, None, List, [], ◌∷◌, ◌++◌, refl, sym, ap, if◌then◌else◌, arith}
+use Rattle.std.proofs.Common.{◌≡◌, ◌∙◌, ◌⊎◌, inl, inr, ◌+◌, ℕ, Bool, true, false, Option, Some, None, List, [], ◌∷◌, ◌++◌, refl, sym, ap, subst, ◌||◌, if◌then◌else◌, arith}
 use Rattle.std.specs.Prelude.{fold}
 use Rattle.std.specs.List.{flat_map}
 use Rattle.tree_model.specs.declared.names.Case.{Case}
 use Rattle.tree_model.specs.declared.names.Presumption.{Presumption}
 use Rattle.tree_model.specs.declared.names.Presumption.TheVariants.{PresumeAbort, PresumeCommit}
 use Rattle.tree_model.specs.declared.records.Record.{Record}
-use Rattle.tree_model.specs.declared.records.Record.TheVariants.{Opened}
+use Rattle.tree_model.specs.declared.records.Record.TheVariants.{Opened, Abort as AbortRecord}
 use Rattle.tree_model.specs.declared.standings.Standing.{Standing}
 use Rattle.tree_model.specs.declared.standings.Standing.TheVariants.{Unknown, Active, Collecting, Prepared, Committing, Aborting, Heuristic}
 use Rattle.tree_model.specs.declared.names.Ticket.{Ticket}
@@ -62,6 +62,10 @@ module _ (c : Case) where
     | inl now ↦ in_first q (f d) (flat_map f cs) (ap (λ x. has q (f x)) (is_same d now) ∙ g)
     | inr rest ↦ in_second q (f d) (flat_map f cs) (for_each q f cs rest g)
   ]
+
+  pub recorded_stands : (rs : List Record) → (recorded_view rs c).standing ≡ standing_at rs c Idle
+  unfolding recorded_view
+  recorded_stands rs = view_standing (coordinator_standing rs c fresh_memory) rs c fresh_memory
 
   -- A restart leaves no case Collecting.
 
@@ -150,6 +154,45 @@ module _ (c : Case) where
       only_first (inr b) =
           not_both (is_collecting c) _ b (reopens_none (is_collecting c) (λ d ts. refl) (λ k. refl) AtRoot rs)
 
+  -- it appends records of those that have one alone
+
+  of_one : (d : Case) (ts : List Ticket) → has (is_record_of c) (AbortRecord d ts ∷ []) ≡ true
+      → same_case d c ≡ true
+  unfolding has
+  of_one d ts e = alone (same_case d c) e
+    where
+      alone : (b : Bool) → (b || false) ≡ true → b ≡ true
+      alone b g = grind arith
+
+  abort_recorded : (rs : List Record) (d : Case) (st : Standing) → (recorded_view rs d).standing ≡ st
+      → has (is_record_of c) (restart_abort d (recorded_view rs d) st) ≡ true → has (is_record_of c) rs ≡ true
+  abort_recorded rs d Collecting e k =
+      has_other (is_collecting c) (is_record_of c) rs is_recorded
+      (idle_standing rs (sym (recorded_stands rs)
+      ∙ subst (λ (x : Case). (recorded_view rs x).standing ≡ Collecting)
+      (is_same d (of_one d (recorded_view rs d).named k)) e))
+  abort_recorded rs d Unknown e k = not_both (is_record_of c) (has (is_record_of c) []) k (has-nil (is_record_of c))
+  abort_recorded rs d Active e k = not_both (is_record_of c) (has (is_record_of c) []) k (has-nil (is_record_of c))
+  abort_recorded rs d Prepared e k = not_both (is_record_of c) (has (is_record_of c) []) k (has-nil (is_record_of c))
+  abort_recorded rs d Committing e k = not_both (is_record_of c) (has (is_record_of c) []) k (has-nil (is_record_of c))
+  abort_recorded rs d Aborting e k = not_both (is_record_of c) (has (is_record_of c) []) k (has-nil (is_record_of c))
+  abort_recorded rs d Heuristic e k = not_both (is_record_of c) (has (is_record_of c) []) k (has-nil (is_record_of c))
+
+  aborts_recorded : (rs : List Record) (cs : List Case)
+      → has (is_record_of c) (flat_map (aborts_collecting rs) cs) ≡ true → has (is_record_of c) rs ≡ true
+  aborts_recorded rs [] k = not_both (is_record_of c) (has (is_record_of c) []) k (has-nil (is_record_of c))
+  aborts_recorded rs (d ∷ cs) k =
+      elim (in_either (is_record_of c) (aborts_collecting rs d) (flat_map (aborts_collecting rs) cs) k) [
+        | inl now ↦ abort_recorded rs d (recorded_view rs d).standing refl now
+        | inr rest ↦ aborts_recorded rs cs rest
+      ]
+
+  pub reopened_record : (rs : List Record) → has (is_record_of c) (reopens AtRoot rs) ≡ true
+      → has (is_record_of c) rs ≡ true
+  reopened_record rs k =
+      aborts_recorded rs (cases_in rs)
+      (sym (has-cons (is_record_of c) (Opened (boot_of rs + 1)) (flat_map (aborts_collecting rs) (cases_in rs))) ∙ k)
+
   -- A trim.
 
   stays_whole : (q : Record → Bool) → ((r : Record) → q r ≡ true → is_record_of c r ≡ true)
@@ -207,10 +250,6 @@ module _ (c : Case) where
       by_test : (b : Bool) → has q rs ≡ b → has q rs ≡ false
       by_test true g = not_both q (has q (trimmed AtRoot rs)) (known_stays q f rs k g) e
       by_test false g = g
-
-  pub recorded_stands : (rs : List Record) → (recorded_view rs c).standing ≡ standing_at rs c Idle
-  unfolding recorded_view
-  recorded_stands rs = view_standing (coordinator_standing rs c fresh_memory) rs c fresh_memory
 
   module _ (rs : List Record) (ph : Phase) (old : Together rs c ph) where
     abbrev new : List Record

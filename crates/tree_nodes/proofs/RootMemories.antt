@@ -1,6 +1,7 @@
 -- What the root remembers is of transactions that it began since its last restart.
 use Rattle.std.proofs.Common.{◌≡◌, ◌∙◌, ◌≤◌, ◌+◌, ◌⊎◌, inl, inr, ℕ, Bool, true, false, Option, Some, None, List, [], ◌∷◌, ◌++◌, refl, sym, subst, if◌then◌else◌, arith, ap}
 use Rattle.std.specs.Prelude.{fold}
+use Rattle.std.proofs.lemmas.Grind.{fold-append}
 use Rattle.tree_model.specs.declared.names.Case.{Case}
 use Rattle.tree_model.specs.declared.names.ProcessId.{ProcessId}
 use Rattle.tree_model.specs.declared.names.Ticket.{Ticket}
@@ -26,6 +27,7 @@ pub record IsBegun (me : ProcessId) (boot count : ℕ) (c : Case) : Type 0 where
   pub no_ticket : c.ticket ≡ None
   pub own : c.txn.root ≡ me
   pub in_boot : c.txn.boot ≡ boot
+  pub counted : 1 ≤ c.txn.sequence
   pub number : c.txn.sequence ≤ count
 
 module _ (me : ProcessId) (boot : ℕ) (c : Case) where
@@ -116,10 +118,13 @@ module _ (me : ProcessId) (boot : ℕ) (c : Case) where
   whole : (b : ℕ) → b ≤ b
   whole b = omega arith
 
+  one_at_least : (b : ℕ) → 1 ≤ b + 1
+  one_at_least b = omega arith
+
   counted : (m : Memory) → O m → O (record m { begun = m.begun + 1 })
   counted m (inl idle) = inl idle
   counted m (inr b) = inr (record
-      { no_ticket = b.no_ticket; own = b.own; in_boot = b.in_boot; number = more c.txn.sequence m.begun b.number })
+      { no_ticket = b.no_ticket; own = b.own; in_boot = b.in_boot; counted = b.counted; number = more c.txn.sequence m.begun b.number })
 
   begun_if : (m : Memory) (p : Presumption) → O m → (b : Bool)
       → same_case (root_case (next_txn me boot m p)) c ≡ b
@@ -128,7 +133,13 @@ module _ (me : ProcessId) (boot : ℕ) (c : Case) where
   begun_if m p o true e =
       let same : root_case (next_txn me boot m p) ≡ c = is_same (root_case (next_txn me boot m p)) c e in
       inr (subst (λ (d : Case). IsBegun me boot (m.begun + 1) d) same
-      (record { no_ticket = refl; own = refl; in_boot = refl; number = whole (m.begun + 1) }))
+      (record {
+        no_ticket = refl;
+        own = refl;
+        in_boot = refl;
+        counted = one_at_least m.begun;
+        number = whole (m.begun + 1);
+      }))
     where
       is_same : (a b : Case) → same_case a b ≡ true → a ≡ b
       is_same a b f = elim (same_case_tells a b) [ inl t ↦ t.1 | inr g ↦ absurd (let k = g.0 in cc) ]
@@ -167,3 +178,14 @@ unfolding memory_of
 same_memory me tree n k c e b =
     ap (λ hs. fold (remembers me AtRoot (boot_of (kept k)) c) fresh_memory hs) e
     ∙ ap (λ (j : ℕ). fold (remembers me AtRoot j c) fresh_memory n.heard) b
+
+-- what is remembered behind an input, where the boot stays
+pub memory_heard : (me : ProcessId) (tree : List TreeEntry) (n : Node) (h : Heard) (k : Node) (c : Case)
+    → k.heard ≡ n.heard ++ h ∷ [] → boot_of (kept k) ≡ boot_of (kept n)
+    → memory_of (root_place me tree) k c
+    ≡ root_remembers me (boot_of (kept n)) c (memory_of (root_place me tree) n c) h.input
+unfolding memory_of
+memory_heard me tree n h k c e b =
+    ap (λ hs. fold (remembers me AtRoot (boot_of (kept k)) c) fresh_memory hs) e
+    ∙ (ap (λ (j : ℕ). fold (remembers me AtRoot j c) fresh_memory (n.heard ++ h ∷ [])) b
+    ∙ fold-append _ _ n.heard (h ∷ []))

@@ -7,7 +7,7 @@ use Rattle.tree_model.specs.declared.names.Ticket.{Ticket}
 use Rattle.tree_model.specs.declared.records.Record.{Record}
 use Rattle.tree_model.specs.declared.trees.TreeEntry.{TreeEntry}
 use Rattle.tree_model.specs.Records.{has}
-use Rattle.tree_model.specs.Nodes.{AtRoot, Place, place_of, role_of, Node, kept, Heard, Effect, opened_node, entries_written, is_any_forced, after, fails_in}
+use Rattle.tree_model.specs.Nodes.{AtRoot, Place, place_of, role_of, Node, kept, Heard, Effect, opened_node, entries_written, after, fails_in}
 use Rattle.tree_model.specs.Outcomes.{has_accepted}
 use Rattle.tree_model.specs.Reactions.{Does, reacts}
 use Rattle.tree_model.specs.Restarts.{reopens, restarted, restart_fails, trims, trim_fails}
@@ -17,13 +17,13 @@ use Rattle.tree_model.proofs.RunLaws.{makes_at}
 use Rattle.tree_turns.specs.Steps.{StepOf, heard_in, handled, failed_in, passed, failed_passing, reopened, failed_reopening, trimmed as trims_log, failed_trimming}
 use Rattle.tree_turns.proofs.Steps.{step_of}
 use Rattle.tree_turns.proofs.CoordinatorReactions.{coordinator_turn_of}
-use Rattle.tree_nodes.specs.Lasts.{Logs, logs_of, Nested}
+use Rattle.tree_nodes.specs.Lasts.{logs_of, Nested}
 use Rattle.tree_nodes.specs.WorldHolds.{is_naming}
-use Rattle.tree_nodes.specs.RootAccepts.{Accepts}
-use Rattle.tree_nodes.specs.RootNames.{NamesAccepted}
+use Rattle.tree_nodes.proofs.RootAccepts.{Accepts}
+use Rattle.tree_nodes.proofs.RootNames.{NamesAccepted}
 use Rattle.tree_nodes.proofs.Tests.{has-reverse, has-nil, in_first, in_second, in_either, in_front, not_both}
-use Rattle.tree_nodes.proofs.Appends.{either_logs}
-use Rattle.tree_nodes.proofs.RootAccepted.{took, took_before, all_accepts}
+use Rattle.tree_nodes.proofs.RootAccepted.{took_before, all_accepts}
+use Rattle.tree_nodes.proofs.RootHistories.{took, after_life}
 use Rattle.tree_nodes.proofs.RootNaming.{effect_names, reopens_name}
 use Rattle.tree_nodes.proofs.RootNumbered.{at_root}
 use Rattle.tree_nodes.proofs.Worlds.{all_last, put}
@@ -33,11 +33,6 @@ module _ (me : ProcessId) (tree : List TreeEntry) (n : Node) (nested : Nested (l
   where
     abbrev place : Place
     place = root_place me tree
-
-    life_of : (h : Heard) (e : Effect) → (after n h e).life ≡ reverse (entries_written e.written) ++ n.life
-    life_of h e =
-        either_logs n (entries_written e.written) (is_any_forced e.written)
-        (λ (l : Logs). l.life ≡ reverse (entries_written e.written) ++ n.life) (λ b. refl) (λ b. refl)
 
     -- records were appended that name who was accepted
     grows : (k : Node) (new : List Record) (more : List (Case × Ticket)) → k.life ≡ reverse new ++ n.life
@@ -86,7 +81,7 @@ module _ (me : ProcessId) (tree : List TreeEntry) (n : Node) (nested : Nested (l
     names_last : (m : Move) (e : Effect) (k : Node) → StepOf (root_place me tree) n m e k → NamesAccepted k
     names_last m _ _ (handled i g hp np r) =
         let h = heard_in m i in
-        grows (after n h g) (entries_written g.written) g.accepts (life_of h g) refl (names_written h g r)
+        grows (after n h g) (entries_written g.written) g.accepts (after_life n h g) refl (names_written h g r)
     names_last m _ _ (failed_in i f g fl hp np r) =
         let h = heard_in m i in
         let new = entries_written g.written in

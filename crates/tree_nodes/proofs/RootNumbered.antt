@@ -26,11 +26,12 @@ use Rattle.tree_turns.proofs.CoordinatorReactions.{coordinator_turn_of}
 use Rattle.tree_nodes.specs.Lasts.{Logs, logs_of, Nested}
 use Rattle.tree_nodes.specs.WorldHolds.{is_record_of}
 use Rattle.tree_nodes.proofs.Tests.{not_both, has-nil, has-reverse, in_first, in_second, in_either, in_front}
-use Rattle.tree_nodes.specs.RootCases.{IsRoots, RootCases}
+use Rattle.tree_nodes.proofs.RootCases.{IsRoots, InHistory, recorded, accepted, begun, told, found_undecided, RootCases}
 use Rattle.tree_nodes.proofs.Appends.{either_logs}
 use Rattle.tree_nodes.proofs.Boots.{Booted, Rises, others_boot, rise_front, boot_append, front_below, lost_rises, still_booted, reopened_boot, trimmed_boot, turn_none}
 use Rattle.tree_nodes.proofs.BootsHold.{all_booted, boots_of}
-use Rattle.tree_nodes.proofs.RootKnown.{known_roots, effect_roots}
+use Rattle.tree_nodes.proofs.RootKnown.{known_roots}
+use Rattle.tree_nodes.proofs.RootHistories.{NewIn, effect_new, after_history, fails_history, reopened_history, reopening_history, same_history}
 use Rattle.tree_nodes.proofs.RootNumbers.{case_later, roots_each, roots_case, roots_reopens}
 use Rattle.tree_nodes.proofs.Worlds.{all_last, put}
 
@@ -96,18 +97,12 @@ module _ (me : ProcessId) (tree : List TreeEntry) where
   abbrev Holds : Node → Type 0
   Holds n = RootCases (root_place me tree) n
 
-  -- each record of the list is of a case of the root
-  abbrev Each : ℕ → ℕ → List Record → Type 0
-  Each b k rs = (c : Case) → has (is_record_of c) rs ≡ true → IsRoots me b k c
-
-  each_both : (b k : ℕ) (new old : List Record) → Each b k new → Each b k old → Each b k (reverse new ++ old)
-  each_both b k new old f g c e = elim (in_either (is_record_of c) (reverse new) old e) [
-    | inl now ↦ f c (sym (has-reverse (is_record_of c) new) ∙ now)
-    | inr before ↦ g c before
-  ]
+  -- each case in the histories is the root's
+  abbrev Each : ℕ → ℕ → Node → Type 0
+  Each b k n = (c : Case) → InHistory n c → IsRoots me b k c
 
   -- a process that is up keeps both by what was begun now
-  by_now : (n : Node) → Booted (logs_of n) → n.failed ≡ false → Each (boot_of (kept n)) (count n) n.life → Holds n
+  by_now : (n : Node) → Booted (logs_of n) → n.failed ≡ false → Each (boot_of (kept n)) (count n) n → Holds n
   by_now n boots up a = record {
     begun_before = λ c e.
         passed_by me (boot_of (kept n)) (count n) (boot_of n.forced) c
@@ -116,7 +111,7 @@ module _ (me : ProcessId) (tree : List TreeEntry) where
   }
 
   -- one that has failed by what was begun before
-  by_before : (n : Node) → n.failed ≡ true → Each (boot_of n.forced + 1) 0 n.life → Holds n
+  by_before : (n : Node) → n.failed ≡ true → Each (boot_of n.forced + 1) 0 n → Holds n
   by_before n down a = record { begun_before = a; begun_now = λ e. absurd (cc) }
 
   module _ (n : Node) (boots : Booted (logs_of n)) (nested : Nested (logs_of n)) (h : Holds n) where
@@ -126,35 +121,37 @@ module _ (me : ProcessId) (tree : List TreeEntry) where
         abbrev new : List Record
         new = entries_written e.written
 
-        written_now : Each (boot_of (kept n)) (count n) new
-        written_now c k =
-            roots_case me (boot_of (kept n)) (count n) c new k
-            (effect_roots place n i me (boot_of (kept n)) (count n) (known_roots me tree n t.up nested h) e
-            (coordinator_turn_of place n i e r))
-
         leaves_boot : boot_of (kept n ++ new) ≡ boot_of (kept n)
         leaves_boot = boot_append (kept n) new ∙ others_boot (boot_of (kept n)) new (turn_none AtRoot place n i e t.turn)
 
-        counts_on : count n ≤ count (after n i e)
-        counts_on =
-            subst (λ (k : ℕ). count n ≤ k)
-            (sym (ap (λ m. m.begun) (memory_of-after place n i e (some_case place) leaves_boot)
-            ∙ begun_step me (boot_of (kept n)) (some_case place) (memory_of place n (some_case place)) i.input))
-            (begun_more (count n) i.input)
+        count_then : count (after n i e) ≡ begun_next (count n) i.input
+        count_then =
+            ap (λ m. m.begun) (memory_of-after place n i e (some_case place) leaves_boot)
+            ∙ begun_step me (boot_of (kept n)) (some_case place) (memory_of place n (some_case place)) i.input
 
-        life_then : (after n i e).life ≡ reverse new ++ n.life
-        life_then =
-            either_logs n new (is_any_forced e.written) (λ (l : Logs). l.life ≡ reverse new ++ n.life) (λ b. refl)
-            (λ b. refl)
+        abbrev next : ℕ
+        next = begun_next (count n) i.input
+
+        old_now : (c : Case) → IsRoots me (boot_of (kept n)) (count n) c → IsRoots me (boot_of (kept n)) next c
+        old_now c a =
+            case_later me (boot_of (kept n)) (count n) (boot_of (kept n)) next
+            (inr (refl, begun_more (count n) i.input)) c a
+
+        -- what is added is of a case that is known, or begins now
+        added_now : (c : Case) → NewIn e c → IsRoots me (boot_of (kept n)) next c
+        added_now c x =
+            effect_new me tree n i (λ d known. old_now d (known_roots me tree n t.up nested h d known)) e
+            (coordinator_turn_of place n i e r) c x
 
         appended : Booted (logs_of (after n i e)) → Holds (after n i e)
         appended boots' =
-            let k = count (after n i e) in
             by_now (after n i e) boots' (after_up n i e ∙ t.up)
-            (subst (Each (boot_of (kept (after n i e))) k) (sym life_then)
-            (subst (λ (b : ℕ). Each b k (reverse new ++ n.life)) (sym (ap boot_of (kept-after n i e) ∙ leaves_boot))
-            (λ c f. case_later me (boot_of (kept n)) (count n) (boot_of (kept n)) k (inr (refl, counts_on)) c
-            (each_both (boot_of (kept n)) (count n) new n.life written_now (h.begun_now t.up) c f))))
+            (subst (λ (k : ℕ). Each (boot_of (kept (after n i e))) k (after n i e)) (sym count_then)
+            (subst (λ (b : ℕ). Each b next (after n i e)) (sym (ap boot_of (kept-after n i e) ∙ leaves_boot))
+            (λ c x. elim (after_history n i e c x) [
+              | inl before ↦ old_now c (h.begun_now t.up c before)
+              | inr now ↦ added_now c now
+            ])))
 
         broken : (a f : ℕ) → Booted (logs_of (fails_in n i e a f)) → Holds (fails_in n i e a f)
         broken a f boots' =
@@ -162,17 +159,17 @@ module _ (me : ProcessId) (tree : List TreeEntry) where
             let b = boot_of n.forced in
             let same = same_is_most _ _ ((boots_of n boots).boot_is_forced t.up) in
             by_before (fails_in n i e a f) refl
-            (λ c k. raised me b (boot_of (n.forced ++ take f behind)) c
+            (λ c x. raised me b (boot_of (n.forced ++ take f behind)) c
             (forced_grows n.forced (take f behind) (drop f behind) boots'.rises)
-            (each_both (b + 1) 0 (take a new) n.life
-            (λ d j. passed_by me (boot_of (kept n)) (count n) b d same
-            (written_now d (in_front (is_record_of d) a new j)))
-            h.begun_before c k))
+            (elim (fails_history n i e c a f x) [
+              | inl before ↦ h.begun_before c before
+              | inr now ↦ passed_by me (boot_of (kept n)) next b c same (added_now c now)
+            ]))
 
-    falls : (m : Node) → m.failed ≡ true → m.forced ≡ n.forced → m.life ≡ n.life → Holds m
+    falls : (m : Node) → m.failed ≡ true → m.forced ≡ n.forced → ((c : Case) → InHistory m c → InHistory n c)
+        → Holds m
     falls m down e f = by_before m down
-        (subst (λ (xs : List Record). Each (boot_of xs + 1) 0 m.life) (sym e)
-        (subst (λ (ys : List Record). Each (boot_of n.forced + 1) 0 ys) (sym f) h.begun_before))
+        (subst (λ (xs : List Record). Each (boot_of xs + 1) 0 m) (sym e) (λ c x. h.begun_before c (f c x)))
 
     -- A restart.
 
@@ -183,10 +180,10 @@ module _ (me : ProcessId) (tree : List TreeEntry) where
     left_rises k =
         front_below n.forced (take k n.unforced) (lost_rises (logs_of n) k boots.rises)
 
-    left_each : (k : ℕ) → Each (boot_of n.forced + 1) 0 (left k)
+    left_each : (k : ℕ) (c : Case) → has (is_record_of c) (left k) ≡ true → IsRoots me (boot_of n.forced + 1) 0 c
     left_each k c e =
-        h.begun_before c (nested.kept_was_written (is_record_of c) (λ j. refl)
-        (was_kept (in_either (is_record_of c) n.forced (take k n.unforced) e)))
+        h.begun_before c (recorded (nested.kept_was_written (is_record_of c) (λ j. refl)
+        (was_kept (in_either (is_record_of c) n.forced (take k n.unforced) e))))
       where
         was_kept : (has (is_record_of c) n.forced ≡ true) ⊎ (has (is_record_of c) (take k n.unforced) ≡ true)
             → has (is_record_of c) (kept n) ≡ true
@@ -194,22 +191,28 @@ module _ (me : ProcessId) (tree : List TreeEntry) where
         was_kept (inr rest) =
             in_second (is_record_of c) n.forced n.unforced (in_front (is_record_of c) k n.unforced rest)
 
-    reopens_each : (k : ℕ) → Each (boot_of n.forced + 1) 0 (reopens AtRoot (left k))
+    reopens_each : (k : ℕ) (c : Case) → has (is_record_of c) (reopens AtRoot (left k)) ≡ true
+        → IsRoots me (boot_of n.forced + 1) 0 c
     reopens_each k c e =
         let b = boot_of n.forced + 1 in
         roots_case me b 0 c (reopens AtRoot (left k)) e
         (roots_reopens me b 0 (left k) (roots_each me b 0 (left k) (left_each k)))
 
+    reopened_by : (k : ℕ) (c : Case) → InHistory n c ⊎ (has (is_record_of c) (reopens AtRoot (left k)) ≡ true)
+        → IsRoots me (boot_of n.forced + 1) 0 c
+    reopened_by k c (inl before) = h.begun_before c before
+    reopened_by k c (inr now) = reopens_each k c now
+
     reopened_roots : (k : ℕ) → Booted (logs_of (restarted place n k)) → Holds (restarted place n k)
     unfolding memory_of
     reopened_roots k boots' =
         let rs = left k in
-        let new = reopens AtRoot rs in
         by_now (restarted place n k) boots' refl
-        (subst (λ (xs : List Record). Each (boot_of xs) 0 (reverse new ++ n.life)) (sym (append-nil (rs ++ new)))
-        (subst (λ (b : ℕ). Each b 0 (reverse new ++ n.life)) (sym (reopened_boot AtRoot rs))
-        (λ c e. raised me (boot_of n.forced) (boot_of rs) c (left_rises k)
-        (each_both (boot_of n.forced + 1) 0 new n.life (reopens_each k) h.begun_before c e))))
+        (subst (λ (xs : List Record). Each (boot_of xs) 0 (restarted place n k))
+        (sym (append-nil (rs ++ reopens AtRoot rs)))
+        (subst (λ (b : ℕ). Each b 0 (restarted place n k)) (sym (reopened_boot AtRoot rs))
+        (λ c x. raised me (boot_of n.forced) (boot_of rs) c (left_rises k)
+        (reopened_by k c (reopened_history me tree n k c x)))))
 
     reopening_failed : (k a f : ℕ) → Booted (logs_of (restart_fails place n k a f))
         → Holds (restart_fails place n k a f)
@@ -218,10 +221,9 @@ module _ (me : ProcessId) (tree : List TreeEntry) where
         let b = boot_of n.forced in
         let behind = take k n.unforced ++ take a (reopens AtRoot rs) in
         by_before (restart_fails place n k a f) refl
-        (λ c e. raised me b (boot_of (n.forced ++ take f behind)) c
+        (λ c x. raised me b (boot_of (n.forced ++ take f behind)) c
         (forced_grows n.forced (take f behind) (drop f behind) boots'.rises)
-        (each_both (b + 1) 0 (take a (reopens AtRoot rs)) n.life
-        (λ d j. reopens_each k d (in_front (is_record_of d) a (reopens AtRoot rs) j)) h.begun_before c e))
+        (reopened_by k c (reopening_history me tree n k c a f x)))
 
     -- A trim.
 
@@ -231,29 +233,39 @@ module _ (me : ProcessId) (tree : List TreeEntry) where
         ap (λ (b : ℕ). (fold (remembers me AtRoot b (some_case place)) fresh_memory n.heard).begun)
         (ap boot_of (append-nil (trimmed AtRoot (kept n))) ∙ trimmed_boot AtRoot (kept n))
 
-    same_life : (b k : ℕ) → Each b k n.life → Each b k (reverse [] ++ n.life)
-    same_life b k f = each_both b k [] n.life
-        (λ c e. not_both (is_record_of c) (has (is_record_of c) []) e (has-nil (is_record_of c))) f
+    -- its histories are the same
+    trim_history : (m : Node) → m.life ≡ reverse [] ++ n.life → m.accepted ≡ n.accepted → m.begun ≡ n.begun
+        → m.told ≡ n.told → m.found_undecided ≡ n.found_undecided → (c : Case) → InHistory m c → InHistory n c
+    trim_history m l a b t u c x =
+        same_history n m c (λ e. in_rest c (ap (has (is_record_of c)) (sym l) ∙ e)) a b t u x
+      where
+        in_rest : (c : Case) → has (is_record_of c) (reverse [] ++ n.life) ≡ true → has (is_record_of c) n.life ≡ true
+        in_rest c e = elim (in_either (is_record_of c) (reverse []) n.life e) [
+          | inl now ↦ not_both (is_record_of c) (has (is_record_of c) [])
+              (sym (has-reverse (is_record_of c) []) ∙ now) (has-nil (is_record_of c))
+          | inr before ↦ before
+        ]
 
     trimmed_roots : n.failed ≡ false → Booted (logs_of (trims place n)) → Holds (trims place n)
     trimmed_roots up boots' =
         let rs = kept n in
         let new = trimmed AtRoot rs in
-        let life = reverse [] ++ n.life in
         by_now (trims place n) boots' up
-        (subst (λ (xs : List Record). Each (boot_of xs) (count (trims place n)) life) (sym (append-nil new))
-        (subst (λ (k : ℕ). Each (boot_of new) k life) (sym same_count)
-        (subst (λ (b : ℕ). Each b (count n) life) (sym (trimmed_boot AtRoot rs))
-        (same_life (boot_of rs) (count n) (h.begun_now up)))))
+        (subst (λ (xs : List Record). Each (boot_of xs) (count (trims place n)) (trims place n)) (sym (append-nil new))
+        (subst (λ (k : ℕ). Each (boot_of new) k (trims place n)) (sym same_count)
+        (subst (λ (b : ℕ). Each b (count n) (trims place n)) (sym (trimmed_boot AtRoot rs))
+        (λ c x. h.begun_now up c (trim_history (trims place n) refl refl refl refl refl c x)))))
 
     trimming_failed : (a : ℕ) → Holds (trim_fails place n a)
-    trimming_failed zero = falls (trim_fails place n 0) refl refl refl
+    trimming_failed zero = falls (trim_fails place n 0) refl refl
+        (λ c x. same_history n (trim_fails place n 0) c (λ e. e) refl refl refl refl x)
     trimming_failed (suc a) =
         let rs = kept n in
-        by_before (trim_fails place n (suc a)) refl
-        (subst (λ (b : ℕ). Each (b + 1) 0 (reverse [] ++ n.life)) (sym (trimmed_boot AtRoot rs))
-        (λ c e. raised me (boot_of n.forced) (boot_of rs) c (boots_of n boots).boot_only_rises
-        (same_life (boot_of n.forced + 1) 0 h.begun_before c e)))
+        let m = trim_fails place n (suc a) in
+        by_before m refl
+        (subst (λ (b : ℕ). Each (b + 1) 0 m) (sym (trimmed_boot AtRoot rs))
+        (λ c x. raised me (boot_of n.forced) (boot_of rs) c (boots_of n boots).boot_only_rises
+        (h.begun_before c (trim_history m refl refl refl refl refl c x))))
 
     pub root_cases_last : (m : Move) (e : Effect) (k : Node) → StepOf (root_place me tree) n m e k
         → Booted (logs_of k) → RootCases (root_place me tree) k
@@ -262,7 +274,9 @@ module _ (me : ProcessId) (tree : List TreeEntry) where
     root_cases_last m _ _ (failed_in i f g fl hp np r) b =
         broken (heard_in m i) g (turn_of place n (heard_in m i) g r) r f.appended f.forced b
     root_cases_last m _ _ (passed i hp r) b = h
-    root_cases_last m _ _ (failed_passing i f fl hp r) b = falls (record n { failed = true }) refl refl refl
+    root_cases_last m _ _ (failed_passing i f fl hp r) b =
+        falls (record n { failed = true }) refl refl
+        (λ c x. same_history n (record n { failed = true }) c (λ e. e) refl refl refl refl x)
     root_cases_last m _ _ (reopened k hp) b = reopened_roots k b
     root_cases_last m _ _ (failed_reopening k f fl hp) b = reopening_failed k f.appended f.forced b
     root_cases_last m _ _ (trims_log hp up) b = trimmed_roots up b
@@ -270,9 +284,16 @@ module _ (me : ProcessId) (tree : List TreeEntry) where
 
 -- Runs.
 
-opened_root : (place : Place) → RootCases place opened_node
+pub none_opened : {A : Type 0} (c : Case) → InHistory opened_node c → A
 unfolding has
-opened_root place = record { begun_before = λ c e. absurd (cc); begun_now = λ up c e. absurd (cc) }
+none_opened c (recorded e) = absurd (cc)
+none_opened c (accepted t e) = absurd (cc)
+none_opened c (begun x i e) = absurd (cc)
+none_opened c (told x i e) = absurd (cc)
+none_opened c (found_undecided x i e) = absurd (cc)
+
+opened_root : (place : Place) → RootCases place opened_node
+opened_root place = record { begun_before = λ c x. none_opened c x; begun_now = λ up c x. none_opened c x }
 
 pub at_root : (tree : List TreeEntry) (q : ProcessId) → role_of tree q ≡ AtRoot → place_of tree q ≡ root_place q tree
 at_root tree q e = ap (λ (r : Role). record { me = q; role = r; tree = tree }) e

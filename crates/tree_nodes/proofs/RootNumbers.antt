@@ -13,7 +13,7 @@ use Rattle.tree_model.specs.Nodes.{AtRoot}
 use Rattle.tree_model.specs.Standings.{CoordinatorView}
 use Rattle.tree_model.specs.Restarts.{recorded_view, restart_abort, aborts_collecting, reopens}
 use Rattle.tree_nodes.specs.WorldHolds.{IsGivenOut, is_record_of, is_of}
-use Rattle.tree_nodes.specs.RootCases.{IsRoots, IsRootsRecord, AllRoots}
+use Rattle.tree_nodes.proofs.RootCases.{IsRoots, IsRootsRecord, AllRoots}
 use Rattle.tree_nodes.proofs.Tests.{either, left, right, has-cons}
 
 -- More numbers are given out, and later boots come.
@@ -41,6 +41,7 @@ module _ (me : ProcessId) where
   case_later b k b' k' l c i = record {
     no_ticket = i.no_ticket;
     own = i.own;
+    counted = i.counted;
     number = given_later c.txn.boot c.txn.sequence b k b' k' l i.number;
   }
 

@@ -29,11 +29,11 @@ use Rattle.tree_model.specs.Views.{root_place, vote_message}
 use Rattle.tree_turns.specs.CoordinatorTurns.{CaseTurn, rests, invites, accepts, sends_work, finds_nobody, asks_for_votes, gives_up, counts_vote, reads_only, commits, promises, hears_no, aborts, passes_commit, passes_abort, repeats_yes, asks, refuses, acknowledges, waits_for_acks, ends, answers, CoordinatorTurn, does_nothing, of_case, begins, gives_again, gives_fresh, presumes, IsOfNoCase, unticketed, belongs_nowhere, not_taken, ChildSays, votes, acknowledged, inquires, IsNotTaken}
 use Rattle.tree_nodes.specs.WorldHolds.{is_record_of}
 use Rattle.tree_nodes.specs.Lasts.{logs_of, Nested}
-use Rattle.tree_nodes.specs.RootCases.{RootCases}
+use Rattle.tree_nodes.proofs.RootCases.{RootCases}
 use Rattle.tree_nodes.proofs.Tests.{not_both, has-nil}
 use Rattle.tree_nodes.proofs.Worlds.{has_other}
 use Rattle.tree_nodes.proofs.Phases.{standing_at, Together, unrecorded_stands}
-use Rattle.tree_nodes.proofs.RootKnown.{fresh_ever, no_end, no_commit, no_abort, no_prepare, no_collecting}
+use Rattle.tree_nodes.proofs.RootKnown.{fresh_unrecorded, no_end, no_commit, no_abort, no_prepare, no_collecting}
 use Rattle.tree_nodes.proofs.RootPhases.{then_remembers, inquiry_left, ack_left, uncounted, vote_elsewhere}
 use Rattle.tree_nodes.proofs.RootTogether.{own_together, other_together}
 
@@ -230,7 +230,7 @@ module _ (me : ProcessId) (tree : List TreeEntry) (n : Node) where
             by_test true f =
                 not_both (is_record_of (root_case x)) (has (is_record_of (root_case x)) n.life)
                 (nested.kept_was_written (is_record_of (root_case x)) (λ k. refl) f)
-                (fresh_ever me tree n up cases x p e)
+                (fresh_unrecorded me tree n up cases x p e)
             by_test false f = f
 
         opened_together : (x : Txn) (p : Presumption) → next_txn me boot (memory x) p ≡ x

@@ -1,5 +1,5 @@
 -- No Commit was ever appended of a root's case that is open, over every run.
-use Rattle.std.proofs.Common.{◌≡◌, ◌∙◌, ◌⊎◌, inl, inr, ℕ, zero, suc, true, false, None, List, [], ◌∷◌, ◌++◌, refl, sym, ap, subst}
+use Rattle.std.proofs.Common.{◌≡◌, ◌∙◌, inl, inr, ℕ, zero, suc, true, false, None, List, [], ◌∷◌, ◌++◌, refl, sym, ap, subst}
 use Rattle.std.specs.Prelude.{reverse}
 use Rattle.std.proofs.lemmas.List.{append-nil}
 use Rattle.tree_model.specs.declared.names.Case.{Case}
@@ -14,7 +14,7 @@ use Rattle.tree_model.specs.Names.{root_case}
 use Rattle.tree_model.specs.NameLaws.{same_case_tells}
 use Rattle.tree_model.specs.Records.{has, is_commit, boot_of}
 use Rattle.tree_model.specs.Nodes.{AtRoot, Place, place_of, role_of, Node, kept, Heard, Effect, opened_node, entries_written, is_any_forced, after, fails_in}
-use Rattle.tree_model.specs.Memory.{Memory, Phase, Open, Asked, Over, memory_of}
+use Rattle.tree_model.specs.Memory.{Memory, Over, memory_of}
 use Rattle.tree_model.specs.CoordinatorRows.{Row}
 use Rattle.tree_model.specs.Reactions.{Does, reacts}
 use Rattle.tree_model.specs.Restarts.{restarted, restart_fails, trims, trim_fails, trimmed}
@@ -27,20 +27,20 @@ use Rattle.tree_turns.specs.Steps.{StepOf, heard_in, handled, failed_in, passed,
 use Rattle.tree_turns.proofs.Steps.{step_of, turn_of}
 use Rattle.tree_turns.proofs.CoordinatorReactions.{coordinator_turn_of}
 use Rattle.tree_nodes.specs.Lasts.{Logs, logs_of, Nested}
-use Rattle.tree_nodes.specs.RootAlike.{AllAlike}
-use Rattle.tree_nodes.specs.RootCases.{RootCases}
-use Rattle.tree_nodes.specs.RootUndecided.{OpenHasNoCommit}
+use Rattle.tree_nodes.proofs.RootAlike.{AllAlike}
+use Rattle.tree_nodes.proofs.RootCases.{RootCases}
+use Rattle.tree_nodes.proofs.RootUndecided.{OpenHasNoCommit}
 use Rattle.tree_nodes.proofs.Tests.{in_none, has-reverse, has-nil}
 use Rattle.tree_nodes.proofs.Appends.{either_logs}
 use Rattle.tree_nodes.proofs.Boots.{others_boot, boot_append, turn_none, trimmed_boot}
 use Rattle.tree_nodes.proofs.Cases.{viewed}
 use Rattle.tree_nodes.proofs.Phases.{Together}
 use Rattle.tree_nodes.proofs.RootAlikes.{root_alike}
-use Rattle.tree_nodes.proofs.RootLive.{IsLive, was_live}
+use Rattle.tree_nodes.proofs.RootLive.{IsLive, is_live, was_live}
 use Rattle.tree_nodes.proofs.RootMemories.{same_memory}
 use Rattle.tree_nodes.proofs.RootNumbered.{all_root_cases, at_root}
 use Rattle.tree_nodes.proofs.RootPhases.{then_remembers}
-use Rattle.tree_nodes.proofs.RootKnown.{fresh_ever, no_commit}
+use Rattle.tree_nodes.proofs.RootKnown.{fresh_unrecorded, no_commit}
 use Rattle.tree_nodes.proofs.RootTogether.{counts_phase}
 use Rattle.tree_nodes.proofs.Worlds.{all_last, put}
 
@@ -130,7 +130,7 @@ module _ (me : ProcessId) (tree : List TreeEntry) (n : Node) where
               elim (was_live me (boot_of (kept n)) (root_case x) (memory_of place n (root_case x)) h.input live) [
                 | inl was ↦ old up x was
                 | inr begun ↦ no_commit (root_case x) n.life
-                    (fresh_ever me tree n up cases x begun.0 (ap (λ (c : Case). c.txn) begun.1.1))
+                    (fresh_unrecorded me tree n up cases x begun.0 (ap (λ (c : Case). c.txn) begun.1.1))
               ]
 
       appended : (i : Heard) (e : Effect) → TurnOf (root_place me tree) n i e → reacts (root_place me tree) n i ≡ Does e
@@ -205,10 +205,6 @@ all_uncommitted tree _ _ (makes es w m e w' run stands step) p at_top =
     (all_uncommitted tree es w run q role) m e at.node
     (subst (λ (x : Place). StepOf x (w.at q) m e at.node) (at_root tree q role) s))
     (all_uncommitted tree es w run p)) at_top
-
-is_live : (ph : Phase) → (ph ≡ Open) ⊎ (ph ≡ Asked) → IsLive ph
-is_live ph (inl e) = subst IsLive (sym e) tt
-is_live ph (inr e) = subst IsLive (sym e) tt
 
 pub open_has_no_commit : (tree : List TreeEntry) (es : List Made) (w : World) → IsRun tree es w → (p : ProcessId)
     → role_of tree p ≡ AtRoot → OpenHasNoCommit (place_of tree p) (w.at p)

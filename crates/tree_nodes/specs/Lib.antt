@@ -4,9 +4,5 @@ pub mod Owns
 pub mod WorldHolds
 pub mod ProcessSteps
 pub mod Numbers
-pub mod RootCases
-pub mod RootAlike
-pub mod RootAccepts
-pub mod RootNames
-pub mod RootUndecided
 pub mod CaseOrder
+pub mod RootBegins

@@ -10,12 +10,8 @@ ghost use Rattle.tree_model.specs.declared.names.Ticket.{Ticket};
 ghost use Rattle.tree_model.specs.declared.names.Txn.{Txn};
 ghost use Rattle.tree_nodes.specs.Numbers.{IsIssuer, Numbers};
 ghost use Rattle.tree_nodes.specs.CaseOrder.{CaseInOrder, IsCoordinator};
-ghost use Rattle.tree_nodes.specs.RootAccepts.{Accepts};
-ghost use Rattle.tree_nodes.specs.RootAlike.{AllAlike};
-ghost use Rattle.tree_nodes.specs.RootCases.{RootCases};
-ghost use Rattle.tree_nodes.specs.RootNames.{NamesAccepted};
-ghost use Rattle.tree_nodes.specs.RootUndecided.{OpenHasNoCommit};
-ghost use Rattle.tree_nodes.specs.WorldHolds.{Boots, IsPair, JoinedOnce, NodeHolds, WorldHolds, pair_reading};
+ghost use Rattle.tree_nodes.specs.RootBegins.{OwnTransactions};
+ghost use Rattle.tree_nodes.specs.WorldHolds.{Boots, Coordinates, IsPair, JoinedOnce, NodeHolds, WorldHolds, pair_reading};
 ghost use Rattle.tree_pairs.specs.Invariant.{Common};
 ghost use Rattle.tree_readings.specs.ReadingOf.{gives_case};
 ghost use Rattle.tree_model.specs.World.{IsRun, Made, World};
@@ -40,30 +36,20 @@ pub fn boots_rise()
         → Boots (w.at p) }
 {}
 
-/// In every run of every tree, the records that a root ever appended are of its own cases, with numbers that it gave
-/// out before.
+/// In every run of every tree, each transaction that a root has begun is its own, with a number that it gave out before,
+/// in a boot that is in the forced front; and each case that the root recorded, remembers, or accepted a ticket into, is
+/// of such a transaction.
 pub fn roots_own_their_cases()
     ensures { (tree : List TreeEntry) (es : List Made) (w : World) → IsRun tree es w → (p : ProcessId)
-        → role_of tree p ≡ AtRoot → RootCases (place_of tree p) (w.at p) }
+        → role_of tree p ≡ AtRoot → OwnTransactions (place_of tree p) (w.at p) }
 {}
 
-/// In every run of every tree, what a root that is up remembers of a case goes with the case's records: one that takes
-/// children is Active, votes are taken exactly where it stands at Collecting, and Presumed Abort writes no Collecting.
-pub fn root_memory_agrees()
+/// In every run of every tree, each root keeps its part of the world's invariant as a coordinator: what it remembers of
+/// a case goes with the case's records and with the votes that it heard; whom it remembers, heard or named, it accepted,
+/// and JOINED named; a case's records stand in order; and a case that can still be decided has no Commit.
+pub fn roots_hold()
     ensures { (tree : List TreeEntry) (es : List Made) (w : World) → IsRun tree es w → (p : ProcessId)
-        → role_of tree p ≡ AtRoot → AllAlike (place_of tree p) (w.at p) }
-{}
-
-/// In every run of every tree, who is remembered in a root's case, or was heard to vote in it, was accepted into it.
-pub fn roots_accept_first()
-    ensures { (tree : List TreeEntry) (es : List Made) (w : World) → IsRun tree es w → (p : ProcessId)
-        → role_of tree p ≡ AtRoot → Accepts (place_of tree p) (w.at p) }
-{}
-
-/// In every run of every tree, whom a record of a root's case names was accepted into the case.
-pub fn roots_name_whom_they_accepted()
-    ensures { (tree : List TreeEntry) (es : List Made) (w : World) → IsRun tree es w → (p : ProcessId)
-        → role_of tree p ≡ AtRoot → NamesAccepted (w.at p) }
+        → role_of tree p ≡ AtRoot → Coordinates (place_of tree p) w.net (w.at p) }
 {}
 
 /// In every run of every tree, the records of each case of each coordinator stand in the order in which they are
@@ -71,13 +57,6 @@ pub fn roots_name_whom_they_accepted()
 pub fn cases_stand_in_order()
     ensures { (tree : List TreeEntry) (es : List Made) (w : World) → IsRun tree es w → (p : ProcessId)
         → IsCoordinator (role_of tree p) → (c : Case) → CaseInOrder c (kept (w.at p)) }
-{}
-
-/// In every run of every tree, no Commit was ever appended of a root's case that still takes children or votes, where
-/// the root is up.
-pub fn open_cases_have_no_commit()
-    ensures { (tree : List TreeEntry) (es : List Made) (w : World) → IsRun tree es w → (p : ProcessId)
-        → role_of tree p ≡ AtRoot → OpenHasNoCommit (place_of tree p) (w.at p) }
 {}
 
 /// Where the world's invariant holds, a case that JOINED gave is of a pair of the tree, which has the pair's

@@ -1,18 +1,25 @@
 -- The root's own cases: each is of a transaction that the root began, and has a number that it gave out.
-use Rattle.std.specs.Prelude.{◌≡◌, ◌+◌, ℕ, true, false, Option, Some, None, List, [], ◌∷◌}
+use Rattle.std.specs.Prelude.{◌≡◌, ◌≤◌, ◌+◌, ℕ, true, false, Option, Some, None, List, [], ◌∷◌}
+use Rattle.std.specs.List.{list_any}
 use Rattle.tree_model.specs.declared.names.Case.{Case}
 use Rattle.tree_model.specs.declared.names.ProcessId.{ProcessId}
+use Rattle.tree_model.specs.declared.names.Ticket.{Ticket}
+use Rattle.tree_model.specs.declared.names.Txn.{Txn}
 use Rattle.tree_model.specs.declared.records.Record.{Record}
+use Rattle.tree_model.specs.Names.{root_case, same_txn}
 use Rattle.tree_model.specs.Records.{has, boot_of, record_case}
 use Rattle.tree_model.specs.Nodes.{Place, Node, kept}
 use Rattle.tree_model.specs.Memory.{memory_of}
 use Rattle.tree_model.specs.Standings.{some_case}
+use Rattle.tree_model.specs.Outcomes.{has_accepted}
+use Rattle.tree_readings.specs.ReadingOf.{is_told_of_txn}
 use Rattle.tree_nodes.specs.WorldHolds.{IsGivenOut, is_record_of}
 
 -- the case is the root's, and its number was given out, where so many were begun in this boot
 pub record IsRoots (me : ProcessId) (boot count : ℕ) (c : Case) : Type 0 where
   pub no_ticket : c.ticket ≡ None
   pub own : c.txn.root ≡ me
+  pub counted : 1 ≤ c.txn.sequence
   pub number : IsGivenOut c.txn.boot c.txn.sequence boot count
 
 -- such a record: it is of no case, or of such a case
@@ -25,10 +32,18 @@ abbrev pub AllRoots : ProcessId → ℕ → ℕ → List Record → Type 0
 AllRoots me boot count [] = Unit {0}
 AllRoots me boot count (r ∷ rs) = IsRootsRecord me boot count (record_case r) × AllRoots me boot count rs
 
--- The records that a root ever appended are of its own cases, begun before; where it is up, with the numbers given
--- out by now.
+-- The histories have the case: a record of it was appended, or a ticket accepted into it; or its transaction was begun,
+-- told of, or found undecided by a restart.
+pub data InHistory (n : Node) (c : Case) : Type 0 where
+  recorded : has (is_record_of c) n.life ≡ true → InHistory n c
+  accepted : (t : Ticket) → has_accepted n c t ≡ true → InHistory n c
+  begun : (x : Txn) → c ≡ root_case x → list_any (λ y. same_txn y x) n.begun ≡ true → InHistory n c
+  told : (x : Txn) → c ≡ root_case x → list_any (is_told_of_txn x) n.told ≡ true → InHistory n c
+  found_undecided : (x : Txn) → c ≡ root_case x → list_any (λ y. same_txn y x) n.found_undecided ≡ true
+      → InHistory n c
+
+-- The cases in a root's histories are its own, begun before; where it is up, with the numbers given out by now.
 pub record RootCases (place : Place) (n : Node) : Type 0 where
-  pub begun_before : (c : Case) → has (is_record_of c) n.life ≡ true
-      → IsRoots place.me (boot_of n.forced + 1) 0 c
-  pub begun_now : n.failed ≡ false → (c : Case) → has (is_record_of c) n.life ≡ true
+  pub begun_before : (c : Case) → InHistory n c → IsRoots place.me (boot_of n.forced + 1) 0 c
+  pub begun_now : n.failed ≡ false → (c : Case) → InHistory n c
       → IsRoots place.me (boot_of (kept n)) (memory_of place n (some_case place)).begun c

@@ -1,0 +1,70 @@
+-- What a root's row writes is of its case, which is known.
+use Rattle.std.proofs.Common.{◌≡◌, ◌≢◌, ◌∙◌, ◌||◌, Bool, true, false, None, refl, sym, subst, arith}
+use Rattle.tree_model.specs.declared.names.Case.{Case}
+use Rattle.tree_model.specs.declared.names.Outcome.{Outcome}
+use Rattle.tree_model.specs.declared.names.Presumption.TheVariants.{PresumeAbort, PresumeCommit}
+use Rattle.tree_model.specs.declared.standings.Standing.{Standing}
+use Rattle.tree_model.specs.declared.standings.Standing.TheVariants.{Unknown, Active, Collecting}
+use Rattle.tree_model.specs.Names.{same_case}
+use Rattle.tree_model.specs.Records.{has}
+use Rattle.tree_model.specs.Nodes.{Place, Node, Heard, Effect, entries_written}
+use Rattle.tree_model.specs.Standings.{coordinator_view}
+use Rattle.tree_model.specs.CoordinatorRows.{Row}
+use Rattle.tree_turns.specs.CoordinatorTurns.{Decided, by_commit, by_abort, CaseTurn, rests, invites, accepts, sends_work, finds_nobody, asks_for_votes, gives_up, counts_vote, reads_only, commits, promises, hears_no, aborts, passes_commit, passes_abort, repeats_yes, asks, refuses, acknowledges, waits_for_acks, ends, answers, CoordinatorTurn, does_nothing, of_case, begins, gives_again, gives_fresh, presumes}
+use Rattle.tree_nodes.specs.WorldHolds.{is_record_of}
+use Rattle.tree_nodes.proofs.Tests.{case_is}
+
+module _ (place : Place) (n : Node) (h : Heard) (A : Case → Type 0)
+    (own : (c : Case) → (coordinator_view place n c).standing ≢ Unknown → A c)
+  where
+    of_it : (c d : Case) → (same_case c d || false) ≡ true → (st : Standing)
+        → (coordinator_view place n c).standing ≡ st → (st ≡ Unknown → ⊥) → A d
+    of_it c d g st e f = subst A (case_is c d (or_nothing _ g)) (own c (λ x. f (sym e ∙ x)))
+      where
+        or_nothing : (x : Bool) → (x || false) ≡ true → x ≡ true
+        or_nothing x y = grind arith
+
+    decided_known : (o : Outcome) (st : Standing) → Decided o st → st ≡ Unknown → ⊥
+    decided_known _ _ by_commit e = cc
+    decided_known _ _ by_abort e = cc
+
+    row_writes : (c d : Case) (row : Row) → CaseTurn place None n h c row
+        → has (is_record_of d) (entries_written row.written) ≡ true → A d
+    unfolding has
+    row_writes c d _ (asks_for_votes PresumeCommit i e f a) g = of_it c d g Active e (λ x. cc)
+    row_writes c d _ (reads_only t w ys PresumeCommit i e f) g = of_it c d g Collecting i.vote.stands (λ x. cc)
+    row_writes c d _ (commits t w ys PresumeAbort i e f a) g = of_it c d g Collecting i.vote.stands (λ x. cc)
+    row_writes c d _ (commits t w ys PresumeCommit i e f a) g = of_it c d g Collecting i.vote.stands (λ x. cc)
+    row_writes c d _ (hears_no t us PresumeAbort i e f) g = of_it c d g Collecting i.stands (λ x. cc)
+    row_writes c d _ (hears_no t us PresumeCommit i e f) g = of_it c d g Collecting i.stands (λ x. cc)
+    row_writes c d _ (aborts why us PresumeAbort i e f a) g = of_it c d g Collecting e (λ x. cc)
+    row_writes c d _ (aborts why us PresumeCommit i e f a) g = of_it c d g Collecting e (λ x. cc)
+    row_writes c d _ (ends t o i e f a) g = of_it c d g _ refl (decided_known o _ e)
+    row_writes c d _ (rests r) g = absurd (cc)
+    row_writes c d _ (invites q i e f a) g = absurd (cc)
+    row_writes c d _ (accepts t i e f) g = absurd (cc)
+    row_writes c d _ (sends_work q t op i e f a) g = absurd (cc)
+    row_writes c d _ (finds_nobody i e f) g = absurd (cc)
+    row_writes c d _ (asks_for_votes PresumeAbort i e f a) g = absurd (cc)
+    row_writes c d _ (gives_up why p i e f) g = absurd (cc)
+    row_writes c d _ (counts_vote t w i f e) g = absurd (cc)
+    row_writes c d _ (reads_only t w ys PresumeAbort i e f) g = absurd (cc)
+    row_writes c d _ (promises t w ys p i e f) g = absurd (cc)
+    row_writes c d _ (passes_commit p i e f) g = absurd (let x = i.is_parent in cc)
+    row_writes c d _ (passes_abort p i e f) g = absurd (let x = i.is_parent in cc)
+    row_writes c d _ (repeats_yes j i e) g = absurd (cc)
+    row_writes c d _ (asks i e) g = absurd (cc)
+    row_writes c d _ (refuses j i e) g = absurd (cc)
+    row_writes c d _ (acknowledges o i e) g = absurd (cc)
+    row_writes c d _ (waits_for_acks t o i e f a) g = absurd (cc)
+    row_writes c d _ (answers t o i e) g = absurd (cc)
+
+    pub effect_writes : (e : Effect) → CoordinatorTurn place None n h e → (d : Case)
+        → has (is_record_of d) (entries_written e.written) ≡ true → A d
+    unfolding has
+    effect_writes _ (of_case c row r) d g = row_writes c d row r g
+    effect_writes _ (does_nothing i) d g = absurd (cc)
+    effect_writes _ (begins p e i) d g = absurd (cc)
+    effect_writes _ (gives_again p y u e i a) d g = absurd (cc)
+    effect_writes _ (gives_fresh p y e i a) d g = absurd (cc)
+    effect_writes _ (presumes y u i e) d g = absurd (cc)
