@@ -23,6 +23,16 @@ pub record HasTreeText (stage : Stage) (bytes : List ℕ) (fronts behind : List 
   pub rule : around_rule (pieces bytes) ≡ Some (fronts, behind)
   pub tree_text : IsTreeText stage (lines_text fronts) tree
 
+-- bytes with this tree before the line of three dashes, the number of that line, and the lines behind it
+pub record IsFront (stage : Stage) (bytes : List ℕ) (tree : List TreeEntry) (rule : ℕ)
+    (lines : List (List ℕ)) : Type 0 where
+  pub fronts : List (List ℕ)
+  pub behind : List (List ℕ)
+  pub has_text : HasTreeText stage bytes fronts behind tree
+  pub is_tree : IsTree tree
+  pub rule_is : rule ≡ length fronts + 1
+  pub lines_are : lines ≡ lines_of_parts behind
+
 -- what the lines behind the rule ask for; the first of them is the second behind the tree text
 abbrev pub script_events : Stage → List (List ℕ) → List (List ℕ) → List TreeEntry → Result (List Event) ℕ
 script_events stage fronts behind tree =
@@ -56,6 +66,17 @@ IsScriptFault stage bytes (Line number) =
 abbrev pub IsScriptError : Stage → List ℕ → ScriptError → Type 0
 IsScriptError stage bytes Memory = Unit {0}
 IsScriptError stage bytes (Fault fault) = IsScriptFault stage bytes fault
+
+-- a fault of the tree's text or of the tree
+abbrev pub IsTreeFault : ScriptFault → Type 0
+IsTreeFault TooLong = ⊥
+IsTreeFault (Line number) = ⊥
+IsTreeFault fault = Unit {0}
+
+-- memory was refused, or there is this fault before the lines
+abbrev pub IsFrontError : Stage → List ℕ → ScriptError → Type 0
+IsFrontError stage bytes Memory = Unit {0}
+IsFrontError stage bytes (Fault fault) = IsTreeFault fault × IsScriptFault stage bytes fault
 
 -- the number of a fault
 abbrev pub script_fault_number : ScriptFault → ℕ

@@ -3,11 +3,15 @@
 
 mod document;
 mod event;
+mod front;
 pub mod law;
 mod lines;
 mod names;
 mod script;
 mod stage;
 
+pub use front::{Front, read_front};
+pub use lines::says_nothing;
+pub use names::process_of;
 pub use script::{MOST_EVENTS, ScriptError, ScriptFault, read};
 pub use stage::Stage;

@@ -81,7 +81,7 @@ pub fn lines_of(alloc: Global, text: &str) -> Result<Vec<&str>, AllocError>
 }
 
 /// Whether a line is skipped: it is empty, or begins with `#`.
-fn says_nothing(line: &str) -> bool
+pub fn says_nothing(line: &str) -> bool
     ensures { result ≡ is_skipped line.now }
 {
     line.is_empty() || line.as_bytes()[0] == b'#'

@@ -3,11 +3,10 @@
 ghost use Rattle.std.specs.Prelude.{◌≡◌, IfOk, IfErr};
 ghost use Rattle.link_script.specs.Inputs.{script_fault_number, IsScript, IsScriptError};
 
-use crate::document::{DocumentError, read_tree};
-use crate::lines::{LineError, around, count_asked, events_of, lines_of};
+use crate::front::read_front;
+use crate::lines::{LineError, count_asked, events_of};
 use crate::stage::Stage;
 use std::alloc::{AllocError, Global};
-use std::str;
 use thiserror::Error;
 use tree_model::{Event, Tree, TreeError};
 
@@ -75,26 +74,15 @@ pub fn read(alloc: Global, stage: Stage, bytes: &[u8]) -> Result<(Tree, Vec<Even
     ensures ok { IfOk result (λ (tree, events). IsScript stage bytes.now tree events.items) }
     ensures err { IfErr result (λ error. IsScriptError stage bytes.now error) }
 {
-    let Ok(text) = str::from_utf8(bytes) else {
-        return Err(ScriptError::Fault(ScriptFault::Utf8));
+    let front = match read_front(alloc, stage, bytes) {
+        Ok(front) => front,
+        Err(error) => return Err(error),
     };
-    let Some((document, before, behind)) = around(text) else {
-        return Err(ScriptError::Fault(ScriptFault::TreeText));
-    };
-    let tree = match read_tree(alloc, stage, document) {
-        Ok(tree) => tree,
-        Err(DocumentError::Memory) => return Err(ScriptError::Memory),
-        Err(DocumentError::TreeText) => return Err(ScriptError::Fault(ScriptFault::TreeText)),
-    };
-    if let Err(cause) = tree.check() {
-        return Err(ScriptError::Fault(ScriptFault::Tree(cause)));
-    }
-    let lines = lines_of(alloc, behind)?;
-    if count_asked(&lines) > MOST_EVENTS {
+    if count_asked(&front.lines) > MOST_EVENTS {
         return Err(ScriptError::Fault(ScriptFault::TooLong));
     }
-    match events_of(alloc, stage, tree.root(), before + 1, &lines) {
-        Ok(events) => Ok((tree, events)),
+    match events_of(alloc, stage, front.tree.root(), front.rule, &front.lines) {
+        Ok(events) => Ok((front.tree, events)),
         Err(LineError::Memory) => Err(ScriptError::Memory),
         Err(LineError::Line(number)) => Err(ScriptError::Fault(ScriptFault::Line(number))),
     }

@@ -37,4 +37,4 @@ mod opening;
 mod trimming;
 
 pub use log::{LogError, RecLog};
-pub use opening::OpenError;
+pub use opening::{Found, OpenError, find};

@@ -49,6 +49,7 @@ pub fn torn_tail(kind: Kind, bytes: &[u8], alloc: Global) -> Result<usize, OpenE
 }
 
 /// What a store's bytes are to a log that opens.
+#[derive(Clone, Copy)]
 pub enum Found {
     /// No header yet: an empty log.
     Empty,

@@ -3,4 +3,7 @@
 
 mod trace;
 
-pub use trace::{case_text, push_entry, trace_text};
+pub use trace::{
+    case_text, kind_word, outcome_word, push, push_case, push_entry, push_number, push_ticket,
+    trace_text,
+};

@@ -38,13 +38,15 @@ pub fn case_text(alloc: Global, case: &Case) -> Result<Vec<u8>, AllocError>
     Ok(out)
 }
 
-fn push(out: &mut Vec<u8>, text: &str) -> Result<(), AllocError>
+/// Adds a text.
+pub fn push(out: &mut Vec<u8>, text: &str) -> Result<(), AllocError>
     ensures { OnOk result (out.new.items ≡ out.old.items ++ text.now) }
 {
     out.extend_from_slice(text.as_bytes())
 }
 
-fn push_number(out: &mut Vec<u8>, number: u64) -> Result<(), AllocError>
+/// Adds a number in decimal.
+pub fn push_number(out: &mut Vec<u8>, number: u64) -> Result<(), AllocError>
     ensures { OnOk result (out.new.items ≡ out.old.items ++ decimal number) }
 {
     let mut buffer = Buffer::new();
@@ -66,7 +68,8 @@ fn push_txn(out: &mut Vec<u8>, txn: &Txn) -> Result<(), AllocError>
     push_number(out, txn.sequence)
 }
 
-fn push_ticket(out: &mut Vec<u8>, ticket: &Ticket) -> Result<(), AllocError>
+/// Adds the name of a ticket, as `2.1.1`.
+pub fn push_ticket(out: &mut Vec<u8>, ticket: &Ticket) -> Result<(), AllocError>
     ensures { OnOk result (out.new.items ≡ out.old.items ++ ticket_text ticket.now) }
 {
     push_number(out, u64::from(ticket.child.0))?;
@@ -76,7 +79,8 @@ fn push_ticket(out: &mut Vec<u8>, ticket: &Ticket) -> Result<(), AllocError>
     push_number(out, ticket.number)
 }
 
-fn push_case(out: &mut Vec<u8>, case: &Case) -> Result<(), AllocError>
+/// Adds the name of a case, as `a1.1@2.1.1`.
+pub fn push_case(out: &mut Vec<u8>, case: &Case) -> Result<(), AllocError>
     ensures { OnOk result (out.new.items ≡ out.old.items ++ text_of_case case.now) }
 {
     push_txn(out, &case.txn)?;
@@ -110,7 +114,8 @@ fn push_bytes(out: &mut Vec<u8>, word: &str, bytes: &Bytes) -> Result<(), AllocE
     out.extend_from_slice(bytes.as_slice())
 }
 
-fn outcome_word(outcome: Outcome) -> &'static str
+/// The word of an outcome.
+pub fn outcome_word(outcome: Outcome) -> &'static str
     ensures { result.now ≡ word_of_outcome outcome }
 {
     match outcome {
@@ -180,7 +185,8 @@ fn push_envelope(out: &mut Vec<u8>, number: u64, envelope: &Envelope) -> Result<
     push_message(out, &envelope.message)
 }
 
-fn kind_word(kind: RecordKind) -> &'static str
+/// The word of a record's kind.
+pub fn kind_word(kind: RecordKind) -> &'static str
     ensures { result.now ≡ word_of_kind kind }
 {
     match kind {

@@ -1,0 +1,56 @@
+//! What stands before the lines of an input: the text of a tree, and the line of three dashes.
+
+ghost use Rattle.std.specs.Prelude.{◌+◌, ◌<◌, ◌^◌, IfOk, IfErr, length, map};
+ghost use Rattle.link_script.specs.Inputs.{IsFront, IsFrontError};
+
+use crate::document::{DocumentError, read_tree};
+use crate::lines::{around, lines_of};
+use crate::script::{ScriptError, ScriptFault};
+use crate::stage::Stage;
+use std::alloc::Global;
+use std::str;
+use tree_model::Tree;
+
+/// An input cut at its first line of three dashes.
+#[derive(Drop)]
+pub struct Front<'a> {
+    /// The tree whose text stands before that line.
+    pub tree: Tree,
+    /// The number of that line, counted from the input's first from 1 on.
+    pub rule: u64,
+    /// The lines behind it.
+    pub lines: Vec<&'a str>,
+}
+
+/// Reads the tree's text and cuts the lines behind it. The faults are Utf8, TreeText and Tree, each judged over the
+/// whole input before the next.
+pub fn read_front<'a>(
+    alloc: Global,
+    stage: Stage,
+    bytes: &'a [u8],
+) -> Result<Front<'a>, ScriptError>
+    ensures ok { IfOk result (λ front. IsFront stage bytes.now front.tree front.rule (map (λ s. s.now) front.lines.items)) }
+    ensures few { IfOk result (λ front. front.rule + length front.lines.items < 2 ^ 64) }
+    ensures err { IfErr result (λ error. IsFrontError stage bytes.now error) }
+{
+    let Ok(text) = str::from_utf8(bytes) else {
+        return Err(ScriptError::Fault(ScriptFault::Utf8));
+    };
+    let Some((document, before, behind)) = around(text) else {
+        return Err(ScriptError::Fault(ScriptFault::TreeText));
+    };
+    let tree = match read_tree(alloc, stage, document) {
+        Ok(tree) => tree,
+        Err(DocumentError::Memory) => return Err(ScriptError::Memory),
+        Err(DocumentError::TreeText) => return Err(ScriptError::Fault(ScriptFault::TreeText)),
+    };
+    if let Err(cause) = tree.check() {
+        return Err(ScriptError::Fault(ScriptFault::Tree(cause)));
+    }
+    let lines = lines_of(alloc, behind)?;
+    Ok(Front {
+        tree,
+        rule: before + 1,
+        lines,
+    })
+}

@@ -1,0 +1,13 @@
+use Rattle.std.proofs.Common.{◌≡◌, ◌≤◌, ◌+◌, ◌-◌, ◌++◌, length}
+use Rattle.log_engine.specs.Places.{placed_in}
+use Rattle.log_engine.specs.Reports.{records_text}
+use Rattle.log_engine.proofs.engine.push_records.Given as goal
+
+abbrev pub invariant-loop-frame_kind : goal.invariant-loop-frame_kind
+invariant-loop-frame_kind l =
+    (l.out.items ++ records_text (placed_in l.kind (5 + (length l.frames - length l.rest)) 0 l.rest)
+    ≡ l.initial.out.items ++ records_text (placed_in l.kind 5 0 l.frames))
+    × (length l.rest ≤ length l.frames)
+
+abbrev pub decreases-loop-frame_kind : goal.decreases-loop-frame_kind
+decreases-loop-frame_kind l = length l.rest

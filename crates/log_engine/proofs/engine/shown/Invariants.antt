@@ -1,0 +1,8 @@
+use Rattle.std.proofs.Common.{◌≡◌, ◌++◌, drop}
+use Rattle.log_engine.specs.Reports.{first_damage, shown_text}
+use Rattle.log_engine.proofs.engine.shown.Given as goal
+
+abbrev pub invariant-loop-entry : goal.invariant-loop-entry
+invariant-loop-entry l =
+    (l.out.items ++ shown_text (drop l.entry-index l.entries) l.logs ≡ shown_text l.entries l.logs)
+    × (first_damage (drop l.entry-index l.entries) l.logs ≡ first_damage l.entries l.logs)

@@ -1,0 +1,69 @@
+-- What a record says behind its kind.
+use Rattle.std.specs.Prelude.{ℕ, List, ◌++◌, codes, Option, Some, None}
+use Rattle.std.specs.List.{flat_map}
+use Rattle.std.specs.Fmt.{decimal}
+use Rattle.hex.specs.Hex.{encode_lower}
+use Rattle.xa_xid.specs.Text.{xid_text}
+use Rattle.tree_model.specs.declared.names.Case.{Case}
+use Rattle.tree_model.specs.declared.names.Ticket.{Ticket}
+use Rattle.tree_model.specs.declared.records.Branch.{Branch}
+use Rattle.tree_model.specs.declared.records.Branch.TheVariants.{Case as CaseBranch, Foreign}
+use Rattle.tree_model.specs.declared.records.Record.{Record}
+use Rattle.tree_model.specs.declared.records.Record.TheVariants.{Opened, Collecting, Prepare, Commit, Abort, End, Prepared, Committed, RolledBack, Direct, HeurCommit, HeurRollback, Told, Forgot, Base, Pair}
+use Rattle.tree_model.specs.declared.records.Write.{Write}
+use Rattle.tree_model.specs.Texts.{case_text, ticket_text, outcome_word}
+
+-- Words, each behind a space.
+
+-- a number
+abbrev pub number_word : ℕ → List ℕ
+number_word n = codes " " ++ decimal n
+
+-- the name of a case
+abbrev pub case_word : Case → List ℕ
+case_word c = codes " " ++ case_text c
+
+-- bytes in lower-case hexadecimal
+abbrev pub bytes_word : List ℕ → List ℕ
+bytes_word bytes = codes " " ++ encode_lower bytes
+
+-- the name of a branch: its case, or its XID where it is a transaction manager's own
+abbrev pub branch_word : Branch → List ℕ
+branch_word (CaseBranch c) = case_word c
+branch_word (Foreign x) = codes " " ++ xid_text x
+
+-- tickets, in order
+abbrev pub ticket_words : List Ticket → List ℕ
+ticket_words ts = flat_map (λ t. codes " " ++ ticket_text t) ts
+
+-- what a write leaves at its key: `put`, the key and the value, or `del` and the key
+abbrev pub left_words : List ℕ → Option (List ℕ) → List ℕ
+left_words key (Some value) = codes " put" ++ bytes_word key ++ bytes_word value
+left_words key None = codes " del" ++ bytes_word key
+
+-- a write
+abbrev pub write_words : Write → List ℕ
+write_words w = left_words w.key w.value
+
+-- writes, in order
+abbrev pub writes_words : List Write → List ℕ
+writes_words ws = flat_map write_words ws
+
+-- the name of a record, and what it carries: tickets, writes, a number, an outcome, or a key and its value
+abbrev pub record_words : Record → List ℕ
+record_words (Opened n) = number_word n
+record_words (Collecting c ts) = case_word c ++ ticket_words ts
+record_words (Prepare c ts) = case_word c ++ ticket_words ts
+record_words (Commit c ts) = case_word c ++ ticket_words ts
+record_words (Abort c ts) = case_word c ++ ticket_words ts
+record_words (End c) = case_word c
+record_words (Prepared b ws) = branch_word b ++ writes_words ws
+record_words (Committed b) = branch_word b
+record_words (RolledBack b) = branch_word b
+record_words (Direct b ws) = branch_word b ++ writes_words ws
+record_words (HeurCommit b) = branch_word b
+record_words (HeurRollback b) = branch_word b
+record_words (Told b o) = branch_word b ++ codes " " ++ outcome_word o
+record_words (Forgot b) = branch_word b
+record_words (Base n) = number_word n
+record_words (Pair k v) = bytes_word k ++ bytes_word v

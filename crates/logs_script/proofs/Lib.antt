@@ -1,0 +1,3 @@
+pub mod LineLaws
+pub mod LogLaws
+pub mod Digits
