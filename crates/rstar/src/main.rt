@@ -3,6 +3,7 @@
 
 use clap::error::ErrorKind;
 use clap::{Command, Error};
+use log_engine::run_log;
 use std::alloc::Global;
 use std::io;
 use std::process::ExitCode;
@@ -16,6 +17,8 @@ enum Request {
     Tree,
     /// The calls of an XA script.
     Xa,
+    /// What the logs of a tree hold.
+    Log,
 }
 
 /// What was read of a command line.
@@ -30,6 +33,7 @@ const EXAMPLES: &str = "\
 Examples:
   rstar tree < examples/commit.tree
   rstar xa < examples/migrate.xa
+  rstar log < examples/commit.logs
 
 Exit status: 0 the script was run to its end, 1 it was refused, 2 an event was refused,
 4 reading, writing or memory failed.";
@@ -51,6 +55,15 @@ forget, recover. Out: the answer of each call by its name in XA, a line each, an
 
 Example: rstar xa < examples/migrate.xa";
 
+/// What `rstar log --help` says below its usage.
+const LOG_HELP: &str = "\
+In: the processes as TOML, a line ---, and a line 'log P HEX' for the log of each process.
+Out: for each process 'log P' and a line for each record: the place of its first byte, its
+kind, its name, and what it carries; 'torn N' behind the last where N bytes are a torn tail.
+'damaged P PLACE' alone where a log is damaged, 'error ..' where the input is refused.
+
+Example: rstar log < examples/commit.logs";
+
 /// The words after the program's name, and what help says of them.
 fn grammar<'a>(alloc: Global) -> Result<Command<'a>, Error> {
     let tree = Command::new(alloc, "tree")
@@ -59,6 +72,9 @@ fn grammar<'a>(alloc: Global) -> Result<Command<'a>, Error> {
     let xa = Command::new(alloc, "xa")
         .about("Makes the calls of an XA script on one resource manager, and writes the answers")
         .after_help(XA_HELP);
+    let log = Command::new(alloc, "log")
+        .about("Prints what the logs of a tree hold, one record a line")
+        .after_help(LOG_HELP);
     let command = Command::new(alloc, "rstar")
         .about(
             "Distributed transactions by the R* commit protocol. Scripts come on standard input.",
@@ -66,7 +82,8 @@ fn grammar<'a>(alloc: Global) -> Result<Command<'a>, Error> {
         .after_help(EXAMPLES)
         .subcommand_required(true)
         .subcommand(tree)?
-        .subcommand(xa)?;
+        .subcommand(xa)?
+        .subcommand(log)?;
     Ok(command)
 }
 
@@ -74,10 +91,10 @@ fn grammar<'a>(alloc: Global) -> Result<Command<'a>, Error> {
 fn read_words<'a>(alloc: Global, words: &'a [String]) -> Result<Asked, Error> {
     let matches = grammar(alloc)?.try_get_matches_from(words)?;
     match matches.subcommand() {
-        Some((name, _)) => Ok(Asked::Request(if name == "tree" {
-            Request::Tree
-        } else {
-            Request::Xa
+        Some((name, _)) => Ok(Asked::Request(match name {
+            "tree" => Request::Tree,
+            "log" => Request::Log,
+            _ => Request::Xa,
         })),
         None => Ok(Asked::Memory),
     }
@@ -90,6 +107,7 @@ fn perform(rt: &HostRuntime, request: Request) -> u8 {
     let ended = match request {
         Request::Tree => run_tree(rt.alloc(), &mut reader, &mut writer),
         Request::Xa => run_xa(rt.alloc(), &mut reader, &mut writer),
+        Request::Log => run_log(rt.alloc(), &mut reader, &mut writer),
     };
     match ended {
         Ok(status) => status.number(),
