@@ -26,6 +26,7 @@ pub mod ManagersHold
 pub mod GivenCases
 pub mod JoinedOnce
 pub mod Unlisted
+pub mod LoggedCases
 pub mod CaseOrders
 pub mod RootCases
 pub mod RootAlike
@@ -51,6 +52,7 @@ pub mod RootNamed
 pub mod RootLive
 pub mod RootUncommitted
 pub mod CoordinatorLogs
+pub mod CaseFronts
 pub mod RootJoined
 pub mod RootVotes
 pub mod RootVoted
@@ -60,3 +62,5 @@ pub mod RootWrites
 pub mod RootTraces
 pub mod RootBegun
 pub mod RootBegins
+pub mod Levels
+pub mod ChildOf
