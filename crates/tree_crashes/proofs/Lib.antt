@@ -1,0 +1,10 @@
+pub mod Named
+pub mod Fronts
+pub mod Reopened
+pub mod Resumed
+pub mod Losing
+pub mod LostHalves
+pub mod Crashes
+pub mod Behind
+pub mod Moves
+pub mod Restarts

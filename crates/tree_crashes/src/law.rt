@@ -1,0 +1,1 @@
+//! The laws of restarts and trims.
