@@ -8,3 +8,5 @@ pub mod Crashes
 pub mod Behind
 pub mod Moves
 pub mod Restarts
+pub mod Trimmed
+pub mod Trims
