@@ -10,3 +10,4 @@ pub mod Moves
 pub mod Restarts
 pub mod Trimmed
 pub mod Trims
+pub mod CrashSteps
