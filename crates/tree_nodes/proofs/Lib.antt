@@ -44,7 +44,8 @@ pub mod RootLogs
 pub mod RootRows
 pub mod RootAlikes
 pub mod RootTakes
-pub mod RootCounts
+pub mod RowCounts
+pub mod RowPromises
 pub mod RootAccepted
 pub mod RootNaming
 pub mod RootNamed
@@ -56,7 +57,8 @@ pub mod RootVotes
 pub mod RootVoted
 pub mod RootsHold
 pub mod RootAwake
-pub mod RootWrites
+pub mod RowWrites
 pub mod RootTraces
 pub mod RootBegun
 pub mod RootBegins
+pub mod Remembering
