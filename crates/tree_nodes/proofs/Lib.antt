@@ -62,3 +62,6 @@ pub mod RootTraces
 pub mod RootBegun
 pub mod RootBegins
 pub mod Remembering
+pub mod CascadedGives
+pub mod CascadedMemories
+pub mod CascadesHold
