@@ -62,6 +62,9 @@ pub mod RootTraces
 pub mod RootBegun
 pub mod RootBegins
 pub mod Remembering
+pub mod OwnCases
+pub mod CoordinatorPhases
+pub mod CoordinatorTogether
 pub mod CascadedGives
 pub mod CascadedMemories
 pub mod CascadesHold
