@@ -65,6 +65,8 @@ pub mod Remembering
 pub mod OwnCases
 pub mod CoordinatorPhases
 pub mod CoordinatorTogether
+pub mod CaseSteps
+pub mod CaseEffects
 pub mod CascadedGives
 pub mod CascadedMemories
 pub mod CascadesHold
