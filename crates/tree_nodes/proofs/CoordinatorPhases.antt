@@ -8,7 +8,7 @@ use Rattle.tree_model.specs.declared.names.Outcome.{Outcome}
 use Rattle.tree_model.specs.declared.messages.Message.TheVariants.{Joined, Prepare, Commit, Abort, Ack, Inquire}
 use Rattle.tree_model.specs.declared.messages.Op.{Op}
 use Rattle.tree_model.specs.declared.standings.Standing.{Standing}
-use Rattle.tree_model.specs.declared.standings.Standing.TheVariants.{Active, Collecting}
+use Rattle.tree_model.specs.declared.standings.Standing.TheVariants.{Active, Collecting, Prepared}
 use Rattle.tree_model.specs.declared.standings.Vote.{Vote}
 use Rattle.tree_model.specs.declared.standings.Vote.TheVariants.{Yes as VoteYes, No as VoteNo, Read as VoteRead}
 use Rattle.tree_model.specs.declared.events.Act.TheVariants.{Join as JoinAct, Work as WorkAct, Ask}
@@ -17,7 +17,7 @@ use Rattle.tree_model.specs.declared.events.Input.TheVariants.{Act as ActInput, 
 use Rattle.tree_model.specs.declared.trees.TreeEntry.{TreeEntry}
 use Rattle.tree_model.specs.Names.{same_txn, same_case, root_case, child_case}
 use Rattle.tree_model.specs.NameLaws.{same_case-refl, same_txn-refl}
-use Rattle.tree_model.specs.Records.{none_of, boot_of}
+use Rattle.tree_model.specs.Records.{none_of, boot_of, promised_by}
 use Rattle.tree_model.specs.Nodes.{Place, Node, Heard, kept}
 use Rattle.tree_model.specs.Memory.{Memory, Phase, Idle, Open, Asked, Over, memory_of, asks_votes, closes, retires, accepts_ticket, has_child, sends_work, ticket_of_child, takes_vote, takes_ack, is_counted, all_voted, phase_after}
 use Rattle.tree_model.specs.Standings.{CoordinatorView, coordinator_view, view_at}
@@ -196,6 +196,10 @@ module _ (me : ProcessId) (parent : Option ProcessId) (tree : List TreeEntry) (n
       → (coordinator_view (coordinator_place me parent tree) n c).votes
       ≡ (memory_of (coordinator_place me parent tree) n c).votes
   collecting_votes e = ap (λ (v : CoordinatorView). v.votes) (seen Collecting (stands Collecting e))
+
+  pub prepared_promised : (coordinator_view (coordinator_place me parent tree) n c).standing ≡ Prepared
+      → (coordinator_view (coordinator_place me parent tree) n c).promised ≡ promised_by c (kept n)
+  prepared_promised e = ap (λ (v : CoordinatorView). v.promised) (seen Prepared (stands Prepared e))
 
   -- Votes are asked for, or the case is to abort. Below the root no act does either.
 

@@ -67,6 +67,9 @@ pub mod CoordinatorPhases
 pub mod CoordinatorTogether
 pub mod CaseSteps
 pub mod CaseEffects
+pub mod RowNeeds
+pub mod Naming
+pub mod CoordinatorKept
 pub mod CascadedGives
 pub mod CascadedMemories
 pub mod CascadesHold
