@@ -104,6 +104,18 @@ quiet_silent c e w a k = record {
   uncounted = λ t v. rw k refl;
 }
 
+module _ (me : ProcessId) (parent : Option ProcessId) (tree : List TreeEntry) (n : Node) where
+  -- a ticket that is remembered as accepted belongs to no other case
+  abbrev pub Alone : Type 0
+  Alone = (c d : Case) (t : Ticket)
+      → in_list (memory_of (coordinator_place me parent tree) n c).accepted t ≡ true
+      → belongs (memory_of (coordinator_place me parent tree) n d) (kept n) d t ≡ true → same_case d c ≡ true
+
+  -- a case that is not Idle is one of the coordinator's
+  abbrev pub Listed : Type 0
+  Listed = (c : Case) → (memory_of (coordinator_place me parent tree) n c).phase ≢ Idle
+      → has_case (own_cases (role_below parent) (coordinator_place me parent tree) n c.txn) c ≡ true
+
 module _ (me : ProcessId) (parent : Option ProcessId) (tree : List TreeEntry) (n : Node) (h : Heard) where
   abbrev place : Place
   place = coordinator_place me parent tree
@@ -132,18 +144,7 @@ module _ (me : ProcessId) (parent : Option ProcessId) (tree : List TreeEntry) (n
         h.input).votes ≡ []
         → Silent c e → CaseStep c e
 
-  -- a ticket that is remembered as accepted belongs to no other case
-  abbrev pub Alone : Type 0
-  Alone = (c d : Case) (t : Ticket)
-      → in_list (memory_of (coordinator_place me parent tree) n c).accepted t ≡ true
-      → belongs (memory_of (coordinator_place me parent tree) n d) (kept n) d t ≡ true → same_case d c ≡ true
-
-  -- a case that is not Idle is one of the coordinator's
-  abbrev pub Listed : Type 0
-  Listed = (c : Case) → (memory_of (coordinator_place me parent tree) n c).phase ≢ Idle
-      → has_case (own_cases (role_below parent) (coordinator_place me parent tree) n c.txn) c ≡ true
-
-  module _ (alone : Alone) (listed : Listed) where
+  module _ (alone : Alone me parent tree n) (listed : Listed me parent tree n) where
     moved : (c : Case) → Moves parent me (boot_of (kept n)) c (m c) h.input (k c)
     moved c = moves parent me (boot_of (kept n)) c (m c) h.input
 

@@ -70,6 +70,8 @@ pub mod CaseEffects
 pub mod RowNeeds
 pub mod Naming
 pub mod CoordinatorKept
+pub mod CoordinatorAccepts
+pub mod CoordinatorVotes
 pub mod CascadedGives
 pub mod CascadedMemories
 pub mod CascadesHold
