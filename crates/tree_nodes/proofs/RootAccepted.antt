@@ -1,5 +1,5 @@
 -- Who is remembered at a root, or was heard to vote, was accepted: over every run.
-use Rattle.std.proofs.Common.{◌≡◌, ◌∙◌, ◌&&◌, ◌||◌, ◌⊎◌, inl, inr, ℕ, zero, suc, Bool, true, false, not, List, [], ◌∷◌, ◌++◌, take, refl, sym, ap, subst, arith, if◌then◌else◌}
+use Rattle.std.proofs.Common.{◌≡◌, ◌∙◌, ◌&&◌, ◌||◌, ◌⊎◌, inl, inr, ℕ, zero, suc, Bool, true, false, not, None, List, [], ◌∷◌, ◌++◌, take, refl, sym, ap, subst, arith, if◌then◌else◌}
 use Rattle.std.specs.Prelude.{fold}
 use Rattle.std.specs.List.{list_any}
 use Rattle.std.proofs.lemmas.List.{append-nil}
@@ -41,7 +41,7 @@ use Rattle.tree_nodes.proofs.Tests.{either, left, right, both, front_none}
 use Rattle.tree_nodes.proofs.Appends.{breaks_keeps}
 use Rattle.tree_nodes.proofs.Boots.{others_boot, boot_append, turn_none, trimmed_boot}
 use Rattle.tree_nodes.proofs.RootAlikes.{root_alike}
-use Rattle.tree_nodes.proofs.RootCounts.{HeardSo, effect_counts}
+use Rattle.tree_nodes.proofs.RowCounts.{HeardSo, effect_counts}
 use Rattle.tree_nodes.proofs.RootHistories.{took}
 use Rattle.tree_nodes.proofs.RootMemories.{memory_heard, same_memory}
 use Rattle.tree_nodes.proofs.RootNumbered.{at_root}
@@ -197,7 +197,7 @@ module _ (me : ProcessId) (tree : List TreeEntry) (n : Node) (alike : AllAlike (
             ⊎ (has_heard_vote n c t (is_vote w) ≡ true)
             → has_accepted n c t ≡ true
         voted_then c t w (inl now) =
-            effect_counts place n h c t (is_vote w) (has_accepted n c t ≡ true) (counts_one h c t (is_vote w)) e
+            effect_counts place None n h c t (is_vote w) (has_accepted n c t ≡ true) (counts_one h c t (is_vote w)) e
             (coordinator_turn_of place n h e r) now
         voted_then c t w (inr before) = old.voted_accepted c t w before
 

@@ -39,7 +39,8 @@ use Rattle.tree_nodes.proofs.RootKnown.{stands_by_phase}
 use Rattle.tree_nodes.proofs.RootLogs.{reopened_collects_not, trim_together}
 use Rattle.tree_nodes.proofs.RootMemories.{remembered_is_begun, same_memory}
 use Rattle.tree_nodes.proofs.RootNumbered.{all_root_cases, at_root}
-use Rattle.tree_nodes.proofs.RootRows.{is_needless, none_needless, effect_needs, AllTogether, effect_together}
+use Rattle.tree_nodes.proofs.RootRows.{AllTogether, effect_together}
+use Rattle.tree_nodes.proofs.RowNeeds.{is_needless, none_needless, effect_needs}
 use Rattle.tree_nodes.proofs.Worlds.{all_last, put}
 
 none_in_front : (q : Record → Bool) (xs ys : List Record) → has q (xs ++ ys) ≡ false → has q xs ≡ false
@@ -72,7 +73,7 @@ module _ (me : ProcessId) (tree : List TreeEntry) where
         new = entries_written e.written
 
         needs : has is_needless new ≡ false
-        needs = effect_needs place n i e (coordinator_turn_of place n i e r)
+        needs = effect_needs place None n i e (coordinator_turn_of place n i e r)
 
         leaves_boot : boot_of (kept n ++ new) ≡ boot_of (kept n)
         leaves_boot = boot_append (kept n) new ∙ others_boot (boot_of (kept n)) new (turn_none AtRoot place n i e t.turn)

@@ -41,7 +41,7 @@ use Rattle.tree_nodes.proofs.Tests.{both, case_is}
 use Rattle.tree_nodes.proofs.Boots.{others_boot, boot_append, turn_none, trimmed_boot}
 use Rattle.tree_nodes.proofs.RootAccepted.{all_accepts}
 use Rattle.tree_nodes.proofs.RootAlikes.{root_alike}
-use Rattle.tree_nodes.proofs.RootCounts.{HeardSo, effect_counts}
+use Rattle.tree_nodes.proofs.RowCounts.{HeardSo, effect_counts}
 use Rattle.tree_nodes.proofs.RootKnown.{fresh_ever}
 use Rattle.tree_nodes.proofs.RootLive.{IsLive, IsNext, was_live}
 use Rattle.tree_nodes.proofs.RootMemories.{remembered_is_begun, same_memory}
@@ -118,7 +118,7 @@ module _ (me : ProcessId) (tree : List TreeEntry) (n : Node) (alike : AllAlike (
 
             by_test : (b : Bool) → heard_so c t v e.counts ≡ b → heard_so c t v e.counts ≡ false
             by_test true g = absurd
-                (effect_counts place n h c t (is_vote v) ⊥ one e (coordinator_turn_of place n h e r) g)
+                (effect_counts place None n h c t (is_vote v) ⊥ one e (coordinator_turn_of place n h e r) g)
             by_test false g = g
 
         -- and the other way round
