@@ -11,3 +11,4 @@ pub mod Restarts
 pub mod Trimmed
 pub mod Trims
 pub mod CrashSteps
+pub mod RootListed
