@@ -12,3 +12,4 @@ pub mod Trimmed
 pub mod Trims
 pub mod CrashSteps
 pub mod RootListed
+pub mod CrashPairs
