@@ -72,6 +72,7 @@ pub mod Naming
 pub mod CoordinatorKept
 pub mod CoordinatorAccepts
 pub mod CoordinatorVotes
+pub mod CoordinatorSteps
 pub mod CascadedGives
 pub mod CascadedMemories
 pub mod CascadesHold
