@@ -73,6 +73,7 @@ pub mod CoordinatorKept
 pub mod CoordinatorAccepts
 pub mod CoordinatorVotes
 pub mod CoordinatorSteps
+pub mod CoordinatorRestarts
 pub mod CascadedGives
 pub mod CascadedMemories
 pub mod CascadesHold
