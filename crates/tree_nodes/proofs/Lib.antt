@@ -74,6 +74,7 @@ pub mod CoordinatorAccepts
 pub mod CoordinatorVotes
 pub mod CoordinatorSteps
 pub mod CoordinatorRestarts
+pub mod CoordinatorsHold
 pub mod CascadedGives
 pub mod CascadedMemories
 pub mod CascadesHold
