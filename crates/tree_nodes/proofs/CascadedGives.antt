@@ -83,7 +83,7 @@ gives_elsewhere place net ls n h = record {
 }
 
 -- a case without a ticket is never given
-never_given : (x : Txn) (ls : List Envelope) → sent (gives_case (root_case x)) ls ≡ true → ⊥
+pub never_given : (x : Txn) (ls : List Envelope) → sent (gives_case (root_case x)) ls ≡ true → ⊥
 unfolding sent
 never_given x [] e = cc
 never_given x (l ∷ ls) e = elim (either (gives_case (root_case x) l.message) (sent (gives_case (root_case x)) ls) e) [
@@ -115,7 +115,7 @@ module _ (me p : ProcessId) (tree : List TreeEntry) (net : List Envelope) (n : N
   place = record { me = me; role = Below p; tree = tree }
 
   -- a case that is known was given
-  known_given : n.failed ≡ false → (c : Case) → (coordinator_view place n c).standing ≢ Unknown → IsGiven me net c
+  pub known_given : n.failed ≡ false → (c : Case) → (coordinator_view place n c).standing ≢ Unknown → IsGiven me net c
   known_given up c k = elim (known_by place n c k) [
     | inl awake ↦ known.remembered_is_given up c awake
     | inr stands ↦ known.recorded_is_given c (nested.kept_was_written (is_record_of c) (λ k. refl) stands)

@@ -76,6 +76,9 @@ pub mod Naming
 pub mod CoordinatorKept
 pub mod CoordinatorAccepts
 pub mod CoordinatorVotes
+pub mod CoordinatorSteps
+pub mod CoordinatorRestarts
+pub mod CoordinatorsHold
 pub mod CascadedGives
 pub mod CascadedMemories
 pub mod CascadesHold

@@ -248,7 +248,7 @@ module _ (c : Case) (t : Ticket) where
   record_names (AbortRecord d ts) e = named_if (same_case d c) ts t e
   record_names r e = in_nobody t e
 
-  records_name : (rs : List Record) → in_list (named_by c rs) t ≡ true → has (is_naming c t) rs ≡ true
+  pub records_name : (rs : List Record) → in_list (named_by c rs) t ≡ true → has (is_naming c t) rs ≡ true
   unfolding named_by
   records_name [] e = in_nobody t e
   records_name (r ∷ rs) e =

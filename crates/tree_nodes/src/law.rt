@@ -52,6 +52,15 @@ pub fn roots_hold()
         → role_of tree p ≡ AtRoot → Coordinates (place_of tree p) w.net (w.at p) }
 {}
 
+/// In every run of every tree, each coordinator, the root or one below it, keeps its part of the world's invariant: what
+/// it remembers of a case goes with the case's records and with the votes that it heard; whom it remembers, heard or
+/// named, it accepted, and JOINED named; a case's records stand in order; and a case that can still be decided has no
+/// Commit.
+pub fn coordinators_hold()
+    ensures { (tree : List TreeEntry) (es : List Made) (w : World) → IsRun tree es w → (p : ProcessId)
+        → IsCoordinator (role_of tree p) → Coordinates (place_of tree p) w.net (w.at p) }
+{}
+
 /// In every run of every tree, the records of each case of each coordinator stand in the order in which they are
 /// written, and decisions and promises name whom they should.
 pub fn cases_stand_in_order()
