@@ -1,6 +1,6 @@
 -- What a crash makes of a case's refusal, from the invariant of the pair before it.
-use Rattle.std.proofs.Common.{◌≡◌, ◌∙◌, ◌||◌, ◌&&◌, ◌⊎◌, inl, inr, ℕ, Bool, true, false, List, [], ◌∷◌, ◌++◌, drop, refl, sym, ap, subst, arith}
-use Rattle.std.specs.Prelude.{not, reverse}
+use Rattle.std.proofs.Common.{◌≡◌, ◌∙◌, ◌||◌, ◌&&◌, ℕ, Bool, true, false, List, [], ◌∷◌, ◌++◌, drop, refl, sym, ap, subst, arith}
+use Rattle.std.specs.Prelude.{reverse}
 use Rattle.tree_model.specs.declared.names.Case.{Case}
 use Rattle.tree_model.specs.declared.names.Presumption.{Presumption}
 use Rattle.tree_model.specs.declared.names.Presumption.TheVariants.{PresumeAbort, PresumeCommit}
@@ -13,14 +13,14 @@ use Rattle.tree_model.specs.Memory.{Memory, fresh_memory}
 use Rattle.tree_model.specs.Outcomes.{follows}
 use Rattle.tree_model.specs.Restarts.{left_of}
 use Rattle.tree_pairs.specs.Reading.{Reading, Closed, is_live}
-use Rattle.tree_pairs.specs.Invariant.{Common, PresumedAbort, PresumedCommit}
+use Rattle.tree_pairs.specs.Invariant.{Common, PresumedCommit}
 use Rattle.tree_pairs.specs.ParentCrash.{ParentFront, IsParentFront}
-use Rattle.tree_readings.specs.ReadingOf.{ParentHalf, ChildHalf, Wire, reading_from, parent_half_at, phase_by, is_dead}
+use Rattle.tree_readings.specs.ReadingOf.{ParentHalf, ChildHalf, Wire, reading_from, parent_half_at, phase_by}
 use Rattle.tree_nodes.specs.WorldHolds.{InvariantOf}
-use Rattle.tree_nodes.proofs.Tests.{has-reverse, has-cons, in_first}
+use Rattle.tree_nodes.proofs.Tests.{has-reverse, in_first}
 use Rattle.tree_nodes.proofs.CaseOrders.{AllFit}
 use Rattle.tree_children.proofs.Moves.{common_of}
-use Rattle.tree_crashes.proofs.Fronts.{parent_front, ReadsLog, is_front}
+use Rattle.tree_crashes.proofs.Fronts.{parent_front, is_front}
 use Rattle.tree_crashes.proofs.Losing.{Lost, refused_by, refused_lost, refused-below, refused-root}
 use Rattle.tree_crashes.proofs.LostHalves.{Crashed, whole, lost}
 use Rattle.tree_crashes.proofs.Reopened.{collects_alone, is_alone}

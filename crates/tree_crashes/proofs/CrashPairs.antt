@@ -1,5 +1,5 @@
 -- A restart or a trim of a coordinator keeps each pair below it: from what is known of its process and of the net.
-use Rattle.std.proofs.Common.{◌≡◌, ◌∙◌, ◌⊎◌, inl, inr, ◌+◌, ℕ, zero, suc, Bool, true, false, Option, Some, None, List, [], ◌∷◌, ◌++◌, take, refl, sym, ap, subst, arith}
+use Rattle.std.proofs.Common.{◌≡◌, ◌∙◌, Bool, true, false, Option, Some, None, List, [], ◌++◌, refl, sym, ap, subst, arith}
 use Rattle.std.proofs.lemmas.List.{append-nil}
 use Rattle.tree_model.specs.declared.names.Case.{Case}
 use Rattle.tree_model.specs.declared.names.ProcessId.{ProcessId}
@@ -13,15 +13,14 @@ use Rattle.tree_model.specs.declared.messages.Message.TheVariants.{Join, Joined,
 use Rattle.tree_model.specs.declared.records.Record.{Record}
 use Rattle.tree_model.specs.declared.standings.Standing.{Standing}
 use Rattle.tree_model.specs.declared.standings.Standing.TheVariants.{Unknown, Active, Collecting, Prepared, Committing, Aborting, Heuristic}
-use Rattle.tree_model.specs.declared.events.Happening.{Happening}
-use Rattle.tree_model.specs.declared.events.Happening.TheVariants.{Input as Handles, Restart, Trim}
+use Rattle.tree_model.specs.declared.events.Happening.TheVariants.{Input as Handles}
 use Rattle.tree_model.specs.declared.trees.TreeEntry.{TreeEntry}
-use Rattle.tree_model.specs.Names.{child_case, process_of, root_case, same_case, same_ticket}
+use Rattle.tree_model.specs.Names.{child_case, process_of, root_case, same_case}
 use Rattle.tree_model.specs.NameLaws.{names}
 use Rattle.tree_model.specs.Records.{has, is_commit, is_prepare}
-use Rattle.tree_model.specs.Nodes.{AtRoot, Below, Effect, Node, Place, Role, kept, role_of}
+use Rattle.tree_model.specs.Nodes.{AtRoot, Below, Effect, Node, Place, kept, role_of}
 use Rattle.tree_model.specs.Memory.{Phase, Idle, Open, Asked, Over, fresh_memory, memory_of}
-use Rattle.tree_model.specs.Outcomes.{has_accepted, is_joined_message, is_read_message, sent}
+use Rattle.tree_model.specs.Outcomes.{is_joined_message, is_read_message, sent}
 use Rattle.tree_model.specs.Restarts.{left_of, reopens, restart_effect, restart_fails, restarted, trim_fails, trims}
 use Rattle.tree_model.specs.Standings.{coordinator_view, phase_standing, standing_by}
 use Rattle.tree_model.specs.Views.{IsOpenAlike, root_place}
@@ -29,25 +28,20 @@ use Rattle.tree_model.specs.World.{Move}
 use Rattle.tree_pairs.specs.Reading.{Closed, Active as ActivePhase, Collecting as CollectingPhase}
 use Rattle.tree_pairs.specs.Reading as reading
 use Rattle.tree_readings.specs.ReadingOf.{ChildHalf, is_decision_naming, is_root_ticket, parent_half, parent_half_at, phase_by, reading_from, wire}
-use Rattle.tree_turns.specs.Steps.{StepOf, heard_in, handled, failed_in, passed, failed_passing, reopened, failed_reopening, trimmed, failed_trimming}
-use Rattle.tree_nodes.specs.Lasts.{logs_of, Lasts, Nested}
-use Rattle.tree_nodes.specs.ProcessSteps.{ParentStep, seen_below}
-use Rattle.tree_nodes.specs.WorldHolds.{Coordinates, InvariantOf, IsChildRole, IsFree, IsPair, IsParentRole, JoinedOnce, NamesBy, gives_other, is_naming, is_record_of, has_begun}
+use Rattle.tree_turns.specs.Steps.{StepOf, handled, failed_in, passed, failed_passing, reopened, failed_reopening, trimmed, failed_trimming}
+use Rattle.tree_nodes.specs.Lasts.{logs_of, Nested}
+use Rattle.tree_nodes.specs.ProcessSteps.{ParentStep}
+use Rattle.tree_nodes.specs.WorldHolds.{Coordinates, InvariantOf, IsFree, IsPair, IsParentRole, gives_other, is_naming, is_record_of, has_begun}
 use Rattle.tree_nodes.proofs.CaseOrders.{AllFit}
 use Rattle.tree_nodes.proofs.Boots.{trims_memory}
 use Rattle.tree_nodes.proofs.Cases.{viewed}
 use Rattle.tree_nodes.proofs.GivenCases.{sent_other}
-use Rattle.tree_nodes.proofs.Tests.{case_is, not_both}
+use Rattle.tree_nodes.proofs.Tests.{case_is}
 use Rattle.tree_nodes.proofs.Worlds.{has_other}
 use Rattle.tree_children.proofs.Moves.{Fits}
+use Rattle.tree_crashes.specs.CoordinatorCrashes.{IsCrash}
 use Rattle.tree_crashes.proofs.Crashes.{forgetful}
 use Rattle.tree_crashes.proofs.CrashSteps as steps
-
--- a restart or a trim
-abbrev pub IsCrash : Happening → Type 0
-IsCrash (Restart k) = Unit {0}
-IsCrash Trim = Unit {0}
-IsCrash (Handles i) = ⊥
 
 -- How open a case is, by its phase in memory.
 

@@ -1,40 +1,33 @@
 -- A coordinator's restarts and trims as steps of its process: what they do to a pair below it.
-use Rattle.std.proofs.Common.{◌≡◌, ◌∙◌, ◌||◌, ◌&&◌, ◌⊎◌, inl, inr, ◌+◌, ℕ, zero, suc, Bool, true, false, Option, Some, None, List, [], ◌∷◌, ◌++◌, take, refl, sym, ap, subst, arith}
-use Rattle.std.specs.Prelude.{reverse}
-use Rattle.std.specs.List.{flat_map}
+use Rattle.std.proofs.Common.{◌≡◌, ◌∙◌, ◌||◌, inl, inr, ℕ, zero, suc, Bool, true, false, Some, None, List, [], ◌++◌, take, refl, sym, ap, subst, arith}
 use Rattle.std.proofs.lemmas.List.{append-nil}
 use Rattle.tree_model.specs.declared.names.Case.{Case}
 use Rattle.tree_model.specs.declared.names.ProcessId.{ProcessId}
 use Rattle.tree_model.specs.declared.names.Ticket.{Ticket}
 use Rattle.tree_model.specs.declared.messages.Envelope.{Envelope}
 use Rattle.tree_model.specs.declared.records.Record.{Record}
-use Rattle.tree_model.specs.declared.records.Record.TheVariants.{Opened}
 use Rattle.tree_model.specs.declared.standings.Standing.{Standing}
-use Rattle.tree_model.specs.declared.standings.Standing.TheVariants.{Unknown, Active, Collecting}
 use Rattle.tree_model.specs.declared.trees.TreeEntry.{TreeEntry}
 use Rattle.tree_model.specs.Names.{child_case}
-use Rattle.tree_model.specs.Records.{has, cases_in, is_collecting, is_prepare, is_commit, is_abort}
-use Rattle.tree_model.specs.Nodes.{AtRoot, Below, Node, Place, Role, kept}
-use Rattle.tree_model.specs.Memory.{Memory, Idle, Open, fresh_memory, memory_of}
+use Rattle.tree_model.specs.Records.{has, is_prepare, is_commit, is_abort}
+use Rattle.tree_model.specs.Nodes.{AtRoot, Below, Node, Place, kept}
+use Rattle.tree_model.specs.Memory.{Memory, fresh_memory, memory_of}
 use Rattle.tree_model.specs.Standings.{coordinator_view}
-use Rattle.tree_model.specs.Restarts.{coordinator_resumes, left_of, reopens, restart_effect, restart_fails, restarted, trim_effect, trim_fails, trimmed, trims}
+use Rattle.tree_model.specs.Restarts.{left_of, reopens, restart_effect, restart_fails, restarted, trim_fails, trimmed, trims}
 use Rattle.tree_pairs.specs.Reading.{Reading, Closed}
 use Rattle.tree_readings.specs.ReadingOf.{ChildHalf, ParentHalf, Wire, reading_from, parent_half_at, phase_by, wire, is_decision_naming}
 use Rattle.tree_nodes.specs.Lasts.{logs_of, Nested}
 use Rattle.tree_nodes.specs.WorldHolds.{InvariantOf, NamesBy}
-use Rattle.tree_nodes.proofs.Appends.{breaks_keeps, loses}
 use Rattle.tree_nodes.proofs.CaseOrders.{AllFit}
 use Rattle.tree_nodes.proofs.Tests.{has-append, in_either, in_first, in_second, in_front, not_both}
 use Rattle.tree_nodes.proofs.Boots.{trims_memory}
 use Rattle.tree_children.proofs.Moves.{Fits, onward}
 use Rattle.tree_crashes.proofs.Behind as behind
 use Rattle.tree_crashes.proofs.Crashes as crashes
-use Rattle.tree_crashes.proofs.LostHalves.{Crashed}
-use Rattle.tree_crashes.proofs.Reopened.{collects_alone}
 use Rattle.tree_crashes.proofs.Restarts as restarts
 use Rattle.tree_crashes.proofs.Resumed.{wire_resumed}
 use Rattle.tree_crashes.proofs.Trims as trimming
-use Rattle.tree_crashes.proofs.Trimmed.{no_data, trims_alike}
+use Rattle.tree_crashes.proofs.Trimmed.{trims_alike}
 
 -- a process that failed remembers the same
 same_memory : (place : Place) (n : Node) (c : Case) → memory_of place (record n { failed = true }) c ≡ memory_of place n c

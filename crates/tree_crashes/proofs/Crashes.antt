@@ -1,7 +1,6 @@
 -- A coordinator behind its restart, and behind one in which its device failed: what is left of its log, and what was
 -- appended to it.
-use Rattle.std.proofs.Common.{◌≡◌, ◌∙◌, ◌||◌, ◌&&◌, ℕ, Bool, true, false, List, [], ◌∷◌, ◌++◌, take, drop, append_assoc, refl, sym, ap, subst, arith}
-use Rattle.std.specs.Prelude.{reverse}
+use Rattle.std.proofs.Common.{◌≡◌, ◌∙◌, ◌||◌, ◌&&◌, ℕ, Bool, true, false, List, [], ◌++◌, take, refl, sym, ap, subst, arith}
 use Rattle.std.proofs.lemmas.List.{append-nil}
 use Rattle.tree_model.specs.declared.names.Case.{Case}
 use Rattle.tree_model.specs.declared.names.Ticket.{Ticket}
@@ -11,12 +10,11 @@ use Rattle.tree_model.specs.declared.records.Record.{Record}
 use Rattle.tree_model.specs.declared.records.Record.TheVariants.{Opened, Abort as AbortRecord}
 use Rattle.tree_model.specs.declared.standings.Standing.{Standing}
 use Rattle.tree_model.specs.declared.standings.Standing.TheVariants.{Unknown, Active, Collecting, Prepared, Committing, Aborting, Heuristic}
-use Rattle.tree_model.specs.Records.{has, is_abort, is_prepare}
-use Rattle.tree_model.specs.Nodes.{Node, Place, Role, kept}
+use Rattle.tree_model.specs.Records.{has, is_abort}
+use Rattle.tree_model.specs.Nodes.{Node, Place, kept}
 use Rattle.tree_model.specs.Memory.{Idle, fresh_memory, memory_of}
 use Rattle.tree_model.specs.Standings.{coordinator_view, coordinator_standing, phase_standing}
 use Rattle.tree_model.specs.Restarts.{left_of, coordinator_reopens, reopens, restarted, restart_fails}
-use Rattle.tree_model.specs.Outcomes.{follows}
 use Rattle.tree_pairs.specs.Reading.{Closed}
 use Rattle.tree_readings.specs.ReadingOf.{phase_by, is_collecting_naming, is_decision_naming}
 use Rattle.tree_turns.proofs.Operators.{reopens_none}
@@ -25,8 +23,7 @@ use Rattle.tree_nodes.proofs.Appends.{loses, breaks_keeps}
 use Rattle.tree_nodes.proofs.Cases.{viewed}
 use Rattle.tree_nodes.proofs.Phases.{standing_at, active_unrecorded, unrecorded_stands}
 use Rattle.tree_nodes.proofs.RootLogs.{reopened_collects_not}
-use Rattle.tree_nodes.proofs.Tests.{front_none, has-append, has-nil, in_none, in_first}
-use Rattle.tree_nodes.proofs.CaseOrders.{AllFit}
+use Rattle.tree_nodes.proofs.Tests.{front_none, has-append}
 use Rattle.tree_crashes.proofs.Reopened.{AllName, aborts_name_collected, aborts_where_alone, collects_alone, names-take, names_by_aborts}
 use Rattle.tree_crashes.proofs.LostHalves.{Crashed}
 

@@ -13,3 +13,5 @@ pub mod Trims
 pub mod CrashSteps
 pub mod RootListed
 pub mod CrashPairs
+pub mod Promised
+pub mod CoordinatorCrashes

@@ -1,8 +1,7 @@
 -- The parent's half of a pair behind a crash: what is left of the log, what was appended for the case, and the reading.
-use Rattle.std.proofs.Common.{◌≡◌, ◌∙◌, ◌||◌, ◌&&◌, ◌⊎◌, inl, inr, Bool, true, false, refl, sym, ap, arith}
+use Rattle.std.proofs.Common.{◌≡◌, ◌∙◌, ◌||◌, ◌&&◌, Bool, true, false, refl, arith}
 use Rattle.std.specs.Prelude.{not}
 use Rattle.tree_pairs.specs.Reading.{Reading, Closed, is_live}
-use Rattle.tree_pairs.specs.Invariant.{Common, PresumedAbort, PresumedCommit}
 use Rattle.tree_pairs.specs.ParentCrash as crash
 use Rattle.tree_pairs.specs.ParentCrash.{ParentFront, IsParentFront}
 use Rattle.tree_readings.specs.ReadingOf.{ParentHalf, ChildHalf, Wire, reading_from, is_born, is_dead, is_refused}

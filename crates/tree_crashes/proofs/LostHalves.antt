@@ -1,5 +1,5 @@
 -- The parent's half of a pair behind a coordinator's crash, by what is left of the log and what was appended to it.
-use Rattle.std.proofs.Common.{◌≡◌, ◌∙◌, ◌||◌, ◌&&◌, ℕ, Bool, true, false, List, [], ◌∷◌, ◌++◌, take, drop, append_assoc, refl, sym, ap, subst, arith}
+use Rattle.std.proofs.Common.{◌≡◌, ◌∙◌, ◌||◌, ◌&&◌, ℕ, Bool, false, List, [], ◌++◌, take, drop, append_assoc, refl, sym, ap, subst, arith}
 use Rattle.std.specs.List.{list_any}
 use Rattle.std.proofs.lemmas.List.{take-append-drop}
 use Rattle.tree_model.specs.declared.names.Case.{Case}
@@ -7,14 +7,13 @@ use Rattle.tree_model.specs.declared.names.Ticket.{Ticket}
 use Rattle.tree_model.specs.declared.records.Record.{Record}
 use Rattle.tree_model.specs.declared.records.Record.TheVariants.{Opened, Abort as AbortRecord}
 use Rattle.tree_model.specs.declared.standings.Standing.{Standing}
-use Rattle.tree_model.specs.declared.standings.Vote.TheVariants.{Yes as VoteYes, No as VoteNo, Read as VoteRead}
 use Rattle.tree_model.specs.Records.{has, in_list, is_collecting, is_prepare, is_commit, is_abort, is_end}
 use Rattle.tree_model.specs.Nodes.{Node, kept}
 use Rattle.tree_model.specs.Memory.{Memory, fresh_memory, has_acked}
-use Rattle.tree_model.specs.Outcomes.{has_accepted, has_heard_vote, is_told_aborted}
+use Rattle.tree_model.specs.Outcomes.{has_accepted, is_told_aborted}
 use Rattle.tree_model.specs.Restarts.{left_of}
 use Rattle.tree_pairs.specs.Reading.{Closed}
-use Rattle.tree_readings.specs.ReadingOf.{ParentHalf, parent_half_at, phase_by, is_vote, is_told_committed, acknowledged, is_collecting_naming, is_prepare_naming, is_decision_naming}
+use Rattle.tree_readings.specs.ReadingOf.{parent_half_at, phase_by, is_told_committed, acknowledged, is_collecting_naming, is_prepare_naming, is_decision_naming}
 use Rattle.tree_nodes.proofs.CaseOrders.{AllFit}
 use Rattle.tree_nodes.proofs.CaseFronts.{collects_in_front, names_in_front, owes_in_front}
 use Rattle.tree_crashes.proofs.Fronts.{parent_front}

@@ -15,10 +15,9 @@ use Rattle.tree_model.specs.Records.{has, has_case, in_list, cases_in, boot_of, 
 use Rattle.tree_model.specs.Memory.{Idle}
 use Rattle.tree_model.specs.Standings.{CoordinatorView}
 use Rattle.tree_model.specs.Restarts.{recorded_view, restart_abort, aborts_collecting, coordinator_reopens}
-use Rattle.tree_model.proofs.StandingLaws.{NoRecords}
 use Rattle.tree_readings.specs.ReadingOf.{is_collecting_naming, is_prepare_naming, is_decision_naming}
 use Rattle.tree_nodes.specs.WorldHolds.{is_naming, is_record_of}
-use Rattle.tree_nodes.proofs.Tests.{case_is, has-append, has-cons, has-nil, neither, not_both}
+use Rattle.tree_nodes.proofs.Tests.{case_is, has-append, has-cons, has-nil, not_both}
 use Rattle.tree_nodes.proofs.Worlds.{has_other}
 use Rattle.tree_nodes.proofs.Phases.{standing_at, collecting_undecided}
 use Rattle.tree_nodes.proofs.RootLogs.{recorded_case, recorded_stands, idle_standing, stands_collecting}

@@ -1,5 +1,5 @@
 -- A coordinator's restart, also one in which its device fails, keeps the invariant of each pair below it.
-use Rattle.std.proofs.Common.{◌≡◌, ◌∙◌, ◌||◌, ◌&&◌, ℕ, Bool, true, false, List, [], ◌∷◌, ◌++◌, refl, sym, ap, subst, arith}
+use Rattle.std.proofs.Common.{◌≡◌, ◌∙◌, ◌||◌, ◌&&◌, ℕ, Bool, true, false, List, [], ◌++◌, refl, sym, ap, subst, arith}
 use Rattle.std.specs.Prelude.{not, reverse}
 use Rattle.tree_model.specs.declared.names.Case.{Case}
 use Rattle.tree_model.specs.declared.names.Presumption.{Presumption}
@@ -11,23 +11,22 @@ use Rattle.tree_model.specs.Records.{has, is_collecting, is_prepare, is_commit, 
 use Rattle.tree_model.specs.Nodes.{Node, kept}
 use Rattle.tree_model.specs.Memory.{Memory, fresh_memory}
 use Rattle.tree_model.specs.Restarts.{left_of}
-use Rattle.tree_pairs.specs.Reading.{Reading, Closed, is_live}
-use Rattle.tree_pairs.specs.Invariant.{Common, PresumedAbort, PresumedCommit}
+use Rattle.tree_pairs.specs.Reading.{Reading, Closed}
+use Rattle.tree_pairs.specs.Invariant.{Common, PresumedAbort}
 use Rattle.tree_pairs.specs.ParentCrash as crash
 use Rattle.tree_pairs.specs.ParentCrash.{ParentFront, IsParentFront}
 use Rattle.tree_pairs.proofs.ParentCrashAbort as crash_abort
 use Rattle.tree_pairs.proofs.ParentCrashCommit as crash_commit
 use Rattle.tree_readings.specs.ReadingOf.{ParentHalf, ChildHalf, Wire, reading_from, parent_half_at, phase_by, is_born, is_decision_naming}
 use Rattle.tree_nodes.specs.WorldHolds.{InvariantOf}
-use Rattle.tree_nodes.proofs.Tests.{has-append}
 use Rattle.tree_nodes.proofs.CaseOrders.{AllFit}
 use Rattle.tree_children.proofs.Moves.{Fits, onward, common_of}
 use Rattle.tree_crashes.proofs.Behind as behind
-use Rattle.tree_crashes.proofs.Fronts.{parent_front, ReadsLog, is_front}
+use Rattle.tree_crashes.proofs.Fronts.{parent_front, is_front}
 use Rattle.tree_crashes.proofs.Losing.{Lost, refused_by, refused_lost, left_undecided, reading_broken, reading_broken_aborting, reading_reopened_naming, reading_reopened}
 use Rattle.tree_crashes.proofs.LostHalves.{Crashed, lost}
 use Rattle.tree_crashes.proofs.Moves as moves
-use Rattle.tree_crashes.proofs.Reopened.{Alone, collects_alone, is_alone}
+use Rattle.tree_crashes.proofs.Reopened.{collects_alone, is_alone}
 use Rattle.tree_crashes.proofs.Resumed.{commit_again, abort_again}
 
 -- What goes out again, as the reading has it.

@@ -1,11 +1,10 @@
 -- What a coordinator's restart sends, as a pair below it sees it: the decision again, where the ticket owes an
 -- acknowledgement.
-use Rattle.std.proofs.Common.{◌≡◌, ◌∙◌, ◌||◌, ◌&&◌, ◌⊎◌, inl, inr, Bool, true, false, Option, Some, None, List, [], ◌∷◌, ◌++◌, map, refl, sym, ap, subst, arith}
+use Rattle.std.proofs.Common.{◌≡◌, ◌∙◌, ◌||◌, ◌&&◌, ◌⊎◌, inl, inr, Bool, true, false, Option, Some, None, List, [], ◌∷◌, ◌++◌, refl, sym, ap, arith}
 use Rattle.std.specs.Prelude.{not}
-use Rattle.std.specs.List.{flat_map, list_any}
+use Rattle.std.specs.List.{flat_map}
 use Rattle.std.proofs.lemmas.List.Folds.{list_any-append}
 use Rattle.tree_model.specs.declared.names.Case.{Case}
-use Rattle.tree_model.specs.declared.names.Outcome.{Outcome}
 use Rattle.tree_model.specs.declared.names.Outcome.TheVariants.{Committed as CommittedOutcome, Aborted as AbortedOutcome}
 use Rattle.tree_model.specs.declared.names.Presumption.{Presumption}
 use Rattle.tree_model.specs.declared.names.Presumption.TheVariants.{PresumeAbort, PresumeCommit}
@@ -18,14 +17,14 @@ use Rattle.tree_model.specs.declared.records.Record.{Record}
 use Rattle.tree_model.specs.declared.standings.Standing.{Standing}
 use Rattle.tree_model.specs.declared.standings.Standing.TheVariants.{Unknown, Active, Collecting, Prepared, Committing, Aborting, Heuristic}
 use Rattle.tree_model.specs.Names.{same_case, same_ticket, child_case}
-use Rattle.tree_model.specs.NameLaws.{same_case-refl, same_case_tells, same_ticket-refl, names}
+use Rattle.tree_model.specs.NameLaws.{same_case-refl, names}
 use Rattle.tree_model.specs.Records.{has, has_case, in_list, none_of, cases_in, owing_by, is_collecting, is_prepare, is_commit, is_abort, is_end}
 use Rattle.tree_model.specs.Memory.{Idle, fresh_memory}
 use Rattle.tree_model.specs.Standings.{CoordinatorView, coordinator_standing, decided_outcome, phase_standing, standing_by, view_at}
-use Rattle.tree_model.specs.CoordinatorRows.{Seat, each, to_child, up}
+use Rattle.tree_model.specs.CoordinatorRows.{Seat, each, up}
 use Rattle.tree_model.specs.Restarts.{recorded_view, coordinator_resumes, resumes_by}
 use Rattle.tree_model.specs.Outcomes.{sent, is_joined_message, is_read_message, is_yes_message, is_outcome_message}
-use Rattle.tree_readings.specs.ReadingOf.{wire, Wire, gives_case, is_prepare_message, is_no_message, is_ack_message, is_inquiry_message, is_decision_naming}
+use Rattle.tree_readings.specs.ReadingOf.{wire, gives_case, is_prepare_message, is_no_message, is_ack_message, is_inquiry_message, is_decision_naming}
 use Rattle.tree_readings.proofs.Lists.{sent-append}
 use Rattle.tree_readings.proofs.Named.{sent-each_commit, sent-each_abort, sent-each_none, same_child}
 use Rattle.tree_nodes.specs.WorldHolds.{is_record_of}

@@ -1,26 +1,21 @@
 -- What a coordinator's trim leaves of a case: all of its records, or none.
-use Rattle.std.proofs.Common.{◌≡◌, ◌∙◌, ◌||◌, ◌&&◌, ◌⊎◌, inl, inr, ℕ, Bool, true, false, List, [], ◌∷◌, ◌++◌, refl, sym, ap, subst, arith, if◌then◌else◌}
-use Rattle.std.proofs.lemmas.List.{append-nil}
+use Rattle.std.proofs.Common.{◌≡◌, ◌∙◌, inl, inr, ℕ, Bool, true, false, List, [], ◌∷◌, ◌++◌, refl, sym, ap, arith, if◌then◌else◌}
 use Rattle.tree_model.specs.declared.names.Case.{Case}
 use Rattle.tree_model.specs.declared.names.ProcessId.{ProcessId}
 use Rattle.tree_model.specs.declared.names.Presumption.{Presumption}
-use Rattle.tree_model.specs.declared.names.Presumption.TheVariants.{PresumeAbort, PresumeCommit}
 use Rattle.tree_model.specs.declared.names.Ticket.{Ticket}
 use Rattle.tree_model.specs.declared.records.Record.{Record}
 use Rattle.tree_model.specs.declared.records.Record.TheVariants.{Opened}
-use Rattle.tree_model.specs.declared.standings.Standing.{Standing}
-use Rattle.tree_model.specs.declared.standings.Standing.TheVariants.{Unknown, Active, Collecting, Prepared, Committing, Aborting, Heuristic}
 use Rattle.tree_model.specs.Records.{has, none_of, boot_of, owing_by, record_case, is_collecting, is_prepare, is_commit, is_abort, is_end}
 use Rattle.tree_model.specs.Nodes.{Role, AtRoot, Below, AtLeaf}
-use Rattle.tree_model.specs.Memory.{Idle, Phase}
+use Rattle.tree_model.specs.Memory.{Idle}
 use Rattle.tree_model.specs.Standings.{phase_standing, standing_by}
 use Rattle.tree_model.specs.Restarts.{case_stays, data_records, is_known, recorded_view, staying, trimmed}
 use Rattle.tree_readings.specs.ReadingOf.{is_collecting_naming, is_prepare_naming, is_decision_naming}
-use Rattle.tree_readings.proofs.Trimmed.{Gone, gone}
+use Rattle.tree_readings.proofs.Trimmed.{Gone}
 use Rattle.tree_nodes.specs.CaseOrder.{IsCoordinator}
 use Rattle.tree_nodes.specs.WorldHolds.{is_record_of}
 use Rattle.tree_nodes.proofs.Tests.{has-nil, not_both}
-use Rattle.tree_nodes.proofs.Phases.{standing_at}
 use Rattle.tree_nodes.proofs.RootLogs.{known_stays, recorded_stands}
 use Rattle.tree_nodes.proofs.Trims.{trim_left}
 

@@ -1,21 +1,18 @@
 -- A coordinator's trim, also one in which its device fails, keeps the invariant of each pair below it.
-use Rattle.std.proofs.Common.{◌≡◌, ◌∙◌, ◌||◌, ◌&&◌, ◌⊎◌, inl, inr, ℕ, zero, suc, Bool, true, false, List, [], ◌∷◌, ◌++◌, refl, sym, ap, subst, arith}
-use Rattle.std.specs.Prelude.{not, reverse}
+use Rattle.std.proofs.Common.{◌≡◌, ◌∙◌, ◌||◌, ◌⊎◌, inl, inr, Bool, true, false, [], refl, sym, ap, subst, arith}
 use Rattle.tree_model.specs.declared.names.Case.{Case}
 use Rattle.tree_model.specs.declared.names.Presumption.{Presumption}
 use Rattle.tree_model.specs.declared.names.Presumption.TheVariants.{PresumeAbort, PresumeCommit}
 use Rattle.tree_model.specs.declared.names.Ticket.{Ticket}
 use Rattle.tree_model.specs.declared.records.Record.{Record}
 use Rattle.tree_model.specs.declared.standings.Standing.{Standing}
-use Rattle.tree_model.specs.declared.standings.Standing.TheVariants.{Active, Collecting}
-use Rattle.tree_model.specs.Records.{has, in_list, none_of, owing_by, is_collecting, is_prepare, is_commit, is_abort, is_end}
+use Rattle.tree_model.specs.Records.{has, none_of, owing_by, is_collecting, is_prepare, is_commit, is_abort}
 use Rattle.tree_model.specs.Nodes.{AtRoot, Node, Place, kept}
-use Rattle.tree_model.specs.Memory.{Memory, Idle, memory_of}
-use Rattle.tree_model.specs.Restarts.{data_records, is_known, recorded_view, trim_fails, trimmed, trims}
+use Rattle.tree_model.specs.Memory.{Memory}
+use Rattle.tree_model.specs.Restarts.{data_records, is_known, recorded_view, trimmed, trims}
 use Rattle.tree_pairs.specs.Reading.{Reading, Closed, is_live}
-use Rattle.tree_pairs.specs.Invariant.{Common, PresumedAbort, PresumedCommit}
+use Rattle.tree_pairs.specs.Invariant.{Common}
 use Rattle.tree_pairs.specs.ParentMoves as move
-use Rattle.tree_pairs.specs.ParentCrash as crash
 use Rattle.tree_readings.specs.Halves.{hardened_parent, trimmed_parent}
 use Rattle.tree_readings.specs.ReadingOf.{ParentHalf, ChildHalf, Wire, reading_from, parent_half_at, phase_by, is_dead, is_collecting_naming, is_prepare_naming, is_decision_naming}
 use Rattle.tree_readings.proofs.Lists.{has-nil}
@@ -24,7 +21,7 @@ use Rattle.tree_nodes.specs.WorldHolds.{InvariantOf, NamesBy}
 use Rattle.tree_nodes.proofs.Tests.{has-append, not_both}
 use Rattle.tree_nodes.proofs.Worlds.{has_other}
 use Rattle.tree_nodes.proofs.CaseFronts.{either_has}
-use Rattle.tree_children.proofs.Moves.{Fits, onward, unmoved, common_of}
+use Rattle.tree_children.proofs.Moves.{Fits, common_of}
 use Rattle.tree_crashes.proofs.Moves as moves
 use Rattle.tree_crashes.proofs.Named.{owing-by, somebody}
 use Rattle.tree_crashes.proofs.Trimmed.{Stays, all_stay, none_stays, Forgets, forgets, ended, committed, aborted, nothing}
