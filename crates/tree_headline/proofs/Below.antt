@@ -2,7 +2,7 @@
 use Rattle.std.proofs.Common.{◌≡◌, Bool, true, false, ◌&&◌, refl}
 use Rattle.tree_pairs.specs.Chain.{IsBelow}
 use Rattle.tree_readings.specs.ReadingOf.{reading_from, ParentHalf, ChildHalf, Wire, is_participant, is_born}
-use Rattle.tree_headline.proofs.ChildOf.{child_of}
+use Rattle.tree_nodes.proofs.ChildOf.{child_of}
 
 pub is_below : (root manager outcome above part committed aborts : Bool) (up p : ParentHalf) (k : ChildHalf)
     (v0 v : Wire)

@@ -23,7 +23,7 @@ use Rattle.tree_nodes.specs.WorldHolds.{InvariantOf, IsChildRole, IsFree, IsPair
 use Rattle.tree_headline.specs.ProcessLaws.{StepKeeps}
 use Rattle.tree_headline.proofs.Above.{above}
 use Rattle.tree_headline.proofs.Grows.{free_before}
-use Rattle.tree_headline.proofs.Levels.{parent_elsewhere}
+use Rattle.tree_nodes.proofs.Levels.{parent_elsewhere}
 use Rattle.tree_headline.proofs.Parts.{case_parts}
 
 -- the reading of a pair, with this outcome, where this is who takes part above it

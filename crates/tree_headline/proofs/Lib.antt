@@ -1,6 +1,4 @@
-pub mod Levels
 pub mod Parts
-pub mod ChildOf
 pub mod Below
 pub mod Pairs
 pub mod Ends

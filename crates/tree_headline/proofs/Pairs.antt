@@ -21,7 +21,7 @@ use Rattle.tree_nodes.specs.WorldHolds.{IsPair, IsParentRole, PairHolds, RoleHol
 use Rattle.tree_nodes.proofs.GivenCases.{joined_gives, sent_other}
 use Rattle.tree_nodes.proofs.PairOf.{is_free, is_pair}
 use Rattle.tree_headline.proofs.Below.{is_below}
-use Rattle.tree_headline.proofs.ChildOf.{half_as_child, no_branch}
+use Rattle.tree_nodes.proofs.ChildOf.{half_as_child, no_branch}
 use Rattle.tree_headline.proofs.Parts.{Standing, at_top, case_parts, part_of, standing_world}
 
 -- the reading of a pair, with this outcome

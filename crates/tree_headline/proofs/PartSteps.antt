@@ -21,7 +21,7 @@ use Rattle.tree_nodes.proofs.PairOf.{common_of, is_free, is_pair}
 use Rattle.tree_headline.specs.ProcessLaws.{StepKeeps}
 use Rattle.tree_headline.proofs.Grows.{free_before, go_on, joined_here, node_elsewhere, read_here, sent_then, yes_here}
 use Rattle.tree_headline.proofs.Halves.{half_moves, half_reading, outcome_by, reading_so}
-use Rattle.tree_headline.proofs.Levels.{parent_elsewhere}
+use Rattle.tree_nodes.proofs.Levels.{parent_elsewhere}
 use Rattle.tree_headline.proofs.Pairs.{begun, gives}
 use Rattle.tree_headline.proofs.Parts.{Standing, accepts, at_top, case_parts, part_joined, standing_world, tells, told}
 use Rattle.tree_headline.proofs.Stages.{accepting_is_undecided, not_accepted_is_silent, part_stage}

@@ -16,7 +16,7 @@ use Rattle.tree_model.specs.World.{World}
 use Rattle.tree_nodes.specs.WorldHolds.{AllGo, IsPair, IsChildRole, JoinedOnce, NodeHolds, RoleHolds, TellsPart, WorldHolds, accepted_by, parent_in, part_within, takes_part}
 use Rattle.tree_nodes.proofs.PairOf.{is_pair}
 use Rattle.tree_nodes.proofs.Tests.{and, both, either, left, right}
-use Rattle.tree_headline.proofs.Levels.{climbs, parent_climbs}
+use Rattle.tree_nodes.proofs.Levels.{climbs, parent_climbs}
 
 -- What a world keeps, the pairs aside.
 pub record Standing (tree : List TreeEntry) (w : World) : Type 0 where

@@ -24,12 +24,7 @@ abbrev pub AbortNames : Presumption → List Ticket → Type 0
 AbortNames PresumeAbort ts = none_of ts ≡ true
 AbortNames PresumeCommit ts = Unit {0}
 
--- no record of the case ends it or commits it
-pub record Uncommitted (rs : List Record) (c : Case) : Type 0 where
-  pub no_end : has (is_end c) rs ≡ false
-  pub no_commit : has (is_commit c) rs ≡ false
-
--- nor aborts it
+-- no record of the case ends it, commits it or aborts it
 pub record Undecided (rs : List Record) (c : Case) : Type 0 where
   pub no_end : has (is_end c) rs ≡ false
   pub no_commit : has (is_commit c) rs ≡ false
@@ -38,10 +33,11 @@ pub record Undecided (rs : List Record) (c : Case) : Type 0 where
 -- the record may stand behind these
 abbrev pub Fits : List Record → Record → Type 0
 Fits rs (Collecting c ts) =
-    (c.txn.presumption ≡ PresumeCommit) × (Undecided rs c × (has (is_prepare c) rs ≡ false))
-Fits rs (Prepare c ts) = (none_of ts ≡ false) × Undecided rs c
+    (c.txn.presumption ≡ PresumeCommit)
+    × (Undecided rs c × ((has (is_prepare c) rs ≡ false) × (has (is_collecting c) rs ≡ false)))
+Fits rs (Prepare c ts) = (none_of ts ≡ false) × (Undecided rs c × (has (is_prepare c) rs ≡ false))
 Fits rs (Commit c ts) = CommitNames c.txn.presumption ts × Undecided rs c
-Fits rs (Abort c ts) = AbortNames c.txn.presumption ts × Uncommitted rs c
+Fits rs (Abort c ts) = AbortNames c.txn.presumption ts × Undecided rs c
 Fits rs _ = Unit {0}
 
 -- so may each of the list, behind these and those of the list before it
@@ -54,6 +50,11 @@ AllFit rs (x ∷ xs) = Fits rs x × AllFit (rs ++ x ∷ []) xs
 pub fit_front : (rs xs ys : List Record) → AllFit rs (xs ++ ys) → AllFit rs xs
 fit_front rs [] ys f = tt
 fit_front rs (x ∷ xs) ys f = (f.0, fit_front (rs ++ x ∷ []) xs ys f.1)
+
+pub fit_rest : (rs xs ys : List Record) → AllFit rs (xs ++ ys) → AllFit (rs ++ xs) ys
+fit_rest rs [] ys f = subst (λ (z : List Record). AllFit z ys) (sym (append-nil rs)) f
+fit_rest rs (x ∷ xs) ys f =
+    subst (λ (z : List Record). AllFit z ys) (append_assoc rs (x ∷ []) xs) (fit_rest (rs ++ x ∷ []) xs ys f.1)
 
 pub fit_both : (rs xs ys : List Record) → AllFit rs xs → AllFit (rs ++ xs) ys → AllFit rs (xs ++ ys)
 fit_both rs [] ys f g = subst (λ (z : List Record). AllFit z ys) (append-nil rs) g
@@ -94,53 +95,75 @@ module _ (c : Case) where
   of_it : (F : Case → Type 0) (d : Case) → same_case d c ≡ true → F d → F c
   of_it F d e k = subst F (case_is d c e) k
 
-  promise_bars_commit : (rs : List Record) (x : Record) → Fits rs x → is_prepare c x ≡ true
+  pub promise_bars_commit : (rs : List Record) (x : Record) → Fits rs x → is_prepare c x ≡ true
       → has (is_commit c) rs ≡ false
-  promise_bars_commit rs (Prepare d ts) f e = of_it (λ k. has (is_commit k) rs ≡ false) d e f.1.no_commit
+  promise_bars_commit rs (Prepare d ts) f e = of_it (λ k. has (is_commit k) rs ≡ false) d e f.1.0.no_commit
   promise_bars_commit rs x f e = absurd (cc)
 
-  promise_bars_abort : (rs : List Record) (x : Record) → Fits rs x → is_prepare c x ≡ true
+  pub promise_bars_abort : (rs : List Record) (x : Record) → Fits rs x → is_prepare c x ≡ true
       → has (is_abort c) rs ≡ false
-  promise_bars_abort rs (Prepare d ts) f e = of_it (λ k. has (is_abort k) rs ≡ false) d e f.1.no_abort
+  promise_bars_abort rs (Prepare d ts) f e = of_it (λ k. has (is_abort k) rs ≡ false) d e f.1.0.no_abort
   promise_bars_abort rs x f e = absurd (cc)
 
-  collecting_bars_promise : (rs : List Record) (x : Record) → Fits rs x → is_collecting c x ≡ true
+  pub collecting_bars_promise : (rs : List Record) (x : Record) → Fits rs x → is_collecting c x ≡ true
       → has (is_prepare c) rs ≡ false
-  collecting_bars_promise rs (Collecting d ts) f e = of_it (λ k. has (is_prepare k) rs ≡ false) d e f.1.1
+  collecting_bars_promise rs (Collecting d ts) f e = of_it (λ k. has (is_prepare k) rs ≡ false) d e f.1.1.0
   collecting_bars_promise rs x f e = absurd (cc)
 
-  collecting_bars_commit : (rs : List Record) (x : Record) → Fits rs x → is_collecting c x ≡ true
+  pub collecting_bars_commit : (rs : List Record) (x : Record) → Fits rs x → is_collecting c x ≡ true
       → has (is_commit c) rs ≡ false
   collecting_bars_commit rs (Collecting d ts) f e = of_it (λ k. has (is_commit k) rs ≡ false) d e f.1.0.no_commit
   collecting_bars_commit rs x f e = absurd (cc)
 
-  collecting_bars_abort : (rs : List Record) (x : Record) → Fits rs x → is_collecting c x ≡ true
+  pub collecting_bars_abort : (rs : List Record) (x : Record) → Fits rs x → is_collecting c x ≡ true
       → has (is_abort c) rs ≡ false
   collecting_bars_abort rs (Collecting d ts) f e = of_it (λ k. has (is_abort k) rs ≡ false) d e f.1.0.no_abort
   collecting_bars_abort rs x f e = absurd (cc)
 
-  collecting_bars_end : (rs : List Record) (x : Record) → Fits rs x → is_collecting c x ≡ true
+  pub collecting_bars_end : (rs : List Record) (x : Record) → Fits rs x → is_collecting c x ≡ true
       → has (is_end c) rs ≡ false
   collecting_bars_end rs (Collecting d ts) f e = of_it (λ k. has (is_end k) rs ≡ false) d e f.1.0.no_end
   collecting_bars_end rs x f e = absurd (cc)
 
-  commit_bars_end : (rs : List Record) (x : Record) → Fits rs x → is_commit c x ≡ true → has (is_end c) rs ≡ false
+  pub commit_bars_end : (rs : List Record) (x : Record) → Fits rs x → is_commit c x ≡ true → has (is_end c) rs ≡ false
   commit_bars_end rs (Commit d ts) f e = of_it (λ k. has (is_end k) rs ≡ false) d e f.1.no_end
   commit_bars_end rs x f e = absurd (cc)
 
-  commit_bars_abort : (rs : List Record) (x : Record) → Fits rs x → is_commit c x ≡ true
+  pub commit_bars_abort : (rs : List Record) (x : Record) → Fits rs x → is_commit c x ≡ true
       → has (is_abort c) rs ≡ false
   commit_bars_abort rs (Commit d ts) f e = of_it (λ k. has (is_abort k) rs ≡ false) d e f.1.no_abort
   commit_bars_abort rs x f e = absurd (cc)
 
-  abort_bars_end : (rs : List Record) (x : Record) → Fits rs x → is_abort c x ≡ true → has (is_end c) rs ≡ false
+  pub abort_bars_end : (rs : List Record) (x : Record) → Fits rs x → is_abort c x ≡ true → has (is_end c) rs ≡ false
   abort_bars_end rs (Abort d ts) f e = of_it (λ k. has (is_end k) rs ≡ false) d e f.1.no_end
   abort_bars_end rs x f e = absurd (cc)
 
-  abort_bars_commit : (rs : List Record) (x : Record) → Fits rs x → is_abort c x ≡ true
+  pub abort_bars_commit : (rs : List Record) (x : Record) → Fits rs x → is_abort c x ≡ true
       → has (is_commit c) rs ≡ false
   abort_bars_commit rs (Abort d ts) f e = of_it (λ k. has (is_commit k) rs ≡ false) d e f.1.no_commit
   abort_bars_commit rs x f e = absurd (cc)
+
+  -- nor behind one of its own kind
+
+  pub collecting_is_once : (rs : List Record) (x : Record) → Fits rs x → is_collecting c x ≡ true
+      → has (is_collecting c) rs ≡ false
+  collecting_is_once rs (Collecting d ts) f e = of_it (λ k. has (is_collecting k) rs ≡ false) d e f.1.1.1
+  collecting_is_once rs x f e = absurd (cc)
+
+  pub promise_is_once : (rs : List Record) (x : Record) → Fits rs x → is_prepare c x ≡ true
+      → has (is_prepare c) rs ≡ false
+  promise_is_once rs (Prepare d ts) f e = of_it (λ k. has (is_prepare k) rs ≡ false) d e f.1.1
+  promise_is_once rs x f e = absurd (cc)
+
+  pub commit_is_once : (rs : List Record) (x : Record) → Fits rs x → is_commit c x ≡ true
+      → has (is_commit c) rs ≡ false
+  commit_is_once rs (Commit d ts) f e = of_it (λ k. has (is_commit k) rs ≡ false) d e f.1.no_commit
+  commit_is_once rs x f e = absurd (cc)
+
+  pub abort_is_once : (rs : List Record) (x : Record) → Fits rs x → is_abort c x ≡ true
+      → has (is_abort c) rs ≡ false
+  abort_is_once rs (Abort d ts) f e = of_it (λ k. has (is_abort k) rs ≡ false) d e f.1.no_abort
+  abort_is_once rs x f e = absurd (cc)
 
   pub in_order : (rs : List Record) → AllFit [] rs → InOrder c rs
   in_order rs f = record {

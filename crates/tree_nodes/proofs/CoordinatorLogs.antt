@@ -11,7 +11,8 @@ use Rattle.tree_model.specs.declared.records.Record.TheVariants.{Opened, Collect
 use Rattle.tree_model.specs.declared.standings.Standing.{Standing}
 use Rattle.tree_model.specs.declared.standings.Standing.TheVariants.{Unknown, Active, Collecting, Prepared, Committing, Aborting, Heuristic}
 use Rattle.tree_model.specs.declared.trees.TreeEntry.{TreeEntry}
-use Rattle.tree_model.specs.Records.{has, none_of, is_collecting, is_prepare, is_commit, is_abort, is_end, promised_by, owing_by, boot_of, cases_in}
+use Rattle.tree_model.specs.Names.{same_case}
+use Rattle.tree_model.specs.Records.{has, has_case, none_of, is_collecting, is_prepare, is_commit, is_abort, is_end, promised_by, owing_by, boot_of, cases_in}
 use Rattle.tree_model.specs.Nodes.{Role, AtRoot, Below, AtLeaf, Place, place_of, role_of, Node, kept, Heard, Effect, entries_written, is_any_forced, after}
 use Rattle.tree_model.specs.Memory.{Idle, memory_of}
 use Rattle.tree_model.specs.Standings.{CoordinatorView, coordinator_view, phase_standing, standing_by, view_at}
@@ -27,9 +28,10 @@ use Rattle.tree_turns.proofs.Steps.{step_of}
 use Rattle.tree_turns.proofs.CoordinatorReactions.{CoordinatorTurnAt, coordinator_turn_of}
 use Rattle.tree_nodes.specs.Lasts.{Logs, logs_of, standing}
 use Rattle.tree_nodes.specs.CaseOrder.{IsCoordinator, CaseInOrder}
-use Rattle.tree_nodes.proofs.Tests.{has-nil, has-cons, has-append, neither, first_false, second_false, in_none}
+use Rattle.tree_nodes.proofs.LoggedCases.{AllNew, each_once, seen_more, seen_last}
+use Rattle.tree_nodes.proofs.Tests.{case_is, has-nil, has-cons, has-append, neither, first_false, second_false, in_none}
 use Rattle.tree_nodes.proofs.Appends.{loses, either_logs, breaks_keeps}
-use Rattle.tree_nodes.proofs.CaseOrders.{CommitNames, AbortNames, Uncommitted, Undecided, Fits, AllFit, fit_front, fit_both, in_order, names, promise_names, collects_by_commit}
+use Rattle.tree_nodes.proofs.CaseOrders.{CommitNames, AbortNames, Undecided, Fits, AllFit, fit_front, fit_both, in_order, names, promise_names, collects_by_commit}
 use Rattle.tree_nodes.proofs.Cases.{viewed}
 use Rattle.tree_nodes.proofs.Phases.{standing_at, collecting_undecided, active_unrecorded}
 use Rattle.tree_nodes.proofs.RootLogs.{idle_standing, recorded_stands}
@@ -65,9 +67,6 @@ module _ (place : Place) (parent : Option ProcessId) (n : Node) (h : Heard) (c :
       let u = collecting_undecided (kept n) c (memory_of place n c).phase (sym (viewed place n c) ∙ e) in
       record { no_end = u.no_end; no_commit = u.no_commit; no_abort = u.no_abort }
 
-  ends_not : Undecided (kept n) c → Uncommitted (kept n) c
-  ends_not u = record { no_end = u.no_end; no_commit = u.no_commit }
-
   at_prepared : (coordinator_view place n c).standing ≡ Prepared
       → PromisedFacts (has (is_end c) (kept n)) (has (is_commit c) (kept n)) (has (is_abort c) (kept n))
       (has (is_prepare c) (kept n))
@@ -82,6 +81,10 @@ module _ (place : Place) (parent : Option ProcessId) (n : Node) (h : Heard) (c :
   promised_undecided e =
       let f = at_prepared e in
       record { no_end = f.no_end; no_commit = f.no_commit; no_abort = f.no_abort }
+
+  unpromised : (coordinator_view place n c).standing ≡ Collecting → has (is_prepare c) (kept n) ≡ false
+  unpromised e =
+      (collecting_undecided (kept n) c (memory_of place n c).phase (sym (viewed place n c) ∙ e)).no_prepare
 
   -- its view has whom the promise names
   promised_view : (coordinator_view place n c).standing ≡ Prepared
@@ -111,17 +114,20 @@ module _ (place : Place) (parent : Option ProcessId) (n : Node) (h : Heard) (c :
       let u = active_unrecorded (kept n) c (memory_of place n c).phase (sym (viewed place n c) ∙ e) in (
         (
           g,
-          (record { no_end = u.no_end; no_commit = u.no_commit; no_abort = u.no_abort }, u.no_prepare),
+          (
+            record { no_end = u.no_end; no_commit = u.no_commit; no_abort = u.no_abort },
+            (u.no_prepare, u.no_collecting),
+          ),
         ),
         tt,
       )
   fits_turn a _ (commits t w ys PresumeAbort i e f g) = ((names_some ys g e, at_collecting i.vote.stands), tt)
   fits_turn a _ (commits t w ys PresumeCommit i e f g) = ((commit_nobody g, at_collecting i.vote.stands), tt)
-  fits_turn a _ (promises t w ys p i e f) = ((e, at_collecting i.vote.stands), tt)
-  fits_turn a _ (hears_no t us PresumeAbort i e f) = ((abort_nobody f, ends_not (at_collecting i.stands)), tt)
-  fits_turn a _ (hears_no t us PresumeCommit i e f) = ((abort_anybody us f, ends_not (at_collecting i.stands)), tt)
-  fits_turn a _ (aborts why us PresumeAbort i e f g) = ((abort_nobody g, ends_not (at_collecting e)), tt)
-  fits_turn a _ (aborts why us PresumeCommit i e f g) = ((abort_anybody us g, ends_not (at_collecting e)), tt)
+  fits_turn a _ (promises t w ys p i e f) = ((e, (at_collecting i.vote.stands, unpromised i.vote.stands)), tt)
+  fits_turn a _ (hears_no t us PresumeAbort i e f) = ((abort_nobody f, at_collecting i.stands), tt)
+  fits_turn a _ (hears_no t us PresumeCommit i e f) = ((abort_anybody us f, at_collecting i.stands), tt)
+  fits_turn a _ (aborts why us PresumeAbort i e f g) = ((abort_nobody g, at_collecting e), tt)
+  fits_turn a _ (aborts why us PresumeCommit i e f g) = ((abort_anybody us g, at_collecting e), tt)
   fits_turn a _ (passes_commit PresumeAbort i e f) = (
     (
       names_some (coordinator_view place n c).promised f
@@ -131,9 +137,9 @@ module _ (place : Place) (parent : Option ProcessId) (n : Node) (h : Heard) (c :
     tt,
   )
   fits_turn a _ (passes_commit PresumeCommit i e f) = ((commit_nobody f, promised_undecided e), tt)
-  fits_turn a _ (passes_abort PresumeAbort i e f) = ((abort_nobody f, ends_not (promised_undecided e)), tt)
+  fits_turn a _ (passes_abort PresumeAbort i e f) = ((abort_nobody f, promised_undecided e), tt)
   fits_turn a _ (passes_abort PresumeCommit i e f) =
-      ((abort_anybody (coordinator_view place n c).promised f, ends_not (promised_undecided e)), tt)
+      ((abort_anybody (coordinator_view place n c).promised f, promised_undecided e), tt)
   fits_turn a _ (reads_only t w ys PresumeAbort i e f) = tt
   fits_turn a _ (reads_only t w ys PresumeCommit i e f) = (tt, tt)
   fits_turn a _ (ends t o i e f g) = (tt, tt)
@@ -163,63 +169,79 @@ fits_effect place parent n h _ (presumes x t i e) a = tt
 
 -- What a restart appends.
 
--- what stands in neither is of the first alone, but for what a restart appends
-abbrev NoMore : List Record → List Record → Type 0
-NoMore rs pre = (q : Record → Bool) → ((k : ℕ) → q (Opened k) ≡ false)
-    → ((d : Case) (ts : List Ticket) → q (AbortRecord d ts) ≡ false) → has q rs ≡ false → has q pre ≡ false
+-- what stands in neither is of the first alone, but for the Aborts that a restart appends for the cases seen
+abbrev NoMore : List Record → List Case → List Record → Type 0
+NoMore rs seen pre = (q : Record → Bool) → ((k : ℕ) → q (Opened k) ≡ false)
+    → ((d : Case) (ts : List Ticket) → has_case seen d ≡ true → q (AbortRecord d ts) ≡ false) → has q rs ≡ false
+    → has q pre ≡ false
 
 one_none : (q : Record → Bool) (r : Record) → q r ≡ false → has q (r ∷ []) ≡ false
 one_none q r e = has-cons q r [] ∙ neither (q r) (has q []) e (has-nil q)
 
 module _ (rs : List Record) (whole : AllFit [] rs) where
-  fits_abort : (pre : List Record) → NoMore rs pre → (d : Case) (s : Standing)
-      → (recorded_view rs d).standing ≡ s
+  abort_once : (seen : List Case) (d : Case) → has_case seen d ≡ false → (b : Case) (ts : List Ticket)
+      → has_case seen b ≡ true → is_abort d (AbortRecord b ts) ≡ false
+  abort_once seen d new b ts e = by_test (same_case b d) refl
+    where
+      ends : true ≡ false → ⊥
+      ends x = cc
+
+      by_test : (x : Bool) → same_case b d ≡ x → same_case b d ≡ false
+      by_test true f = absurd (ends (sym e ∙ (ap (has_case seen) (case_is b d f) ∙ new)))
+      by_test false f = f
+
+  fits_abort : (pre : List Record) (seen : List Case) → NoMore rs seen pre → (d : Case)
+      → has_case seen d ≡ false → (s : Standing) → (recorded_view rs d).standing ≡ s
       → AllFit pre (restart_abort d (recorded_view rs d) s)
-  fits_abort pre more d Collecting e =
+  fits_abort pre seen more d new Collecting e =
       let at : standing_at rs d Idle ≡ Collecting = sym (recorded_stands d rs) ∙ e in
       let u = collecting_undecided rs d Idle at in
       let p = collects_by_commit d rs whole (idle_standing d rs at) in (
         (
           subst (λ x. AbortNames x (recorded_view rs d).named) (sym p) tt,
           record {
-            no_end = more (is_end d) (λ k. refl) (λ b ts. refl) u.no_end;
-            no_commit = more (is_commit d) (λ k. refl) (λ b ts. refl) u.no_commit;
+            no_end = more (is_end d) (λ k. refl) (λ b ts x. refl) u.no_end;
+            no_commit = more (is_commit d) (λ k. refl) (λ b ts x. refl) u.no_commit;
+            no_abort = more (is_abort d) (λ k. refl) (abort_once seen d new) u.no_abort;
           },
         ),
         tt,
       )
-  fits_abort pre more d Unknown e = tt
-  fits_abort pre more d Active e = tt
-  fits_abort pre more d Prepared e = tt
-  fits_abort pre more d Committing e = tt
-  fits_abort pre more d Aborting e = tt
-  fits_abort pre more d Heuristic e = tt
+  fits_abort pre seen more d new Unknown e = tt
+  fits_abort pre seen more d new Active e = tt
+  fits_abort pre seen more d new Prepared e = tt
+  fits_abort pre seen more d new Committing e = tt
+  fits_abort pre seen more d new Aborting e = tt
+  fits_abort pre seen more d new Heuristic e = tt
 
-  abort_none : (q : Record → Bool) → ((d : Case) (ts : List Ticket) → q (AbortRecord d ts) ≡ false) → (d : Case)
-      (v : CoordinatorView) (s : Standing) → has q (restart_abort d v s) ≡ false
-  abort_none q f d v Collecting = one_none q (AbortRecord d v.named) (f d v.named)
-  abort_none q f d v Unknown = has-nil q
-  abort_none q f d v Active = has-nil q
-  abort_none q f d v Prepared = has-nil q
-  abort_none q f d v Committing = has-nil q
-  abort_none q f d v Aborting = has-nil q
-  abort_none q f d v Heuristic = has-nil q
+  abort_none : (q : Record → Bool) (d : Case) → ((ts : List Ticket) → q (AbortRecord d ts) ≡ false)
+      → (v : CoordinatorView) (s : Standing) → has q (restart_abort d v s) ≡ false
+  abort_none q d f v Collecting = one_none q (AbortRecord d v.named) (f v.named)
+  abort_none q d f v Unknown = has-nil q
+  abort_none q d f v Active = has-nil q
+  abort_none q d f v Prepared = has-nil q
+  abort_none q d f v Committing = has-nil q
+  abort_none q d f v Aborting = has-nil q
+  abort_none q d f v Heuristic = has-nil q
 
-  fits_aborts : (pre : List Record) → NoMore rs pre → (cs : List Case)
-      → AllFit pre (flat_map (aborts_collecting rs) cs)
-  fits_aborts pre more [] = tt
-  fits_aborts pre more (d ∷ cs) =
+  fits_aborts : (pre : List Record) (seen : List Case) → NoMore rs seen pre → (cs : List Case)
+      → AllNew seen cs → AllFit pre (flat_map (aborts_collecting rs) cs)
+  fits_aborts pre seen more [] new = tt
+  fits_aborts pre seen more (d ∷ cs) new =
       let w = recorded_view rs d in
       fit_both pre (aborts_collecting rs d) (flat_map (aborts_collecting rs) cs)
-      (fits_abort pre more d w.standing refl)
-      (fits_aborts (pre ++ aborts_collecting rs d)
-      (λ q f g e. in_none q pre (aborts_collecting rs d) (more q f g e) (abort_none q g d w w.standing)) cs)
+      (fits_abort pre seen more d new.0 w.standing refl)
+      (fits_aborts (pre ++ aborts_collecting rs d) (seen ++ d ∷ [])
+      (λ q f g e. in_none q pre (aborts_collecting rs d)
+      (more q f (λ b ts x. g b ts (seen_more seen d b x)) e)
+      (abort_none q d (λ ts. g d ts (seen_last seen d)) w w.standing)) cs new.1)
 
   fits_reopens : AllFit rs (coordinator_reopens rs)
   fits_reopens = (
     tt,
-    fits_aborts (rs ++ Opened (boot_of rs + 1) ∷ [])
-        (λ q f g e. in_none q rs (Opened (boot_of rs + 1) ∷ []) e (one_none q _ (f (boot_of rs + 1)))) (cases_in rs),
+    fits_aborts (rs ++ Opened (boot_of rs + 1) ∷ []) []
+        (λ q f g e. in_none q rs (Opened (boot_of rs + 1) ∷ []) e (one_none q _ (f (boot_of rs + 1)))) (cases_in rs)
+        (each_once rs),
   )
 
 -- What a trim leaves.
@@ -227,41 +249,25 @@ module _ (rs : List Record) (whole : AllFit [] rs) where
 abbrev Less : List Record → List Record → Type 0
 Less rs less = (q : Record → Bool) → ((k : ℕ) → q (Opened k) ≡ false) → has q rs ≡ false → has q less ≡ false
 
+undecided_less : (rs less : List Record) → Less rs less → (c : Case) → Undecided rs c → Undecided less c
+undecided_less rs less l c u = record {
+  no_end = l (is_end c) (λ k. refl) u.no_end;
+  no_commit = l (is_commit c) (λ k. refl) u.no_commit;
+  no_abort = l (is_abort c) (λ k. refl) u.no_abort;
+}
+
 fits_less : (rs less : List Record) → Less rs less → (x : Record) → Fits rs x → Fits less x
 fits_less rs less l (CollectingRecord c ts) f = (
   f.0,
   (
-    record {
-      no_end = l (is_end c) (λ k. refl) f.1.0.no_end;
-      no_commit = l (is_commit c) (λ k. refl) f.1.0.no_commit;
-      no_abort = l (is_abort c) (λ k. refl) f.1.0.no_abort;
-    },
-    l (is_prepare c) (λ k. refl) f.1.1,
+    undecided_less rs less l c f.1.0,
+    (l (is_prepare c) (λ k. refl) f.1.1.0, l (is_collecting c) (λ k. refl) f.1.1.1),
   ),
 )
-fits_less rs less l (PrepareRecord c ts) f = (
-  f.0,
-  record {
-    no_end = l (is_end c) (λ k. refl) f.1.no_end;
-    no_commit = l (is_commit c) (λ k. refl) f.1.no_commit;
-    no_abort = l (is_abort c) (λ k. refl) f.1.no_abort;
-  },
-)
-fits_less rs less l (CommitRecord c ts) f = (
-  f.0,
-  record {
-    no_end = l (is_end c) (λ k. refl) f.1.no_end;
-    no_commit = l (is_commit c) (λ k. refl) f.1.no_commit;
-    no_abort = l (is_abort c) (λ k. refl) f.1.no_abort;
-  },
-)
-fits_less rs less l (AbortRecord c ts) f = (
-  f.0,
-  record {
-    no_end = l (is_end c) (λ k. refl) f.1.no_end;
-    no_commit = l (is_commit c) (λ k. refl) f.1.no_commit;
-  },
-)
+fits_less rs less l (PrepareRecord c ts) f =
+    (f.0, (undecided_less rs less l c f.1.0, l (is_prepare c) (λ k. refl) f.1.1))
+fits_less rs less l (CommitRecord c ts) f = (f.0, undecided_less rs less l c f.1)
+fits_less rs less l (AbortRecord c ts) f = (f.0, undecided_less rs less l c f.1)
 fits_less rs less l x f = tt
 
 fits_staying : (role : Role) (whole rs less xs : List Record) → Less rs less → AllFit rs xs

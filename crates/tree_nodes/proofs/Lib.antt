@@ -26,6 +26,7 @@ pub mod ManagersHold
 pub mod GivenCases
 pub mod JoinedOnce
 pub mod Unlisted
+pub mod LoggedCases
 pub mod CaseOrders
 pub mod RootCases
 pub mod RootMemories
@@ -38,6 +39,7 @@ pub mod RootLogs
 pub mod RowCounts
 pub mod RowPromises
 pub mod CoordinatorLogs
+pub mod CaseFronts
 pub mod RootJoined
 pub mod RootAwake
 pub mod RowWrites
@@ -62,3 +64,5 @@ pub mod CoordinatorsHold
 pub mod CascadedGives
 pub mod CascadedMemories
 pub mod CascadesHold
+pub mod Levels
+pub mod ChildOf
