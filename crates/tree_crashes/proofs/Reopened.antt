@@ -21,7 +21,7 @@ use Rattle.tree_nodes.proofs.Tests.{case_is, has-append, has-cons, has-nil, not_
 use Rattle.tree_nodes.proofs.Worlds.{has_other}
 use Rattle.tree_nodes.proofs.Phases.{standing_at, collecting_undecided}
 use Rattle.tree_nodes.proofs.RootLogs.{recorded_case, recorded_stands, idle_standing, stands_collecting}
-use Rattle.tree_nodes.proofs.RootNaming.{view_names}
+use Rattle.tree_nodes.proofs.Naming.{view_names}
 use Rattle.tree_crashes.proofs.Named.{named-by}
 
 -- these records have the case collecting votes, and nothing else of it

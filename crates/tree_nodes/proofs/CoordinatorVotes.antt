@@ -33,7 +33,8 @@ use Rattle.tree_nodes.proofs.CoordinatorAccepts.{turn_here}
 use Rattle.tree_nodes.proofs.CoordinatorKept.{Coordinated, IsLive}
 use Rattle.tree_nodes.proofs.CoordinatorPhases.{collecting_accepted, collecting_votes}
 use Rattle.tree_nodes.proofs.OwnCases.{child_txn, child_belongs, child_nowhere}
-use Rattle.tree_nodes.proofs.Remembering.{role_below, coordinator_place, remembers_at, Opens, by_begin, by_join, Asks, by_commit, by_prepare, CountedVote, Moves, keeps, asks, closes, takes, counts, opens, moves, is_vote_input, none_counts}
+use Rattle.tree_nodes.proofs.Remembering.{role_below, coordinator_place, remembers_at, Opens, by_begin, by_join, Asks, by_commit, by_prepare, CountedVote, Moves, keeps, asks, closes, takes, counts, opens, moves, none_counts}
+use Rattle.tree_nodes.proofs.VoteInputs.{is_vote_input}
 use Rattle.tree_nodes.proofs.RowCounts.{HeardSo, effect_counts}
 use Rattle.tree_nodes.proofs.Tests.{both, case_is}
 

@@ -21,12 +21,13 @@ use Rattle.tree_readings.specs.ReadingOf.{gives_case}
 use Rattle.tree_turns.specs.Steps.{StepOf}
 use Rattle.tree_turns.proofs.Steps.{step_of}
 use Rattle.tree_nodes.specs.CaseOrder.{CaseInOrder, IsCoordinator}
-use Rattle.tree_nodes.specs.Lasts.{logs_of, Nested}
+use Rattle.tree_nodes.specs.Lasts.{logs_of, Lasts, Nested}
 use Rattle.tree_nodes.specs.Numbers.{IsIssuer}
-use Rattle.tree_nodes.specs.WorldHolds.{Coordinates, JoinedOnce, is_record_of, is_naming}
+use Rattle.tree_nodes.specs.WorldHolds.{Cascades, Coordinates, Issues, NodeHolds, JoinedOnce, is_record_of, is_naming}
+use Rattle.tree_nodes.proofs.BootsHold.{all_booted, boots_of}
 use Rattle.tree_nodes.proofs.CascadedGives.{Gives, known_given, never_given}
 use Rattle.tree_nodes.proofs.CascadedMemories.{awake_is_issued}
-use Rattle.tree_nodes.proofs.CascadesHold.{all_give}
+use Rattle.tree_nodes.proofs.CascadesHold.{all_give, cascade_holds, cascade_issues}
 use Rattle.tree_nodes.proofs.Cases.{viewed}
 use Rattle.tree_nodes.proofs.CaseEffects.{Alone, Listed}
 use Rattle.tree_nodes.proofs.CoordinatorKept.{Coordinated, IsLive}
@@ -36,7 +37,7 @@ use Rattle.tree_nodes.proofs.CoordinatorSteps.{Premises}
 use Rattle.tree_nodes.proofs.CoordinatorVotes.{IsNew}
 use Rattle.tree_nodes.proofs.Issuing.{Issued, next_is_new}
 use Rattle.tree_nodes.proofs.JoinedOnce.{tickets_have_one_case}
-use Rattle.tree_nodes.proofs.ManagersHold.{all_issued}
+use Rattle.tree_nodes.proofs.ManagersHold.{all_issued, same_self}
 use Rattle.tree_nodes.proofs.Naming.{records_name}
 use Rattle.tree_nodes.proofs.OwnCases.{issued_is_own, root_is_own}
 use Rattle.tree_nodes.proofs.PairOf.{Given, given}
@@ -260,3 +261,20 @@ module _ (tree : List TreeEntry) where
       by_role (Below p) e j =
           subst (λ (x : Role). Coordinates (at q x) w.net (w.at q)) (sym e) (coordinates es w run q (Some p) e)
       by_role (AtLeaf p) e j = absurd j
+
+  -- All that the invariant says of a cascaded coordinator.
+  pub cascaded_nodes_hold : (es : List Made) (w : World) → IsRun tree es w → (q p : ProcessId)
+      → role_of tree q ≡ Below p → NodeHolds (place_of tree q) w.net (w.at q)
+  cascaded_nodes_hold es w run q p e =
+      subst (λ (r : Role). NodeHolds (at q r) w.net (w.at q)) (sym e) (record {
+        lasts = subst (λ (r : Role). Lasts r (logs_of (w.at q))) e (all_last tree es w run q);
+        boots = boots_of (w.at q) (all_booted tree es w run q);
+        self = same_self (at q (Below p)) (w.at q);
+        role = (
+          coordinates es w run q (Some p) e,
+          (
+            subst (λ (r : Role). Cascades (at q r) w.net (w.at q)) e (cascade_holds tree es w run q p e),
+            subst (λ (r : Role). Issues (at q r) w.net (w.at q)) e (cascade_issues tree es w run q p e),
+          ),
+        );
+      })

@@ -20,6 +20,7 @@ use Rattle.tree_model.specs.Records.{none_of}
 use Rattle.tree_model.specs.Nodes.{Place, Role, AtRoot, Below}
 use Rattle.tree_model.specs.Memory.{Memory, Phase, Idle, Open, Asked, Over, root_remembers, cascaded_remembers, cascaded_hears, hears_child, opens_case, next_txn, next_ticket, active_ticket, gives, joins, retires, asks_votes, closes as closes_phase, accepts_ticket, has_child, sends_work, ticket_of_child, takes_vote, is_counted, with_vote, all_voted, phase_after, takes_ack, of_child, of_ticket}
 use Rattle.tree_model.specs.Views.{vote_message}
+use Rattle.tree_nodes.proofs.VoteInputs.{is_vote_input, vote_is_one, vote_case}
 
 -- A coordinator with this parent.
 
@@ -85,35 +86,6 @@ pub data Moves (parent : Option ProcessId) (me : ProcessId) (boot : ℕ) (c : Ca
       → k.accepted ≡ m.accepted → k.votes ≡ m.votes ++ (t, w) ∷ [] → Moves parent me boot c m i k
   opens : Opens parent me boot c m i → k.phase ≡ Open → k.accepted ≡ [] → k.votes ≡ []
       → Moves parent me boot c m i k
-
--- Which inputs are votes.
-
-abbrev pub is_vote_message : Message → Bool
-is_vote_message (Yes d) = true
-is_vote_message (No d) = true
-is_vote_message (Read d) = true
-is_vote_message m = false
-
-abbrev pub is_vote_input : Input → Bool
-is_vote_input (MessageInput k m) = is_vote_message m
-is_vote_input (ActInput a) = false
-
-vote_is_one : (k : ℕ) (w : Vote) (d : Case) → is_vote_input (MessageInput k (vote_message w d)) ≡ true
-vote_is_one k VoteYes d = refl
-vote_is_one k VoteNo d = refl
-vote_is_one k VoteRead d = refl
-
-pub vote_case : (k j : ℕ) (w v : Vote) (d e : Case) → MessageInput k (vote_message w d) ≡ MessageInput j (vote_message v e)
-    → d ≡ e
-vote_case k j VoteYes VoteYes d e f = cc
-vote_case k j VoteNo VoteNo d e f = cc
-vote_case k j VoteRead VoteRead d e f = cc
-vote_case k j VoteYes VoteNo d e f = absurd (cc)
-vote_case k j VoteYes VoteRead d e f = absurd (cc)
-vote_case k j VoteNo VoteYes d e f = absurd (cc)
-vote_case k j VoteNo VoteRead d e f = absurd (cc)
-vote_case k j VoteRead VoteYes d e f = absurd (cc)
-vote_case k j VoteRead VoteNo d e f = absurd (cc)
 
 pub none_counts : (c : Case) (m : Memory) (i : Input) → is_vote_input i ≡ false → (t : Ticket) (w : Vote)
     → CountedVote c m i t w → ⊥

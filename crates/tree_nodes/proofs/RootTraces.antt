@@ -33,7 +33,7 @@ use Rattle.tree_nodes.proofs.Tests.{either, right}
 use Rattle.tree_nodes.proofs.RootAwake.{awake_by, begins_open}
 use Rattle.tree_nodes.proofs.RootHistories.{among, NewIn, writes_of, accepts_into, begins_it, tells_of, effect_accepts, effect_tells}
 use Rattle.tree_nodes.proofs.RootKnown.{known_by, known_roots}
-use Rattle.tree_nodes.proofs.RootLive.{IsNext}
+use Rattle.tree_nodes.proofs.RootAwake.{IsNext}
 use Rattle.tree_nodes.proofs.RootMemories.{memory_heard}
 use Rattle.tree_nodes.proofs.RowWrites.{effect_writes}
 

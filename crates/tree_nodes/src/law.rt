@@ -108,6 +108,12 @@ pub fn cascades_hold()
         → role_of tree q ≡ Below p → Cascades (place_of tree q) w.net (w.at q) }
 {}
 
+/// In every run of every tree each cascaded coordinator keeps its part of the world's invariant, the whole of it.
+pub fn cascaded_nodes_hold()
+    ensures { (tree : List TreeEntry) (es : List Made) (w : World) → IsRun tree es w → (q p : ProcessId)
+        → role_of tree q ≡ Below p → NodeHolds (place_of tree q) w.net (w.at q) }
+{}
+
 /// In every run of every tree JOINED gives each ticket to one case.
 pub fn tickets_have_one_case()
     ensures { (tree : List TreeEntry) (es : List Made) (w : World) → IsRun tree es w → JoinedOnce w.net }
