@@ -61,6 +61,7 @@ pub mod CoordinatorVotes
 pub mod CoordinatorSteps
 pub mod CoordinatorRestarts
 pub mod CoordinatorsHold
+pub mod RootDecisions
 pub mod CascadedGives
 pub mod CascadedMemories
 pub mod CascadesHold
