@@ -62,6 +62,8 @@ pub mod CoordinatorSteps
 pub mod CoordinatorRestarts
 pub mod CoordinatorsHold
 pub mod RootDecisions
+pub mod RootNever
+pub mod RootNeverLasts
 pub mod CascadedGives
 pub mod CascadedMemories
 pub mod CascadesHold
