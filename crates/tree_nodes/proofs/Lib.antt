@@ -64,6 +64,7 @@ pub mod CoordinatorsHold
 pub mod RootDecisions
 pub mod RootNever
 pub mod RootNeverLasts
+pub mod RootsHold
 pub mod CascadedGives
 pub mod CascadedMemories
 pub mod CascadesHold
