@@ -46,6 +46,8 @@ pub mod RowWrites
 pub mod RootTraces
 pub mod RootBegun
 pub mod RootBegins
+pub mod Levels
+pub mod ChildOf
 pub mod VoteInputs
 pub mod Remembering
 pub mod OwnCases
@@ -68,5 +70,3 @@ pub mod RootsHold
 pub mod CascadedGives
 pub mod CascadedMemories
 pub mod CascadesHold
-pub mod Levels
-pub mod ChildOf

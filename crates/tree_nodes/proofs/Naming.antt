@@ -225,7 +225,7 @@ unfolding in_list
 in_one xs ys t e = either _ _ (sym (list_any-append _ xs ys) ∙ e)
 
 -- a case that collects by its records has all that they name in its view
-view_names : (rs : List Record) (d : Case) (v : CoordinatorView) → v ≡ recorded_view rs d → v.standing ≡ Collecting
+pub view_names : (rs : List Record) (d : Case) (v : CoordinatorView) → v ≡ recorded_view rs d → v.standing ≡ Collecting
     → v.named ≡ named_by d rs
 unfolding recorded_view
 view_names rs d v e s =

@@ -61,7 +61,7 @@ module _ (me : ProcessId) (tree : List TreeEntry) (n : Node) (cases : RootCases 
     place = root_place me tree
 
     -- a transaction that left a trace was begun
-    was_begun : (x : Txn) → has_begun place n x ≡ true → InHistory n (root_case x)
+    pub was_begun : (x : Txn) → has_begun place n x ≡ true → InHistory n (root_case x)
     was_begun x e = begun x refl (by_trace (traces place n x e))
       where
         by_trace : (is_begun (memory_of place n (root_case x)).phase ≡ true)
