@@ -63,6 +63,10 @@ pub mod CoordinatorVotes
 pub mod CoordinatorSteps
 pub mod CoordinatorRestarts
 pub mod CoordinatorsHold
+pub mod RootDecisions
+pub mod RootNever
+pub mod RootNeverLasts
+pub mod RootsHold
 pub mod CascadedGives
 pub mod CascadedMemories
 pub mod CascadesHold

@@ -79,7 +79,7 @@ module _ (me : ProcessId) (tree : List TreeEntry) (n : Node) (cases : RootCases 
     boot_before b k f c (inl l) = omega (arith, l)
     boot_before b k f c (inr s) = absurd (let z = s.1 in omega (arith, z, c))
 
-    leaves_trace : (c : Case) → InHistory n c → has_begun place n c.txn ≡ true
+    pub leaves_trace : (c : Case) → InHistory n c → has_begun place n c.txn ≡ true
     leaves_trace c x = h.known c.txn (h.in_histories c x)
 
     holds : OwnTransactions (root_place me tree) n
