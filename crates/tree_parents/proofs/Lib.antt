@@ -1,0 +1,10 @@
+pub mod Halves
+pub mod Writes
+pub mod Moves
+pub mod Turns
+pub mod Memories
+pub mod Known
+pub mod Wires
+pub mod Quiet
+pub mod Rested
+pub mod Elsewhere
