@@ -63,17 +63,17 @@ in_part f (u ∷ us) t e = by_test (f u) (in_part f us t (second _ _ e)) (first 
     by_test true g k = rw k g
     by_test false g k = g
 
-in_yes : (ts : List Ticket) (vs : List (Ticket × Vote)) (t : Ticket) → in_list ts t ≡ false
+pub in_yes : (ts : List Ticket) (vs : List (Ticket × Vote)) (t : Ticket) → in_list ts t ≡ false
     → in_list (yes_of ts vs) t ≡ false
 unfolding yes_of
 in_yes ts vs t e = in_part (voted_so VoteYes vs) ts t e
 
-in_undecided : (ts : List Ticket) (vs : List (Ticket × Vote)) (t : Ticket) → in_list ts t ≡ false
+pub in_undecided : (ts : List Ticket) (vs : List (Ticket × Vote)) (t : Ticket) → in_list ts t ≡ false
     → in_list (undecided_of ts vs) t ≡ false
 unfolding undecided_of
 in_undecided ts vs t e = in_part _ ts t e
 
-and-false : (b : Bool) → (b && false) ≡ false
+pub and-false : (b : Bool) → (b && false) ≡ false
 and-false true = refl
 and-false false = refl
 
@@ -82,7 +82,7 @@ module _ (turn : Turn) (d : Case) (other : same_case d turn.c ≡ false) where
 
   -- Whose case it is.
 
-  unticketed_apart : parent ≡ None → d.ticket ≡ None → same_txn d.txn c.txn ≡ false
+  pub unticketed_apart : parent ≡ None → d.ticket ≡ None → same_txn d.txn c.txn ≡ false
   unticketed_apart s e = both_none (d.ticket) (c.ticket) e (at_top place.role parent seat s c.ticket rooted) other
     where
       at_top : (r : Role) (o : Option ProcessId) → IsSeat r o → o ≡ None → (u : Option Ticket)
@@ -115,10 +115,10 @@ module _ (turn : Turn) (d : Case) (other : same_case d turn.c ≡ false) where
   not_remembered : in_list (memory_of place n d).accepted t ≡ false
   not_remembered = unless_accepted _ (holds.remembered_accepted d t)
 
-  active_apart : (coordinator_view place n d).standing ≡ Active → in_list (coordinator_view place n d).accepted t ≡ false
+  pub active_apart : (coordinator_view place n d).standing ≡ Active → in_list (coordinator_view place n d).accepted t ≡ false
   active_apart e = ap (λ (v : CoordinatorView). in_list v.accepted t) (view_so place n d Active e) ∙ not_remembered
 
-  collecting_apart : (coordinator_view place n d).standing ≡ Collecting
+  pub collecting_apart : (coordinator_view place n d).standing ≡ Collecting
       → in_list (coordinator_view place n d).accepted t ≡ false
   collecting_apart e =
       ap (λ (v : CoordinatorView). in_list v.accepted t) (view_so place n d Collecting e) ∙ not_remembered
@@ -134,29 +134,29 @@ module _ (turn : Turn) (d : Case) (other : same_case d turn.c ≡ false) where
       is_named (PrepareRecord x ts) e = rw e refl
       is_named r e = absurd (cc)
 
-  prepared_apart : (coordinator_view place n d).standing ≡ Prepared
+  pub prepared_apart : (coordinator_view place n d).standing ≡ Prepared
       → in_list (coordinator_view place n d).promised t ≡ false
   prepared_apart e =
       ap (λ (v : CoordinatorView). in_list v.promised t) (view_so place n d Prepared e) ∙ not_promised
 
   -- the process's own cases are not its children's
-  not_childs : process_of d ≡ place.me → same_case d (child_case c.txn t) ≡ false
+  pub not_childs : process_of d ≡ place.me → same_case d (child_case c.txn t) ≡ false
   not_childs e = elim (same_case_tells d (child_case c.txn t)) [
     | inl same ↦ absurd (apart (ap process_of (sym same.1) ∙ e))
     | inr f ↦ f.0
   ]
 
   -- a case that hears its child is of the process
-  of_child : (x : Txn) (u : Ticket) → case_of_child place n x u ≡ Some d → process_of d ≡ place.me
+  pub of_child : (x : Txn) (u : Ticket) → case_of_child place n x u ≡ Some d → process_of d ≡ place.me
   of_child x u e = (holds.accepted_was_joined d u (found_accepted turn x u d e)).0
 
   -- What its rows do.
 
   -- nothing is told, or of another transaction
-  abbrev ToldElsewhere : Option Conclusion → Type 0
+  abbrev pub ToldElsewhere : Option Conclusion → Type 0
   ToldElsewhere o = (o ≡ None) ⊎ (same_txn d.txn c.txn ≡ false)
 
-  data WroteElsewhere (ws : List Written) : Type 0 where
+  pub data WroteElsewhere (ws : List Written) : Type 0 where
     none_written : ws ≡ [] → WroteElsewhere ws
     one_plain : (r : Record) → ws ≡ plain r → Unrelated turn r → WroteElsewhere ws
     one_forced : (r : Record) → ws ≡ forced r → Unrelated turn r → WroteElsewhere ws
@@ -189,7 +189,7 @@ module _ (turn : Turn) (d : Case) (other : same_case d turn.c ≡ false) where
     told = told_nothing row.told told;
   }
 
-  row_fine : (row : Row) → IsOpenAlike place (after n h (row_effect d row)) c → Rests turn
+  pub row_fine : (row : Row) → IsOpenAlike place (after n h (row_effect d row)) c → Rests turn
       → Silent c t net row.messages → ToldElsewhere row.told → WroteElsewhere row.written
       → Fine turn (row_effect d row)
   row_fine row later rests silent told (none_written e) =
@@ -199,17 +199,17 @@ module _ (turn : Turn) (d : Case) (other : same_case d turn.c ≡ false) where
   row_fine row later rests silent told (one_forced r e u) =
       forced_elsewhere turn (row_effect d row) later (nothing_done row told) rests silent r e u
 
-  other_collecting : (ts : List Ticket) → Unrelated turn (CollectingRecord d ts)
+  pub other_collecting : (ts : List Ticket) → Unrelated turn (CollectingRecord d ts)
   other_collecting ts = record { same = λ b p. rw other refl; commits = refl; boot = λ x. refl }
 
-  other_prepare : (ts : List Ticket) → Unrelated turn (PrepareRecord d ts)
+  pub other_prepare : (ts : List Ticket) → Unrelated turn (PrepareRecord d ts)
   other_prepare ts = record { same = λ b p. rw other refl; commits = refl; boot = λ x. refl }
 
-  other_commit : (ts : List Ticket) → Unrelated turn (CommitRecord d ts)
+  pub other_commit : (ts : List Ticket) → Unrelated turn (CommitRecord d ts)
   other_commit ts = record { same = λ b p. rw other refl; commits = other; boot = λ x. refl }
 
-  other_abort : (ts : List Ticket) → Unrelated turn (AbortRecord d ts)
+  pub other_abort : (ts : List Ticket) → Unrelated turn (AbortRecord d ts)
   other_abort ts = record { same = λ b p. rw other refl; commits = refl; boot = λ x. refl }
 
-  other_end : Unrelated turn (EndRecord d)
+  pub other_end : Unrelated turn (EndRecord d)
   other_end = record { same = λ b p. rw other refl; commits = refl; boot = λ x. refl }

@@ -8,3 +8,4 @@ pub mod Wires
 pub mod Quiet
 pub mod Rested
 pub mod Elsewhere
+pub mod ElsewhereRows

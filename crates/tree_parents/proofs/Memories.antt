@@ -21,17 +21,17 @@ use Rattle.tree_model.specs.Views.{vote_message}
 use Rattle.tree_parents.proofs.Turns.{Turn, IsSeat, top, under, m as remembered, m' as then_remembered, Says}
 use Rattle.tree_parents.proofs.Halves.{acked_of}
 
-by_role : (role : Role) (parent : Option ProcessId) → IsSeat role parent → (P : Role → Type 0) → P AtRoot
+pub by_role : (role : Role) (parent : Option ProcessId) → IsSeat role parent → (P : Role → Type 0) → P AtRoot
     → ((p : ProcessId) → P (Below p)) → P role
 by_role _ _ top P a b = a
 by_role _ _ (under p) P a b = b p
 
-below_is : (role : Role) (parent : Option ProcessId) → IsSeat role parent → (P : Role → Type 0) (p : ProcessId)
+pub below_is : (role : Role) (parent : Option ProcessId) → IsSeat role parent → (P : Role → Type 0) (p : ProcessId)
     → parent ≡ Some p → P (Below p) → P role
 below_is _ _ top P p e a = absurd (cc)
 below_is _ _ (under q) P p e a = subst (λ (x : ProcessId). P (Below x)) (let f : p ≡ q = cc in f) a
 
-top_is : (role : Role) (parent : Option ProcessId) → IsSeat role parent → (P : Role → Type 0) → parent ≡ None
+pub top_is : (role : Role) (parent : Option ProcessId) → IsSeat role parent → (P : Role → Type 0) → parent ≡ None
     → P AtRoot → P role
 top_is _ _ top P e a = a
 top_is _ _ (under q) P e a = absurd (cc)
@@ -126,6 +126,12 @@ module _ (turn : Turn) where
   pub abort_act : (x : Txn) → parent ≡ None → h.input ≡ ActInput (AbortAct x)
       → m' ≡ (if same_case (root_case x) c then closes m m.phase else m)
   abort_act x s i = at_top s _ _ i refl
+
+  pub commit_act_elsewhere : (x : Txn) → same_case (root_case x) c ≡ false → h.input ≡ ActInput (CommitAct x) → m' ≡ m
+  commit_act_elsewhere x e i = at_either _ m i (rw e refl) (λ p. refl)
+
+  pub abort_act_elsewhere : (x : Txn) → same_case (root_case x) c ≡ false → h.input ≡ ActInput (AbortAct x) → m' ≡ m
+  abort_act_elsewhere x e i = at_either _ m i (rw e refl) (λ p. refl)
 
   pub begin_act : (p : Presumption) → parent ≡ None → h.input ≡ ActInput (Begin p)
       → m' ≡ begins place.me boot c m p

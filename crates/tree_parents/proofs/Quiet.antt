@@ -20,7 +20,7 @@ use Rattle.tree_parents.proofs.Turns.{Turn, m as remembered, p0 as half, v0 as n
 use Rattle.tree_parents.proofs.Wires.{Silent, wire-silent}
 use Rattle.tree_parents.proofs.Writes.{wrote, hardens, did, stands_so, begun_after, accepts_so, counts_so, is_told_so, told-first}
 
-or_twice : (a b : Bool) → (a || (a || b)) ≡ (a || b)
+pub or_twice : (a b : Bool) → (a || (a || b)) ≡ (a || b)
 or_twice a b = grind arith
 
 -- Readings.

@@ -1,5 +1,5 @@
 -- Inputs that leave what is remembered of the pair's case, but that an ACK may be heard.
-use Rattle.std.proofs.Common.{◌≡◌, ◌∙◌, ◌⊎◌, inl, inr, ℕ, Bool, true, false, ◌||◌, ◌&&◌, Some, None, List, [], ◌∷◌, ◌++◌, refl, sym, ap, arith, if◌then◌else◌}
+use Rattle.std.proofs.Common.{◌≡◌, ◌∙◌, ◌⊎◌, inl, inr, ℕ, Bool, true, false, ◌||◌, ◌&&◌, Some, List, [], ◌∷◌, ◌++◌, refl, sym, ap, arith, if◌then◌else◌}
 use Rattle.std.proofs.lemmas.List.Folds.{list_any-append}
 use Rattle.tree_model.specs.declared.names.Case.{Case}
 use Rattle.tree_model.specs.declared.names.ProcessId.{ProcessId}
@@ -197,10 +197,8 @@ module _ (turn : Turn) where
 
   -- Acts for another case.
 
-  pub rest_commit_act : (x : Txn) → parent ≡ None → h.input ≡ ActInput (CommitAct x)
-      → same_case (root_case x) c ≡ false → Rests turn
-  rest_commit_act x s i e = rest_same (by_input.commit_act turn x s i ∙ rw e refl)
+  pub rest_commit_act : (x : Txn) → h.input ≡ ActInput (CommitAct x) → same_case (root_case x) c ≡ false → Rests turn
+  rest_commit_act x i e = rest_same (by_input.commit_act_elsewhere turn x e i)
 
-  pub rest_abort_act : (x : Txn) → parent ≡ None → h.input ≡ ActInput (AbortAct x)
-      → same_case (root_case x) c ≡ false → Rests turn
-  rest_abort_act x s i e = rest_same (by_input.abort_act turn x s i ∙ rw e refl)
+  pub rest_abort_act : (x : Txn) → h.input ≡ ActInput (AbortAct x) → same_case (root_case x) c ≡ false → Rests turn
+  rest_abort_act x i e = rest_same (by_input.abort_act_elsewhere turn x e i)

@@ -22,15 +22,15 @@ use Rattle.tree_model.specs.Standings.{CoordinatorView}
 use Rattle.tree_readings.specs.ReadingOf.{Wire, wire, no_wire, gives_case, is_prepare_message, is_no_message, is_ack_message, is_inquiry_message}
 use Rattle.tree_readings.proofs.Lists.{sent-append}
 
-sent-cons : (q : Message → Bool) (l : Envelope) (ls : List Envelope) → sent q (l ∷ ls) ≡ (q l.message || sent q ls)
+pub sent-cons : (q : Message → Bool) (l : Envelope) (ls : List Envelope) → sent q (l ∷ ls) ≡ (q l.message || sent q ls)
 unfolding sent
 sent-cons q l ls = refl
 
-sent-none : (q : Message → Bool) → sent q [] ≡ false
+pub sent-none : (q : Message → Bool) → sent q [] ≡ false
 unfolding sent
 sent-none q = refl
 
-or-false : (a : Bool) → (a || false) ≡ a
+pub or-false : (a : Bool) → (a || false) ≡ a
 or-false a = grind arith
 
 pub same_children : (x y : Txn) (u t : Ticket)
