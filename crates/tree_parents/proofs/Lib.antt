@@ -9,3 +9,5 @@ pub mod Quiet
 pub mod Rested
 pub mod Elsewhere
 pub mod ElsewhereRows
+pub mod Readings
+pub mod Own
