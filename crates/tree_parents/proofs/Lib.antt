@@ -11,3 +11,8 @@ pub mod Elsewhere
 pub mod ElsewhereRows
 pub mod Readings
 pub mod Own
+pub mod Tables
+pub mod OwnQuiet
+pub mod OwnMoves
+pub mod OwnActive
+pub mod Votes

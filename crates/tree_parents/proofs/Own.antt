@@ -1,38 +1,34 @@
 -- A turn of the pair's own case: what it finds, and what is remembered behind it.
-use Rattle.std.proofs.Common.{◌≡◌, ◌∙◌, ◌⊎◌, inl, inr, ℕ, Bool, true, false, ◌||◌, ◌&&◌, not, Option, Some, None, List, [], ◌∷◌, ◌++◌, refl, sym, ap, subst, arith, if◌then◌else◌}
+use Rattle.std.proofs.Common.{◌≡◌, ◌∙◌, ◌⊎◌, inl, inr, Bool, true, false, ◌||◌, ◌&&◌, Option, Some, None, List, [], ◌∷◌, refl, sym, ap, subst, arith, if◌then◌else◌}
 use Rattle.std.specs.Prelude.{find, filter}
 use Rattle.std.specs.List.{list_any}
 use Rattle.tree_model.specs.declared.names.Case.{Case}
 use Rattle.tree_model.specs.declared.names.ProcessId.{ProcessId}
 use Rattle.tree_model.specs.declared.names.Ticket.{Ticket}
 use Rattle.tree_model.specs.declared.names.Txn.{Txn}
-use Rattle.tree_model.specs.declared.messages.Message.TheVariants.{Joined, Prepare}
-use Rattle.tree_model.specs.declared.records.Record.{Record}
 use Rattle.tree_model.specs.declared.standings.Standing.TheVariants.{Active, Collecting}
 use Rattle.tree_model.specs.declared.standings.Vote.{Vote}
 use Rattle.tree_model.specs.declared.standings.Vote.TheVariants.{Yes as VoteYes, No as VoteNo, Read as VoteRead}
 use Rattle.tree_model.specs.declared.events.Conclusion.{Conclusion}
-use Rattle.tree_model.specs.declared.events.Conclusion.TheVariants.{Committed as ConcludedCommitted, Aborted as ConcludedAborted, ReadOnly}
+use Rattle.tree_model.specs.declared.events.Conclusion.TheVariants.{Aborted as ConcludedAborted, ReadOnly}
 use Rattle.tree_model.specs.declared.events.Told.{Told}
-use Rattle.tree_model.specs.declared.events.Input.TheVariants.{Act as ActInput, Message as MessageInput}
-use Rattle.tree_model.specs.Names.{same_case, same_ticket, same_txn, child_case, root_case, process_of}
+use Rattle.tree_model.specs.Names.{same_case, same_ticket, same_txn, root_case}
 use Rattle.tree_model.specs.NameLaws.{same_case-refl, same_txn-refl, names}
 use Rattle.tree_model.specs.Records.{has, in_list, is_commit, none_of}
-use Rattle.tree_model.specs.Nodes.{Role, AtRoot, Below, Effect, kept}
-use Rattle.tree_model.specs.Memory.{Memory, Phase, Idle, Open, Asked, Over, memory_of, asks_votes, closes, retires, accepts_ticket, takes_vote, with_vote, is_counted, all_voted, phase_after, has_child}
+use Rattle.tree_model.specs.Nodes.{Role, Effect, kept}
+use Rattle.tree_model.specs.Memory.{Memory, Phase, Idle, Open, Asked, Over, memory_of, asks_votes, closes, retires}
 use Rattle.tree_model.specs.CoordinatorRows.{Reason, told_by}
 use Rattle.tree_model.specs.Outcomes.{is_told_aborted}
 use Rattle.tree_model.specs.Reactions.{told_of}
 use Rattle.tree_model.specs.Standings.{CoordinatorView, coordinator_view, case_of_child, belongs, own_cases}
-use Rattle.tree_model.specs.Views.{vote_message}
 use Rattle.tree_pairs.specs.Reading as pair
-use Rattle.tree_pairs.specs.Invariant.{Common, IsUndecided}
-use Rattle.tree_readings.specs.ReadingOf.{ParentHalf, Wire, is_born, is_root_ticket, is_told_committed, is_told_of_txn, is_begun}
+use Rattle.tree_pairs.specs.Invariant.{Common}
+use Rattle.tree_readings.specs.ReadingOf.{ParentHalf, is_root_ticket, is_told_committed, is_told_of_txn, is_begun, is_vote}
 use Rattle.tree_turns.specs.CoordinatorTurns.{IsToCommit, IsToAbort, HearsChild, CountsVote, voted}
 use Rattle.tree_turns.specs.CoordinatorTurns as turns
 use Rattle.tree_children.proofs.Moves.{common_of}
 use Rattle.tree_parents.proofs.Halves.{active_is_open, acked_of, live_phase, phase_of}
-use Rattle.tree_parents.proofs.Known.{clash, found_accepted}
+use Rattle.tree_parents.proofs.Known.{clash}
 use Rattle.tree_parents.proofs.Memories as by_input
 use Rattle.tree_parents.proofs.Readings.{Live}
 use Rattle.tree_parents.proofs.Rested.{view_so}
@@ -50,9 +46,11 @@ or-false a = grind arith
 
 -- the ticket's first vote was heard
 abbrev pub heard : Vote → Bool → ParentHalf → ParentHalf
-heard VoteYes b p = record p { first_yes = b || p.first_yes }
-heard VoteNo b p = record p { first_no = b || p.first_no }
-heard VoteRead b p = record p { first_read = b || p.first_read }
+heard w b p = record p {
+  first_yes = (b && is_vote VoteYes w) || p.first_yes;
+  first_no = (b && is_vote VoteNo w) || p.first_no;
+  first_read = (b && is_vote VoteRead w) || p.first_read;
+}
 
 abbrev pub told_so : Bool → Bool → ParentHalf → ParentHalf
 told_so committed aborted p = record p {
@@ -89,7 +87,7 @@ module _ (turn : Turn) where
       by_seat _ _ (under p) e s = g p s e
 
   -- a case of the root's transaction act is the root's
-  act_is_roots : (x : Txn) → c ≡ root_case x → at_root turn ≡ true
+  pub act_is_roots : (x : Txn) → c ≡ root_case x → at_root turn ≡ true
   act_is_roots x e = ap (λ (y : Case). is_root_ticket y.ticket) e
 
   pub act_is_at_root : (x : Txn) → c ≡ root_case x → parent ≡ None
@@ -186,9 +184,7 @@ module _ (turn : Turn) where
       → e.counts ≡ (c, (u, w)) ∷ []
       → is_told_so (is_told_committed c.txn) e.told ≡ a → is_told_so (is_told_aborted c.txn) e.told ≡ b
       → did e c t p ≡ told_so a b (heard w (same_ticket u t) p)
-  did_vote e u VoteYes a b p none one f g = rw (none, one, f, g) (simp (same_case-refl, and-false, and-true, or-false))
-  did_vote e u VoteNo a b p none one f g = rw (none, one, f, g) (simp (same_case-refl, and-false, and-true, or-false))
-  did_vote e u VoteRead a b p none one f g = rw (none, one, f, g) (simp (same_case-refl, and-false, and-true, or-false))
+  did_vote e u w a b p none one f g = rw (none, one, f, g) (simp (same_case-refl, or-false))
 
   -- What is remembered.
 

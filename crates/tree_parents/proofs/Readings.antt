@@ -1,16 +1,16 @@
 -- A coordinator's rows on readings of the pairs below it: halves and wires as variables.
-use Rattle.std.proofs.Common.{◌≡◌, Bool, true, false, not, ◌||◌, ◌&&◌, [], refl, List, arith}
+use Rattle.std.proofs.Common.{◌≡◌, Bool, true, false, not, ◌||◌, ◌&&◌, [], refl, List, arith, if◌then◌else◌}
 use Rattle.tree_model.specs.declared.names.Case.{Case}
 use Rattle.tree_model.specs.declared.names.Ticket.{Ticket}
 use Rattle.tree_model.specs.declared.records.Record.TheVariants.{Collecting as CollectingRecord, Prepare as PrepareRecord, Commit as CommitRecord, Abort as AbortRecord, End as EndRecord}
 use Rattle.tree_model.specs.NameLaws.{same_case-refl}
 use Rattle.tree_model.specs.Records.{in_list, is_commit}
 use Rattle.tree_model.specs.Memory.{Phase, Open, Asked, Over}
-use Rattle.tree_pairs.specs.Reading.{Reading, Active, Collecting, Closed, is_live}
+use Rattle.tree_pairs.specs.Reading.{Reading, Active, Collecting, is_live}
 use Rattle.tree_pairs.specs.ParentMoves as move
 use Rattle.tree_pairs.specs.RootMoves as at_root
 use Rattle.tree_pairs.specs.CascadedMoves as below
-use Rattle.tree_readings.specs.ReadingOf.{reading_from, ParentHalf, ChildHalf, Wire, is_born, is_dead}
+use Rattle.tree_readings.specs.ReadingOf.{reading_from, ParentHalf, ChildHalf, Wire, is_dead}
 use Rattle.tree_readings.proofs.Named.{in_list-none}
 use Rattle.tree_parents.proofs.Writes.{wrote, hardens, stands_so}
 
@@ -222,3 +222,18 @@ module _ (manager above : Bool) (k : ChildHalf) (c : Case) (t : Ticket) where
   pub reading-ended : (root o b : Bool) (p : ParentHalf) (v : Wire)
       → R root o (wrote (EndRecord c) c t b p) v ≡ move.ends (R root o p v)
   reading-ended root o b p v = simp (same_case-refl)
+
+  -- JOINED was accepted, of the pair's ticket or of another
+  pub reading-accepts : (root o b : Bool) (p : ParentHalf) (v : Wire) → p.phase ≡ Active → p.begun ≡ true
+      → R root o (stands_so false Open (p.accepted || b) p.acked true (record p { took_part = b || p.took_part })) v
+      ≡ (if b then move.accepts (R root o p v) else R root o p v)
+  reading-accepts true o true p v e f = rw (e, f) (simp (or-true))
+  reading-accepts false o true p v e f = rw e (simp (or-true))
+  reading-accepts true o false p v e f = rw (e, f) (simp (or-false))
+  reading-accepts false o false p v e f = rw e (simp (or-false))
+
+  -- votes are still to come
+  pub reading-waits : (root o : Bool) (p : ParentHalf) (v : Wire) → p.phase ≡ Collecting → p.begun ≡ true
+      → R root o (S Asked p p) v ≡ R root o p v
+  reading-waits true o p v e f = rw (e, f) refl
+  reading-waits false o p v e f = rw e refl
