@@ -16,3 +16,5 @@ pub mod OwnQuiet
 pub mod OwnMoves
 pub mod OwnActive
 pub mod Votes
+pub mod OwnVotes
+pub mod OwnAborts

@@ -270,7 +270,7 @@ module _ (turn : Turn) where
     abbrev pub r1 : Reading
     r1 = seen turn (told_outcome turn) p1 (net_part turn)
 
-    no_no : Consents w → p1.first_no ≡ false
+    pub no_no : Consents w → p1.first_no ≡ false
     no_no k = ((common_of c.txn.presumption r1 (hears k).invariant).undecided (ap pair.is_live phase)).no_first_no
 
     -- all have voted for it
