@@ -18,3 +18,6 @@ pub mod OwnActive
 pub mod Votes
 pub mod OwnVotes
 pub mod OwnAborts
+pub mod OwnPromised
+pub mod OwnDecided
+pub mod OwnTurns

@@ -41,7 +41,7 @@ use Rattle.tree_parents.proofs.Writes.{did}
 
 -- Whom a part of a list has.
 
-in_filter : (f : Ticket → Bool) (ts : List Ticket) (t : Ticket) → in_list (filter f ts) t ≡ (in_list ts t && f t)
+pub in_filter : (f : Ticket → Bool) (ts : List Ticket) (t : Ticket) → in_list (filter f ts) t ≡ (in_list ts t && f t)
 unfolding in_list
 in_filter f [] t = refl
 in_filter f (u ∷ us) t = by_test (f u) refl (same_ticket u t) refl (in_filter f us t)

@@ -84,21 +84,21 @@ module _ (turn : Turn) where
       (moves.hears_ack c.txn.presumption (reading turn) inv (record { said = e.1 }))
 
   -- as the half is written behind an event
-  shown : (b : Bool) → stands_so false m.phase (in_list m.accepted t) b p0.begun p0 ≡ rested b
+  pub shown : (b : Bool) → stands_so false m.phase (in_list m.accepted t) b p0.begun p0 ≡ rested b
   shown b = rw up refl
 
   told_still : (e : Effect) → DoesNothing e
       → list_any (is_told_of_txn c.txn) (told_first e.told n.told) ≡ list_any (is_told_of_txn c.txn) n.told
   told_still e d = told-first (is_told_of_txn c.txn) e.told n.told ∙ rw (d.told) refl
 
-  begun_silent : (e : Effect) → e.written ≡ [] → DoesNothing e → begun_after m.phase (after n h e) c ≡ p0.begun
+  pub begun_silent : (e : Effect) → e.written ≡ [] → DoesNothing e → begun_after m.phase (after n h e) c ≡ p0.begun
   begun_silent e none d = rw (none, told_still e d) refl
 
-  begun_forced : (e : Effect) (r : Record) → e.written ≡ forced r → is_commit c r ≡ false → DoesNothing e
+  pub begun_forced : (e : Effect) (r : Record) → e.written ≡ forced r → is_commit c r ≡ false → DoesNothing e
       → begun_after m.phase (after n h e) c ≡ p0.begun
   begun_forced e r one q d = rw (one, told_still e d) (simp (has-cons, q))
 
-  begun_plain : (e : Effect) (r : Record) → e.written ≡ plain r → is_commit c r ≡ false → DoesNothing e
+  pub begun_plain : (e : Effect) (r : Record) → e.written ≡ plain r → is_commit c r ≡ false → DoesNothing e
       → begun_after m.phase (after n h e) c ≡ p0.begun
   begun_plain e r one q d = rw (one, told_still e d) (simp (has-cons, q))
 

@@ -27,7 +27,7 @@ use Rattle.tree_parents.proofs.Known.{clash, found_accepted, one_case}
 use Rattle.tree_parents.proofs.Memories as by_input
 use Rattle.tree_parents.proofs.Memories.{Alike, itself, stays, works_alike}
 use Rattle.tree_parents.proofs.Quiet.{Rests, rests_as}
-use Rattle.tree_parents.proofs.Turns.{Turn, m as remembered, m' as then_remembered, v0 as net_part}
+use Rattle.tree_parents.proofs.Turns.{Turn, Says, m as remembered, m' as then_remembered, v0 as net_part}
 use Rattle.tree_parents.proofs.Wires.{same_children}
 
 -- the view of a case that stands so
@@ -37,7 +37,7 @@ unfolding coordinator_view
 view_so place n d s e =
     ap (λ q. view_at q (kept n) d (memory_of place n d)) (sym (viewed place n d) ∙ e)
 
-has_acked-push : (acks : List (Ticket × Outcome)) (u : Ticket) (o p : Outcome) (t : Ticket)
+pub has_acked-push : (acks : List (Ticket × Outcome)) (u : Ticket) (o p : Outcome) (t : Ticket)
     → has_acked (acks ++ (u, o) ∷ []) p t ≡ (has_acked acks p t || (same_outcome o p && same_ticket u t))
 unfolding has_acked
 has_acked-push acks u o p t = grind (arith, list_any-append)
@@ -92,10 +92,10 @@ module _ (turn : Turn) where
 
   -- Acknowledgements.
 
-  abbrev heard_so : Ticket → Outcome → Bool
+  abbrev pub heard_so : Ticket → Outcome → Bool
   heard_so u o = same_outcome o (acknowledged c.txn.presumption) && same_ticket u t
 
-  acked_now : (x : Txn) (u : Ticket) (o : Outcome) (j : ℕ) → h.input ≡ MessageInput j (Ack (child_case x u) o)
+  pub acked_now : (x : Txn) (u : Ticket) (o : Outcome) (j : ℕ) → h.input ≡ MessageInput j (Ack (child_case x u) o)
       → same_txn x c.txn ≡ true → (b : Bool) → heard_so u o ≡ b
       → ((acked_of m c t || b) ≡ acked_of m c t) ⊎ (((acked_of m c t || b) ≡ true) × ((net_part turn).ack ≡ true))
   acked_now x u o j i same false e = inl (or-false (acked_of m c t))
@@ -168,13 +168,18 @@ module _ (turn : Turn) where
       (if_alike (same_case d c) (asks_votes (retires m d) m.phase) (retires m d)
       (λ e. asks_late d m.phase (f e)) (retired d))
 
-  pub rest_abort : (d : Case) (j : ℕ) (p : ProcessId) → parent ≡ Some p → h.input ≡ MessageInput j (Abort d)
-      → (same_case d c ≡ true → m.phase ≡ Open → ⊥) → (same_case d c ≡ true → m.phase ≡ Asked → ⊥) → Rests turn
-  rest_abort d j p s i f g =
-      rest_alike (if same_case d c then closes (retires m d) m.phase else retires m d)
+  pub abort_stays : (d : Case) (j : ℕ) (p : ProcessId) → parent ≡ Some p → h.input ≡ MessageInput j (Abort d)
+      → (same_case d c ≡ true → m.phase ≡ Open → ⊥) → (same_case d c ≡ true → m.phase ≡ Asked → ⊥)
+      → Says turn m.phase (in_list m.accepted t) (acked_of m c t)
+  abort_stays d j p s i f g =
+      stays turn (if same_case d c then closes (retires m d) m.phase else retires m d)
       (by_input.abort_comes turn d j p s i)
       (if_alike (same_case d c) (closes (retires m d) m.phase) (retires m d)
       (λ e. closes_late d m.phase refl (f e) (g e)) (retired d))
+
+  pub rest_abort : (d : Case) (j : ℕ) (p : ProcessId) → parent ≡ Some p → h.input ≡ MessageInput j (Abort d)
+      → (same_case d c ≡ true → m.phase ≡ Open → ⊥) → (same_case d c ≡ true → m.phase ≡ Asked → ⊥) → Rests turn
+  rest_abort d j p s i f g = rests_as turn (abort_stays d j p s i f g)
 
   -- JOINED that nobody takes.
 
