@@ -21,3 +21,4 @@ pub mod OwnAborts
 pub mod OwnPromised
 pub mod OwnDecided
 pub mod OwnTurns
+pub mod NoCase

@@ -6,6 +6,7 @@ use Rattle.tree_model.specs.declared.names.Ticket.{Ticket}
 use Rattle.tree_model.specs.declared.names.Txn.{Txn}
 use Rattle.tree_model.specs.declared.names.Outcome.{Outcome}
 use Rattle.tree_model.specs.declared.names.Presumption.{Presumption}
+use Rattle.tree_model.specs.declared.messages.Message.{Message}
 use Rattle.tree_model.specs.declared.messages.Message.TheVariants.{Join, Joined, Work, Prepare, Commit, Abort, Ack, Inquire}
 use Rattle.tree_model.specs.declared.messages.Op.{Op}
 use Rattle.tree_model.specs.declared.standings.Vote.{Vote}
@@ -16,7 +17,7 @@ use Rattle.tree_model.specs.declared.events.Input.TheVariants.{Act as ActInput, 
 use Rattle.tree_model.specs.Names.{same_case, same_txn, child_case, root_case}
 use Rattle.tree_model.specs.Records.{boot_of, in_list}
 use Rattle.tree_model.specs.Nodes.{Role, AtRoot, Below, kept}
-use Rattle.tree_model.specs.Memory.{Memory, Phase, Idle, Open, Asked, Over, remembers, root_remembers, cascaded_remembers, asks_votes, closes, retires, accepts_ticket, sends_work, ticket_of_child, takes_vote, takes_ack, joins, active_ticket, begins}
+use Rattle.tree_model.specs.Memory.{Memory, hears_child, Phase, Idle, Open, Asked, Over, remembers, root_remembers, cascaded_remembers, asks_votes, closes, retires, accepts_ticket, sends_work, ticket_of_child, takes_vote, takes_ack, joins, active_ticket, begins}
 use Rattle.tree_model.specs.Views.{vote_message}
 use Rattle.tree_parents.proofs.Turns.{Turn, IsSeat, top, under, m as remembered, m' as then_remembered, Says}
 use Rattle.tree_parents.proofs.Halves.{acked_of}
@@ -136,6 +137,9 @@ module _ (turn : Turn) where
   pub begin_act : (p : Presumption) → parent ≡ None → h.input ≡ ActInput (Begin p)
       → m' ≡ begins place.me boot c m p
   begin_act p s i = at_top s _ _ i refl
+
+  pub root_passes : (x : Message) (j : ℕ) → parent ≡ None → h.input ≡ MessageInput j x → hears_child c m x ≡ m → m' ≡ m
+  root_passes x j s i e = at_top s _ m i e
 
   -- and of a coordinator below it
 
