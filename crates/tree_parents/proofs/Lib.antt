@@ -22,3 +22,4 @@ pub mod OwnPromised
 pub mod OwnDecided
 pub mod OwnTurns
 pub mod NoCase
+pub mod Born

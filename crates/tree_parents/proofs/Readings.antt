@@ -237,3 +237,20 @@ module _ (manager above : Bool) (k : ChildHalf) (c : Case) (t : Ticket) where
       → R root o (S Asked p p) v ≡ R root o p v
   reading-waits true o p v e f = rw (e, f) refl
   reading-waits false o p v e f = rw e refl
+
+  dead-unknown : (a b d : Bool) → is_dead a b false d ≡ false
+  unfolding is_dead
+  dead-unknown true b d = refl
+  dead-unknown false true d = refl
+  dead-unknown false false true = refl
+  dead-unknown false false false = refl
+
+  -- the root begins the transaction
+  pub reading-begins : (o : Bool) (p : ParentHalf) (v : Wire) → p.begun ≡ false
+      → R true o (S Open p p) v ≡ at_root.begins (R true o p v)
+  reading-begins o p v e = rw e (simp (dead-live, dead-unknown))
+
+  -- JOIN makes the case
+  pub reading-born : (o : Bool) (p : ParentHalf) (v : Wire) → v.given ≡ false → p.obeyed_abort ≡ false
+      → R false o (S Open p p) (record v { given = true }) ≡ below.is_born (R false o p v)
+  reading-born o p v e f = rw (e, f) (simp (dead-live, dead-unknown))

@@ -10,18 +10,19 @@ use Rattle.tree_model.specs.Records.{has, in_list, is_commit, is_prepare, boot_o
 use Rattle.tree_model.specs.Nodes.{Place, Role, AtRoot, Below, AtLeaf, Node, Heard, Effect, after, kept, entries_written, is_any_forced}
 use Rattle.tree_model.specs.Memory.{Memory, Phase, memory_of, remembers}
 use Rattle.tree_model.specs.CoordinatorRows.{forced, plain}
+use Rattle.tree_model.specs.Outcomes.{is_joined_message, sent as ever_sent}
 use Rattle.tree_model.specs.Standings.{coordinator_view}
 use Rattle.tree_model.specs.Views.{IsOpenAlike}
 use Rattle.tree_model.specs.World.{InputStands}
 use Rattle.tree_pairs.specs.Reading.{Reading}
-use Rattle.tree_readings.specs.ReadingOf.{reading_from, is_root_ticket, ChildHalf, ParentHalf, Wire, parent_half, wire}
+use Rattle.tree_readings.specs.ReadingOf.{reading_from, is_root_ticket, is_born, gives_case, ChildHalf, ParentHalf, Wire, parent_half, wire}
 use Rattle.tree_readings.proofs.Lists.{has-cons, has-history}
 use Rattle.tree_readings.proofs.Memories.{memory_of-nothing, memory_of-forced, memory_of-plain}
 use Rattle.tree_nodes.specs.CaseOrder.{IsCoordinator}
 use Rattle.tree_nodes.specs.Lasts.{Logs, logs_of, Nested}
 use Rattle.tree_nodes.specs.Owns.{AllGoToOwners}
 use Rattle.tree_nodes.specs.ProcessSteps.{Above, outcome_in}
-use Rattle.tree_nodes.specs.WorldHolds.{Coordinates, InvariantOf, IsFree, IsPair, JoinedOnce, RoleHolds}
+use Rattle.tree_nodes.specs.WorldHolds.{Coordinates, InvariantOf, IsFree, IsPair, JoinedOnce, RoleHolds, SameSelf}
 use Rattle.tree_nodes.proofs.Appends.{either_logs}
 use Rattle.tree_children.proofs.Moves.{Fits}
 use Rattle.tree_parents.proofs.Halves.{half_of, half_is, remembered_half, acked_of}
@@ -57,12 +58,16 @@ pub record Turn : Type 0 where
   pub by_role : RoleHolds place.role place net n
   pub joined_once : JoinedOnce net
   pub goes : AllGoToOwners net
+  pub self : (x y : Case) → SameSelf (memory_of place n x) (memory_of place n y)
   pub stands : InputStands net place.me h.input
   pub pair : IsPair place.tree c t
   pub mine : process_of c ≡ place.me
   pub free : IsFree net c t
   pub apart : t.child ≡ place.me → ⊥
   pub rooted : is_root_ticket c.ticket ≡ is_top place.role
+  -- a case to which JOINED gave a ticket is known
+  pub joined_is_born : ever_sent (is_joined_message c t) net ≡ true
+      → is_born (is_root_ticket c.ticket) (remembered_half (memory_of place n c) n c t).begun (ever_sent (gives_case c) net) ≡ true
   pub from_above : Above place.role net c (coordinator_view place n c).standing outcome above
   pub inv : InvariantOf c.txn.presumption (reading_from (is_root_ticket c.ticket) manager
       (outcome_in place.role n c outcome) above (remembered_half (memory_of place n c) n c t) k (wire c t net))

@@ -11,7 +11,7 @@ use Rattle.tree_model.specs.declared.names.Txn.{Txn}
 use Rattle.tree_model.specs.declared.messages.Op.{Op}
 use Rattle.tree_model.specs.declared.messages.Envelope.{Envelope}
 use Rattle.tree_model.specs.declared.messages.Message.{Message}
-use Rattle.tree_model.specs.declared.messages.Message.TheVariants.{Join, Work, Prepare, Yes, No, Read, Commit, Abort, Ack, Inquire}
+use Rattle.tree_model.specs.declared.messages.Message.TheVariants.{Join, Joined, Work, Prepare, Yes, No, Read, Commit, Abort, Ack, Inquire}
 use Rattle.tree_model.specs.Names.{same_case, same_ticket, same_txn, child_case}
 use Rattle.tree_model.specs.NameLaws.{names, same_case-refl}
 use Rattle.tree_model.specs.Records.{in_list}
@@ -32,6 +32,9 @@ sent-none q = refl
 
 pub or-false : (a : Bool) → (a || false) ≡ a
 or-false a = grind arith
+
+and-false : (a : Bool) → (a && false) ≡ false
+and-false a = grind arith
 
 pub same_children : (x y : Txn) (u t : Ticket)
     → same_case (child_case x u) (child_case y t) ≡ (same_txn x y && same_ticket u t)
@@ -234,6 +237,11 @@ module _ (c : Case) (t : Ticket) (net : List Envelope) where
       → same_case (child_case x u) (child_case c.txn t) ≡ b
       → behind (post me q (Abort (child_case x u)) ∷ []) ≡ record v { abort = b || v.abort }
   wire-abort me q x u b e = simp (sent-append, sent-cons, sent-none, e, or-false)
+
+  pub wire-joined : (me q : ProcessId) (d : Case) (u : Ticket) (b : Bool) → same_ticket u t ≡ false
+      → same_case (child_case d.txn u) c ≡ b
+      → behind (post me q (Joined d u) ∷ []) ≡ record v { given = b || v.given }
+  wire-joined me q d u b e f = simp (sent-append, sent-cons, sent-none, e, f, and-false, or-false)
 
   pub silent-work : (me q : ProcessId) (e : Case) (l : ℕ) (op : Op) → Silent (post me q (Work e l op) ∷ [])
   silent-work me q e l op = simp (sent-cons, sent-none)
