@@ -1,5 +1,5 @@
 -- A case is born: the root begins it, or JOIN makes it; on the pair.
-use Rattle.std.proofs.Common.{◌≡◌, ◌≤◌, ◌<◌, ◌+◌, ◌∙◌, ◌⊎◌, inl, inr, ℕ, Bool, true, false, ◌||◌, ◌&&◌, not, Option, Some, None, List, [], ◌∷◌, ◌++◌, refl, sym, ap, subst, arith, if◌then◌else◌}
+use Rattle.std.proofs.Common.{◌≡◌, ◌+◌, ◌∙◌, inl, inr, ℕ, Bool, true, false, ◌||◌, Some, None, [], ◌∷◌, ◌++◌, refl, sym, ap, subst, arith, if◌then◌else◌}
 use Rattle.tree_model.specs.declared.names.Case.{Case}
 use Rattle.tree_model.specs.declared.names.ProcessId.{ProcessId}
 use Rattle.tree_model.specs.declared.names.Ticket.{Ticket}
@@ -12,21 +12,20 @@ use Rattle.tree_model.specs.declared.events.Input.TheVariants.{Act as ActInput}
 use Rattle.tree_model.specs.Names.{same_case, same_ticket, child_case, root_case}
 use Rattle.tree_model.specs.NameLaws.{same_case_tells, same_ticket_tells, names}
 use Rattle.tree_model.specs.Records.{boot_of, in_list}
-use Rattle.tree_model.specs.Nodes.{Role, AtRoot, Effect, after, kept}
-use Rattle.tree_model.specs.Memory.{Memory, Phase, Open, memory_of, active_ticket, next_ticket, next_txn, opens_case, gives, joins, begins as begins_memory, has_acked}
+use Rattle.tree_model.specs.Nodes.{Effect, after, kept}
+use Rattle.tree_model.specs.Memory.{Memory, Open, memory_of, active_ticket, next_ticket, opens_case, gives, joins, has_acked}
 use Rattle.tree_model.specs.CoordinatorRows.{post}
 use Rattle.tree_model.specs.Outcomes.{sent, is_joined_message}
 use Rattle.tree_model.specs.Reactions.{sends_only}
 use Rattle.tree_model.specs.Standings.{some_case}
 use Rattle.tree_model.specs.Views.{IsOpenAlike, begin_effect, next_begun}
-use Rattle.tree_pairs.specs.Reading.{Reading}
-use Rattle.tree_pairs.specs.Invariant.{Common, IsUnborn}
+use Rattle.tree_pairs.specs.Invariant.{Common}
 use Rattle.tree_pairs.specs.RootMoves as at_top
 use Rattle.tree_pairs.specs.CascadedMoves as below
-use Rattle.tree_readings.specs.ReadingOf.{ParentHalf, Wire, wire, gives_case, is_begun, is_refused}
+use Rattle.tree_readings.specs.ReadingOf.{ParentHalf, Wire, wire, gives_case, is_refused}
 use Rattle.tree_readings.proofs.Named.{in_list-none}
 use Rattle.tree_turns.specs.LeafTurns.{Hears}
-use Rattle.tree_nodes.specs.WorldHolds.{Begins, Coordinates, Issues, IsGivenOut, RoleHolds, has_begun}
+use Rattle.tree_nodes.specs.WorldHolds.{Begins, Issues, IsGivenOut, RoleHolds}
 use Rattle.tree_nodes.proofs.GivenCases.{sent_other, joined_gives}
 use Rattle.tree_nodes.proofs.PairOf.{given}
 use Rattle.tree_children.proofs.Moves.{unmoved}
@@ -38,9 +37,8 @@ use Rattle.tree_parents.proofs.Moves as moves
 use Rattle.tree_parents.proofs.Own as own
 use Rattle.tree_parents.proofs.OwnMoves.{read_as}
 use Rattle.tree_parents.proofs.OwnPromised.{is_below}
-use Rattle.tree_parents.proofs.Quiet.{DoesNothing, did_nothing, Rests, quiet_fine, begun_silent, shown, rests_as}
+use Rattle.tree_parents.proofs.Quiet.{DoesNothing, did_nothing, begun_silent, shown}
 use Rattle.tree_parents.proofs.Readings as readings
-use Rattle.tree_parents.proofs.Rested as rested
 use Rattle.tree_parents.proofs.Turns.{Turn, Says, Fine, Fits_in, R as seen, m as remembered, m' as then_remembered, p0 as half, v0 as net_part, o0 as told_outcome, r0 as reading, root as at_root, fine_silent}
 use Rattle.tree_parents.proofs.Wires as wires
 use Rattle.tree_parents.proofs.Writes.{stands_so, begun_after}

@@ -23,3 +23,4 @@ pub mod OwnDecided
 pub mod OwnTurns
 pub mod NoCase
 pub mod Born
+pub mod Steps

@@ -1,6 +1,5 @@
 -- Messages that are of no case of the process, on the pair.
-use Rattle.std.proofs.Common.{◌≡◌, ◌∙◌, ◌⊎◌, inl, inr, ℕ, Bool, true, false, ◌||◌, ◌&&◌, not, Option, Some, None, List, [], ◌∷◌, ◌++◌, filter, refl, sym, ap, subst, arith, if◌then◌else◌}
-use Rattle.std.specs.Prelude.{find}
+use Rattle.std.proofs.Common.{◌≡◌, ◌∙◌, ◌⊎◌, inl, inr, Bool, true, false, ◌||◌, ◌&&◌, Option, Some, None, List, [], ◌∷◌, ◌++◌, filter, refl, sym, ap, subst, arith, if◌then◌else◌}
 use Rattle.std.specs.List.{list_any, flat_map}
 use Rattle.std.proofs.lemmas.List.Folds.{list_any-append}
 use Rattle.tree_model.specs.declared.names.Case.{Case}
@@ -12,20 +11,18 @@ use Rattle.tree_model.specs.declared.names.Outcome.TheVariants.{Committed as Com
 use Rattle.tree_model.specs.declared.names.Presumption.{Presumption}
 use Rattle.tree_model.specs.declared.names.Presumption.TheVariants.{PresumeAbort, PresumeCommit}
 use Rattle.tree_model.specs.declared.messages.Message.{Message}
-use Rattle.tree_model.specs.declared.messages.Message.TheVariants.{Join, Joined, Work, Prepare, Yes, No, Read, Commit, Abort, Ack, Inquire}
+use Rattle.tree_model.specs.declared.messages.Message.TheVariants.{Join, Work, Prepare, Commit, Abort, Inquire}
 use Rattle.tree_model.specs.declared.records.Record.{Record}
 use Rattle.tree_model.specs.declared.records.Record.TheVariants.{Collecting as CollectingRecord, Prepare as PrepareRecord, Commit as CommitRecord, Abort as AbortRecord}
-use Rattle.tree_model.specs.declared.standings.Vote.{Vote}
-use Rattle.tree_model.specs.declared.events.Input.TheVariants.{Message as MessageInput}
 use Rattle.tree_model.specs.Names.{same_case, same_ticket, same_txn, child_case, root_case, presumed}
-use Rattle.tree_model.specs.NameLaws.{names, same_case_tells, same_case-refl, same_ticket_tells, same_txn_tells}
+use Rattle.tree_model.specs.NameLaws.{names, same_case_tells, same_ticket_tells, same_txn_tells}
 use Rattle.tree_model.specs.Records.{has, has_case, in_list, named_by, named_in, cases_in}
 use Rattle.tree_model.specs.Nodes.{Role, Effect, no_effect, after, kept}
-use Rattle.tree_model.specs.Memory.{Memory, Phase, Idle, Open, Asked, Over, memory_of}
+use Rattle.tree_model.specs.Memory.{Memory, memory_of}
 use Rattle.tree_model.specs.CoordinatorRows.{post, tells_outcome}
 use Rattle.tree_model.specs.Reactions.{sends_only}
 use Rattle.tree_model.specs.Standings.{belongs, case_of_child, own_cases, some_case}
-use Rattle.tree_model.specs.Views.{IsOpenAlike, vote_message}
+use Rattle.tree_model.specs.Views.{IsOpenAlike}
 use Rattle.tree_pairs.specs.Standing as pair
 use Rattle.tree_readings.specs.ReadingOf.{ParentHalf, Wire, wire, is_root_ticket, is_inquiry_message, is_collecting_naming, is_prepare_naming, is_decision_naming}
 use Rattle.tree_turns.specs.CoordinatorTurns.{IsOfNoCase, IsNotTaken, ChildSays}
@@ -44,7 +41,7 @@ use Rattle.tree_parents.proofs.Moves as moves
 use Rattle.tree_parents.proofs.OwnDecided.{told_wire}
 use Rattle.tree_parents.proofs.Quiet.{DoesNothing, Rests, quiet_fine, begun_silent, shown}
 use Rattle.tree_parents.proofs.Rested as rested
-use Rattle.tree_parents.proofs.Turns.{Turn, Says, IsSeat, is_top, top, under, Fine, Fits_in, R as seen, m as remembered, m' as then_remembered, p0 as half, v0 as net_part, o0 as told_outcome, r0 as reading, fine_silent}
+use Rattle.tree_parents.proofs.Turns.{Turn, Says, IsSeat, is_top, top, under, Fine, Fits_in, R as seen, m as remembered, p0 as half, v0 as net_part, o0 as told_outcome, r0 as reading, fine_silent}
 use Rattle.tree_parents.proofs.Wires as wires
 use Rattle.tree_parents.proofs.Wires.{same_children}
 use Rattle.tree_parents.proofs.Writes.{stands_so}

@@ -1,6 +1,5 @@
 -- Aborts at the pair's own case while it collects votes, on the pair.
-use Rattle.std.proofs.Common.{◌≡◌, ◌∙◌, ◌⊎◌, inl, inr, ℕ, Bool, true, false, ◌||◌, ◌&&◌, not, Option, Some, None, List, [], ◌∷◌, ◌++◌, filter, refl, sym, ap, subst, arith, if◌then◌else◌}
-use Rattle.tree_model.specs.declared.names.Case.{Case}
+use Rattle.std.proofs.Common.{◌≡◌, ◌∙◌, inl, inr, Bool, true, false, ◌||◌, ◌&&◌, not, List, [], ◌∷◌, ◌++◌, filter, refl, sym, ap, arith, if◌then◌else◌}
 use Rattle.tree_model.specs.declared.names.Ticket.{Ticket}
 use Rattle.tree_model.specs.declared.names.Presumption.{Presumption}
 use Rattle.tree_model.specs.declared.names.Presumption.TheVariants.{PresumeAbort, PresumeCommit}
@@ -9,9 +8,9 @@ use Rattle.tree_model.specs.declared.records.Record.TheVariants.{Abort as AbortR
 use Rattle.tree_model.specs.declared.standings.Standing.TheVariants.{Collecting}
 use Rattle.tree_model.specs.declared.standings.Vote.{Vote}
 use Rattle.tree_model.specs.declared.standings.Vote.TheVariants.{Yes as VoteYes, No as VoteNo, Read as VoteRead}
-use Rattle.tree_model.specs.Names.{same_ticket, same_txn}
+use Rattle.tree_model.specs.Names.{same_ticket}
 use Rattle.tree_model.specs.NameLaws.{same_txn-refl, same_ticket_tells}
-use Rattle.tree_model.specs.Records.{has, in_list, is_prepare, is_commit}
+use Rattle.tree_model.specs.Records.{has, in_list, is_prepare}
 use Rattle.tree_model.specs.Memory.{Memory, Asked, Over, undecided_of, voted_so}
 use Rattle.tree_model.specs.CoordinatorRows.{Row, Reason, ByVote, ByAct, ByAbort, each, collecting_abort_by, abort_heard_above}
 use Rattle.tree_model.specs.Reactions.{row_effect, seat_of}
@@ -19,11 +18,9 @@ use Rattle.tree_model.specs.Standings.{CoordinatorView}
 use Rattle.tree_pairs.specs.Reading as pair
 use Rattle.tree_pairs.specs.Reading.{Reading}
 use Rattle.tree_pairs.specs.ParentMoves as move
-use Rattle.tree_readings.specs.ReadingOf.{ParentHalf, Wire, wire, is_vote}
+use Rattle.tree_readings.specs.ReadingOf.{ParentHalf, Wire, wire}
 use Rattle.tree_turns.specs.CoordinatorTurns.{CountsVote, IsToAbort, voted, counting}
 use Rattle.tree_nodes.specs.WorldHolds.{InvariantOf}
-use Rattle.tree_nodes.proofs.Tests.{both}
-use Rattle.tree_children.proofs.Moves.{Fits, onward}
 use Rattle.tree_parents.proofs.Known.{clash}
 use Rattle.tree_parents.proofs.Moves as moves
 use Rattle.tree_parents.proofs.Own as own
@@ -33,7 +30,7 @@ use Rattle.tree_parents.proofs.OwnMoves.{own_forced, own_plain, forced_first, an
 use Rattle.tree_parents.proofs.OwnQuiet.{After, not_childs}
 use Rattle.tree_parents.proofs.Readings as readings
 use Rattle.tree_parents.proofs.Readings.{Live}
-use Rattle.tree_parents.proofs.Turns.{Turn, Fine, Fits_in, R as seen, m as remembered, p0 as half, v0 as net_part, o0 as told_outcome, r0 as reading, root as at_root}
+use Rattle.tree_parents.proofs.Turns.{Turn, Fine, m as remembered, p0 as half, v0 as net_part, o0 as told_outcome, r0 as reading, root as at_root}
 use Rattle.tree_parents.proofs.Votes as votes
 use Rattle.tree_parents.proofs.Wires as wires
 use Rattle.tree_parents.proofs.Wires.{Silent, silent_before}

@@ -1,37 +1,30 @@
 -- Turns of the pair's own case that was decided, on the pair: the last ACK, and answers.
-use Rattle.std.proofs.Common.{◌≡◌, ◌≢◌, ◌∙◌, ◌⊎◌, inl, inr, ℕ, Bool, true, false, ◌||◌, ◌&&◌, not, Option, Some, None, List, [], ◌∷◌, ◌++◌, filter, refl, sym, ap, subst, arith, if◌then◌else◌}
-use Rattle.tree_model.specs.declared.names.Case.{Case}
-use Rattle.tree_model.specs.declared.names.ProcessId.{ProcessId}
+use Rattle.std.proofs.Common.{◌≡◌, ◌≢◌, ◌∙◌, ◌⊎◌, inl, inr, Bool, true, false, ◌||◌, ◌&&◌, not, List, [], ◌∷◌, ◌++◌, refl, sym, ap, subst}
 use Rattle.tree_model.specs.declared.names.Ticket.{Ticket}
-use Rattle.tree_model.specs.declared.names.Txn.{Txn}
 use Rattle.tree_model.specs.declared.names.Outcome.{Outcome}
 use Rattle.tree_model.specs.declared.names.Outcome.TheVariants.{Committed as CommittedOutcome, Aborted as AbortedOutcome}
 use Rattle.tree_model.specs.declared.names.Presumption.{Presumption}
 use Rattle.tree_model.specs.declared.names.Presumption.TheVariants.{PresumeAbort, PresumeCommit}
-use Rattle.tree_model.specs.declared.messages.Message.TheVariants.{Commit, Abort, Ack, Inquire}
+use Rattle.tree_model.specs.declared.messages.Message.TheVariants.{Ack, Inquire}
 use Rattle.tree_model.specs.declared.records.Record.TheVariants.{End as EndRecord}
 use Rattle.tree_model.specs.declared.standings.Standing.{Standing}
 use Rattle.tree_model.specs.declared.standings.Standing.TheVariants.{Unknown, Active, Collecting, Committing, Aborting}
-use Rattle.tree_model.specs.Names.{same_case, same_outcome, same_ticket, same_txn, child_case}
-use Rattle.tree_model.specs.NameLaws.{same_case-refl, same_txn-refl, same_ticket_tells}
-use Rattle.tree_model.specs.Records.{has, in_list, none_of, owing_by, is_prepare, is_commit}
+use Rattle.tree_model.specs.Names.{same_outcome, same_ticket, child_case}
+use Rattle.tree_model.specs.Records.{has, in_list, none_of, owing_by, is_prepare}
 use Rattle.tree_model.specs.Nodes.{after, kept}
 use Rattle.tree_model.specs.Memory.{Memory, Phase, Idle, Open, Asked, Over, takes_ack, has_acked}
-use Rattle.tree_model.specs.CoordinatorRows.{Row, quiet, plain, sends, to_child, tells_outcome, other_tickets}
-use Rattle.tree_model.specs.Outcomes.{sent}
-use Rattle.tree_model.specs.Reactions.{row_effect, seat_of}
-use Rattle.tree_model.specs.Standings.{CoordinatorView, unknown_view, still_owed, decided_outcome}
-use Rattle.tree_pairs.specs.Reading.{Reading, is_live, Closed}
+use Rattle.tree_model.specs.CoordinatorRows.{Row, quiet, plain, other_tickets}
+use Rattle.tree_model.specs.Reactions.{row_effect}
+use Rattle.tree_model.specs.Standings.{CoordinatorView, unknown_view, still_owed}
+use Rattle.tree_pairs.specs.Reading.{Reading, is_live}
 use Rattle.tree_pairs.specs.Standing as pair
 use Rattle.tree_pairs.specs.ParentMoves as move
-use Rattle.tree_readings.specs.ReadingOf.{ParentHalf, Wire, wire, acknowledged, is_inquiry_message}
+use Rattle.tree_readings.specs.ReadingOf.{ParentHalf, Wire, acknowledged, is_inquiry_message}
 use Rattle.tree_turns.specs.CoordinatorTurns.{HearsChild, Decided, Answers}
 use Rattle.tree_turns.specs.CoordinatorTurns as turns
 use Rattle.tree_nodes.specs.WorldHolds.{NamesBy}
 use Rattle.tree_nodes.proofs.Deliveries.{was_sent}
-use Rattle.tree_nodes.proofs.Tests.{both}
-use Rattle.tree_children.proofs.Moves.{Fits, onward, unmoved}
-use Rattle.tree_parents.proofs.Halves.{acked_of, live_phase, phase_of}
+use Rattle.tree_parents.proofs.Halves.{acked_of, live_phase}
 use Rattle.tree_parents.proofs.Known.{clash}
 use Rattle.tree_parents.proofs.Memories as by_input
 use Rattle.tree_parents.proofs.Moves as moves
@@ -40,11 +33,11 @@ use Rattle.tree_parents.proofs.OwnAborts.{in_filter}
 use Rattle.tree_parents.proofs.OwnMoves.{and_then, read_as}
 use Rattle.tree_parents.proofs.OwnPromised.{not_open, not_asked, phase_stays}
 use Rattle.tree_parents.proofs.OwnQuiet.{After}
-use Rattle.tree_parents.proofs.Quiet.{Rests, rested, rest_fits, begun_plain}
+use Rattle.tree_parents.proofs.Quiet.{rested, rest_fits, begun_plain}
 use Rattle.tree_parents.proofs.Readings as readings
 use Rattle.tree_parents.proofs.Rested.{view_so, heard_so, acked_now, has_acked-push}
-use Rattle.tree_parents.proofs.Tables.{CommittingFacts, committing_facts, AbortingFacts, aborting_facts, UnknownFacts, ended, committed, aborted, unrecorded, unknown_facts, owing_by-naming, none_in}
-use Rattle.tree_parents.proofs.Turns.{Turn, Says, Fine, Fits_in, R as seen, m as remembered, m' as then_remembered, p0 as half, v0 as net_part, o0 as told_outcome, r0 as reading, root as at_root, fine_silent, fine_plain}
+use Rattle.tree_parents.proofs.Tables.{committing_facts, aborting_facts, UnknownFacts, ended, committed, aborted, unrecorded, unknown_facts, owing_by-naming, none_in}
+use Rattle.tree_parents.proofs.Turns.{Turn, Says, Fine, Fits_in, R as seen, m as remembered, m' as then_remembered, p0 as half, v0 as net_part, o0 as told_outcome, r0 as reading, root as at_root, fine_plain}
 use Rattle.tree_parents.proofs.Wires as wires
 use Rattle.tree_parents.proofs.Wires.{same_children}
 use Rattle.tree_parents.proofs.Writes.{stands_so, wrote, begun_after}

@@ -1,8 +1,6 @@
 -- The outcome comes to the pair's own case, which has promised, on the pair.
-use Rattle.std.proofs.Common.{◌≡◌, ◌≢◌, ◌∙◌, ◌⊎◌, inl, inr, ℕ, Bool, true, false, ◌||◌, ◌&&◌, not, Option, Some, None, List, [], ◌∷◌, ◌++◌, refl, sym, ap, subst, arith, if◌then◌else◌}
-use Rattle.tree_model.specs.declared.names.Case.{Case}
+use Rattle.std.proofs.Common.{◌≡◌, ◌≢◌, ◌∙◌, Bool, true, false, ◌||◌, ◌&&◌, Some, List, [], ◌++◌, refl, sym, ap, subst}
 use Rattle.tree_model.specs.declared.names.ProcessId.{ProcessId}
-use Rattle.tree_model.specs.declared.names.Ticket.{Ticket}
 use Rattle.tree_model.specs.declared.names.Outcome.TheVariants.{Committed as CommittedOutcome, Aborted as AbortedOutcome}
 use Rattle.tree_model.specs.declared.names.Presumption.{Presumption}
 use Rattle.tree_model.specs.declared.names.Presumption.TheVariants.{PresumeAbort, PresumeCommit}
@@ -11,7 +9,6 @@ use Rattle.tree_model.specs.declared.records.Record.{Record}
 use Rattle.tree_model.specs.declared.records.Record.TheVariants.{Commit as CommitRecord, Abort as AbortRecord}
 use Rattle.tree_model.specs.declared.standings.Standing.{Standing}
 use Rattle.tree_model.specs.declared.standings.Standing.TheVariants.{Active, Collecting, Prepared}
-use Rattle.tree_model.specs.Names.{same_txn}
 use Rattle.tree_model.specs.NameLaws.{same_case-refl, same_txn-refl}
 use Rattle.tree_model.specs.Records.{has, in_list, is_prepare, is_commit}
 use Rattle.tree_model.specs.Nodes.{after, kept}
@@ -30,7 +27,6 @@ use Rattle.tree_turns.specs.CoordinatorTurns.{HearsParent}
 use Rattle.tree_nodes.specs.ProcessSteps.{outcome_in}
 use Rattle.tree_nodes.specs.WorldHolds.{InvariantOf}
 use Rattle.tree_nodes.proofs.Deliveries.{was_sent}
-use Rattle.tree_children.proofs.Moves.{Fits, onward}
 use Rattle.tree_parents.proofs.Halves.{phase_of}
 use Rattle.tree_parents.proofs.Known.{clash}
 use Rattle.tree_parents.proofs.Memories as by_input

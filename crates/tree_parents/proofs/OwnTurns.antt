@@ -1,17 +1,15 @@
 -- Each turn of the pair's own case keeps the pair.
-use Rattle.std.proofs.Common.{◌≡◌, ◌∙◌, ◌⊎◌, inl, inr, ℕ, Bool, true, false, ◌||◌, ◌&&◌, not, Option, Some, None, List, [], ◌∷◌, ◌++◌, refl, sym, ap, subst, if◌then◌else◌}
+use Rattle.std.proofs.Common.{◌≡◌, ◌∙◌, Bool, true, false, List, [], ◌∷◌, ◌++◌, refl, sym, subst, if◌then◌else◌}
 use Rattle.tree_model.specs.declared.names.Ticket.{Ticket}
 use Rattle.tree_model.specs.declared.names.Outcome.{Outcome}
 use Rattle.tree_model.specs.declared.names.Outcome.TheVariants.{Committed as CommittedOutcome, Aborted as AbortedOutcome}
 use Rattle.tree_model.specs.declared.messages.Envelope.{Envelope}
-use Rattle.tree_model.specs.declared.messages.Message.TheVariants.{Prepare, Commit, Abort, Inquire}
+use Rattle.tree_model.specs.declared.messages.Message.TheVariants.{Inquire}
 use Rattle.tree_model.specs.declared.standings.Standing.{Standing}
-use Rattle.tree_model.specs.declared.standings.Standing.TheVariants.{Unknown, Active, Collecting, Prepared, Committing, Aborting}
+use Rattle.tree_model.specs.declared.standings.Standing.TheVariants.{Unknown, Prepared, Committing, Aborting}
 use Rattle.tree_model.specs.declared.names.Presumption.{Presumption}
 use Rattle.tree_model.specs.Names.{same_ticket, child_case}
 use Rattle.tree_model.specs.NameLaws.{same_txn-refl}
-use Rattle.tree_model.specs.Records.{in_list}
-use Rattle.tree_model.specs.Nodes.{after}
 use Rattle.tree_model.specs.Memory.{Memory, Open, Asked}
 use Rattle.tree_model.specs.CoordinatorRows.{Row, sends, to_child, tells_outcome}
 use Rattle.tree_model.specs.Reactions.{row_effect, seat_of}
@@ -20,7 +18,6 @@ use Rattle.tree_readings.specs.ReadingOf.{ParentHalf, Wire, wire}
 use Rattle.tree_turns.specs.CoordinatorTurns.{CaseTurn, HearsChild, HearsParent, Refuses, Acknowledges, Answers}
 use Rattle.tree_turns.specs.CoordinatorTurns as turns
 use Rattle.tree_children.proofs.Moves.{unmoved}
-use Rattle.tree_parents.proofs.Halves.{acked_of}
 use Rattle.tree_parents.proofs.Memories as by_input
 use Rattle.tree_parents.proofs.Memories.{itself, stays}
 use Rattle.tree_parents.proofs.Own as own
@@ -33,11 +30,11 @@ use Rattle.tree_parents.proofs.OwnPromised as promised
 use Rattle.tree_parents.proofs.OwnPromised.{not_open, not_asked}
 use Rattle.tree_parents.proofs.OwnQuiet.{After, not_childs, quiet_row, rest_nothing, rest_prepare, rest_outcome}
 use Rattle.tree_parents.proofs.OwnVotes as votes
-use Rattle.tree_parents.proofs.Quiet.{Rests, begun_silent, shown}
+use Rattle.tree_parents.proofs.Quiet.{begun_silent, shown}
 use Rattle.tree_parents.proofs.Rested as rested
 use Rattle.tree_parents.proofs.Turns.{Turn, Fine, Fits_in, R as seen, m as remembered, p0 as half, v0 as net_part, o0 as told_outcome, r0 as reading, fine_silent}
 use Rattle.tree_parents.proofs.Wires as wires
-use Rattle.tree_parents.proofs.Writes.{stands_so, begun_after}
+use Rattle.tree_parents.proofs.Writes.{stands_so}
 
 module _ (turn : Turn) where
   open turn use {place, parent, n, h, net, c, t, up, inv}

@@ -1,25 +1,22 @@
 -- Votes for going on at the pair's own case, on the pair.
-use Rattle.std.proofs.Common.{◌≡◌, ◌∙◌, ◌⊎◌, inl, inr, ℕ, Bool, true, false, ◌||◌, ◌&&◌, not, Option, Some, None, List, [], ◌∷◌, ◌++◌, refl, sym, ap, subst, arith, if◌then◌else◌}
-use Rattle.tree_model.specs.declared.names.Case.{Case}
+use Rattle.std.proofs.Common.{◌≡◌, ◌∙◌, inl, inr, Bool, true, false, ◌||◌, ◌&&◌, Some, None, List, [], ◌∷◌, ◌++◌, refl, sym, ap, subst, arith, if◌then◌else◌}
 use Rattle.tree_model.specs.declared.names.ProcessId.{ProcessId}
 use Rattle.tree_model.specs.declared.names.Ticket.{Ticket}
 use Rattle.tree_model.specs.declared.names.Presumption.{Presumption}
 use Rattle.tree_model.specs.declared.names.Presumption.TheVariants.{PresumeAbort, PresumeCommit}
-use Rattle.tree_model.specs.declared.messages.Message.TheVariants.{Yes, Read, Commit}
+use Rattle.tree_model.specs.declared.messages.Message.TheVariants.{Read, Commit}
 use Rattle.tree_model.specs.declared.records.Record.TheVariants.{Prepare as PrepareRecord, Commit as CommitRecord, End as EndRecord}
 use Rattle.tree_model.specs.declared.standings.Vote.{Vote}
-use Rattle.tree_model.specs.declared.standings.Vote.TheVariants.{Yes as VoteYes, No as VoteNo, Read as VoteRead}
+use Rattle.tree_model.specs.declared.standings.Vote.TheVariants.{Yes as VoteYes}
 use Rattle.tree_model.specs.Names.{same_ticket, same_txn}
 use Rattle.tree_model.specs.NameLaws.{same_txn-refl}
 use Rattle.tree_model.specs.Records.{has, in_list, none_of, is_prepare, is_commit}
-use Rattle.tree_model.specs.Memory.{Memory, Phase, Asked, Over, all_voted, yes_of, voted_so, phase_after}
+use Rattle.tree_model.specs.Memory.{Memory, Asked, Over, all_voted, yes_of, phase_after}
 use Rattle.tree_model.specs.CoordinatorRows.{Row, quiet, each, posted_up, collecting_read_only, read_only_end, root_commits, cascaded_prepares}
 use Rattle.tree_model.specs.Outcomes.{sent}
 use Rattle.tree_model.specs.Reactions.{row_effect, seat_of}
 use Rattle.tree_model.specs.Standings.{CoordinatorView}
-use Rattle.tree_pairs.specs.Reading as pair
 use Rattle.tree_pairs.specs.Reading.{Reading}
-use Rattle.tree_pairs.specs.Standing.{VotedFor}
 use Rattle.tree_pairs.specs.ParentMoves as move
 use Rattle.tree_pairs.specs.RootMoves as at_top
 use Rattle.tree_pairs.specs.CascadedMoves as below
@@ -27,8 +24,8 @@ use Rattle.tree_readings.specs.ReadingOf.{ParentHalf, Wire, wire, is_prepare_mes
 use Rattle.tree_readings.proofs.Named.{in_list-yes}
 use Rattle.tree_turns.specs.CoordinatorTurns.{CountsVote, CountsLast, Consents, voted, counting}
 use Rattle.tree_turns.specs.CoordinatorTurns as turns
-use Rattle.tree_nodes.specs.WorldHolds.{InvariantOf, Cascades, RoleHolds}
-use Rattle.tree_children.proofs.Moves.{Fits, onward, common_of}
+use Rattle.tree_nodes.specs.WorldHolds.{InvariantOf, RoleHolds}
+use Rattle.tree_children.proofs.Moves.{common_of}
 use Rattle.tree_parents.proofs.Known.{clash}
 use Rattle.tree_parents.proofs.Memories.{below_is}
 use Rattle.tree_parents.proofs.Moves as moves
@@ -39,7 +36,7 @@ use Rattle.tree_parents.proofs.OwnQuiet.{After, not_childs}
 use Rattle.tree_parents.proofs.Readings as readings
 use Rattle.tree_parents.proofs.Readings.{Live}
 use Rattle.tree_parents.proofs.Tables.{none_in}
-use Rattle.tree_parents.proofs.Turns.{Turn, Fine, Fits_in, R as seen, m as remembered, p0 as half, v0 as net_part, o0 as told_outcome, r0 as reading, root as at_root}
+use Rattle.tree_parents.proofs.Turns.{Turn, Fine, Fits_in, R as seen, m as remembered, p0 as half, v0 as net_part, o0 as told_outcome, root as at_root}
 use Rattle.tree_parents.proofs.Votes as votes
 use Rattle.tree_parents.proofs.Wires as wires
 use Rattle.tree_parents.proofs.Writes.{did, stands_so, hardens, wrote}

@@ -104,9 +104,12 @@ module _ (turn : Turn) where
       or-false a = grind arith
   acked_now x u o j i same true e =
       let one : same_ticket u t ≡ true = (both (same_outcome o (acknowledged c.txn.presumption)) (same_ticket u t) e).1 in
-      inr (or-true (acked_of m c t), was_sent (is_ack_message (child_case c.txn t)) net place.me h.input j
-      (Ack (child_case x u) o) stands i
-      (same_children x c.txn u t ∙ rw (same, one) refl))
+      inr (
+        or-true (acked_of m c t),
+        was_sent (is_ack_message (child_case c.txn t)) net place.me h.input j
+            (Ack (child_case x u) o) stands i
+            (same_children x c.txn u t ∙ rw (same, one) refl),
+      )
     where
       or-true : (a : Bool) → (a || true) ≡ true
       or-true a = grind arith

@@ -278,7 +278,7 @@ module _ (turn : Turn) where
     has_vote k all accepted = elim (voted_some votes t (each_voted m.accepted votes t all accepted)) [
       | inl yes_said ↦ inl (heard_now VoteYes ∙ yes_said)
       | inr more ↦ elim more [
-          | inl no_said_so ↦ clash p1.first_no (heard_now VoteNo ∙ no_said_so) (no_no k)
-          | inr read_said ↦ inr (heard_now VoteRead ∙ read_said)
-        ]
+        | inl no_said_so ↦ clash p1.first_no (heard_now VoteNo ∙ no_said_so) (no_no k)
+        | inr read_said ↦ inr (heard_now VoteRead ∙ read_said)
+      ]
     ]
