@@ -67,6 +67,8 @@ pub mod RootDecisions
 pub mod RootNever
 pub mod RootNeverLasts
 pub mod RootsHold
+pub mod Letters
+pub mod RowLetters
 pub mod CascadedGives
 pub mod CascadedMemories
 pub mod CascadesHold
