@@ -40,7 +40,7 @@ use Rattle.tree_nodes.proofs.Trims.{trim_left}
 
 -- Restarts and trims are the same at each coordinator.
 
-reopens_same : (parent : Option ProcessId) (rs : List Record) → reopens (role_below parent) rs ≡ reopens AtRoot rs
+pub reopens_same : (parent : Option ProcessId) (rs : List Record) → reopens (role_below parent) rs ≡ reopens AtRoot rs
 reopens_same None rs = refl
 reopens_same (Some p) rs = refl
 

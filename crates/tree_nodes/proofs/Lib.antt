@@ -69,6 +69,7 @@ pub mod RootNeverLasts
 pub mod RootsHold
 pub mod Letters
 pub mod RowLetters
+pub mod RestartLetters
 pub mod CascadedGives
 pub mod CascadedMemories
 pub mod CascadesHold

@@ -31,7 +31,7 @@ use Rattle.tree_nodes.proofs.Remembering.{coordinator_place}
 
 -- Lists of tickets.
 
-in_filtered : (f : Ticket → Bool) (ts : List Ticket) (t : Ticket) → in_list (filter f ts) t ≡ true
+pub in_filtered : (f : Ticket → Bool) (ts : List Ticket) (t : Ticket) → in_list (filter f ts) t ≡ true
     → in_list ts t ≡ true
 unfolding in_list
 in_filtered f [] t e = e
@@ -62,7 +62,7 @@ pub in_undecided : (ts : List Ticket) (vs : List (Ticket × Vote)) (t : Ticket) 
 unfolding undecided_of
 in_undecided ts vs t e = in_filtered _ ts t e
 
-in_nobody : {A : Type 0} → (t : Ticket) → in_list [] t ≡ true → A
+pub in_nobody : {A : Type 0} → (t : Ticket) → in_list [] t ≡ true → A
 unfolding in_list
 in_nobody t e = absurd (cc)
 
