@@ -218,7 +218,7 @@ module _ (tree : List TreeEntry) where
   is_live ph (inl e) = subst IsLive (sym e) tt
   is_live ph (inr e) = subst IsLive (sym e) tt
 
-  whose : (es : List Made) (w : World) → IsRun tree es w → (q : ProcessId) (parent : Option ProcessId)
+  pub whose : (es : List Made) (w : World) → IsRun tree es w → (q : ProcessId) (parent : Option ProcessId)
       → role_of tree q ≡ role_below parent → (c : Case) (t : Ticket) → has_accepted (w.at q) c t ≡ true
       → process_of c ≡ q
   whose es w run q None e c t f =

@@ -70,6 +70,7 @@ pub mod RootsHold
 pub mod Letters
 pub mod RowLetters
 pub mod RestartLetters
+pub mod SentWell
 pub mod CascadedGives
 pub mod CascadedMemories
 pub mod CascadesHold
