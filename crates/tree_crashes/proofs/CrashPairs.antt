@@ -92,7 +92,7 @@ phase_over Aborting f g = refl
 phase_over Heuristic f g = refl
 
 module _ (place : Place) (n : Node) (c : Case) (alike : IsOpenAlike place n c) where
-  is_active : (coordinator_view place n c).standing ≡ Active → (memory_of place n c).phase ≡ Open
+  pub is_active : (coordinator_view place n c).standing ≡ Active → (memory_of place n c).phase ≡ Open
   is_active e =
       active_open c.txn.presumption _ _ _ _ _ _ (memory_of place n c).phase (sym (viewed place n c) ∙ e)
 
