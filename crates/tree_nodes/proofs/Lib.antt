@@ -67,10 +67,6 @@ pub mod RootDecisions
 pub mod RootNever
 pub mod RootNeverLasts
 pub mod RootsHold
-pub mod Letters
-pub mod RowLetters
-pub mod RestartLetters
-pub mod SentWell
 pub mod CascadedGives
 pub mod CascadedMemories
 pub mod CascadesHold

@@ -1,7 +1,7 @@
 //! The laws of single processes.
-ghost use Rattle.std.specs.Prelude.{◌≡◌, List, Some, false, true, ◌++◌};
+ghost use Rattle.std.specs.Prelude.{◌≡◌, List, false, true};
 ghost use Rattle.tree_model.specs.Names.{child_case};
-ghost use Rattle.tree_model.specs.Nodes.{AtLeaf, AtRoot, Below, Effect, is_listed, kept, opened_node, place_of, role_of};
+ghost use Rattle.tree_model.specs.Nodes.{AtLeaf, AtRoot, Below, is_listed, kept, opened_node, place_of, role_of};
 ghost use Rattle.tree_model.specs.Outcomes.{StandingMismatches, YesIsForced, cascaded_ends, is_commit_outcome, sent};
 ghost use Rattle.tree_model.specs.declared.names.Case.{Case};
 ghost use Rattle.tree_model.specs.declared.names.Outcome.TheVariants.{Committed};
@@ -11,10 +11,10 @@ ghost use Rattle.tree_model.specs.declared.names.Txn.{Txn};
 ghost use Rattle.tree_nodes.specs.Numbers.{IsIssuer, Numbers};
 ghost use Rattle.tree_nodes.specs.CaseOrder.{CaseInOrder, IsCoordinator};
 ghost use Rattle.tree_nodes.specs.RootBegins.{OwnTransactions};
-ghost use Rattle.tree_nodes.specs.WorldHolds.{AboutGiven, AllGo, Begins, Boots, Cascades, Coordinates, IsPair, Issues, JoinedOnce, NodeHolds, WorldHolds, pair_reading};
+ghost use Rattle.tree_nodes.specs.WorldHolds.{Begins, Boots, Cascades, Coordinates, IsPair, Issues, JoinedOnce, NodeHolds, WorldHolds, pair_reading};
 ghost use Rattle.tree_pairs.specs.Invariant.{Common};
 ghost use Rattle.tree_readings.specs.ReadingOf.{gives_case};
-ghost use Rattle.tree_model.specs.World.{IsRun, Made, Move, Stands, World, world_makes};
+ghost use Rattle.tree_model.specs.World.{IsRun, Made, World};
 ghost use Rattle.tree_model.specs.declared.trees.TreeEntry.{TreeEntry};
 
 /// In every run of every tree, with restarts, trims, faults and inquiries, an operator's decision that was ever in the
@@ -131,15 +131,6 @@ pub fn root_nodes_hold()
 pub fn nodes_hold()
     ensures { (tree : List TreeEntry) (es : List Made) (w : World) → IsRun tree es w → (q : ProcessId)
         → NodeHolds (place_of tree q) w.net (w.at q) }
-{}
-
-/// Where the letters of a run go where they should, and each is about a case that was given, so it is with what a step
-/// of a coordinator sends then.
-pub fn coordinators_send_well()
-    ensures { (tree : List TreeEntry) (es : List Made) (w : World) → IsRun tree es w → AllGo tree w.net
-        → AboutGiven w.net → (m : Move) (e : Effect) (later : World) → IsCoordinator (role_of tree m.step.process)
-        → Stands w.net m.step.process m.step.happening → world_makes tree w m ≡ Some (e, later)
-        → AllGo tree e.messages × AboutGiven (w.net ++ e.messages) }
 {}
 
 /// In every run of every tree JOINED gives each ticket to one case.
