@@ -1,21 +1,19 @@
 -- What a cascaded coordinator records, remembers and accepts into is of cases that it gave, and it collects votes and
 -- promises only where it was asked: through each of its steps.
-use Rattle.std.proofs.Common.{◌≡◌, ◌≢◌, ◌∙◌, ◌+◌, ◌||◌, inl, inr, ℕ, zero, suc, Bool, true, false, None, Some, List, [], ◌∷◌, ◌++◌, take, refl, sym, ap, subst, arith, ◌&&◌}
+use Rattle.std.proofs.Common.{◌≡◌, ◌≢◌, ◌∙◌, ◌+◌, ◌||◌, inl, inr, ℕ, zero, suc, Bool, true, false, Some, List, [], ◌∷◌, ◌++◌, take, refl, sym, ap, subst, arith, ◌&&◌}
 use Rattle.std.specs.Prelude.{reverse, length}
 use Rattle.std.proofs.lemmas.List.Folds.{list_any-append}
 use Rattle.tree_model.specs.declared.names.Case.{Case}
 use Rattle.tree_model.specs.declared.names.ProcessId.{ProcessId}
 use Rattle.tree_model.specs.declared.names.Ticket.{Ticket}
-use Rattle.tree_model.specs.declared.names.Txn.{Txn}
-use Rattle.tree_model.specs.declared.messages.Message.{Message}
-use Rattle.tree_model.specs.declared.messages.Message.TheVariants.{Join, Joined, Work, Prepare, Yes, No, Read, Commit, Abort, Ack, Inquire}
+use Rattle.tree_model.specs.declared.messages.Message.TheVariants.{Joined, Prepare}
 use Rattle.tree_model.specs.declared.messages.Envelope.{Envelope}
 use Rattle.tree_model.specs.declared.records.Record.{Record}
 use Rattle.tree_model.specs.declared.events.Happening.{Happening}
 use Rattle.tree_model.specs.declared.events.Input.{Input}
 use Rattle.tree_model.specs.declared.standings.Standing.TheVariants.{Unknown, Active, Collecting}
 use Rattle.tree_model.specs.declared.trees.TreeEntry.{TreeEntry}
-use Rattle.tree_model.specs.Names.{root_case, child_case}
+use Rattle.tree_model.specs.Names.{child_case}
 use Rattle.tree_model.specs.NameLaws.{same_case-refl}
 use Rattle.tree_model.specs.Records.{has, boot_of, is_collecting}
 use Rattle.tree_model.specs.Nodes.{Place, Below, Node, Heard, Effect, kept, entries_written, is_any_forced, after, fails_in}
@@ -23,7 +21,7 @@ use Rattle.tree_model.specs.Memory.{Memory, Phase, Idle, Open, Asked, Over, memo
 use Rattle.tree_model.specs.Standings.{coordinator_view}
 use Rattle.tree_model.specs.Reactions.{reacts, Does}
 use Rattle.tree_model.specs.Restarts.{left_of, reopens, restarted, restart_fails, trims, trim_fails}
-use Rattle.tree_model.specs.Outcomes.{sent, has_accepted, is_joined_message}
+use Rattle.tree_model.specs.Outcomes.{sent, is_joined_message}
 use Rattle.tree_model.specs.World.{Move, Stands, InputStands}
 use Rattle.tree_model.proofs.RootRowLaws.{phase_collecting}
 use Rattle.tree_readings.specs.ReadingOf.{gives_case, is_promise, is_prepare_message}
@@ -37,12 +35,13 @@ use Rattle.tree_turns.proofs.Steps.{turn_of}
 use Rattle.tree_turns.proofs.CoordinatorReactions.{coordinator_turn_of}
 use Rattle.tree_nodes.specs.Lasts.{Logs, logs_of, Nested}
 use Rattle.tree_nodes.specs.WorldHolds.{is_record_of}
-use Rattle.tree_nodes.proofs.Tests.{either, left, right, in_either, in_first, in_second, in_front, has-reverse, not_both, case_is}
+use Rattle.tree_nodes.proofs.Tests.{either, left, in_either, in_first, in_second, in_front, has-reverse, not_both, case_is}
 use Rattle.tree_nodes.proofs.Appends.{either_logs}
 use Rattle.tree_nodes.proofs.Boots.{turn_none, trims_memory, boot_written}
 use Rattle.tree_nodes.proofs.Cases.{viewed}
 use Rattle.tree_nodes.proofs.Deliveries.{was_sent}
 use Rattle.tree_nodes.proofs.GivenCases.{IsGiven, given_still, sent_other, joined_gives}
+use Rattle.tree_nodes.proofs.Giving.{Gives, prepared_still, never_given}
 use Rattle.tree_nodes.proofs.Phases.{unrecorded_stands, collecting_undecided}
 use Rattle.tree_nodes.proofs.Remembering.{Opens, by_begin, by_join, Asks, by_commit, by_prepare, Moves, keeps, asks, closes, takes, counts, opens, moves}
 use Rattle.tree_nodes.proofs.RootHistories.{took}
@@ -53,69 +52,19 @@ use Rattle.tree_nodes.proofs.RowWrites.{effect_writes}
 use Rattle.tree_nodes.proofs.Selves.{Self, self_same}
 use Rattle.tree_nodes.proofs.Tickets.{join_said}
 
--- What lasts.
-
-pub record Gives (place : Place) (net : List Envelope) (n : Node) : Type 0 where
-  pub recorded_is_given : (d : Case) → has (is_record_of d) n.life ≡ true → IsGiven place.me net d
-  pub remembered_is_given : n.failed ≡ false → (d : Case) → (memory_of place n d).phase ≢ Idle
-      → IsGiven place.me net d
-  pub accepted_is_given : (d : Case) (t : Ticket) → has_accepted n d t ≡ true → IsGiven place.me net d
-  pub asked_was_prepared : n.failed ≡ false → (d : Case) → (memory_of place n d).phase ≡ Asked
-      → sent (is_prepare_message d) net ≡ true
-  pub collected_was_prepared : (d : Case) → has (is_collecting d) n.life ≡ true
-      → sent (is_prepare_message d) net ≡ true
-  pub promised_was_asked : (d : Case) → has (is_promise d) n.life ≡ true → sent (is_prepare_message d) net ≡ true
-
-prepared_still : (net ls : List Envelope) (d : Case) → sent (is_prepare_message d) net ≡ true
-    → sent (is_prepare_message d) (net ++ ls) ≡ true
-prepared_still net ls d e = sent-append (is_prepare_message d) net ls ∙ right _ _ e
-
--- A step of another process.
-pub gives_elsewhere : (place : Place) (net ls : List Envelope) (n : Node) → Gives place net n
-    → Gives place (net ++ ls) n
-gives_elsewhere place net ls n h = record {
-  recorded_is_given = λ d e. given_still place.me net ls d (h.recorded_is_given d e);
-  remembered_is_given = λ up d e. given_still place.me net ls d (h.remembered_is_given up d e);
-  accepted_is_given = λ d t e. given_still place.me net ls d (h.accepted_is_given d t e);
-  asked_was_prepared = λ up d e. prepared_still net ls d (h.asked_was_prepared up d e);
-  collected_was_prepared = λ d e. prepared_still net ls d (h.collected_was_prepared d e);
-  promised_was_asked = λ d e. prepared_still net ls d (h.promised_was_asked d e);
-}
-
--- a case without a ticket is never given
-pub never_given : (x : Txn) (ls : List Envelope) → sent (gives_case (root_case x)) ls ≡ true → ⊥
-unfolding sent
-never_given x [] e = cc
-never_given x (l ∷ ls) e = elim (either (gives_case (root_case x) l.message) (sent (gives_case (root_case x)) ls) e) [
-  | inl now ↦ not_by l.message now
-  | inr rest ↦ never_given x ls rest
-]
-  where
-    not_by : (m : Message) → gives_case (root_case x) m ≡ true → ⊥
-    not_by (Joined d u) f =
-        let g : Some u ≡ None = ap (λ (c : Case). c.ticket) (case_is (child_case d.txn u) (root_case x) f) in absurd (cc)
-    not_by (Join d) f = cc
-    not_by (Work d i op) f = cc
-    not_by (Prepare d k) f = cc
-    not_by (Yes d) f = cc
-    not_by (No d) f = cc
-    not_by (Read d) f = cc
-    not_by (Commit d) f = cc
-    not_by (Abort d) f = cc
-    not_by (Ack d o) f = cc
-    not_by (Inquire d) f = cc
-
 not_idle : (x y : Phase) → x ≡ y → (y ≡ Idle → ⊥) → x ≢ Idle
 not_idle x y e f g = absurd (f (sym e ∙ g))
 
 -- A step of its own.
-module _ (me p : ProcessId) (tree : List TreeEntry) (net : List Envelope) (n : Node) (nested : Nested (logs_of n))
+module _ (me p : ProcessId) (tree : List TreeEntry) (net : List Envelope) (n : Node)
+    (nested : Nested (logs_of n))
     (known : Gives (record { me = me; role = Below p; tree = tree }) net n) where
   abbrev place : Place
   place = record { me = me; role = Below p; tree = tree }
 
   -- a case that is known was given
-  pub known_given : n.failed ≡ false → (c : Case) → (coordinator_view place n c).standing ≢ Unknown → IsGiven me net c
+  pub known_given : n.failed ≡ false → (c : Case) → (coordinator_view place n c).standing ≢ Unknown
+      → IsGiven me net c
   known_given up c k = elim (known_by place n c k) [
     | inl awake ↦ known.remembered_is_given up c awake
     | inr stands ↦ known.recorded_is_given c (nested.kept_was_written (is_record_of c) (λ k. refl) stands)
@@ -175,7 +124,8 @@ module _ (me p : ProcessId) (tree : List TreeEntry) (net : List Envelope) (n : N
     written_collects : (d : Case) → has (is_collecting d) new ≡ true → sent (is_prepare_message d) net ≡ true
     written_collects d f =
         let c : Collects place (Some p) n h d = effect_collects place (Some p) n h e turn d f in
-        asked_by d c.to_commit (known_given up d (λ u. absurd (let g : Active ≡ Unknown = sym c.active ∙ u in cc)))
+        asked_by d c.to_commit (known_given up d (λ u. absurd
+        (let g : Active ≡ Unknown = sym c.active ∙ u in cc)))
 
     written_promises : (d : Case) → has (is_promise d) new ≡ true → sent (is_prepare_message d) net ≡ true
     written_promises d f = collecting_prepared up d (effect_promises place (Some p) n h e turn d f)
@@ -212,7 +162,8 @@ module _ (me p : ProcessId) (tree : List TreeEntry) (net : List Envelope) (n : N
       m d = memory_of (record { me = me; role = Below p; tree = tree }) n d
 
       memory_then : (d : Case) → memory_of place k d ≡ cascaded_remembers me (boot_of (kept n)) d (m d) h.input
-      memory_then d = memory_of-heard place n h e d (boot_written n h e (turn_none (Below p) place n h e t.turn))
+      memory_then d = memory_of-heard place n h e d
+          (boot_written n h e (turn_none (Below p) place n h e t.turn))
 
       -- JOIN gave it
       opened_given : (d : Case) (i : Input) → h.input ≡ i → Opens (Some p) me (boot_of (kept n)) d (m d) i
@@ -273,22 +224,26 @@ module _ (me p : ProcessId) (tree : List TreeEntry) (net : List Envelope) (n : N
 
       life_then : k.life ≡ reverse (take (length new) new) ++ n.life
       life_then =
-          either_logs n new (is_any_forced e.written) (λ (l : Logs). l.life ≡ reverse new ++ n.life) (λ b. refl) (λ b. refl)
+          either_logs n new (is_any_forced e.written) (λ (l : Logs). l.life ≡ reverse new ++ n.life)
+          (λ b. refl) (λ b. refl)
           ∙ ap (λ y. reverse y ++ n.life) (sym (whole_list new))
 
       handles_so : Gives place (net ++ e.messages) k
       handles_so = record {
         recorded_is_given = λ d f. given_still me net e.messages d
-            (life_by (is_record_of d) (IsGiven me net d) new (length new) (written_given d) (known.recorded_is_given d)
+            (life_by (is_record_of d) (IsGiven me net d) new (length new) (written_given d)
+            (known.recorded_is_given d)
             (sym (ap (has (is_record_of d)) life_then) ∙ f));
         remembered_is_given = λ still d f. remembered_then d f;
         accepted_is_given = λ d u f. given_still me net e.messages d (accepted_then d u f);
         asked_was_prepared = λ still d f. prepared_still net e.messages d (asked_then d f);
         collected_was_prepared = λ d f. prepared_still net e.messages d
-            (life_by (is_collecting d) (sent (is_prepare_message d) net ≡ true) new (length new) (written_collects d)
+            (life_by (is_collecting d) (sent (is_prepare_message d) net ≡ true) new (length new)
+            (written_collects d)
             (known.collected_was_prepared d) (sym (ap (has (is_collecting d)) life_then) ∙ f));
         promised_was_asked = λ d f. prepared_still net e.messages d
-            (life_by (is_promise d) (sent (is_prepare_message d) net ≡ true) new (length new) (written_promises d)
+            (life_by (is_promise d) (sent (is_prepare_message d) net ≡ true) new (length new)
+            (written_promises d)
             (known.promised_was_asked d) (sym (ap (has (is_promise d)) life_then) ∙ f));
       }
 
@@ -312,7 +267,8 @@ module _ (me p : ProcessId) (tree : List TreeEntry) (net : List Envelope) (n : N
 
   kept_given : (j : ℕ) (d : Case) → has (is_record_of d) (left_of n j) ≡ true → IsGiven me net d
   kept_given j d e =
-      known.recorded_is_given d (nested.kept_was_written (is_record_of d) (λ k. refl) (in_left (is_record_of d) e))
+      known.recorded_is_given d (nested.kept_was_written (is_record_of d) (λ k. refl)
+      (in_left (is_record_of d) e))
     where
       in_left : (q : Record → Bool) → has q (n.forced ++ take j n.unforced) ≡ true
           → has q (n.forced ++ n.unforced) ≡ true
@@ -325,7 +281,8 @@ module _ (me p : ProcessId) (tree : List TreeEntry) (net : List Envelope) (n : N
   unfolding memory_of
   fresh_phase x d e = rw e refl
 
-  reopened_given : (j : ℕ) (d : Case) → has (is_record_of d) (reopens (Below p) (left_of n j)) ≡ true → IsGiven me net d
+  reopened_given : (j : ℕ) (d : Case) → has (is_record_of d) (reopens (Below p) (left_of n j)) ≡ true
+      → IsGiven me net d
   reopened_given j d e = kept_given j d (reopened_record d (left_of n j) e)
 
   none_reopened : {A : Type 0} (q : Record → Bool) (j : ℕ) → has q (reopens (Below p) (left_of n j)) ≡ false
@@ -334,7 +291,8 @@ module _ (me p : ProcessId) (tree : List TreeEntry) (net : List Envelope) (n : N
 
   -- what a restart leaves of its histories, where it appended so many
   reopens_so : (ls : List Envelope) (j a : ℕ) (x : Node)
-      → x.life ≡ reverse (take a (reopens (Below p) (left_of n j))) ++ n.life → x.heard ≡ [] → x.accepted ≡ n.accepted
+      → x.life ≡ reverse (take a (reopens (Below p) (left_of n j))) ++ n.life → x.heard ≡ [] → x.accepted
+      ≡ n.accepted
       → Gives place (net ++ ls) x
   reopens_so ls j a x life heard same = record {
     recorded_is_given = λ d e. given_still me net ls d
@@ -346,11 +304,13 @@ module _ (me p : ProcessId) (tree : List TreeEntry) (net : List Envelope) (n : N
     asked_was_prepared = λ up d f. absurd (let y : Idle ≡ Asked = sym (fresh_phase x d heard) ∙ f in cc);
     collected_was_prepared = λ d e. prepared_still net ls d
         (life_by (is_collecting d) (sent (is_prepare_message d) net ≡ true) (reopens (Below p) (left_of n j)) a
-        (none_reopened (is_collecting d) j (reopens_none (is_collecting d) (λ c ts. refl) (λ k. refl) (Below p) (left_of n j)))
+        (none_reopened (is_collecting d) j (reopens_none (is_collecting d) (λ c ts. refl) (λ k. refl)
+        (Below p) (left_of n j)))
         (known.collected_was_prepared d) (sym (ap (has (is_collecting d)) life) ∙ e));
     promised_was_asked = λ d e. prepared_still net ls d
         (life_by (is_promise d) (sent (is_prepare_message d) net ≡ true) (reopens (Below p) (left_of n j)) a
-        (none_reopened (is_promise d) j (reopens_none (is_promise d) (λ c ts. refl) (λ k. refl) (Below p) (left_of n j)))
+        (none_reopened (is_promise d) j (reopens_none (is_promise d) (λ c ts. refl) (λ k. refl) (Below p)
+        (left_of n j)))
         (known.promised_was_asked d) (sym (ap (has (is_promise d)) life) ∙ e));
   }
 
@@ -364,7 +324,8 @@ module _ (me p : ProcessId) (tree : List TreeEntry) (net : List Envelope) (n : N
         (known.recorded_is_given d (sym (ap (has (is_record_of d)) life) ∙ e));
     remembered_is_given = λ u d f. given_still me net [] d
         (known.remembered_is_given (up u) d (λ idle. f (ap (λ (m : Memory). m.phase) (memory d u) ∙ idle)));
-    accepted_is_given = λ d t e. given_still me net [] d (known.accepted_is_given d t (sym (ap (took d t) same) ∙ e));
+    accepted_is_given = λ d t e. given_still me net [] d
+        (known.accepted_is_given d t (sym (ap (took d t) same) ∙ e));
     asked_was_prepared = λ u d f. prepared_still net [] d
         (known.asked_was_prepared (up u) d (sym (ap (λ (m : Memory). m.phase) (memory d u)) ∙ f));
     collected_was_prepared = λ d e. prepared_still net [] d
@@ -387,11 +348,13 @@ module _ (me p : ProcessId) (tree : List TreeEntry) (net : List Envelope) (n : N
       let t = turn_of place n (heard_in m i) g r in
       fails_so (heard_in m i) t.up (subst (λ (x : Happening). Stands net me x) hp stands) g r f.appended f.forced
   still_gives m stands _ _ (passed i hp r) = rests_so n refl refl (λ up. up) (λ d up. refl)
-  still_gives m stands _ _ (failed_passing i f fl hp r) = rests_so _ refl refl (λ up. absurd (cc)) (λ d up. absurd (cc))
+  still_gives m stands _ _ (failed_passing i f fl hp r) =
+      rests_so _ refl refl (λ up. absurd (cc)) (λ d up. absurd (cc))
   still_gives m stands _ _ (reopened j hp) =
       reopens_so _ j (length (reopens (Below p) (left_of n j))) (restarted place n j)
       (ap (λ y. reverse y ++ n.life) (sym (whole_list (reopens (Below p) (left_of n j))))) refl refl
   still_gives m stands _ _ (failed_reopening j f fl hp) =
       reopens_so _ j f.appended (restart_fails place n j f.appended f.forced) refl refl refl
-  still_gives m stands _ _ (trims_log hp up) = rests_so (trims place n) refl refl (λ u. u) (λ d u. trims_memory place n d)
+  still_gives m stands _ _ (trims_log hp up) =
+      rests_so (trims place n) refl refl (λ u. u) (λ d u. trims_memory place n d)
   still_gives m stands _ _ (failed_trimming f fl hp up) = trim_fails_so f.appended

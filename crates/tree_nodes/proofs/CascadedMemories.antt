@@ -83,7 +83,8 @@ module _ (me p : ProcessId) (boot : ℕ) (c : Case) where
   now_issued m h _ i (by_join q j d below none e) =
       ap (λ (s : Self). has_case s.issued c) (self_remembers me boot c (Below p) m h)
       ∙ (ap (λ (x : Input). has_case (issuer_self me boot true (self_of m) x).issued c) i
-      ∙ subst (λ (x : Case). has_case (joins_self me boot (self_of m) d (active_ticket m.active d)).issued x ≡ true) e
+      ∙ subst (λ (x : Case). has_case (joins_self me boot (self_of m) d (active_ticket m.active d)).issued x
+      ≡ true) e
       (joined_issues me boot (self_of m) d (active_ticket m.active d) none))
 
   was_awake : (x y : Phase) → x ≡ y → (y ≡ Idle → ⊥) → x ≡ Idle → ⊥
@@ -154,7 +155,8 @@ none_in_nobody : (t : Ticket) → in_list [] t ≡ false
 unfolding in_list
 none_in_nobody t = refl
 
-pub idle_accepts_none : (place : Place) (p : ProcessId) → place.role ≡ Below p → (n : Node) (c : Case) (t : Ticket)
+pub idle_accepts_none : (place : Place) (p : ProcessId) → place.role ≡ Below p
+    → (n : Node) (c : Case) (t : Ticket)
     → (memory_of place n c).phase ≡ Idle → in_list (memory_of place n c).accepted t ≡ false
 idle_accepts_none place p e n c t f =
     ap (λ ts. in_list ts t) ((kept_of place p e n c).idle f) ∙ none_in_nobody t

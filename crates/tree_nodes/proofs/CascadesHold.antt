@@ -13,7 +13,8 @@ use Rattle.tree_turns.specs.Steps.{StepOf}
 use Rattle.tree_turns.proofs.Steps.{step_of}
 use Rattle.tree_nodes.specs.Numbers.{IsIssuer}
 use Rattle.tree_nodes.specs.WorldHolds.{Cascades, Issues}
-use Rattle.tree_nodes.proofs.CascadedGives.{Gives, gives_elsewhere, still_gives}
+use Rattle.tree_nodes.proofs.CascadedGives.{still_gives}
+use Rattle.tree_nodes.proofs.Giving.{Gives, gives_elsewhere}
 use Rattle.tree_nodes.proofs.CascadedMemories.{awake_is_issued, idle_accepts_none}
 use Rattle.tree_nodes.proofs.ManagersHold.{put_or_other, numbers_are_given_once}
 use Rattle.tree_nodes.proofs.Worlds.{all_last}

@@ -64,11 +64,13 @@ not_ended parent c j x untaken _ e (by_abort p l below) =
     absurd (subst (λ (r : Option ProcessId). IsNotTaken r (Abort c)) below
     (subst (λ (y : Message). IsNotTaken parent y) (let f : x ≡ Abort c = cc in f) untaken))
 
-joined_is_taken : {A : Type 0} (parent : Option ProcessId) (c : Case) (u : Ticket) → IsNotTaken parent (Joined c u) → A
+joined_is_taken : {A : Type 0} (parent : Option ProcessId) (c : Case) (u : Ticket)
+    → IsNotTaken parent (Joined c u) → A
 joined_is_taken None c u e = absurd e
 joined_is_taken (Some p) c u e = absurd e
 
-vote_is_taken : {A : Type 0} (parent : Option ProcessId) (w : Vote) (d : Case) → IsNotTaken parent (vote_message w d)
+vote_is_taken : {A : Type 0} (parent : Option ProcessId) (w : Vote) (d : Case)
+    → IsNotTaken parent (vote_message w d)
     → A
 vote_is_taken None VoteYes d e = absurd e
 vote_is_taken None VoteNo d e = absurd e
@@ -168,9 +170,11 @@ module _ (me : ProcessId) (parent : Option ProcessId) (tree : List TreeEntry) (n
         uncounted : (v : Ticket) (w : Vote) → CountedVote c (m c) h.input v w → ⊥
         uncounted v w x =
             let same : u ≡ v =
-            ticket_of y x.txn u v (spoken says kind j x.number (child_case y u) (child_case x.txn v) w (sym i ∙ x.hears)) in
+            ticket_of y x.txn u v (spoken says kind j x.number (child_case y u) (child_case x.txn v) w
+            (sym i ∙ x.hears)) in
             not_both (alone c d v (is_in_list (m c).accepted (m c).votes v x.counts)
-            (subst (λ (z : Ticket). belongs (m d) (kept n) d z ≡ true) same (child_belongs me parent tree n y u d found)))
+            (subst (λ (z : Ticket). belongs (m d) (kept n) d z ≡ true) same
+            (child_belongs me parent tree n y u d found)))
           where
             not_both : same_case d c ≡ true → ⊥
             not_both g = absurd (let z = sym f ∙ g in cc)
@@ -213,7 +217,8 @@ module _ (me : ProcessId) (parent : Option ProcessId) (tree : List TreeEntry) (n
 
         uncounted : (v : Ticket) (w : Vote) → CountedVote c (m c) h.input v w → ⊥
         uncounted v w x =
-            let same = spoken says kind i.0 x.number (child_case y t) (child_case x.txn v) w (sym i.1 ∙ x.hears) in
+            let same = spoken says kind i.0 x.number (child_case y t) (child_case x.txn v) w
+            (sym i.1 ∙ x.hears) in
             let u : t ≡ v = ticket_of y x.txn t v same in
             let z : y ≡ c.txn = ap (λ (d : Case). d.txn) same ∙ txn_is x.txn c.txn x.same in
             let out : belongs (m c) (kept n) c t ≡ false =

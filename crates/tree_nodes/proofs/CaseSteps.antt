@@ -218,8 +218,10 @@ pub unnamed_apart : (parent : Option ProcessId) (me : ProcessId) (boot : ℕ) (c
     → Moves parent me boot c m i k → Apart parent me boot c m i k
 unnamed_apart parent me boot c m i k e f (keeps v p l) = stays p l
 unnamed_apart parent me boot c m i k e f (asks a o p l) = absurd (let g = sym e ∙ asks_named parent c i a in cc)
-unnamed_apart parent me boot c m i k e f (closes a o p l) = absurd (let g = sym e ∙ ends_named parent c i a in cc)
-unnamed_apart parent me boot c m i k e f (takes j u x o b p a v) = absurd (let g = sym e ∙ ap named_case x in cc)
+unnamed_apart parent me boot c m i k e f (closes a o p l) =
+    absurd (let g = sym e ∙ ends_named parent c i a in cc)
+unnamed_apart parent me boot c m i k e f (takes j u x o b p a v) =
+    absurd (let g = sym e ∙ ap named_case x in cc)
 unnamed_apart parent me boot c m i k e f (counts t w x p a v) = absurd (f t w x)
 unnamed_apart parent me boot c m i k e f (opens o p a v) = begins o p a v
 
@@ -238,7 +240,8 @@ named_apart parent me boot c d m i k e f (closes a o p l) = not_other c d f (sym
 named_apart parent me boot c d m i k e f (takes j u x o b p a v) = not_other c d f (sym e ∙ ap named_case x)
 named_apart parent me boot c d m i k e f (counts t w x p a v) = no_vote w (sym e ∙ ap named_case x.hears)
   where
-    no_vote : {A : Type 0} (z : Vote) → Some d ≡ named_case (MessageInput x.number (vote_message z (child_case x.txn t))) → A
+    no_vote : {A : Type 0} (z : Vote) → Some d
+        ≡ named_case (MessageInput x.number (vote_message z (child_case x.txn t))) → A
     no_vote VoteYes g = absurd (cc)
     no_vote VoteNo g = absurd (cc)
     no_vote VoteRead g = absurd (cc)

@@ -44,7 +44,8 @@ pub took_before : (c : Case) (t : Ticket) (xs ys : List (Case × Ticket)) → to
     → took c t (xs ++ ys) ≡ true
 took_before c t xs ys e = list_any-append _ xs ys ∙ right (took c t xs) (took c t ys) e
 
-took_now : (c : Case) (t : Ticket) (xs ys : List (Case × Ticket)) → took c t xs ≡ true → took c t (xs ++ ys) ≡ true
+took_now : (c : Case) (t : Ticket) (xs ys : List (Case × Ticket)) → took c t xs ≡ true → took c t (xs ++ ys)
+    ≡ true
 took_now c t xs ys e = list_any-append _ xs ys ∙ left (took c t xs) (took c t ys) e
 
 in_longer : (ts : List Ticket) (u t : Ticket) → in_list (ts ++ u ∷ []) t ≡ true
@@ -101,7 +102,8 @@ module _ (me : ProcessId) (parent : Option ProcessId) (tree : List TreeEntry) (n
         let v = coordinator_view place n d in
         let active : v.standing ≡ Active = viewed place n d ∙ (old.together up d).open_is_active o in
         let same : row_effect d (on_joined u v v.standing) ≡ e =
-        does_so (row_effect d (on_joined u v v.standing)) (sym (reacts_joined me parent tree n h up k d u i) ∙ r) in
+        does_so (row_effect d (on_joined u v v.standing))
+        (sym (reacts_joined me parent tree n h up k d u i) ∙ r) in
         ap (λ (g : Effect). g.accepts) (sym same)
         ∙ row_accepts d u v v.standing active
         (ap (λ ts. has_child ts u.child) (active_accepted me parent tree n h d active) ∙ f)
@@ -126,11 +128,12 @@ module _ (me : ProcessId) (parent : Option ProcessId) (tree : List TreeEntry) (n
       by_move k (closes a o p l) f = kept_one (ap (λ ts. in_list ts t) (sym l.accepted) ∙ f)
       by_move k (counts u w x p a v) f = kept_one (ap (λ ts. in_list ts t) (sym a) ∙ f)
       by_move k (opens o p a v) f = in_nobody t (ap (λ ts. in_list ts t) (sym a) ∙ f)
-      by_move k (takes j u i o b p a v) f = elim (in_longer m.accepted u t (ap (λ ts. in_list ts t) (sym a) ∙ f)) [
-        | inl before ↦ kept_one before
-        | inr now ↦ took_now c t e.accepts n.accepted
-            (ap (took c t) (accepted_now j c u i o b) ∙ rw (same_case-refl c, now) refl)
-      ]
+      by_move k (takes j u i o b p a v) f =
+          elim (in_longer m.accepted u t (ap (λ ts. in_list ts t) (sym a) ∙ f)) [
+            | inl before ↦ kept_one before
+            | inr now ↦ took_now c t e.accepts n.accepted
+                (ap (took c t) (accepted_now j c u i o b) ∙ rw (same_case-refl c, now) refl)
+          ]
 
       pub remembered_then : in_list (remembers_at parent me (boot_of (kept n)) c
           (memory_of (coordinator_place me parent tree) n c) h.input).accepted t ≡ true
@@ -166,7 +169,8 @@ module _ (me : ProcessId) (parent : Option ProcessId) (tree : List TreeEntry) (n
       pub voted_then : (w : Vote) → heard_so c t w (e.counts ++ n.voted) ≡ true
           → took c t (e.accepts ++ n.accepted) ≡ true
       voted_then w f =
-          took_before c t e.accepts n.accepted (elim (either _ _ (sym (list_any-append _ e.counts n.voted) ∙ f)) [
+          took_before c t e.accepts n.accepted (elim
+          (either _ _ (sym (list_any-append _ e.counts n.voted) ∙ f)) [
             | inl now ↦ effect_counts place parent n h c t (is_vote w) (has_accepted n c t ≡ true)
                 (counts_one (is_vote w)) e (turn_here me parent tree n h e r) now
             | inr before ↦ old.voted_accepted c t w before

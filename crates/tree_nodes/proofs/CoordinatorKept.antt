@@ -78,7 +78,8 @@ memory_same place n k c e b =
 -- nothing is remembered where nothing was heard
 pub memory_empty : (place : Place) (k : Node) (c : Case) → k.heard ≡ [] → memory_of place k c ≡ fresh_memory
 unfolding memory_of
-memory_empty place k c e = ap (λ hs. fold (remembers place.me place.role (boot_of (kept k)) c) fresh_memory hs) e
+memory_empty place k c e =
+    ap (λ hs. fold (remembers place.me place.role (boot_of (kept k)) c) fresh_memory hs) e
 
 -- Records of others.
 
@@ -114,7 +115,8 @@ owing-append : (c : Case) (xs ys : List Record) → owing_by c (xs ++ ys) ≡ ow
 unfolding owing_by
 owing-append c [] ys = refl
 owing-append c (x ∷ xs) ys =
-    ap (λ ts. owing_in c x ++ ts) (owing-append c xs ys) ∙ sym (append_assoc (owing_in c x) (flat_map (owing_in c) xs) _)
+    ap (λ ts. owing_in c x ++ ts) (owing-append c xs ys)
+    ∙ sym (append_assoc (owing_in c x) (flat_map (owing_in c) xs) _)
 
 -- a case stands as before behind records of others
 pub stands_as_before : (c : Case) (rs new : List Record) (ph : Phase) → has (is_record_of c) new ≡ false
@@ -126,7 +128,8 @@ stands_as_before c rs new ph e =
       as_before c rs new e (is_abort c) (λ r f. grind arith),
       as_before c rs new e (is_prepare c) (λ r f. grind arith),
       as_before c rs new e (is_collecting c) (λ r f. grind arith),
-      owing-append c rs new ∙ (ap (λ ts. owing_by c rs ++ ts) (owing_none c new e) ∙ append-nil (owing_by c rs)),
+      owing-append c rs new
+          ∙ (ap (λ ts. owing_by c rs ++ ts) (owing_none c new e) ∙ append-nil (owing_by c rs)),
     ) refl
 
 -- a case that begins, of which there is no record, is Active

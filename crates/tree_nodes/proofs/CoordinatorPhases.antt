@@ -152,7 +152,8 @@ module _ (me : ProcessId) (boot : ℕ) (c : Case) (m : Memory) where
   at_vote (Some p) k y t VoteNo = refl
   at_vote (Some p) k y t VoteRead = refl
 
-module _ (me : ProcessId) (parent : Option ProcessId) (tree : List TreeEntry) (n : Node) (h : Heard) (c : Case) where
+module _ (me : ProcessId) (parent : Option ProcessId) (tree : List TreeEntry) (n : Node) (h : Heard)
+    (c : Case) where
   abbrev place : Place
   place = coordinator_place me parent tree
 
@@ -165,7 +166,8 @@ module _ (me : ProcessId) (parent : Option ProcessId) (tree : List TreeEntry) (n
       remembers_at parent me (boot_of (kept n)) c (memory_of (coordinator_place me parent tree) n c) h.input
 
   abbrev now : Phase
-  now = (remembers_at parent me (boot_of (kept n)) c (memory_of (coordinator_place me parent tree) n c) h.input).phase
+  now = (remembers_at parent me (boot_of (kept n)) c
+      (memory_of (coordinator_place me parent tree) n c) h.input).phase
 
   -- the phase that an input leaves
   by_input : (i : Input) (k : Memory) → h.input ≡ i → remembers_at parent me (boot_of (kept n)) c m i ≡ k
@@ -174,7 +176,8 @@ module _ (me : ProcessId) (parent : Option ProcessId) (tree : List TreeEntry) (n
       ∙ ap (λ (x : Memory). x.phase) f
 
   -- the view of a case that stands so
-  seen : (s : Standing) → standing_at (kept n) c m.phase ≡ s → coordinator_view place n c ≡ view_at s (kept n) c m
+  seen : (s : Standing) → standing_at (kept n) c m.phase ≡ s → coordinator_view place n c
+      ≡ view_at s (kept n) c m
   unfolding coordinator_view
   seen s e = ap (λ q. view_at q (kept n) c m) e
 
@@ -208,7 +211,8 @@ module _ (me : ProcessId) (parent : Option ProcessId) (tree : List TreeEntry) (n
   commit_phase top (prepare_comes p k e i) o = by_parent parent e
     where
       by_parent : (r : Option ProcessId) → r ≡ Some p
-          → (remembers_at r me (boot_of (kept n)) c m h.input).phase ≡ (if none_of m.accepted then Over else Asked)
+          → (remembers_at r me (boot_of (kept n)) c m h.input).phase
+          ≡ (if none_of m.accepted then Over else Asked)
       by_parent None f = absurd (cc)
       by_parent (Some q) f =
           ap (λ (x : Input). (remembers_at (Some q) me (boot_of (kept n)) c m x).phase) i.1
@@ -216,7 +220,8 @@ module _ (me : ProcessId) (parent : Option ProcessId) (tree : List TreeEntry) (n
   commit_phase top (commit_act x e i) o = by_parent parent (top x e)
     where
       by_parent : (r : Option ProcessId) → r ≡ None
-          → (remembers_at r me (boot_of (kept n)) c m h.input).phase ≡ (if none_of m.accepted then Over else Asked)
+          → (remembers_at r me (boot_of (kept n)) c m h.input).phase
+          ≡ (if none_of m.accepted then Over else Asked)
       by_parent (Some q) f = absurd (cc)
       by_parent None f =
           ap (λ (y : Input). (remembers_at None me (boot_of (kept n)) c m y).phase) i
@@ -283,7 +288,8 @@ module _ (me : ProcessId) (parent : Option ProcessId) (tree : List TreeEntry) (n
   vote_phase t w i o =
       let y = i.hears.txn in
       let same : same_txn y c.txn ≡ true =
-      subst (λ (x : Txn). same_txn y x ≡ true) (sym (child_txn me parent tree n y t c i.hears.belongs)) (same_txn-refl y) in
+      subst (λ (x : Txn). same_txn y x ≡ true) (sym (child_txn me parent tree n y t c i.hears.belongs))
+      (same_txn-refl y) in
       let counted : is_counted m.accepted m.votes t ≡ true =
       ap (λ ts. is_counted ts m.votes t) (sym (collecting_accepted i.stands))
       ∙ (ap (λ vs. is_counted (coordinator_view place n c).accepted vs t) (sym (collecting_votes i.stands))
@@ -291,7 +297,8 @@ module _ (me : ProcessId) (parent : Option ProcessId) (tree : List TreeEntry) (n
       by_input _ _ i.hears.hears.1 (at_vote me (boot_of (kept n)) c m parent i.hears.hears.0 y t w)
       ∙ rw same (counts_next m t w m.phase o counted)
 
-  pub ack_left : (t : Ticket) (o : Outcome) (y : Txn) (k : ℕ) → h.input ≡ MessageInput k (Ack (child_case y t) o)
+  pub ack_left : (t : Ticket) (o : Outcome) (y : Txn) (k : ℕ) → h.input
+      ≡ MessageInput k (Ack (child_case y t) o)
       → now ≡ m.phase
   ack_left t o y k i =
       by_input _ _ i (at_ack me (boot_of (kept n)) c m parent k y t o)

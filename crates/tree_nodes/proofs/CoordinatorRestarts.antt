@@ -40,7 +40,8 @@ use Rattle.tree_nodes.proofs.Trims.{trim_left}
 
 -- Restarts and trims are the same at each coordinator.
 
-reopens_same : (parent : Option ProcessId) (rs : List Record) → reopens (role_below parent) rs ≡ reopens AtRoot rs
+pub reopens_same : (parent : Option ProcessId) (rs : List Record) → reopens (role_below parent) rs
+    ≡ reopens AtRoot rs
 reopens_same None rs = refl
 reopens_same (Some p) rs = refl
 
@@ -55,7 +56,8 @@ data_same : (parent : Option ProcessId) (rs : List Record) → data_records (rol
 data_same None rs = refl
 data_same (Some p) rs = refl
 
-trimmed_same : (parent : Option ProcessId) (rs : List Record) → trimmed (role_below parent) rs ≡ trimmed AtRoot rs
+trimmed_same : (parent : Option ProcessId) (rs : List Record) → trimmed (role_below parent) rs
+    ≡ trimmed AtRoot rs
 unfolding trimmed
 trimmed_same parent rs =
     ap (λ xs. (Opened (boot_of rs) ∷ xs) ++ data_records (role_below parent) rs) (staying_same parent rs rs)
@@ -112,14 +114,16 @@ module _ (me : ProcessId) (parent : Option ProcessId) (tree : List TreeEntry) (n
     reopened_names x k a life same c t e =
         let new = reopens (role_below parent) (left k) in
         ap (took c t) same
-        ∙ elim (in_either (is_naming c t) (reverse (take a new)) n.life (ap (has (is_naming c t)) (sym life) ∙ e)) [
+        ∙ elim (in_either (is_naming c t) (reverse (take a new)) n.life
+        (ap (has (is_naming c t)) (sym life) ∙ e)) [
           | inl now ↦ names_reopened k c t
               (in_front (is_naming c t) a new (sym (has-reverse (is_naming c t) (take a new)) ∙ now))
           | inr before ↦ old.named_accepted c t before
         ]
 
     forgotten : (x : Node) → x.heard ≡ [] → (c : Case) (t : Ticket)
-        → in_list (memory_of (coordinator_place me parent tree) x c).accepted t ≡ true → has_accepted x c t ≡ true
+        → in_list (memory_of (coordinator_place me parent tree) x c).accepted t ≡ true → has_accepted x c t
+        ≡ true
     forgotten x e c t f =
         in_nobody t (ap (λ (y : Memory). in_list y.accepted t) (sym (memory_empty place x c e)) ∙ f)
 
@@ -131,7 +135,8 @@ module _ (me : ProcessId) (parent : Option ProcessId) (tree : List TreeEntry) (n
     whole_list [] = refl
     whole_list (x ∷ rs) = ap (λ y. x ∷ y) (whole_list rs)
 
-    reopened_so : (k : ℕ) → Coordinated (coordinator_place me parent tree) (restarted (coordinator_place me parent tree) n k)
+    reopened_so : (k : ℕ)
+        → Coordinated (coordinator_place me parent tree) (restarted (coordinator_place me parent tree) n k)
     reopened_so k =
         let x = restarted place n k in
         let rs = left k in
@@ -147,13 +152,15 @@ module _ (me : ProcessId) (parent : Option ProcessId) (tree : List TreeEntry) (n
               ∙ in_none is_needless rs new (left_needs k) (reopens_needs rs);
           remembered_accepted = forgotten x refl;
           voted_accepted = old.voted_accepted;
-          named_accepted = reopened_names x k (length new) (ap (λ ys. reverse ys ++ n.life) (sym (whole_list new))) refl;
+          named_accepted = reopened_names x k (length new)
+              (ap (λ ys. reverse ys ++ n.life) (sym (whole_list new))) refl;
           votes = λ up c live. never_live x refl c live;
           uncommitted = λ up c live. never_live x refl c live;
         }
 
     reopening_failed : (k a f : ℕ)
-        → Coordinated (coordinator_place me parent tree) (restart_fails (coordinator_place me parent tree) n k a f)
+        → Coordinated (coordinator_place me parent tree)
+        (restart_fails (coordinator_place me parent tree) n k a f)
     reopening_failed k a f =
         let x = restart_fails place n k a f in
         let rs = left k in
@@ -161,7 +168,8 @@ module _ (me : ProcessId) (parent : Option ProcessId) (tree : List TreeEntry) (n
         record {
           together = λ up. absurd (cc);
           needless = ap (has is_needless) (breaks_keeps (loses (logs_of n) k) new a f)
-              ∙ in_none is_needless rs (take a new) (left_needs k) (front_none is_needless a new (reopens_needs rs));
+              ∙ in_none is_needless rs (take a new) (left_needs k)
+              (front_none is_needless a new (reopens_needs rs));
           remembered_accepted = forgotten x refl;
           voted_accepted = old.voted_accepted;
           named_accepted = reopened_names x k a refl refl;
@@ -177,7 +185,8 @@ module _ (me : ProcessId) (parent : Option ProcessId) (tree : List TreeEntry) (n
     trimmed_needs : has is_needless (trimmed (role_below parent) (kept n)) ≡ false
     trimmed_needs = by_test (has is_needless after_trim) refl
       where
-        was : (has is_needless (kept n) ≡ true) ⊎ (has is_needless (data_records (role_below parent) (kept n)) ≡ true)
+        was : (has is_needless (kept n) ≡ true)
+            ⊎ (has is_needless (data_records (role_below parent) (kept n)) ≡ true)
             → has is_needless after_trim ≡ false
         was (inl before) = not_both is_needless (has is_needless (kept n)) before old.needless
         was (inr none) =
@@ -198,7 +207,8 @@ module _ (me : ProcessId) (parent : Option ProcessId) (tree : List TreeEntry) (n
         ≡ memory_of (coordinator_place me parent tree) n c
     same_memory c = trims_memory place n c
 
-    trimmed_so : n.failed ≡ false → Coordinated (coordinator_place me parent tree) (trims (coordinator_place me parent tree) n)
+    trimmed_so : n.failed ≡ false
+        → Coordinated (coordinator_place me parent tree) (trims (coordinator_place me parent tree) n)
     trimmed_so up = record {
       together = λ u c.
           subst (λ (ys : List Record). Together ys c (memory_of place x_trimmed c).phase)
@@ -231,7 +241,8 @@ module _ (me : ProcessId) (parent : Option ProcessId) (tree : List TreeEntry) (n
           ap (took c t) a
           ∙ old.remembered_accepted c t (ap (λ (y : Memory). in_list y.accepted t) (sym (same c)) ∙ f);
       voted_accepted = λ c t w f. ap (took c t) a ∙ old.voted_accepted c t w (ap (heard_so c t w) (sym v) ∙ f);
-      named_accepted = λ c t f. ap (took c t) a ∙ old.named_accepted c t (ap (has (is_naming c t)) (sym life) ∙ f);
+      named_accepted = λ c t f. ap (took c t) a
+          ∙ old.named_accepted c t (ap (has (is_naming c t)) (sym life) ∙ f);
       votes = λ up. absurd (let y = sym down ∙ up in cc);
       uncommitted = λ up. absurd (let y = sym down ∙ up in cc);
     }
@@ -245,7 +256,8 @@ module _ (me : ProcessId) (parent : Option ProcessId) (tree : List TreeEntry) (n
         (ap boot_of (append-nil after_trim) ∙ trimmed_boot (role_below parent) (kept n)))
 
     -- Each step.
-    pub coordinated_last : (m : Move) (e : Effect) (k : Node) → StepOf (coordinator_place me parent tree) n m e k
+    pub coordinated_last : (m : Move) (e : Effect) (k : Node)
+        → StepOf (coordinator_place me parent tree) n m e k
         → Coordinated (coordinator_place me parent tree) k
     coordinated_last m _ _ (handled i g hp np r) =
         let h = heard_in m i in handled_so me parent tree n given old h g (turn_of place n h g r) r

@@ -41,7 +41,8 @@ use Rattle.tree_nodes.proofs.Tests.{in_none, in_second, in_either, in_front, fro
 
 -- What a step takes of its coordinator: a ticket belongs to one case, a case that is not Idle is the coordinator's, a
 -- case that begins is new, and acts are for the root's cases alone.
-pub record Premises (me : ProcessId) (parent : Option ProcessId) (tree : List TreeEntry) (n : Node) : Type 0 where
+pub record Premises (me : ProcessId) (parent : Option ProcessId) (tree : List TreeEntry)
+    (n : Node) : Type 0 where
   pub nested : Nested (logs_of n)
   pub alone : Alone me parent tree n
   pub listed : Listed me parent tree n
@@ -77,17 +78,20 @@ module _ (me : ProcessId) (parent : Option ProcessId) (tree : List TreeEntry) (n
         m c = memory_of (coordinator_place me parent tree) n c
 
         abbrev m' : Case → Memory
-        m' c = remembers_at parent me (boot_of (kept n)) c (memory_of (coordinator_place me parent tree) n c) h.input
+        m' c = remembers_at parent me (boot_of (kept n)) c
+            (memory_of (coordinator_place me parent tree) n c) h.input
 
         step_of_case : (c : Case) → CaseStep me parent tree n h c e
-        step_of_case c = case_step me parent tree n h given.alone given.listed e (turn_here me parent tree n h e r) c
+        step_of_case c = case_step me parent tree n h given.alone given.listed e
+            (turn_here me parent tree n h e r) c
 
         -- the phase and the standing
 
         together_then : (c : Case) → Together (kept n ++ entries_written e.written) c (m' c).phase
         together_then c = by_step (step_of_case c)
           where
-            by_step : CaseStep me parent tree n h c e → Together (kept n ++ entries_written e.written) c (m' c).phase
+            by_step : CaseStep me parent tree n h c e
+                → Together (kept n ++ entries_written e.written) c (m' c).phase
             by_step (own row turn same) =
                 subst (λ (x : Effect). Together (kept n ++ entries_written x.written) c (m' c).phase) (sym same)
                 (own_together me parent tree n h c (old.together t.up c) (none_needless (kept n) c old.needless)
@@ -104,10 +108,12 @@ module _ (me : ProcessId) (parent : Option ProcessId) (tree : List TreeEntry) (n
 
         -- a live case has no Commit
 
-        live_uncommitted : (c : Case) (ph : Phase) → Together (kept n ++ entries_written e.written) c ph → IsLive ph
+        live_uncommitted : (c : Case) (ph : Phase) → Together (kept n ++ entries_written e.written) c ph
+            → IsLive ph
             → has (is_commit c) (kept n ++ entries_written e.written) ≡ false
         live_uncommitted c Open g live = (active_unrecorded _ c Open (g.open_is_active refl)).no_commit
-        live_uncommitted c Asked g live = (collecting_undecided _ c Asked (g.asked_is_collecting refl)).no_commit
+        live_uncommitted c Asked g live =
+            (collecting_undecided _ c Asked (g.asked_is_collecting refl)).no_commit
         live_uncommitted c Idle g live = absurd live
         live_uncommitted c Over g live = absurd live
 
@@ -116,7 +122,8 @@ module _ (me : ProcessId) (parent : Option ProcessId) (tree : List TreeEntry) (n
           where
             by_test : (b : Bool) → has (is_commit c) new ≡ b → has (is_commit c) new ≡ false
             by_test true f =
-                not_both (is_commit c) (has (is_commit c) (kept n ++ new)) (in_second (is_commit c) (kept n) new f)
+                not_both (is_commit c) (has (is_commit c) (kept n ++ new))
+                (in_second (is_commit c) (kept n) new f)
                 (live_uncommitted c (m' c).phase (together_then c) live)
             by_test false f = f
 
@@ -180,7 +187,8 @@ module _ (me : ProcessId) (parent : Option ProcessId) (tree : List TreeEntry) (n
 
         life_then : (after n h e).life ≡ reverse (entries_written e.written) ++ n.life
         life_then =
-            either_logs n new (is_any_forced e.written) (λ (l : Logs). l.life ≡ reverse new ++ n.life) (λ b. refl)
+            either_logs n new (is_any_forced e.written) (λ (l : Logs). l.life ≡ reverse new ++ n.life)
+            (λ b. refl)
             (λ b. refl)
 
         remembered_of : (k : Node) → k.heard ≡ n.heard ++ h ∷ [] → boot_of (kept k) ≡ boot_of (kept n)
@@ -193,17 +201,20 @@ module _ (me : ProcessId) (parent : Option ProcessId) (tree : List TreeEntry) (n
             (ap (λ (x : Memory). in_list x.accepted u) (sym (memory_behind me parent tree n h k c i b)) ∙ f)
 
         voted_of : (k : Node) → k.accepted ≡ e.accepts ++ n.accepted → k.voted ≡ e.counts ++ n.voted
-            → (c : Case) (u : Ticket) (v : Vote) → has_heard_vote k c u (is_vote v) ≡ true → has_accepted k c u ≡ true
+            → (c : Case) (u : Ticket) (v : Vote) → has_heard_vote k c u (is_vote v) ≡ true
+            → has_accepted k c u ≡ true
         voted_of k a w c u v f =
             ap (took c u) a ∙ voted_then me parent tree n old h e t.up r c u v (ap (heard_so c u v) (sym w) ∙ f)
 
         pub handled_so : Coordinated (coordinator_place me parent tree) (after n h e)
         handled_so = record {
           together = λ up c.
-              subst (λ (rs : List Record). Together rs c (memory_of place (after n h e) c).phase) (sym (kept-after n h e))
+              subst (λ (rs : List Record). Together rs c (memory_of place (after n h e) c).phase)
+              (sym (kept-after n h e))
               (subst (λ (x : Memory). Together (kept n ++ new) c x.phase)
               (sym (memory_behind me parent tree n h (after n h e) c refl leaves_boot)) (together_then c));
-          needless = ap (has is_needless) (kept-after n h e) ∙ in_none is_needless (kept n) new old.needless needs;
+          needless = ap (has is_needless) (kept-after n h e)
+              ∙ in_none is_needless (kept n) new old.needless needs;
           remembered_accepted = remembered_of (after n h e) refl leaves_boot refl;
           voted_accepted = voted_of (after n h e) refl refl;
           named_accepted = λ c u f. named_then (length new) c u

@@ -100,14 +100,16 @@ module _ (me : ProcessId) (parent : Option ProcessId) (tree : List TreeEntry) (n
           → now ≡ (if b then Over else Asked)
       asks_phase i e b f =
           commit_phase me parent tree n h c (top (known_at Active e (λ u. cc))) i (was_open e)
-          ∙ ap (λ (x : Bool). if x then Over else Asked) (ap none_of (sym (active_accepted me parent tree n h c e)) ∙ f)
+          ∙ ap (λ (x : Bool). if x then Over else Asked)
+          (ap none_of (sym (active_accepted me parent tree n h c e)) ∙ f)
 
       all_in : (t : Ticket) (w : Vote) → v.standing ≡ Collecting → (b : Bool)
           → all_voted v.accepted (voted v t w).votes ≡ b
           → all_voted m.accepted (m.votes ++ (t, w) ∷ []) ≡ b
       all_in t w e b f =
           ap (λ ts. all_voted ts (m.votes ++ (t, w) ∷ [])) (sym (collecting_accepted me parent tree n h c e))
-          ∙ (ap (λ vs. all_voted v.accepted (vs ++ (t, w) ∷ [])) (sym (collecting_votes me parent tree n h c e)) ∙ f)
+          ∙ (ap (λ vs. all_voted v.accepted (vs ++ (t, w) ∷ []))
+          (sym (collecting_votes me parent tree n h c e)) ∙ f)
 
       pub counts_phase : (t : Ticket) (w : Vote) → CountsVote place n h c t w → Consents w → (b : Bool)
           → all_voted v.accepted (voted v t w).votes ≡ b → now ≡ (if b then Over else Asked)
@@ -151,8 +153,10 @@ module _ (me : ProcessId) (parent : Option ProcessId) (tree : List TreeEntry) (n
           → HearsParent parent h (tells_outcome o c) → now ≡ m.phase
       acknowledged_left _ _ _ e commit_presumed_abort i = commit_comes i
       acknowledged_left _ _ _ e (commit_again q) i = commit_comes i
-      acknowledged_left _ _ _ e abort_presumed_commit i = abort_comes_late i (closed_at Unknown e (λ f. cc) (λ f. cc))
-      acknowledged_left _ _ _ e (abort_again q) i = abort_comes_late i (closed_at Aborting e (λ f. cc) (λ f. cc))
+      acknowledged_left _ _ _ e abort_presumed_commit i =
+          abort_comes_late i (closed_at Unknown e (λ f. cc) (λ f. cc))
+      acknowledged_left _ _ _ e (abort_again q) i =
+          abort_comes_late i (closed_at Aborting e (λ f. cc) (λ f. cc))
 
       rested : Rests place parent n h c → Together (kept n ++ []) c now
       rested (invited_already q i) = left (join_left me parent tree n h c c q i)
@@ -161,7 +165,8 @@ module _ (me : ProcessId) (parent : Option ProcessId) (tree : List TreeEntry) (n
           left (uncounted me parent tree n h c t w i.txn i.hears.0 i.hears.1
           (λ e. still_uncounted (old.asked_is_collecting e)))
         where
-          still_uncounted : standing_at (kept n) c m.phase ≡ Collecting → is_counted m.accepted m.votes t ≡ false
+          still_uncounted : standing_at (kept n) c m.phase ≡ Collecting → is_counted m.accepted m.votes t
+              ≡ false
           still_uncounted s =
               let e : v.standing ≡ Collecting = viewed place n c ∙ s in
               ap (λ ts. is_counted ts m.votes t) (sym (collecting_accepted me parent tree n h c e))
@@ -182,14 +187,16 @@ module _ (me : ProcessId) (parent : Option ProcessId) (tree : List TreeEntry) (n
       own_together _ (invites q i e f g) = left (join_left me parent tree n h c c q i)
       own_together _ (accepts t i e f) = left (joined_left me parent tree n h c c t i.0 i.1)
       own_together _ (sends_work q t op i e f g) = left (work_left me parent tree n h c c q op i)
-      own_together _ (finds_nobody i e f) = moved Over (asks_phase i e true f) (open_ends (kept n) c (at_open e))
+      own_together _ (finds_nobody i e f) =
+          moved Over (asks_phase i e true f) (open_ends (kept n) c (at_open e))
       own_together _ (asks_for_votes PresumeAbort i e f g) =
           moved Asked (asks_phase i e false f) (open_asks (kept n) c g (at_open e))
       own_together _ (asks_for_votes PresumeCommit i e f g) =
           wrote (CollectingRecord c v.accepted) Asked (asks_phase i e false f)
           (open_collects (kept n) c v.accepted (at_open e))
       own_together _ (gives_up why p i e f) =
-          moved Over (aborts_phase (known_at Active e (λ k. cc)) why i Open (was_open e) (λ g. cc)) (open_ends (kept n) c (at_open e))
+          moved Over (aborts_phase (known_at Active e (λ k. cc)) why i Open (was_open e) (λ g. cc))
+          (open_ends (kept n) c (at_open e))
       own_together _ (counts_vote t w i f e) =
           moved Asked (counts_phase t w i f false e) (at_asked i.stands)
       own_together _ (reads_only t w ys PresumeAbort i e f) =
@@ -212,10 +219,12 @@ module _ (me : ProcessId) (parent : Option ProcessId) (tree : List TreeEntry) (n
       own_together _ (hears_no t us PresumeCommit i e f) =
           wrote (AbortRecord c us) Over (no_phase t i) (aborts_together (kept n) c us Over over_closed)
       own_together _ (aborts why us PresumeAbort i e f g) =
-          wrote (AbortRecord c []) Over (aborts_phase (known_at Collecting e (λ k. cc)) why i Asked (was_asked e) (λ k. cc))
+          wrote (AbortRecord c []) Over (aborts_phase (known_at Collecting e (λ k. cc)) why i Asked
+          (was_asked e) (λ k. cc))
           (aborts_together (kept n) c [] Over over_closed)
       own_together _ (aborts why us PresumeCommit i e f g) =
-          wrote (AbortRecord c us) Over (aborts_phase (known_at Collecting e (λ k. cc)) why i Asked (was_asked e) (λ k. cc))
+          wrote (AbortRecord c us) Over (aborts_phase (known_at Collecting e (λ k. cc)) why i Asked
+          (was_asked e) (λ k. cc))
           (aborts_together (kept n) c us Over over_closed)
       own_together _ (passes_commit PresumeAbort i e f) =
           wrote (CommitRecord c v.promised) m.phase (commit_comes i)
@@ -225,16 +234,19 @@ module _ (me : ProcessId) (parent : Option ProcessId) (tree : List TreeEntry) (n
           (commits_together (kept n) c [] m.phase (closed_at Prepared e (λ k. cc) (λ k. cc)))
       own_together _ (passes_abort PresumeAbort i e f) =
           let shut = closed_at Prepared e (λ k. cc) (λ k. cc) in
-          wrote (AbortRecord c []) m.phase (abort_comes_late i shut) (aborts_together (kept n) c [] m.phase shut)
+          wrote (AbortRecord c []) m.phase (abort_comes_late i shut)
+          (aborts_together (kept n) c [] m.phase shut)
       own_together _ (passes_abort PresumeCommit i e f) =
           let shut = closed_at Prepared e (λ k. cc) (λ k. cc) in
           wrote (AbortRecord c v.promised) m.phase (abort_comes_late i shut)
           (aborts_together (kept n) c v.promised m.phase shut)
-      own_together _ (repeats_yes j i e) = left (prepare_comes_late j i (closed_at Prepared e (λ k. cc) (λ k. cc)).0)
+      own_together _ (repeats_yes j i e) =
+          left (prepare_comes_late j i (closed_at Prepared e (λ k. cc) (λ k. cc)).0)
       own_together _ (asks i e) = left (ask_left me parent tree n h c c i)
       own_together _ (refuses j i e) = left (prepare_comes_late j i (refuses_closed v.standing e refl).0)
       own_together _ (acknowledges o i e) = left (acknowledged_left o c.txn.presumption v.standing refl e i)
-      own_together _ (waits_for_acks t o i e f g) = left (ack_left me parent tree n h c t o i.txn i.hears.0 i.hears.1)
+      own_together _ (waits_for_acks t o i e f g) =
+          left (ack_left me parent tree n h c t o i.txn i.hears.0 i.hears.1)
       own_together _ (ends t o i e f g) =
           wrote (EndRecord c) m.phase (ack_left me parent tree n h c t o i.txn i.hears.0 i.hears.1)
           (ends_together (kept n) c m.phase (decided_closed o v.standing e refl))

@@ -96,7 +96,8 @@ module _ (me : ProcessId) (parent : Option ProcessId) (tree : List TreeEntry) (n
     (listed : Listed me parent tree n)
     (new : (c : Case) (i : Input)
     → Opens parent me (boot_of (kept n)) c (memory_of (coordinator_place me parent tree) n c) i → IsNew n c)
-    (h : Heard) (e : Effect) (up : n.failed ≡ false) (r : reacts (coordinator_place me parent tree) n h ≡ Does e)
+    (h : Heard) (e : Effect) (up : n.failed ≡ false)
+    (r : reacts (coordinator_place me parent tree) n h ≡ Does e)
     (c : Case)
   where
     abbrev place : Place
@@ -123,7 +124,8 @@ module _ (me : ProcessId) (parent : Option ProcessId) (tree : List TreeEntry) (n
               (sym (child_txn me parent tree n y u c i.hears.belongs)) (same_txn-refl y);
           asked = (old.together up c).collecting_is_asked (sym (viewed place n c) ∙ i.stands);
           counts = ap (λ ts. is_counted ts m.votes u) (sym (collecting_accepted me parent tree n h c i.stands))
-              ∙ (ap (λ vs. is_counted v.accepted vs u) (sym (collecting_votes me parent tree n h c i.stands)) ∙ i.counts);
+              ∙ (ap (λ vs. is_counted v.accepted vs u) (sym
+              (collecting_votes me parent tree n h c i.stands)) ∙ i.counts);
         }
 
     counts_nothing : ((u : Ticket) (w : Vote) → CountedVote c m h.input u w → ⊥) → (t : Ticket) (v : Vote)
@@ -170,7 +172,8 @@ module _ (me : ProcessId) (parent : Option ProcessId) (tree : List TreeEntry) (n
       found_here : case_of_child place n x.txn u ≡ Some c
       found_here = by_found (case_of_child place n x.txn u) refl
         where
-          by_found : (o : Option Case) → case_of_child place n x.txn u ≡ o → case_of_child place n x.txn u ≡ Some c
+          by_found : (o : Option Case) → case_of_child place n x.txn u ≡ o → case_of_child place n x.txn u
+              ≡ Some c
           by_found (Some d) f =
               f ∙ ap (λ (z : Case). Some z)
               (case_is d c (alone c d u in_accepted (child_belongs me parent tree n x.txn u d f)))
@@ -185,7 +188,8 @@ module _ (me : ProcessId) (parent : Option ProcessId) (tree : List TreeEntry) (n
       counted_now : e.counts ≡ (c, (u, w)) ∷ []
       counted_now =
           let v = coordinator_view place n c in
-          let stands : v.standing ≡ Collecting = viewed place n c ∙ (old.together up c).asked_is_collecting x.asked in
+          let stands : v.standing ≡ Collecting = viewed place n c
+          ∙ (old.together up c).asked_is_collecting x.asked in
           let same : vote_for place parent n u w (Some c) ≡ e =
           does_so (vote_for place parent n u w (Some c))
           (sym (reacts_vote me parent tree n h up x.number x.txn u w x.hears
@@ -237,14 +241,16 @@ module _ (me : ProcessId) (parent : Option ProcessId) (tree : List TreeEntry) (n
         ∙ (ap (λ b. b || heard_so c t v n.voted) (counts_nothing f t v)
         ∙ (old.votes up c live t v ∙ ap (λ vs. voted_so v vs t) (sym g)))
 
-    added_now : (k : Memory) (u : Ticket) (w : Vote) → CountedVote c m h.input u w → k.votes ≡ m.votes ++ (u, w) ∷ []
+    added_now : (k : Memory) (u : Ticket) (w : Vote) → CountedVote c m h.input u w → k.votes
+        ≡ m.votes ++ (u, w) ∷ []
         → Same k
     unfolding voted_so
     added_now k u w x g t v =
         let live : IsLive m.phase = subst IsLive (sym x.asked) tt in
         both_parts t v
         ∙ (ap (λ vs. heard_so c t v vs || heard_so c t v n.voted) (counted_now u w x)
-        ∙ (rw (same_case-refl c, one_test v w) (turned (same_ticket u t) (same_vote v w) (heard_so c t v n.voted))
+        ∙ (rw (same_case-refl c, one_test v w) (turned (same_ticket u t) (same_vote v w)
+        (heard_so c t v n.voted))
         ∙ (ap (λ b. b || ((same_vote v w && same_ticket u t) || false)) (old.votes up c live t v)
         ∙ (sym (list_any-append _ m.votes ((u, w) ∷ [])) ∙ ap (λ vs. voted_so v vs t) (sym g)))))
       where

@@ -25,7 +25,8 @@ use Rattle.tree_nodes.specs.Lasts.{logs_of, Lasts, Nested}
 use Rattle.tree_nodes.specs.Numbers.{IsIssuer}
 use Rattle.tree_nodes.specs.WorldHolds.{Cascades, Coordinates, Issues, NodeHolds, JoinedOnce, is_record_of, is_naming}
 use Rattle.tree_nodes.proofs.BootsHold.{all_booted, boots_of}
-use Rattle.tree_nodes.proofs.CascadedGives.{Gives, known_given, never_given}
+use Rattle.tree_nodes.proofs.CascadedGives.{known_given}
+use Rattle.tree_nodes.proofs.Giving.{Gives, never_given}
 use Rattle.tree_nodes.proofs.CascadedMemories.{awake_is_issued}
 use Rattle.tree_nodes.proofs.CascadesHold.{all_give, cascade_holds, cascade_issues}
 use Rattle.tree_nodes.proofs.Cases.{viewed}
@@ -59,7 +60,8 @@ module _ (me : ProcessId) (parent : Option ProcessId) (tree : List TreeEntry) (n
     (once : JoinedOnce net)
   where
     belongs_accepted : (d : Case) (t : Ticket)
-        → belongs (memory_of (coordinator_place me parent tree) n d) (kept n) d t ≡ true → has_accepted n d t ≡ true
+        → belongs (memory_of (coordinator_place me parent tree) n d) (kept n) d t ≡ true
+        → has_accepted n d t ≡ true
     belongs_accepted d t e = elim (either _ (in_list (named_by d (kept n)) t) e) [
       | inl remembered ↦ old.remembered_accepted d t remembered
       | inr named ↦ old.named_accepted d t
@@ -103,7 +105,8 @@ module _ (me : ProcessId) (tree : List TreeEntry) (n : Node)
         unwritten true f = never (recorded f)
         unwritten false f = f
 
-        untaken : (t : Ticket) (b : Bool) → has_accepted n (root_case x) t ≡ b → has_accepted n (root_case x) t ≡ false
+        untaken : (t : Ticket) (b : Bool) → has_accepted n (root_case x) t ≡ b
+            → has_accepted n (root_case x) t ≡ false
         untaken t true f = never (accepted t f)
         untaken t false f = f
 
@@ -117,7 +120,8 @@ module _ (me : ProcessId) (tree : List TreeEntry) (n : Node)
 
 -- Below it.
 
-module _ (me p : ProcessId) (tree : List TreeEntry) (net : List Envelope) (n : Node) (nested : Nested (logs_of n))
+module _ (me p : ProcessId) (tree : List TreeEntry) (net : List Envelope) (n : Node)
+    (nested : Nested (logs_of n))
     (gives : Gives (coordinator_place me (Some p) tree) net n)
     (issued : Issued (coordinator_place me (Some p) tree) net n)
   where
@@ -135,7 +139,8 @@ module _ (me p : ProcessId) (tree : List TreeEntry) (net : List Envelope) (n : N
         (known_given me p tree net n nested gives up c (λ u. absurd (known u))).1))
 
     cascaded_new : n.failed ≡ false → (c : Case) (i : Input)
-        → Opens (Some p) me (boot_of (kept n)) c (memory_of (coordinator_place me (Some p) tree) n c) i → IsNew n c
+        → Opens (Some p) me (boot_of (kept n)) c (memory_of (coordinator_place me (Some p) tree) n c) i
+        → IsNew n c
     cascaded_new up c _ (by_begin q top g) = absurd (cc)
     cascaded_new up c _ (by_join q j d below none g) = record {
       unrecorded = unwritten (has (is_record_of c) n.life) refl;
@@ -204,7 +209,8 @@ module _ (tree : List TreeEntry) where
       let x = m.step.process in
       let s = step_of (place_of tree x) (w.at x) m e now.node now.made in
       let P : ProcessId → Node → Type 0 = λ y k.
-      (parent : Option ProcessId) → role_of tree y ≡ role_below parent → Coordinated (coordinator_place y parent tree) k in
+      (parent : Option ProcessId) → role_of tree y ≡ role_below parent
+      → Coordinated (coordinator_place y parent tree) k in
       subst (λ (y : World). P q (y.at q)) (sym now.world)
       (put P x q now.node w.at
       (λ parent role. let old = all_coordinated es w run x parent role in
@@ -218,7 +224,7 @@ module _ (tree : List TreeEntry) where
   is_live ph (inl e) = subst IsLive (sym e) tt
   is_live ph (inr e) = subst IsLive (sym e) tt
 
-  whose : (es : List Made) (w : World) → IsRun tree es w → (q : ProcessId) (parent : Option ProcessId)
+  pub whose : (es : List Made) (w : World) → IsRun tree es w → (q : ProcessId) (parent : Option ProcessId)
       → role_of tree q ≡ role_below parent → (c : Case) (t : Ticket) → has_accepted (w.at q) c t ≡ true
       → process_of c ≡ q
   whose es w run q None e c t f =

@@ -64,9 +64,11 @@ pub mod CoordinatorSteps
 pub mod CoordinatorRestarts
 pub mod CoordinatorsHold
 pub mod RootDecisions
+pub mod Ended
 pub mod RootNever
 pub mod RootNeverLasts
 pub mod RootsHold
+pub mod Giving
 pub mod CascadedGives
 pub mod CascadedMemories
 pub mod CascadesHold

@@ -31,7 +31,7 @@ use Rattle.tree_nodes.proofs.Remembering.{coordinator_place}
 
 -- Lists of tickets.
 
-in_filtered : (f : Ticket → Bool) (ts : List Ticket) (t : Ticket) → in_list (filter f ts) t ≡ true
+pub in_filtered : (f : Ticket → Bool) (ts : List Ticket) (t : Ticket) → in_list (filter f ts) t ≡ true
     → in_list ts t ≡ true
 unfolding in_list
 in_filtered f [] t e = e
@@ -57,12 +57,13 @@ pub in_yesses : (ts : List Ticket) (vs : List (Ticket × Vote)) (t : Ticket) →
 unfolding yes_of
 in_yesses ts vs t e = in_filtered _ ts t e
 
-pub in_undecided : (ts : List Ticket) (vs : List (Ticket × Vote)) (t : Ticket) → in_list (undecided_of ts vs) t ≡ true
+pub in_undecided : (ts : List Ticket) (vs : List (Ticket × Vote)) (t : Ticket)
+    → in_list (undecided_of ts vs) t ≡ true
     → in_list ts t ≡ true
 unfolding undecided_of
 in_undecided ts vs t e = in_filtered _ ts t e
 
-in_nobody : {A : Type 0} → (t : Ticket) → in_list [] t ≡ true → A
+pub in_nobody : {A : Type 0} → (t : Ticket) → in_list [] t ≡ true → A
 unfolding in_list
 in_nobody t e = absurd (cc)
 
@@ -98,7 +99,8 @@ named_so : (b : Bool) (ts : List Ticket) (t : Ticket) → in_list (if b then ts 
 named_so true ts t e = e
 named_so false ts t e = in_nobody t e
 
-promise_names : (c : Case) (t : Ticket) (r : Record) → in_list (promised_in c r) t ≡ true → is_naming c t r ≡ true
+promise_names : (c : Case) (t : Ticket) (r : Record) → in_list (promised_in c r) t ≡ true → is_naming c t r
+    ≡ true
 promise_names c t (PrepareRecord d ts) e =
     left (same_case d c && in_list ts t) false (named_so (same_case d c) ts t e)
 promise_names c t r e = in_nobody t e
@@ -148,7 +150,8 @@ module _ (me : ProcessId) (parent : Option ProcessId) (tree : List TreeEntry) (n
     abbrev Named : Row → Type 0
     Named row = has (is_naming c t) (entries_written row.written) ≡ true
 
-    row_names : (d : Case) (row : Row) → CaseTurn (coordinator_place me parent tree) parent n h d row → Named row
+    row_names : (d : Case) (row : Row) → CaseTurn (coordinator_place me parent tree) parent n h d row
+        → Named row
         → has_accepted n c t ≡ true
     unfolding has
     row_names d _ (asks_for_votes PresumeCommit i e f g) k =
@@ -225,7 +228,8 @@ unfolding in_list
 in_one xs ys t e = either _ _ (sym (list_any-append _ xs ys) ∙ e)
 
 -- a case that collects by its records has all that they name in its view
-pub view_names : (rs : List Record) (d : Case) (v : CoordinatorView) → v ≡ recorded_view rs d → v.standing ≡ Collecting
+pub view_names : (rs : List Record) (d : Case) (v : CoordinatorView) → v ≡ recorded_view rs d → v.standing
+    ≡ Collecting
     → v.named ≡ named_by d rs
 unfolding recorded_view
 view_names rs d v e s =
@@ -241,7 +245,8 @@ module _ (c : Case) (t : Ticket) where
 
   record_names : (r : Record) → in_list (named_in c r) t ≡ true → is_naming c t r ≡ true
   record_names (CollectingRecord d ts) e =
-      let x = same_case d c && in_list ts t in left (x || false) false (left x false (named_if (same_case d c) ts t e))
+      let x = same_case d c && in_list ts t in left (x || false) false
+      (left x false (named_if (same_case d c) ts t e))
   record_names (PrepareRecord d ts) e =
       left (same_case d c && in_list ts t) false (named_if (same_case d c) ts t e)
   record_names (CommitRecord d ts) e = named_if (same_case d c) ts t e
@@ -292,4 +297,5 @@ module _ (c : Case) (t : Ticket) where
       → has (is_naming c t) rs ≡ true
   reopens_name rs k =
       aborts_name rs (cases_in rs)
-      (sym (has-cons (is_naming c t) (Opened (boot_of rs + 1)) (flat_map (aborts_collecting rs) (cases_in rs))) ∙ k)
+      (sym (has-cons (is_naming c t) (Opened (boot_of rs + 1))
+      (flat_map (aborts_collecting rs) (cases_in rs))) ∙ k)

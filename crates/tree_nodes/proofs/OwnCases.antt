@@ -22,12 +22,14 @@ found_passes : (f : Case → Bool) (cs : List Case) (c : Case) → find f cs ≡
 found_passes f [] c e = absurd (cc)
 found_passes f (d ∷ cs) c e = by_test (f d) refl e (found_passes f cs c)
   where
-    by_test : (b : Bool) → f d ≡ b → (if b then Some d else find f cs) ≡ Some c → (find f cs ≡ Some c → f c ≡ true)
+    by_test : (b : Bool) → f d ≡ b → (if b then Some d else find f cs) ≡ Some c
+        → (find f cs ≡ Some c → f c ≡ true)
         → f c ≡ true
     by_test true g h k = subst (λ (x : Case). f x ≡ true) (let z : d ≡ c = cc in z) g
     by_test false g h k = k h
 
-found_among : (P : Case → Type 0) (f : Case → Bool) (cs : List Case) (c : Case) → ((d : Case) → has_case cs d ≡ true → P d)
+found_among : (P : Case → Type 0) (f : Case → Bool) (cs : List Case) (c : Case)
+    → ((d : Case) → has_case cs d ≡ true → P d)
     → find f cs ≡ Some c → P c
 unfolding has_case
 found_among P f [] c all e = absurd (cc)
@@ -39,7 +41,8 @@ found_among P f (d ∷ cs) c all e =
         subst P (let z : d ≡ c = cc in z) (all d (left (same_case d d) (has_case cs d) (same_case-refl d)))
     by_test false h k = k h
 
-found_none : (f : Case → Bool) (cs : List Case) (c : Case) → find f cs ≡ None → has_case cs c ≡ true → f c ≡ false
+found_none : (f : Case → Bool) (cs : List Case) (c : Case) → find f cs ≡ None → has_case cs c ≡ true → f c
+    ≡ false
 unfolding has_case
 found_none f [] c e g = absurd (cc)
 found_none f (d ∷ cs) c e g = by_test (f d) refl e (found_none f cs c)
@@ -78,7 +81,8 @@ filtered_has f (d ∷ cs) c e g = by_test (f d) refl (filtered_has f cs c)
       | inr rest ↦ right (same_case d c) (has_case (filter f cs) c) (r rest g)
     ]
     by_test false h r = elim (either (same_case d c) (has_case cs c) e) [
-      | inl now ↦ absurd (let k = subst (λ (x : Case). f x ≡ false) (case_is d c now) h in let l = sym k ∙ g in cc)
+      | inl now ↦ absurd (let k = subst (λ (x : Case). f x ≡ false) (case_is d c now) h in let l = sym k
+          ∙ g in cc)
       | inr rest ↦ r rest g
     ]
 
@@ -100,7 +104,8 @@ own_txn me (Some p) tree n y c e = txn_is c.txn y (filtered_passes (λ d. same_t
 
 module _ (me : ProcessId) (parent : Option ProcessId) (tree : List TreeEntry) (n : Node) where
   -- the case to which a child's ticket belongs is of the transaction
-  pub child_txn : (y : Txn) (t : Ticket) (c : Case) → case_of_child (coordinator_place me parent tree) n y t ≡ Some c
+  pub child_txn : (y : Txn) (t : Ticket) (c : Case) → case_of_child (coordinator_place me parent tree) n y t
+      ≡ Some c
       → c.txn ≡ y
   child_txn y t c e = found_among (λ (d : Case). d.txn ≡ y) _ _ c (own_txn me parent tree n y) e
 
@@ -126,10 +131,12 @@ in_last xs ys c f = list_any-append _ xs ys ∙ right _ _ f
 
 -- below the root a case whose ticket was given is the coordinator's
 pub issued_is_own : (me p : ProcessId) (tree : List TreeEntry) (n : Node) (c : Case)
-    → has_case (memory_of (coordinator_place me (Some p) tree) n (some_case (coordinator_place me (Some p) tree))).issued c
+    → has_case (memory_of (coordinator_place me (Some p) tree) n
+    (some_case (coordinator_place me (Some p) tree))).issued c
     ≡ true
     → has_case (own_cases (role_below (Some p)) (coordinator_place me (Some p) tree) n c.txn) c ≡ true
-issued_is_own me p tree n c e = filtered_has (λ d. same_txn d.txn c.txn) _ c (in_last (cases_in (kept n)) _ c e) itself
+issued_is_own me p tree n c e =
+    filtered_has (λ d. same_txn d.txn c.txn) _ c (in_last (cases_in (kept n)) _ c e) itself
   where
     itself : same_txn c.txn c.txn ≡ true
     itself = elim (same_txn_tells c.txn c.txn) [ inl t ↦ t.0 | inr f ↦ absurd (f.1 refl) ]

@@ -116,7 +116,8 @@ module _ (parent : Option ProcessId) (me : ProcessId) (boot : ℕ) (c : Case) (m
 
   -- acknowledgements and works
 
-  acked : (i : Input) → is_vote_input i ≡ false → (t : Ticket) (o : Outcome) (ph : Phase) → M i (takes_ack m t o ph)
+  acked : (i : Input) → is_vote_input i ≡ false → (t : Ticket) (o : Outcome) (ph : Phase)
+      → M i (takes_ack m t o ph)
   acked i e t o Open = itself i e
   acked i e t o Asked = itself i e
   acked i e t o Idle = stays i e _ refl (record { accepted = refl; votes = refl })
@@ -183,7 +184,8 @@ module _ (parent : Option ProcessId) (me : ProcessId) (boot : ℕ) (c : Case) (m
         (record {
           number = k;
           txn = d.txn;
-          hears = ap (λ (o : Option Ticket). MessageInput k (vote_message w (record { txn = d.txn; ticket = o }))) e;
+          hears = ap (λ (o : Option Ticket). MessageInput k
+              (vote_message w (record { txn = d.txn; ticket = o }))) e;
           same = s;
           asked = a;
           counts = f;
@@ -222,7 +224,8 @@ module _ (parent : Option ProcessId) (me : ProcessId) (boot : ℕ) (c : Case) (m
     by_txn true e = by_ticket d.ticket refl e
     by_txn false e = uncounted
         (λ u v x. not_so
-        (subst (λ (y : Txn). same_txn y c.txn ≡ true) (sym (ap (λ (y : Case). y.txn) (is_of_case u v x))) x.same) e)
+        (subst (λ (y : Txn). same_txn y c.txn ≡ true)
+        (sym (ap (λ (y : Case). y.txn) (is_of_case u v x))) x.same) e)
       where
         not_so : same_txn d.txn c.txn ≡ true → same_txn d.txn c.txn ≡ false → ⊥
         not_so f g = cc
@@ -316,16 +319,19 @@ module _ (parent : Option ProcessId) (me : ProcessId) (boot : ℕ) (c : Case) (m
   joins_moves : (p : ProcessId) → parent ≡ Some p → (j : ℕ) (d : Case) (o : Option Ticket)
       → active_ticket m.active d ≡ o → M (MessageInput j (Join d)) (joins me boot c d m o)
   joins_moves p below j d (Some t) e = itself _ refl
-  joins_moves p below j d None e = given p below j d e (same_case c (child_case d.txn (next_ticket me boot m))) refl
+  joins_moves p below j d None e =
+      given p below j d e (same_case c (child_case d.txn (next_ticket me boot m))) refl
 
   retired : (d : Case) → SameLists m (retires m d)
   retired d = record { accepted = refl; votes = refl }
 
   prepared : (p : ProcessId) → parent ≡ Some p → (j k : ℕ) (d : Case)
-      → M (MessageInput j (Prepare d k)) (if same_case d c then asks_votes (retires m d) m.phase else retires m d)
+      → M (MessageInput j (Prepare d k)) (if same_case d c then asks_votes
+      (retires m d) m.phase else retires m d)
   prepared p below j k d = elim (same_case_tells d c) [
     | inl t ↦ rw t.0 (asked _ refl
-        (subst (λ (x : Case). Asks parent x (MessageInput j (Prepare d k))) t.1 (by_prepare p j k below)) (retires m d)
+        (subst (λ (x : Case). Asks parent x (MessageInput j (Prepare d k))) t.1 (by_prepare p j k below))
+        (retires m d)
         refl (retired d) m.phase refl)
     | inr f ↦ rw f.0 (stays _ refl (retires m d) refl (retired d))
   ]

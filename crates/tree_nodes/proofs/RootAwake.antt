@@ -44,7 +44,8 @@ module _ (me : ProcessId) (boot : ℕ) (c : Case) (m : Memory) where
   vote_begun VoteRead true = refl
   vote_begun VoteRead false = refl
 
-  by_move : (i : Input) (k : Memory) → Moves None me boot c m i k → (is_begun k.phase ≡ is_begun m.phase) ⊎ IsNext i
+  by_move : (i : Input) (k : Memory) → Moves None me boot c m i k → (is_begun k.phase ≡ is_begun m.phase)
+      ⊎ IsNext i
   by_move i k (keeps v p l) = inl (ap is_begun p)
   by_move i k (asks a o p l) =
       inl (both_awake k.phase _ m.phase p (votes_or_over (none_of m.accepted)) (ap is_begun o))

@@ -74,15 +74,23 @@ module _ (place : Place) (n : Node) (h : Heard) where
   row_decides c _ (asks_for_votes PresumeCommit i e f a) = nothing (λ d. refl) (λ d. refl) (λ x. refl)
   row_decides c _ (gives_up why p i e f) = drop why i e (λ d. refl) (λ d. refl) (λ x g. only_txn c x true g)
   row_decides c _ (counts_vote t w i f e) = nothing (λ d. refl) (λ d. refl) (λ x. refl)
-  row_decides c _ (reads_only t w ys PresumeAbort i e f) = nothing (λ d. refl) (λ d. refl) (λ x. and_false (same_txn c.txn x))
-  row_decides c _ (reads_only t w ys PresumeCommit i e f) = nothing (λ d. refl) (λ d. refl) (λ x. and_false (same_txn c.txn x))
-  row_decides c _ (commits t w ys PresumeAbort i e f a) = commit i.vote.stands (λ d. refl) (λ d g. only_it c d g) (λ x. and_false (same_txn c.txn x))
-  row_decides c _ (commits t w ys PresumeCommit i e f a) = commit i.vote.stands (λ d. refl) (λ d g. only_it c d g) (λ x. and_false (same_txn c.txn x))
+  row_decides c _ (reads_only t w ys PresumeAbort i e f) =
+      nothing (λ d. refl) (λ d. refl) (λ x. and_false (same_txn c.txn x))
+  row_decides c _ (reads_only t w ys PresumeCommit i e f) =
+      nothing (λ d. refl) (λ d. refl) (λ x. and_false (same_txn c.txn x))
+  row_decides c _ (commits t w ys PresumeAbort i e f a) =
+      commit i.vote.stands (λ d. refl) (λ d g. only_it c d g) (λ x. and_false (same_txn c.txn x))
+  row_decides c _ (commits t w ys PresumeCommit i e f a) =
+      commit i.vote.stands (λ d. refl) (λ d g. only_it c d g) (λ x. and_false (same_txn c.txn x))
   row_decides c _ (promises t w ys p i e f) = absurd (cc)
-  row_decides c _ (hears_no t us PresumeAbort i e f) = abort i.stands (λ d. refl) (λ d g. only_it c d g) (itself c) (λ x g. only_txn c x true g)
-  row_decides c _ (hears_no t us PresumeCommit i e f) = abort i.stands (λ d. refl) (λ d g. only_it c d g) (itself c) (λ x g. only_txn c x true g)
-  row_decides c _ (aborts why us PresumeAbort i e f a) = abort e (λ d. refl) (λ d g. only_it c d g) (itself c) (λ x g. only_txn c x true g)
-  row_decides c _ (aborts why us PresumeCommit i e f a) = abort e (λ d. refl) (λ d g. only_it c d g) (itself c) (λ x g. only_txn c x true g)
+  row_decides c _ (hears_no t us PresumeAbort i e f) =
+      abort i.stands (λ d. refl) (λ d g. only_it c d g) (itself c) (λ x g. only_txn c x true g)
+  row_decides c _ (hears_no t us PresumeCommit i e f) =
+      abort i.stands (λ d. refl) (λ d g. only_it c d g) (itself c) (λ x g. only_txn c x true g)
+  row_decides c _ (aborts why us PresumeAbort i e f a) =
+      abort e (λ d. refl) (λ d g. only_it c d g) (itself c) (λ x g. only_txn c x true g)
+  row_decides c _ (aborts why us PresumeCommit i e f a) =
+      abort e (λ d. refl) (λ d g. only_it c d g) (itself c) (λ x g. only_txn c x true g)
   row_decides c _ (passes_commit p i e f) = absurd (let x = i.is_parent in cc)
   row_decides c _ (passes_abort p i e f) = absurd (let x = i.is_parent in cc)
   row_decides c _ (repeats_yes j i e) = absurd (let x = i.is_parent in cc)
@@ -118,7 +126,8 @@ module _ (place : Place) (n : Node) (h : Heard) where
     pub stands : (coordinator_view place n d).standing ≡ Collecting
     pub alone : commits_now d e ≡ false
 
-  pub aborts_collecting_case : (e : Effect) → CoordinatorTurn place None n h e → (d : Case) → aborts_now d e ≡ true
+  pub aborts_collecting_case : (e : Effect) → CoordinatorTurn place None n h e → (d : Case) → aborts_now d e
+      ≡ true
       → AbortsCollecting d e
   unfolding has
   aborts_collecting_case _ (of_case c row t) d g = by_decision (row_decides c row t)
@@ -141,7 +150,8 @@ module _ (place : Place) (n : Node) (h : Heard) where
   pub data TellsAborted (x : Txn) (e : Effect) : Type 0 where
     with_abort : (c : Case) → c.txn ≡ x → aborts_now c e ≡ true → TellsAborted x e
     dropping : (c : Case) (why : Reason) → c.txn ≡ x → IsToAbort None h c why
-        → (coordinator_view place n c).standing ≡ Active → ((d : Case) → commits_now d e ≡ false) → TellsAborted x e
+        → (coordinator_view place n c).standing ≡ Active → ((d : Case) → commits_now d e ≡ false)
+        → TellsAborted x e
 
   pub tells_aborted : (e : Effect) → CoordinatorTurn place None n h e → (x : Txn) → tells_now x e ≡ true
       → TellsAborted x e

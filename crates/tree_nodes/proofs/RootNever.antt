@@ -1,5 +1,5 @@
 -- A transaction that the root ended by an abort never commits: through each input.
-use Rattle.std.proofs.Common.{◌≡◌, ◌∙◌, ◌||◌, ◌⊎◌, inl, inr, ℕ, Bool, true, false, Option, Some, None, List, [], ◌∷◌, ◌++◌, take, refl, sym, ap, subst, arith, append_assoc, ◌&&◌}
+use Rattle.std.proofs.Common.{◌≡◌, ◌∙◌, ◌||◌, ◌⊎◌, inl, inr, ℕ, Bool, true, false, Option, Some, None, List, [], ◌++◌, take, refl, sym, ap, subst, arith, append_assoc}
 use Rattle.std.specs.Prelude.{reverse}
 use Rattle.std.specs.List.{list_any}
 use Rattle.std.proofs.lemmas.List.{append-nil}
@@ -21,11 +21,9 @@ use Rattle.tree_model.specs.Outcomes.{is_told_aborted}
 use Rattle.tree_model.specs.Reactions.{Does, reacts}
 use Rattle.tree_model.proofs.ListLaws.{kept-after}
 use Rattle.tree_model.proofs.StandingLaws.{active_facts, phase_active}
-use Rattle.tree_readings.specs.ReadingOf.{is_told_of_txn}
 use Rattle.tree_turns.specs.CoordinatorTurns.{CoordinatorTurn}
 use Rattle.tree_turns.specs.Steps.{TurnOf}
-use Rattle.tree_nodes.specs.Lasts.{Logs, logs_of, standing, Nested}
-use Rattle.tree_nodes.specs.WorldHolds.{is_record_of}
+use Rattle.tree_nodes.specs.Lasts.{Logs, logs_of, Nested}
 use Rattle.tree_nodes.proofs.Appends.{forces, writes, either_logs, breaks_keeps}
 use Rattle.tree_nodes.proofs.Boots.{turn_none, boot_written}
 use Rattle.tree_nodes.proofs.CoordinatorAccepts.{turn_here}
@@ -33,62 +31,21 @@ use Rattle.tree_nodes.proofs.CoordinatorKept.{Coordinated, IsLive, memory_behind
 use Rattle.tree_nodes.proofs.CoordinatorPhases.{stands, abort_phase}
 use Rattle.tree_nodes.proofs.Phases.{Together, active_unrecorded, collecting_undecided}
 use Rattle.tree_nodes.proofs.Remembering.{coordinator_place, remembers_at, Opens, by_begin, by_join, Moves, keeps, asks, closes, takes, counts, opens, moves}
-use Rattle.tree_nodes.proofs.RootCases.{InHistory, recorded, told, found_undecided, RootCases}
+use Rattle.tree_nodes.proofs.Ended.{IsEnded, by_telling, by_abort, by_finding, CommitStands, Never, ended_history}
+use Rattle.tree_nodes.proofs.RootCases.{InHistory, RootCases}
 use Rattle.tree_nodes.proofs.RootDecisions.{commits_now, aborts_now, tells_now, commits_collecting, AbortsCollecting, aborts_collecting_case, TellsAborted, with_abort, dropping, tells_aborted}
 use Rattle.tree_nodes.proofs.RootHistories.{among, after_life, after_found}
 use Rattle.tree_nodes.proofs.RootKnown.{fresh_ever, known_roots}
 use Rattle.tree_nodes.proofs.RowPromises.{effect_collects, Collects}
 use Rattle.tree_nodes.proofs.Tests.{either, in_either, in_first, in_second, in_front, in_none, front_none, has-reverse, not_both}
-use Rattle.tree_nodes.proofs.Worlds.{has_other}
-
--- The case was ended by an abort: `aborted` was told of it, an Abort of it was appended, or a restart found it
--- undecided.
-pub data IsEnded (n : Node) (c : Case) : Type 0 where
-  by_telling : (x : Txn) → c ≡ root_case x → list_any (is_told_aborted x) n.told ≡ true → IsEnded n c
-  by_abort : has (is_abort c) n.life ≡ true → IsEnded n c
-  by_finding : (x : Txn) → c ≡ root_case x → among x n.found_undecided ≡ true → IsEnded n c
-
--- it takes no votes any more, and has no Commit, nor had one in the forced front
-pub record Dead (place : Place) (n : Node) (c : Case) : Type 0 where
-  pub closed : n.failed ≡ false → IsLive (memory_of place n c).phase → ⊥
-  pub none_kept : has (is_commit c) (kept n) ≡ false
-  pub none_ever : has (is_commit c) n.durable ≡ false
-
--- a Commit that was in the forced front stands there, or no record says that the case collects
-abbrev pub CommitStands : Logs → Type 0
-CommitStands l = (c : Case) → has (is_commit c) l.durable ≡ true
-    → (has (is_commit c) l.forced ≡ true) ⊎ (has (is_collecting c) (standing l) ≡ false)
-
-pub record Never (place : Place) (n : Node) : Type 0 where
-  pub stand : CommitStands (logs_of n)
-  pub dead : (c : Case) → IsEnded n c → Dead place n c
-
--- what was ended is in the histories
-told_any : (x : Txn) (ts : List Told) → list_any (is_told_aborted x) ts ≡ true → list_any (is_told_of_txn x) ts ≡ true
-told_any x [] e = absurd (cc)
-told_any x (t ∷ ts) e = more _ _ _ _ (first_of _ _) (told_any x ts) e
-  where
-    first_of : (a b : Bool) → (a && b) ≡ true → a ≡ true
-    first_of a b f = grind arith
-
-    more : (a b c d : Bool) → (a ≡ true → b ≡ true) → (c ≡ true → d ≡ true) → (a || c) ≡ true → (b || d) ≡ true
-    more true b c d f g h = rw (f refl) refl
-    more false b c d f g h = later b d (g h)
-      where
-        later : (b d : Bool) → d ≡ true → (b || d) ≡ true
-        later b d e = grind arith
-
-pub ended_history : (n : Node) (c : Case) → IsEnded n c → InHistory n c
-ended_history n c (by_telling x e f) = told x e (told_any x n.told f)
-ended_history n c (by_abort e) = recorded (has_other (is_abort c) (is_record_of c) n.life (λ r f. grind arith) e)
-ended_history n c (by_finding x e f) = found_undecided x e f
 
 -- a live case is no other
 live_not : {A : Type 0} (ph : Phase) → IsLive ph → ph ≡ Over → A
 live_not ph live e = absurd (subst IsLive e live)
 
 module _ (me : ProcessId) (tree : List TreeEntry) (n : Node) (nested : Nested (logs_of n))
-    (cases : RootCases (coordinator_place me None tree) n) (kept_so : Coordinated (coordinator_place me None tree) n)
+    (cases : RootCases (coordinator_place me None tree) n)
+    (kept_so : Coordinated (coordinator_place me None tree) n)
     (old : Never (coordinator_place me None tree) n)
   where
     abbrev place : Place
@@ -99,7 +56,8 @@ module _ (me : ProcessId) (tree : List TreeEntry) (n : Node) (nested : Nested (l
 
     -- a case that takes children or votes is live, and has no Commit
 
-    open_if_active : (h : Heard) (c : Case) → (coordinator_view (coordinator_place me None tree) n c).standing ≡ Active
+    open_if_active : (h : Heard) (c : Case)
+        → (coordinator_view (coordinator_place me None tree) n c).standing ≡ Active
         → (m c).phase ≡ Open
     open_if_active h c e =
         phase_active c.txn.presumption (m c).phase
@@ -124,12 +82,14 @@ module _ (me : ProcessId) (tree : List TreeEntry) (n : Node) (nested : Nested (l
       where
         in_log : (b : Bool) → has (is_commit c) (kept n) ≡ b → has (is_commit c) (kept n) ≡ false
         in_log true f =
-            not_both (is_commit c) (has (is_commit c) n.life) (nested.kept_was_written (is_commit c) (λ k. refl) f) e
+            not_both (is_commit c) (has (is_commit c) n.life)
+            (nested.kept_was_written (is_commit c) (λ k. refl) f) e
         in_log false f = f
 
         in_front_ever : (b : Bool) → has (is_commit c) n.durable ≡ b → has (is_commit c) n.durable ≡ false
         in_front_ever true f =
-            not_both (is_commit c) (has (is_commit c) n.life) (nested.old_was_written (is_commit c) (λ k. refl) f) e
+            not_both (is_commit c) (has (is_commit c) n.life)
+            (nested.old_was_written (is_commit c) (λ k. refl) f) e
         in_front_ever false f = f
 
     live_none : n.failed ≡ false → (c : Case) (ph : Phase) → (m c).phase ≡ ph → IsLive ph → NoCommit c
@@ -161,7 +121,8 @@ module _ (me : ProcessId) (tree : List TreeEntry) (n : Node) (nested : Nested (l
             by_test : (b : Bool) → commits_now c e ≡ b → commits_now c e ≡ false
             by_test true f =
                 absurd ((old.dead c d).closed t.up
-                (subst IsLive (sym (asked_if_collecting h t.up c (commits_collecting place n h e turn c f))) tt))
+                (subst IsLive (sym (asked_if_collecting h t.up c
+                (commits_collecting place n h e turn c f))) tt))
             by_test false f = f
 
         aborted_now : (c : Case) → aborts_now c e ≡ true → Ends c
@@ -181,7 +142,8 @@ module _ (me : ProcessId) (tree : List TreeEntry) (n : Node) (nested : Nested (l
             ap (λ (o : Option Ticket). record { txn = c.txn; ticket = o }) k.no_ticket ∙ ap root_case e
 
         abbrev now : Case → Phase
-        now c = (remembers_at None me (boot_of (kept n)) c (memory_of (coordinator_place me None tree) n c) h.input).phase
+        now c = (remembers_at None me (boot_of (kept n)) c
+            (memory_of (coordinator_place me None tree) n c) h.input).phase
 
         -- a case that was ended is not live behind it
 
@@ -208,7 +170,8 @@ module _ (me : ProcessId) (tree : List TreeEntry) (n : Node) (nested : Nested (l
 
         -- what is told now, or was told
 
-        told_now : (x : Txn) (o : Option Told) (ts : List Told) → list_any (is_told_aborted x) (told_first o ts) ≡ true
+        told_now : (x : Txn) (o : Option Told) (ts : List Told)
+            → list_any (is_told_aborted x) (told_first o ts) ≡ true
             → (list_any (is_told_aborted x) (told_first o []) ≡ true) ⊎ (list_any (is_told_aborted x) ts ≡ true)
         told_now x None ts f = inr f
         told_now x (Some a) ts f = elim (either (is_told_aborted x a) (list_any (is_told_aborted x) ts) f) [
@@ -231,7 +194,8 @@ module _ (me : ProcessId) (tree : List TreeEntry) (n : Node) (nested : Nested (l
             by_kind : TellsAborted place n h x e → Ending c
             by_kind (with_abort d s a) =
                 let w : AbortsCollecting place n h d e = aborts_collecting_case place n h e turn d a in
-                let same = own_case_is d x s (λ u. absurd (let y : Collecting ≡ Unknown = sym w.stands ∙ u in cc)) in
+                let same = own_case_is d x s (λ u. absurd
+                (let y : Collecting ≡ Unknown = sym w.stands ∙ u in cc)) in
                 aborting (subst (λ (y : Case). aborts_now y e ≡ true) (same ∙ sym f) a)
             by_kind (dropping d why s i act none) =
                 let same = own_case_is d x s (λ u. absurd (let y : Active ≡ Unknown = sym act ∙ u in cc)) in
@@ -255,11 +219,13 @@ module _ (me : ProcessId) (tree : List TreeEntry) (n : Node) (nested : Nested (l
           | inr y ↦ already (by_telling x s y)
         ]
         after_ending c (by_abort f) =
-            elim (in_either (is_abort c) (reverse new) n.life (ap (has (is_abort c)) (sym (after_life n h e)) ∙ f)) [
+            elim (in_either (is_abort c) (reverse new) n.life
+            (ap (has (is_abort c)) (sym (after_life n h e)) ∙ f)) [
               | inl y ↦ aborting (sym (has-reverse (is_abort c) new) ∙ y)
               | inr y ↦ already (by_abort y)
             ]
-        after_ending c (by_finding x s f) = already (by_finding x s (ap (among x) (sym (after_found n h e)) ∙ f))
+        after_ending c (by_finding x s f) =
+            already (by_finding x s (ap (among x) (sym (after_found n h e)) ∙ f))
 
         ever_after : (c : Case) → Ends c → has (is_commit c) (after n h e).durable ≡ false
         ever_after c d =
@@ -306,9 +272,11 @@ module _ (me : ProcessId) (tree : List TreeEntry) (n : Node) (nested : Nested (l
 
           after_stand : CommitStands (logs_of (after n h e))
           after_stand =
-              either_logs n new (is_any_forced e.written) CommitStands (λ b c f. forced_so c f) (λ b c f. plain_so c f)
+              either_logs n new (is_any_forced e.written) CommitStands (λ b c f. forced_so c f)
+              (λ b c f. plain_so c f)
             where
-              more_none : (c : Case) → has (is_commit c) n.durable ≡ true → has (is_collecting c) (kept n) ≡ false
+              more_none : (c : Case) → has (is_commit c) n.durable ≡ true → has (is_collecting c) (kept n)
+                  ≡ false
                   → has (is_collecting c) (kept n ++ new) ≡ false
               more_none c f g = in_none (is_collecting c) (kept n) new g (collects_none c f)
 
@@ -316,7 +284,8 @@ module _ (me : ProcessId) (tree : List TreeEntry) (n : Node) (nested : Nested (l
                   → (has (is_commit c) (kept n ++ new) ≡ true)
                   ⊎ (has (is_collecting c) ((kept n ++ new) ++ []) ≡ false)
               by_old c f = elim (old.stand c f) [
-                | inl g ↦ inl (in_first (is_commit c) (kept n) new (in_first (is_commit c) n.forced n.unforced g))
+                | inl g ↦ inl (in_first (is_commit c) (kept n) new
+                    (in_first (is_commit c) n.forced n.unforced g))
                 | inr g ↦ inr (ap (has (is_collecting c)) (append-nil (kept n ++ new)) ∙ more_none c f g)
               ]
 
@@ -332,7 +301,8 @@ module _ (me : ProcessId) (tree : List TreeEntry) (n : Node) (nested : Nested (l
               plain_so : CommitStands (writes (logs_of n) new)
               plain_so c f = elim (old.stand c f) [
                 | inl g ↦ inl g
-                | inr g ↦ inr (ap (has (is_collecting c)) (sym (append_assoc n.forced n.unforced new)) ∙ more_none c f g)
+                | inr g ↦ inr (ap (has (is_collecting c)) (sym (append_assoc n.forced n.unforced new))
+                    ∙ more_none c f g)
               ]
 
           pub after_never : Never (coordinator_place me None tree) (after n h e)

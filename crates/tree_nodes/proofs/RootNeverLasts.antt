@@ -34,7 +34,8 @@ use Rattle.tree_nodes.proofs.Remembering.{coordinator_place}
 use Rattle.tree_nodes.proofs.RootCases.{RootCases}
 use Rattle.tree_nodes.proofs.RootHistories.{among}
 use Rattle.tree_nodes.proofs.RootLogs.{recorded_stands, idle_standing, known_stays}
-use Rattle.tree_nodes.proofs.RootNever.{IsEnded, by_telling, by_abort, by_finding, Never, after_never, failing_never}
+use Rattle.tree_nodes.proofs.Ended.{IsEnded, by_telling, by_abort, by_finding, Never}
+use Rattle.tree_nodes.proofs.RootNever.{after_never, failing_never}
 use Rattle.tree_nodes.proofs.Tests.{either, in_either, in_first, in_second, in_front, in_none, front_none, has-reverse, has-cons, has-nil, not_both, case_is}
 use Rattle.tree_nodes.proofs.Trims.{trim_left}
 
@@ -75,7 +76,8 @@ module _ (c : Case) (rs : List Record) where
   reopens_collect : has (is_abort c) (reopens AtRoot rs) ≡ true → standing_at rs c Idle ≡ Collecting
   reopens_collect k =
       aborts_collect (cases_in rs)
-      (sym (has-cons (is_abort c) (Opened (boot_of rs + 1)) (flat_map (aborts_collecting rs) (cases_in rs))) ∙ k)
+      (sym (has-cons (is_abort c) (Opened (boot_of rs + 1)) (flat_map (aborts_collecting rs) (cases_in rs)))
+      ∙ k)
 
 -- A transaction that a restart finds undecided has no Commit left, nor had one in the forced front.
 
@@ -101,7 +103,8 @@ neither_commit false true c e = absurd (cc)
 neither_commit false false true e = absurd (cc)
 
 module _ (me : ProcessId) (tree : List TreeEntry) (n : Node) (nested : Nested (logs_of n))
-    (cases : RootCases (coordinator_place me None tree) n) (kept_so : Coordinated (coordinator_place me None tree) n)
+    (cases : RootCases (coordinator_place me None tree) n)
+    (kept_so : Coordinated (coordinator_place me None tree) n)
     (old : Never (coordinator_place me None tree) n)
   where
     abbrev place : Place
@@ -110,13 +113,15 @@ module _ (me : ProcessId) (tree : List TreeEntry) (n : Node) (nested : Nested (l
     abbrev left : ℕ → List Record
     left j = n.forced ++ take j n.unforced
 
-    was_kept : (q : Record → Bool) (j : ℕ) → has q (n.forced ++ take j n.unforced) ≡ true → has q (kept n) ≡ true
+    was_kept : (q : Record → Bool) (j : ℕ) → has q (n.forced ++ take j n.unforced) ≡ true → has q (kept n)
+        ≡ true
     was_kept q j e = elim (in_either q n.forced (take j n.unforced) e) [
       | inl front ↦ in_first q n.forced n.unforced front
       | inr rest ↦ in_second q n.forced n.unforced (in_front q j n.unforced rest)
     ]
 
-    none_left : (q : Record → Bool) (j : ℕ) → has q (kept n) ≡ false → has q (n.forced ++ take j n.unforced) ≡ false
+    none_left : (q : Record → Bool) (j : ℕ) → has q (kept n) ≡ false → has q (n.forced ++ take j n.unforced)
+        ≡ false
     none_left q j e = by_test (has q (left j)) refl
       where
         by_test : (b : Bool) → has q (left j) ≡ b → has q (left j) ≡ false
@@ -162,7 +167,8 @@ module _ (me : ProcessId) (tree : List TreeEntry) (n : Node) (nested : Nested (l
     -- what a restart ends, or was ended before it
     ended_left : (k : Node) (j a : ℕ) → k.told ≡ n.told
         → k.life ≡ reverse (take a (reopens AtRoot (n.forced ++ take j n.unforced))) ++ n.life
-        → k.found_undecided ≡ filter (is_undecided n (n.forced ++ take j n.unforced)) n.begun ++ n.found_undecided
+        → k.found_undecided ≡ filter (is_undecided n
+        (n.forced ++ take j n.unforced)) n.begun ++ n.found_undecided
         → (c : Case) → IsEnded k c → NoneLeft j c
     ended_left k j a s l u c (by_telling x f e) =
         dead_left j c (by_telling x f (ap (list_any (is_told_aborted x)) (sym s) ∙ e))
@@ -197,7 +203,8 @@ module _ (me : ProcessId) (tree : List TreeEntry) (n : Node) (nested : Nested (l
     whole_list [] = refl
     whole_list (x ∷ rs) = ap (λ y. x ∷ y) (whole_list rs)
 
-    reopened_never : (j : ℕ) → Never (coordinator_place me None tree) (restarted (coordinator_place me None tree) n j)
+    reopened_never : (j : ℕ)
+        → Never (coordinator_place me None tree) (restarted (coordinator_place me None tree) n j)
     reopened_never j =
         let k = restarted place n j in
         let rs = left j in
@@ -208,14 +215,17 @@ module _ (me : ProcessId) (tree : List TreeEntry) (n : Node) (nested : Nested (l
             | inr g ↦ elim (in_either (is_commit c) rs n.durable g) [
               | inl y ↦ inl (in_first (is_commit c) rs new y)
               | inr y ↦ elim (old.stand c y) [
-                | inl z ↦ inl (in_first (is_commit c) rs new (in_first (is_commit c) n.forced (take j n.unforced) z))
+                | inl z ↦ inl (in_first (is_commit c) rs new
+                    (in_first (is_commit c) n.forced (take j n.unforced) z))
                 | inr z ↦ inr (ap (has (is_collecting c)) (append-nil (rs ++ new))
-                    ∙ in_none (is_collecting c) rs new (none_left (is_collecting c) j z) (no_collecting_reopened c j))
+                    ∙ in_none (is_collecting c) rs new (none_left (is_collecting c) j z)
+                    (no_collecting_reopened c j))
               ]
             ]
           ];
           dead = λ c d.
-              let s = ended_left k j (length new) refl (ap (λ ys. reverse ys ++ n.life) (sym (whole_list new))) refl c d in
+              let s = ended_left k j (length new) refl (ap (λ ys. reverse ys ++ n.life)
+              (sym (whole_list new))) refl c d in
               record {
                 closed = λ up live. asleep k refl c live;
                 none_kept = ap (has (is_commit c)) (append-nil (rs ++ new))
@@ -231,7 +241,8 @@ module _ (me : ProcessId) (tree : List TreeEntry) (n : Node) (nested : Nested (l
     in_front_none q j a f e g =
         let new = reopens AtRoot (left j) in
         front_none q f (take j n.unforced ++ take a new)
-        (in_none q (take j n.unforced) (take a new) (last_none n.forced (take j n.unforced) e) (front_none q a new g))
+        (in_none q (take j n.unforced) (take a new) (last_none n.forced (take j n.unforced) e)
+        (front_none q a new g))
       where
         last_none : (xs ys : List Record) → has q (xs ++ ys) ≡ false → has q ys ≡ false
         last_none xs ys y = by_test (has q ys) refl
@@ -260,7 +271,8 @@ module _ (me : ProcessId) (tree : List TreeEntry) (n : Node) (nested : Nested (l
           dead = λ c d. let s = ended_left k j a refl refl refl c d in record {
             closed = λ up. absurd (cc);
             none_kept = ap (has (is_commit c)) (breaks_keeps (loses (logs_of n) j) new a f)
-                ∙ in_none (is_commit c) rs (take a new) s.left (front_none (is_commit c) a new (no_commit_reopened c j));
+                ∙ in_none (is_commit c) rs (take a new) s.left
+                (front_none (is_commit c) a new (no_commit_reopened c j));
             none_ever = in_none (is_commit c) front n.durable
                 (in_front_none (is_commit c) j a f s.left (no_commit_reopened c j)) s.ever;
           };
@@ -287,18 +299,21 @@ module _ (me : ProcessId) (tree : List TreeEntry) (n : Node) (nested : Nested (l
         → (has (is_commit c) (trimmed AtRoot (kept n)) ≡ true)
         ⊎ (has (is_collecting c) (trimmed AtRoot (kept n) ++ []) ≡ false)
     stands_short c e = elim (old.stand c e) [
-      | inl f ↦ by_known (is_known (recorded_view (kept n) c).standing) refl (in_first (is_commit c) n.forced n.unforced f)
+      | inl f ↦ by_known (is_known (recorded_view (kept n) c).standing) refl
+          (in_first (is_commit c) n.forced n.unforced f)
       | inr f ↦ inr (ap (has (is_collecting c)) (append-nil short) ∙ none_short (is_collecting c) (λ j. refl) f)
     ]
       where
         any : Ticket
         any = record { child = c.txn.root; boot = 0; number = 0 }
 
-        by_known : (b : Bool) → is_known (recorded_view (kept n) c).standing ≡ b → has (is_commit c) (kept n) ≡ true
+        by_known : (b : Bool) → is_known (recorded_view (kept n) c).standing ≡ b
+            → has (is_commit c) (kept n) ≡ true
             → (has (is_commit c) (trimmed AtRoot (kept n)) ≡ true)
             ⊎ (has (is_collecting c) (trimmed AtRoot (kept n) ++ []) ≡ false)
         by_known true g k = inl (known_stays c (is_commit c) (λ r y. grind arith) (kept n) g k)
-        by_known false g k = inr (ap (has (is_collecting c)) (append-nil short) ∙ (gone (kept n) c any g).collecting)
+        by_known false g k = inr (ap (has (is_collecting c)) (append-nil short)
+            ∙ (gone (kept n) c any g).collecting)
 
     -- what appended nothing, and trimmed the log
     trimmed_never : (k : Node) → k.told ≡ n.told → k.life ≡ n.life → k.found_undecided ≡ n.found_undecided
@@ -311,9 +326,11 @@ module _ (me : ProcessId) (tree : List TreeEntry) (n : Node) (nested : Nested (l
       stand = λ c g. by_both c (in_either (is_commit c) short n.durable (ap (has (is_commit c)) (sym d) ∙ g));
       dead = λ c x. let y = old.dead c (as_before c x) in record {
         closed = λ up live. let z = live_so c up live in y.closed z.0 z.1;
-        none_kept = ap (has (is_commit c)) (logs ∙ append-nil short) ∙ none_short (is_commit c) (λ j. refl) y.none_kept;
+        none_kept = ap (has (is_commit c)) (logs ∙ append-nil short)
+            ∙ none_short (is_commit c) (λ j. refl) y.none_kept;
         none_ever = ap (has (is_commit c)) d
-            ∙ in_none (is_commit c) short n.durable (none_short (is_commit c) (λ j. refl) y.none_kept) y.none_ever;
+            ∙ in_none (is_commit c) short n.durable (none_short (is_commit c)
+            (λ j. refl) y.none_kept) y.none_ever;
       };
     }
       where
@@ -353,7 +370,8 @@ module _ (me : ProcessId) (tree : List TreeEntry) (n : Node) (nested : Nested (l
         as_before c (by_abort g) = by_abort g
         as_before c (by_finding x e g) = by_finding x e g
 
-    trim_failed : (a : ℕ) → Never (coordinator_place me None tree) (trim_fails (coordinator_place me None tree) n a)
+    trim_failed : (a : ℕ)
+        → Never (coordinator_place me None tree) (trim_fails (coordinator_place me None tree) n a)
     trim_failed zero = falls
     trim_failed (suc a) =
         trimmed_never _ refl refl refl refl refl refl (λ c up. absurd (cc))

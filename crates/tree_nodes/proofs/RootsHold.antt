@@ -29,7 +29,7 @@ use Rattle.tree_nodes.proofs.CoordinatorsHold.{all_coordinated, cascaded_nodes_h
 use Rattle.tree_nodes.proofs.ManagersHold.{same_self, managers_hold}
 use Rattle.tree_nodes.proofs.Remembering.{coordinator_place}
 use Rattle.tree_nodes.proofs.RootBegins.{all_begun, leaves_trace, own_transactions}
-use Rattle.tree_nodes.proofs.RootNever.{IsEnded, by_telling, by_abort, by_finding, Dead, Never, ended_history}
+use Rattle.tree_nodes.proofs.Ended.{IsEnded, by_telling, by_abort, by_finding, Dead, Never, ended_history}
 use Rattle.tree_nodes.proofs.RootNeverLasts.{never_last}
 use Rattle.tree_nodes.proofs.RootNumbered.{all_root_cases}
 use Rattle.tree_nodes.proofs.Worlds.{all_last, put}
@@ -57,7 +57,8 @@ module _ (tree : List TreeEntry) where
       let now = makes_at tree w m e w' step in
       let x = m.step.process in
       let s = step_of (place_of tree x) (w.at x) m e now.node now.made in
-      let P : ProcessId → Node → Type 0 = λ y k. role_of tree y ≡ AtRoot → Never (coordinator_place y None tree) k in
+      let P : ProcessId → Node → Type 0 = λ y k. role_of tree y ≡ AtRoot
+      → Never (coordinator_place y None tree) k in
       subst (λ (y : World). P q (y.at q)) (sym now.world)
       (put P x q now.node w.at
       (λ role.
@@ -70,7 +71,8 @@ module _ (tree : List TreeEntry) where
 
   -- What is stated of it.
 
-  module _ (es : List Made) (w : World) (run : IsRun tree es w) (q : ProcessId) (e : role_of tree q ≡ AtRoot) where
+  module _ (es : List Made) (w : World) (run : IsRun tree es w) (q : ProcessId)
+      (e : role_of tree q ≡ AtRoot) where
     abbrev place : Place
     place = coordinator_place q None tree
 
@@ -79,7 +81,8 @@ module _ (tree : List TreeEntry) where
 
     -- a case that takes no votes is not live
     closed_so : (c : Case) → Dead (coordinator_place q None tree) (w.at q) c
-        → is_live (phase_by (w.at q).failed (coordinator_view (coordinator_place q None tree) (w.at q) c).standing)
+        → is_live (phase_by (w.at q).failed (coordinator_view (coordinator_place q None tree)
+        (w.at q) c).standing)
         ≡ false
     closed_so c d = by_failed (w.at q).failed refl
       where
@@ -95,7 +98,8 @@ module _ (tree : List TreeEntry) where
             absurd (d.closed up (subst IsLive (sym was) tt))
         by_standing up Collecting s =
             let was : (memory_of place n c).phase ≡ Asked =
-            ((all_coordinated tree es w run q None e).together up c).collecting_is_asked (sym (viewed place n c) ∙ s) in
+            ((all_coordinated tree es w run q None e).together up c).collecting_is_asked
+            (sym (viewed place n c) ∙ s) in
             absurd (d.closed up (subst IsLive (sym was) tt))
         by_standing up Unknown s = refl
         by_standing up Prepared s = refl
@@ -112,7 +116,8 @@ module _ (tree : List TreeEntry) where
     never x d =
         let dead = (all_never es w run q e).dead (root_case x) d in
         record {
-          begun = leaves_trace q tree n (all_root_cases tree es w run q e) (all_begun tree es w run q e) (root_case x)
+          begun = leaves_trace q tree n (all_root_cases tree es w run q e) (all_begun tree es w run q e)
+              (root_case x)
               (ended_history n (root_case x) d);
           closed = closed_so (root_case x) dead;
           none_kept = dead.none_kept;

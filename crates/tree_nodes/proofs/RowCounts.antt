@@ -17,8 +17,10 @@ use Rattle.tree_turns.specs.CoordinatorTurns.{CountsVote, CaseTurn, rests, invit
 abbrev pub HeardSo : Case → Ticket → (Vote → Bool) → List (Case × (Ticket × Vote)) → Type 0
 HeardSo c t q vs = list_any (λ a. same_case a.0 c && (same_ticket a.1.0 t && q a.1.1)) vs ≡ true
 
-module _ (place : Place) (parent : Option ProcessId) (n : Node) (h : Heard) (c : Case) (t : Ticket) (q : Vote → Bool) (A : Type 0)
-    (one : (d : Case) (u : Ticket) (w : Vote) → CountsVote place n h d u w → HeardSo c t q ((d, (u, w)) ∷ []) → A)
+module _ (place : Place) (parent : Option ProcessId) (n : Node) (h : Heard) (c : Case) (t : Ticket)
+    (q : Vote → Bool) (A : Type 0)
+    (one : (d : Case) (u : Ticket) (w : Vote) → CountsVote place n h d u w
+    → HeardSo c t q ((d, (u, w)) ∷ []) → A)
   where
     row_counts : (d : Case) (row : Row) → CaseTurn place parent n h d row
         → HeardSo c t q (row_effect d row).counts → A

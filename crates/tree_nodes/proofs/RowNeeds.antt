@@ -29,13 +29,15 @@ needless_if c p (CollectingRecord d ts) e = elim (same_case_tells d c) [
 ]
 needless_if c p r e = absurd (cc)
 
-pub none_needless : (rs : List Record) (c : Case) → has is_needless rs ≡ false → c.txn.presumption ≡ PresumeAbort
+pub none_needless : (rs : List Record) (c : Case) → has is_needless rs ≡ false → c.txn.presumption
+    ≡ PresumeAbort
     → has (is_collecting c) rs ≡ false
 none_needless rs c none p = by_test (has (is_collecting c) rs) refl
   where
     by_test : (b : Bool) → has (is_collecting c) rs ≡ b → has (is_collecting c) rs ≡ false
     by_test true e =
-        not_both is_needless (has is_needless rs) (has_other (is_collecting c) is_needless rs (needless_if c p) e)
+        not_both is_needless (has is_needless rs)
+        (has_other (is_collecting c) is_needless rs (needless_if c p) e)
         none
     by_test false e = e
 
@@ -75,7 +77,8 @@ module _ (place : Place) (parent : Option ProcessId) (n : Node) (h : Heard) (c :
   turn_needs _ (ends t o i e f g) = refl
   turn_needs _ (answers t o i e) = refl
 
-pub effect_needs : (place : Place) (parent : Option ProcessId) (n : Node) (h : Heard) (e : Effect) → CoordinatorTurn place parent n h e
+pub effect_needs : (place : Place) (parent : Option ProcessId) (n : Node) (h : Heard) (e : Effect)
+    → CoordinatorTurn place parent n h e
     → has is_needless (entries_written e.written) ≡ false
 effect_needs place parent n h _ (does_nothing i) = has-nil is_needless
 effect_needs place parent n h _ (of_case c row t) = turn_needs place parent n h c row t

@@ -25,7 +25,8 @@ vote_is_one k VoteYes d = refl
 vote_is_one k VoteNo d = refl
 vote_is_one k VoteRead d = refl
 
-pub vote_case : (k j : ℕ) (w v : Vote) (d e : Case) → MessageInput k (vote_message w d) ≡ MessageInput j (vote_message v e)
+pub vote_case : (k j : ℕ) (w v : Vote) (d e : Case) → MessageInput k (vote_message w d)
+    ≡ MessageInput j (vote_message v e)
     → d ≡ e
 vote_case k j VoteYes VoteYes d e f = cc
 vote_case k j VoteNo VoteNo d e f = cc
