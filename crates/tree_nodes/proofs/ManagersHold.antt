@@ -53,7 +53,7 @@ joined_is_own place n m _ _ (failed_trimming f fl hp up) d t e = none_sent d t e
 -- Runs.
 
 -- a process is put in its place: it made a step, or another one did
-put_or_other : (P Q : ProcessId → Node → Type 0) (q p : ProcessId) (k : Node) (at : ProcessId → Node) → Q q k
+pub put_or_other : (P Q : ProcessId → Node → Type 0) (q p : ProcessId) (k : Node) (at : ProcessId → Node) → Q q k
     → ((q ≡ p → ⊥) → P p (at p) → Q p (at p)) → P p (at p) → Q p (put_at q k at p)
 put_or_other P Q q p k at now other old = elim (same_process_tells q p) [
   | inl t ↦ rw t.0 (subst (λ (x : ProcessId). Q x k) t.1 now)

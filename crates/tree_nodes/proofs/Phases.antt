@@ -5,7 +5,7 @@ use Rattle.tree_model.specs.declared.names.Ticket.{Ticket}
 use Rattle.tree_model.specs.declared.names.Presumption.{Presumption}
 use Rattle.tree_model.specs.declared.names.Presumption.TheVariants.{PresumeAbort, PresumeCommit}
 use Rattle.tree_model.specs.declared.records.Record.{Record}
-use Rattle.tree_model.specs.declared.records.Record.TheVariants.{Collecting as CollectingRecord, Commit as CommitRecord, Abort as AbortRecord, End as EndRecord}
+use Rattle.tree_model.specs.declared.records.Record.TheVariants.{Collecting as CollectingRecord, Prepare as PrepareRecord, Commit as CommitRecord, Abort as AbortRecord, End as EndRecord}
 use Rattle.tree_model.specs.declared.standings.Standing.{Standing}
 use Rattle.tree_model.specs.declared.standings.Standing.TheVariants.{Unknown, Active, Collecting}
 use Rattle.tree_model.specs.NameLaws.{same_case-refl}
@@ -175,3 +175,11 @@ module _ (rs : List Record) (c : Case) where
       (λ e. not_both (is_abort c) (has (is_abort c) (rs ++ AbortRecord c ts ∷ []))
       (found (is_abort c) rs (AbortRecord c ts) (same_case-refl c))
       (collecting_undecided (rs ++ AbortRecord c ts ∷ []) c ph e).no_abort)
+
+  pub prepares_together : (ts : List Ticket) (ph : Phase) → Closed ph
+      → Together (rs ++ PrepareRecord c ts ∷ []) c ph
+  prepares_together ts ph k =
+      over_together ph (standing_at (rs ++ PrepareRecord c ts ∷ []) c ph) k.0 k.1
+      (λ e. not_both (is_prepare c) (has (is_prepare c) (rs ++ PrepareRecord c ts ∷ []))
+      (found (is_prepare c) rs (PrepareRecord c ts) (same_case-refl c))
+      (collecting_undecided (rs ++ PrepareRecord c ts ∷ []) c ph e).no_prepare)

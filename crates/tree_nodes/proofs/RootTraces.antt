@@ -33,9 +33,9 @@ use Rattle.tree_nodes.proofs.Tests.{either, right}
 use Rattle.tree_nodes.proofs.RootAwake.{awake_by, begins_open}
 use Rattle.tree_nodes.proofs.RootHistories.{among, NewIn, writes_of, accepts_into, begins_it, tells_of, effect_accepts, effect_tells}
 use Rattle.tree_nodes.proofs.RootKnown.{known_by, known_roots}
-use Rattle.tree_nodes.proofs.RootLive.{IsNext}
+use Rattle.tree_nodes.proofs.RootAwake.{IsNext}
 use Rattle.tree_nodes.proofs.RootMemories.{memory_heard}
-use Rattle.tree_nodes.proofs.RootWrites.{effect_writes}
+use Rattle.tree_nodes.proofs.RowWrites.{effect_writes}
 
 -- Tests.
 
@@ -205,7 +205,7 @@ module _ (me : ProcessId) (tree : List TreeEntry) (n : Node) (nested : Nested (l
       histories_then : (c : Case) → InHistory n c ⊎ NewIn e c → among c.txn now ≡ true
       histories_then c (inl before) = begun_more c.txn e.begun n.begun (old.in_histories c before)
       histories_then c (inr (writes_of g)) =
-          begun_more c.txn e.begun n.begun (effect_writes place n h IsAmong known_among e turn c g)
+          begun_more c.txn e.begun n.begun (effect_writes place None n h IsAmong known_among e turn c g)
       histories_then c (inr (accepts_into t g)) =
           begun_more c.txn e.begun n.begun (effect_accepts place n h IsAmong known_among unticketed e turn c t g)
       histories_then c (inr (begins_it x i g)) =

@@ -11,7 +11,7 @@ ghost use Rattle.tree_model.specs.declared.names.Txn.{Txn};
 ghost use Rattle.tree_nodes.specs.Numbers.{IsIssuer, Numbers};
 ghost use Rattle.tree_nodes.specs.CaseOrder.{CaseInOrder, IsCoordinator};
 ghost use Rattle.tree_nodes.specs.RootBegins.{OwnTransactions};
-ghost use Rattle.tree_nodes.specs.WorldHolds.{Boots, Coordinates, IsPair, JoinedOnce, NodeHolds, WorldHolds, pair_reading};
+ghost use Rattle.tree_nodes.specs.WorldHolds.{Boots, Cascades, Coordinates, IsPair, Issues, JoinedOnce, NodeHolds, WorldHolds, pair_reading};
 ghost use Rattle.tree_pairs.specs.Invariant.{Common};
 ghost use Rattle.tree_readings.specs.ReadingOf.{gives_case};
 ghost use Rattle.tree_model.specs.World.{IsRun, Made, World};
@@ -52,6 +52,15 @@ pub fn roots_hold()
         → role_of tree p ≡ AtRoot → Coordinates (place_of tree p) w.net (w.at p) }
 {}
 
+/// In every run of every tree, each coordinator, the root or one below it, keeps its part of the world's invariant: what
+/// it remembers of a case goes with the case's records and with the votes that it heard; whom it remembers, heard or
+/// named, it accepted, and JOINED named; a case's records stand in order; and a case that can still be decided has no
+/// Commit.
+pub fn coordinators_hold()
+    ensures { (tree : List TreeEntry) (es : List Made) (w : World) → IsRun tree es w → (p : ProcessId)
+        → IsCoordinator (role_of tree p) → Coordinates (place_of tree p) w.net (w.at p) }
+{}
+
 /// In every run of every tree, the records of each case of each coordinator stand in the order in which they are
 /// written, and decisions and promises name whom they should.
 pub fn cases_stand_in_order()
@@ -82,6 +91,27 @@ pub fn numbers_are_given_once()
 pub fn managers_hold()
     ensures { (tree : List TreeEntry) (es : List Made) (w : World) → IsRun tree es w → (q p : ProcessId)
         → role_of tree q ≡ AtLeaf p → NodeHolds (place_of tree q) w.net (w.at q) }
+{}
+
+/// In every run of every tree each cascaded coordinator has recorded, and remembers, only cases whose tickets it gave,
+/// each with a number of its own, and it promised only where it was asked.
+pub fn cascades_own_their_cases()
+    ensures { (tree : List TreeEntry) (es : List Made) (w : World) → IsRun tree es w → (q p : ProcessId)
+        → role_of tree q ≡ Below p → Issues (place_of tree q) w.net (w.at q) }
+{}
+
+/// In every run of every tree each cascaded coordinator accepts only into cases that it gave; those that it remembers it
+/// gave since its last restart; of the others it remembers no accepted ticket; and it collects votes only where it was
+/// asked.
+pub fn cascades_hold()
+    ensures { (tree : List TreeEntry) (es : List Made) (w : World) → IsRun tree es w → (q p : ProcessId)
+        → role_of tree q ≡ Below p → Cascades (place_of tree q) w.net (w.at q) }
+{}
+
+/// In every run of every tree each cascaded coordinator keeps its part of the world's invariant, the whole of it.
+pub fn cascaded_nodes_hold()
+    ensures { (tree : List TreeEntry) (es : List Made) (w : World) → IsRun tree es w → (q p : ProcessId)
+        → role_of tree q ≡ Below p → NodeHolds (place_of tree q) w.net (w.at q) }
 {}
 
 /// In every run of every tree JOINED gives each ticket to one case.

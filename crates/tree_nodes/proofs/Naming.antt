@@ -1,5 +1,5 @@
--- Whom a root's records name was accepted: over every run.
-use Rattle.std.proofs.Common.{◌≡◌, ◌∙◌, ◌&&◌, ◌||◌, ◌⊎◌, inl, inr, ◌+◌, Bool, true, false, None, List, [], ◌∷◌, ◌++◌, refl, sym, ap, subst, arith, if◌then◌else◌}
+-- Whom a coordinator's records name was accepted.
+use Rattle.std.proofs.Common.{◌≡◌, ◌∙◌, ◌&&◌, ◌||◌, ◌⊎◌, inl, inr, ◌+◌, Bool, true, false, Option, List, [], ◌∷◌, ◌++◌, refl, sym, ap, subst, arith, if◌then◌else◌}
 use Rattle.std.specs.Prelude.{filter}
 use Rattle.std.specs.List.{flat_map}
 use Rattle.std.proofs.lemmas.List.Folds.{list_any-append}
@@ -14,21 +14,20 @@ use Rattle.tree_model.specs.declared.standings.Standing.TheVariants.{Unknown, Ac
 use Rattle.tree_model.specs.declared.standings.Vote.{Vote}
 use Rattle.tree_model.specs.declared.trees.TreeEntry.{TreeEntry}
 use Rattle.tree_model.specs.Names.{same_case, same_ticket}
-use Rattle.tree_model.specs.Records.{has, in_list, named_in, named_by, cases_in, boot_of}
-use Rattle.tree_model.specs.Nodes.{AtRoot, Place, Node, Heard, Effect, entries_written}
+use Rattle.tree_model.specs.Records.{has, in_list, named_in, named_by, promised_in, promised_by, cases_in, boot_of}
+use Rattle.tree_model.specs.Nodes.{AtRoot, Place, Node, kept, Heard, Effect, entries_written}
 use Rattle.tree_model.specs.Memory.{memory_of, yes_of, undecided_of}
 use Rattle.tree_model.specs.Standings.{CoordinatorView, coordinator_view, coordinator_standing, view_at}
 use Rattle.tree_model.specs.Memory.{fresh_memory}
 use Rattle.tree_model.specs.CoordinatorRows.{Row}
 use Rattle.tree_model.specs.Outcomes.{has_accepted}
 use Rattle.tree_model.specs.Restarts.{recorded_view, restart_abort, aborts_collecting, reopens}
-use Rattle.tree_model.specs.Views.{root_place}
 use Rattle.tree_model.proofs.StandingLaws.{view_standing}
 use Rattle.tree_turns.specs.CoordinatorTurns.{CaseTurn, rests, invites, accepts, sends_work, finds_nobody, asks_for_votes, gives_up, counts_vote, reads_only, commits, promises, hears_no, aborts, passes_commit, passes_abort, repeats_yes, asks, refuses, acknowledges, waits_for_acks, ends, answers, CoordinatorTurn, does_nothing, of_case, begins, gives_again, gives_fresh, presumes}
 use Rattle.tree_nodes.specs.WorldHolds.{is_naming}
-use Rattle.tree_nodes.proofs.RootAccepts.{Accepts}
 use Rattle.tree_nodes.proofs.Tests.{either, left, right, both, has-cons, in_either, case_is}
-use Rattle.tree_nodes.proofs.RootPhases.{active_accepted, collecting_accepted}
+use Rattle.tree_nodes.proofs.CoordinatorPhases.{active_accepted, collecting_accepted, prepared_promised}
+use Rattle.tree_nodes.proofs.Remembering.{coordinator_place}
 
 -- Lists of tickets.
 
@@ -80,6 +79,10 @@ module _ (c d : Case) (t : Ticket) (ts : List Ticket) where
   unfolding has
   collecting_tells e = both (same_case d c) (in_list ts t) (alone _ (alone _ (alone _ e)))
 
+  prepare_tells : has (is_naming c t) (PrepareRecord d ts ∷ []) ≡ true → Tells
+  unfolding has
+  prepare_tells e = both (same_case d c) (in_list ts t) (alone _ (alone _ e))
+
   commit_tells : has (is_naming c t) (CommitRecord d ts ∷ []) ≡ true → Tells
   unfolding has
   commit_tells e = both (same_case d c) (in_list ts t) (alone _ e)
@@ -88,13 +91,50 @@ module _ (c d : Case) (t : Ticket) (ts : List Ticket) where
   unfolding has
   abort_tells e = both (same_case d c) (in_list ts t) (alone _ e)
 
+-- What a promise names.
+
+named_so : (b : Bool) (ts : List Ticket) (t : Ticket) → in_list (if b then ts else []) t ≡ true
+    → (b && in_list ts t) ≡ true
+named_so true ts t e = e
+named_so false ts t e = in_nobody t e
+
+promise_names : (c : Case) (t : Ticket) (r : Record) → in_list (promised_in c r) t ≡ true → is_naming c t r ≡ true
+promise_names c t (PrepareRecord d ts) e =
+    left (same_case d c && in_list ts t) false (named_so (same_case d c) ts t e)
+promise_names c t r e = in_nobody t e
+
+in_both : (xs ys : List Ticket) (t : Ticket) → in_list (xs ++ ys) t ≡ true
+    → (in_list xs t ≡ true) ⊎ (in_list ys t ≡ true)
+unfolding in_list
+in_both xs ys t e = either _ _ (sym (list_any-append _ xs ys) ∙ e)
+
+promises_name : (c : Case) (t : Ticket) (rs : List Record) → in_list (promised_by c rs) t ≡ true
+    → has (is_naming c t) rs ≡ true
+unfolding promised_by
+promises_name c t [] e = in_nobody t e
+promises_name c t (r ∷ rs) e = elim (in_both (promised_in c r) (flat_map (promised_in c) rs) t e) [
+  | inl now ↦ has-cons (is_naming c t) r rs ∙ left _ _ (promise_names c t r now)
+  | inr rest ↦ has-cons (is_naming c t) r rs ∙ right _ _ (promises_name c t rs rest)
+]
+
 -- What a row's record names.
 
-module _ (me : ProcessId) (tree : List TreeEntry) (n : Node) (old : Accepts (root_place me tree) n) (h : Heard)
+module _ (me : ProcessId) (parent : Option ProcessId) (tree : List TreeEntry) (n : Node) (h : Heard)
     (c : Case) (t : Ticket)
+    (remembered : (d : Case) (u : Ticket)
+    → in_list (memory_of (coordinator_place me parent tree) n d).accepted u ≡ true → has_accepted n d u ≡ true)
+    (named : (d : Case) (u : Ticket) → has (is_naming d u) (kept n) ≡ true → has_accepted n d u ≡ true)
   where
     abbrev place : Place
-    place = root_place me tree
+    place = coordinator_place me parent tree
+
+    -- who is promised, a record names
+    promised_accepted : (d : Case) → (coordinator_view place n d).standing ≡ Prepared → same_case d c ≡ true
+        → in_list (coordinator_view place n d).promised t ≡ true → has_accepted n c t ≡ true
+    promised_accepted d s e g =
+        subst (λ (x : Case). has_accepted n x t ≡ true) (case_is d c e)
+        (named d t (promises_name d t (kept n)
+        (ap (λ ts. in_list ts t) (sym (prepared_promised me parent tree n h d s)) ∙ g)))
 
     -- who is in the view of a case that takes votes, or children, was accepted
     viewed_accepted : (d : Case) (ts : List Ticket)
@@ -103,35 +143,35 @@ module _ (me : ProcessId) (tree : List TreeEntry) (n : Node) (old : Accepts (roo
         → in_list ts t ≡ true → has_accepted n c t ≡ true
     viewed_accepted d ts a s f e =
         subst (λ (x : Case). has_accepted n x t ≡ true) (case_is d c s)
-        (old.remembered_accepted d t (ap (λ us. in_list us t) (sym a) ∙ f e))
+        (remembered d t (ap (λ us. in_list us t) (sym a) ∙ f e))
 
     abbrev Named : Row → Type 0
     Named row = has (is_naming c t) (entries_written row.written) ≡ true
 
-    row_names : (d : Case) (row : Row) → CaseTurn (root_place me tree) None n h d row → Named row
+    row_names : (d : Case) (row : Row) → CaseTurn (coordinator_place me parent tree) parent n h d row → Named row
         → has_accepted n c t ≡ true
     unfolding has
     row_names d _ (asks_for_votes PresumeCommit i e f g) k =
         let v = coordinator_view place n d in
         let s = collecting_tells c d t v.accepted k in
-        viewed_accepted d v.accepted (active_accepted me tree n h d e) s.0 (λ x. x) s.1
+        viewed_accepted d v.accepted (active_accepted me parent tree n h d e) s.0 (λ x. x) s.1
     row_names d _ (commits u w ys PresumeAbort i e f g) k =
         let v = coordinator_view place n d in
         let s = commit_tells c d t ys k in
-        viewed_accepted d ys (collecting_accepted me tree n h d i.vote.stands) s.0
+        viewed_accepted d ys (collecting_accepted me parent tree n h d i.vote.stands) s.0
         (λ x. in_yesses v.accepted _ t (ap (λ us. in_list us t) i.yes ∙ x)) s.1
     row_names d _ (commits u w ys PresumeCommit i e f g) k = in_nobody t (commit_tells c d t [] k).1
     row_names d _ (hears_no u us PresumeAbort i e f) k = in_nobody t (abort_tells c d t [] k).1
     row_names d _ (hears_no u us PresumeCommit i e f) k =
         let v = coordinator_view place n d in
         let s = abort_tells c d t us k in
-        viewed_accepted d us (collecting_accepted me tree n h d i.stands) s.0
+        viewed_accepted d us (collecting_accepted me parent tree n h d i.stands) s.0
         (λ x. in_undecided v.accepted _ t (ap (λ ts. in_list ts t) e ∙ x)) s.1
     row_names d _ (aborts why us PresumeAbort i e f g) k = in_nobody t (abort_tells c d t [] k).1
     row_names d _ (aborts why us PresumeCommit i e f g) k =
         let v = coordinator_view place n d in
         let s = abort_tells c d t us k in
-        viewed_accepted d us (collecting_accepted me tree n h d e) s.0
+        viewed_accepted d us (collecting_accepted me parent tree n h d e) s.0
         (λ x. in_undecided v.accepted _ t (ap (λ ts. in_list ts t) f ∙ x)) s.1
     row_names d _ (rests r) k = absurd (cc)
     row_names d _ (invites p i e f g) k = absurd (cc)
@@ -143,9 +183,17 @@ module _ (me : ProcessId) (tree : List TreeEntry) (n : Node) (old : Accepts (roo
     row_names d _ (counts_vote u w i e f) k = absurd (cc)
     row_names d _ (reads_only u w ys PresumeAbort i e f) k = absurd (cc)
     row_names d _ (reads_only u w ys PresumeCommit i e f) k = absurd (cc)
-    row_names d _ (promises u w ys p i e f) k = absurd (cc)
-    row_names d _ (passes_commit p i e f) k = absurd (let g = i.is_parent in cc)
-    row_names d _ (passes_abort p i e f) k = absurd (let g = i.is_parent in cc)
+    row_names d _ (promises u w ys p i e f) k =
+        let v = coordinator_view place n d in
+        let s = prepare_tells c d t ys k in
+        viewed_accepted d ys (collecting_accepted me parent tree n h d i.vote.stands) s.0
+        (λ x. in_yesses v.accepted _ t (ap (λ us. in_list us t) i.yes ∙ x)) s.1
+    row_names d _ (passes_commit PresumeAbort i e f) k =
+        let s = commit_tells c d t (coordinator_view place n d).promised k in promised_accepted d e s.0 s.1
+    row_names d _ (passes_commit PresumeCommit i e f) k = in_nobody t (commit_tells c d t [] k).1
+    row_names d _ (passes_abort PresumeAbort i e f) k = in_nobody t (abort_tells c d t [] k).1
+    row_names d _ (passes_abort PresumeCommit i e f) k =
+        let s = abort_tells c d t (coordinator_view place n d).promised k in promised_accepted d e s.0 s.1
     row_names d _ (repeats_yes j i e) k = absurd (cc)
     row_names d _ (asks i e) k = absurd (cc)
     row_names d _ (refuses j i e) k = absurd (cc)
@@ -154,7 +202,7 @@ module _ (me : ProcessId) (tree : List TreeEntry) (n : Node) (old : Accepts (roo
     row_names d _ (ends u o i e f g) k = absurd (cc)
     row_names d _ (answers u o i e) k = absurd (cc)
 
-    pub effect_names : (e : Effect) → CoordinatorTurn (root_place me tree) None n h e
+    pub effect_names : (e : Effect) → CoordinatorTurn (coordinator_place me parent tree) parent n h e
         → has (is_naming c t) (entries_written e.written) ≡ true → has_accepted n c t ≡ true
     unfolding has
     effect_names _ (does_nothing i) k = absurd (cc)
@@ -200,7 +248,7 @@ module _ (c : Case) (t : Ticket) where
   record_names (AbortRecord d ts) e = named_if (same_case d c) ts t e
   record_names r e = in_nobody t e
 
-  records_name : (rs : List Record) → in_list (named_by c rs) t ≡ true → has (is_naming c t) rs ≡ true
+  pub records_name : (rs : List Record) → in_list (named_by c rs) t ≡ true → has (is_naming c t) rs ≡ true
   unfolding named_by
   records_name [] e = in_nobody t e
   records_name (r ∷ rs) e =

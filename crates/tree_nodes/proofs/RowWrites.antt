@@ -1,10 +1,11 @@
--- What a root's row writes is of its case, which is known.
-use Rattle.std.proofs.Common.{◌≡◌, ◌≢◌, ◌∙◌, ◌||◌, Bool, true, false, None, refl, sym, subst, arith}
+-- What a coordinator's row writes is of its case, which is known.
+use Rattle.std.proofs.Common.{◌≡◌, ◌≢◌, ◌∙◌, ◌||◌, Bool, true, false, Option, refl, sym, subst, arith}
 use Rattle.tree_model.specs.declared.names.Case.{Case}
+use Rattle.tree_model.specs.declared.names.ProcessId.{ProcessId}
 use Rattle.tree_model.specs.declared.names.Outcome.{Outcome}
 use Rattle.tree_model.specs.declared.names.Presumption.TheVariants.{PresumeAbort, PresumeCommit}
 use Rattle.tree_model.specs.declared.standings.Standing.{Standing}
-use Rattle.tree_model.specs.declared.standings.Standing.TheVariants.{Unknown, Active, Collecting}
+use Rattle.tree_model.specs.declared.standings.Standing.TheVariants.{Unknown, Active, Collecting, Prepared}
 use Rattle.tree_model.specs.Names.{same_case}
 use Rattle.tree_model.specs.Records.{has}
 use Rattle.tree_model.specs.Nodes.{Place, Node, Heard, Effect, entries_written}
@@ -14,7 +15,7 @@ use Rattle.tree_turns.specs.CoordinatorTurns.{Decided, by_commit, by_abort, Case
 use Rattle.tree_nodes.specs.WorldHolds.{is_record_of}
 use Rattle.tree_nodes.proofs.Tests.{case_is}
 
-module _ (place : Place) (n : Node) (h : Heard) (A : Case → Type 0)
+module _ (place : Place) (parent : Option ProcessId) (n : Node) (h : Heard) (A : Case → Type 0)
     (own : (c : Case) → (coordinator_view place n c).standing ≢ Unknown → A c)
   where
     of_it : (c d : Case) → (same_case c d || false) ≡ true → (st : Standing)
@@ -28,7 +29,7 @@ module _ (place : Place) (n : Node) (h : Heard) (A : Case → Type 0)
     decided_known _ _ by_commit e = cc
     decided_known _ _ by_abort e = cc
 
-    row_writes : (c d : Case) (row : Row) → CaseTurn place None n h c row
+    row_writes : (c d : Case) (row : Row) → CaseTurn place parent n h c row
         → has (is_record_of d) (entries_written row.written) ≡ true → A d
     unfolding has
     row_writes c d _ (asks_for_votes PresumeCommit i e f a) g = of_it c d g Active e (λ x. cc)
@@ -49,9 +50,11 @@ module _ (place : Place) (n : Node) (h : Heard) (A : Case → Type 0)
     row_writes c d _ (gives_up why p i e f) g = absurd (cc)
     row_writes c d _ (counts_vote t w i f e) g = absurd (cc)
     row_writes c d _ (reads_only t w ys PresumeAbort i e f) g = absurd (cc)
-    row_writes c d _ (promises t w ys p i e f) g = absurd (cc)
-    row_writes c d _ (passes_commit p i e f) g = absurd (let x = i.is_parent in cc)
-    row_writes c d _ (passes_abort p i e f) g = absurd (let x = i.is_parent in cc)
+    row_writes c d _ (promises t w ys p i e f) g = of_it c d g Collecting i.vote.stands (λ x. cc)
+    row_writes c d _ (passes_commit PresumeAbort i e f) g = of_it c d g Prepared e (λ x. cc)
+    row_writes c d _ (passes_commit PresumeCommit i e f) g = of_it c d g Prepared e (λ x. cc)
+    row_writes c d _ (passes_abort PresumeAbort i e f) g = of_it c d g Prepared e (λ x. cc)
+    row_writes c d _ (passes_abort PresumeCommit i e f) g = of_it c d g Prepared e (λ x. cc)
     row_writes c d _ (repeats_yes j i e) g = absurd (cc)
     row_writes c d _ (asks i e) g = absurd (cc)
     row_writes c d _ (refuses j i e) g = absurd (cc)
@@ -59,7 +62,7 @@ module _ (place : Place) (n : Node) (h : Heard) (A : Case → Type 0)
     row_writes c d _ (waits_for_acks t o i e f a) g = absurd (cc)
     row_writes c d _ (answers t o i e) g = absurd (cc)
 
-    pub effect_writes : (e : Effect) → CoordinatorTurn place None n h e → (d : Case)
+    pub effect_writes : (e : Effect) → CoordinatorTurn place parent n h e → (d : Case)
         → has (is_record_of d) (entries_written e.written) ≡ true → A d
     unfolding has
     effect_writes _ (of_case c row r) d g = row_writes c d row r g

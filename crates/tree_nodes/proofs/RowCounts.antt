@@ -1,7 +1,8 @@
--- A vote that an input counts at the root is one that counts.
-use Rattle.std.proofs.Common.{◌≡◌, ◌&&◌, Bool, true, None, List, [], ◌∷◌}
+-- A vote that an input counts at a coordinator is one that counts.
+use Rattle.std.proofs.Common.{◌≡◌, ◌&&◌, Bool, true, Option, List, [], ◌∷◌}
 use Rattle.std.specs.List.{list_any}
 use Rattle.tree_model.specs.declared.names.Case.{Case}
+use Rattle.tree_model.specs.declared.names.ProcessId.{ProcessId}
 use Rattle.tree_model.specs.declared.names.Ticket.{Ticket}
 use Rattle.tree_model.specs.declared.names.Presumption.TheVariants.{PresumeAbort, PresumeCommit}
 use Rattle.tree_model.specs.declared.standings.Vote.{Vote}
@@ -16,15 +17,15 @@ use Rattle.tree_turns.specs.CoordinatorTurns.{CountsVote, CaseTurn, rests, invit
 abbrev pub HeardSo : Case → Ticket → (Vote → Bool) → List (Case × (Ticket × Vote)) → Type 0
 HeardSo c t q vs = list_any (λ a. same_case a.0 c && (same_ticket a.1.0 t && q a.1.1)) vs ≡ true
 
-module _ (place : Place) (n : Node) (h : Heard) (c : Case) (t : Ticket) (q : Vote → Bool) (A : Type 0)
+module _ (place : Place) (parent : Option ProcessId) (n : Node) (h : Heard) (c : Case) (t : Ticket) (q : Vote → Bool) (A : Type 0)
     (one : (d : Case) (u : Ticket) (w : Vote) → CountsVote place n h d u w → HeardSo c t q ((d, (u, w)) ∷ []) → A)
   where
-    row_counts : (d : Case) (row : Row) → CaseTurn place None n h d row
+    row_counts : (d : Case) (row : Row) → CaseTurn place parent n h d row
         → HeardSo c t q (row_effect d row).counts → A
     row_counts d _ (counts_vote u w i k a) f = one d u w i f
     row_counts d _ (reads_only u w ys p i k a) f = one d u w i.vote f
     row_counts d _ (commits u w ys p i k a b) f = one d u w i.vote f
-    row_counts d _ (promises u w ys p i k a) f = absurd (cc)
+    row_counts d _ (promises u w ys p i k a) f = one d u w i.vote f
     row_counts d _ (hears_no u us p i k a) f = one d u VoteNo i f
     row_counts d _ (rests r) f = absurd (cc)
     row_counts d _ (invites p i k a b) f = absurd (cc)
@@ -36,8 +37,10 @@ module _ (place : Place) (n : Node) (h : Heard) (c : Case) (t : Ticket) (q : Vot
     row_counts d _ (gives_up why p i k a) f = absurd (cc)
     row_counts d _ (aborts why us PresumeAbort i k a b) f = absurd (cc)
     row_counts d _ (aborts why us PresumeCommit i k a b) f = absurd (cc)
-    row_counts d _ (passes_commit p i k a) f = absurd (let g = i.is_parent in cc)
-    row_counts d _ (passes_abort p i k a) f = absurd (let g = i.is_parent in cc)
+    row_counts d _ (passes_commit PresumeAbort i k a) f = absurd (cc)
+    row_counts d _ (passes_commit PresumeCommit i k a) f = absurd (cc)
+    row_counts d _ (passes_abort PresumeAbort i k a) f = absurd (cc)
+    row_counts d _ (passes_abort PresumeCommit i k a) f = absurd (cc)
     row_counts d _ (repeats_yes j i k) f = absurd (cc)
     row_counts d _ (asks i k) f = absurd (cc)
     row_counts d _ (refuses j i k) f = absurd (cc)
@@ -46,7 +49,7 @@ module _ (place : Place) (n : Node) (h : Heard) (c : Case) (t : Ticket) (q : Vot
     row_counts d _ (ends u o i k a b) f = absurd (cc)
     row_counts d _ (answers u o i k) f = absurd (cc)
 
-    pub effect_counts : (e : Effect) → CoordinatorTurn place None n h e → HeardSo c t q e.counts
+    pub effect_counts : (e : Effect) → CoordinatorTurn place parent n h e → HeardSo c t q e.counts
         → A
     effect_counts _ (does_nothing i) f = absurd (cc)
     effect_counts _ (of_case d row k) f = row_counts d row k f
