@@ -55,34 +55,11 @@ use Rattle.tree_cascades.proofs.Faults as faults
 use Rattle.tree_cascades.proofs.FaultRows as fault_rows
 use Rattle.tree_cascades.proofs.Halves.{OwnHalf, as_child, half_above, own_half_at}
 use Rattle.tree_cascades.proofs.Joins.{join_fits, joined_silent}
-use Rattle.tree_cascades.proofs.Opens.{IsNoJoin, IsRow}
+use Rattle.tree_cascades.proofs.Opens.{IsRow, input_is}
 use Rattle.tree_cascades.proofs.Rows.{turn_fits}
 use Rattle.tree_cascades.proofs.Senders.{step_sent}
 use Rattle.tree_cascades.proofs.Trims as trims_of
 use Rattle.tree_cascades.proofs.Turns.{Turn, opens}
-
--- JOIN, or an input that gives no ticket
-record IsJoin (i : Input) : Type 0 where
-  number : ℕ
-  parents : Case
-  is : i ≡ MessageInput number (Join parents)
-
-message_is : (j : ℕ) (x : Message) → IsJoin (MessageInput j x) ⊎ IsNoJoin x
-message_is j (Join d) = inl (record { number = j; parents = d; is = refl })
-message_is j (Joined d t) = inr tt
-message_is j (Work d k op) = inr tt
-message_is j (Prepare d k) = inr tt
-message_is j (Yes d) = inr tt
-message_is j (No d) = inr tt
-message_is j (Read d) = inr tt
-message_is j (Commit d) = inr tt
-message_is j (Abort d) = inr tt
-message_is j (Ack d o) = inr tt
-message_is j (Inquire d) = inr tt
-
-input_is : (i : Input) → IsJoin i ⊎ IsRow i
-input_is (ActInput a) = inr tt
-input_is (MessageInput j x) = message_is j x
 
 -- What is known of the process.
 pub record Known (tree : List TreeEntry) (net : List Envelope) (me p : ProcessId) (n : Node) : Type 0 where
@@ -296,7 +273,7 @@ cascaded_child_steps tree is_tree es w run holds m e w' p below stands made coor
       alike = coordinates_then.alike;
       fit = subst (λ (k : Node). AllFit [] (kept k)) there
           (all_fit tree (record { move = m; effect = e } ∷ es) w' run_then q is);
-      sent_here = step_sent q p tree (w.at q) m e at.node s;
+      sent_here = step_sent (place (Below p)) (w.at q) m e at.node s;
       go = go;
     } in
     subst (λ (k : Node). ChildStep (place_of tree q) w.net e.messages (w.at q) k) (sym there)

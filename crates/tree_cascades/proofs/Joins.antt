@@ -46,13 +46,13 @@ some_ticket : (t u : Ticket) → Some t ≡ Some u → t ≡ u
 some_ticket t u e = cc
 
 -- a number that is next was not given out
-not_again : {A : Type 0} (boot given number : ℕ) → number ≡ given + 1 → IsGivenOut boot number boot given → A
+pub not_again : {A : Type 0} (boot given number : ℕ) → number ≡ given + 1 → IsGivenOut boot number boot given → A
 not_again boot given number e (inl f) = absurd (omega (arith, f))
 not_again boot given number e (inr f) = absurd (omega (arith, e, f.1))
 
 -- JOIN leaves the phase, but for the case of the next ticket, which it opens.
 
-joins_phase : (me : ProcessId) (boot : ℕ) (c d : Case) (m : Memory) (o : Option Ticket)
+pub joins_phase : (me : ProcessId) (boot : ℕ) (c d : Case) (m : Memory) (o : Option Ticket)
     → same_case c (child_case d.txn (next_ticket me boot m)) ≡ false → (joins me boot c d m o).phase ≡ m.phase
 joins_phase me boot c d m (Some t) e = refl
 joins_phase me boot c d m None e = rw e refl

@@ -4,6 +4,7 @@ pub mod Letters
 pub mod Opens
 pub mod Turns
 pub mod Standings
+pub mod Closings
 pub mod TurnsVotes
 pub mod TurnsVoted
 pub mod TurnsDecided
@@ -18,3 +19,6 @@ pub mod EndsHold
 pub mod Trims
 pub mod Senders
 pub mod ChildSteps
+pub mod RowWords
+pub mod ReadCases
+pub mod ReadSteps

@@ -110,6 +110,29 @@ abbrev pub IsRow : Input → Type 0
 IsRow (ActInput a) = Unit {0}
 IsRow (MessageInput k m) = IsNoJoin m
 
+-- JOIN, or an input that gives no ticket
+pub record IsJoin (i : Input) : Type 0 where
+  pub number : ℕ
+  pub parents : Case
+  pub is : i ≡ MessageInput number (Join parents)
+
+message_is : (j : ℕ) (x : Message) → IsJoin (MessageInput j x) ⊎ IsNoJoin x
+message_is j (Join d) = inl (record { number = j; parents = d; is = refl })
+message_is j (Joined d t) = inr tt
+message_is j (Work d k op) = inr tt
+message_is j (Prepare d k) = inr tt
+message_is j (Yes d) = inr tt
+message_is j (No d) = inr tt
+message_is j (Read d) = inr tt
+message_is j (Commit d) = inr tt
+message_is j (Abort d) = inr tt
+message_is j (Ack d o) = inr tt
+message_is j (Inquire d) = inr tt
+
+pub input_is : (i : Input) → IsJoin i ⊎ IsRow i
+input_is (ActInput a) = inr tt
+input_is (MessageInput j x) = message_is j x
+
 -- as open as before, or closed
 abbrev pub Falls : Memory → Memory → Type 0
 Falls m k = (live k.phase ≡ live m.phase) ⊎ (live k.phase ≡ false)

@@ -27,6 +27,7 @@ use Rattle.tree_nodes.proofs.Cases.{viewed}
 use Rattle.tree_nodes.proofs.Phases.{collecting_undecided}
 use Rattle.tree_children.proofs.Moves as moves
 use Rattle.tree_children.proofs.Moves.{Fits}
+use Rattle.tree_cascades.proofs.Closings.{first_closes, last_closes, phase_asked}
 use Rattle.tree_cascades.proofs.Halves.{OwnHalf, aborts, aborts_record, aside, hardens, promises, promises_record, stands_so}
 use Rattle.tree_cascades.proofs.Letters as letters
 use Rattle.tree_cascades.proofs.Letters.{Said, hears, nothing, said_by}
@@ -34,10 +35,10 @@ use Rattle.tree_cascades.proofs.Opens as opens
 use Rattle.tree_cascades.proofs.Opens.{live}
 use Rattle.tree_cascades.proofs.Readings as readings
 use Rattle.tree_cascades.proofs.Turns.{Fine, R, Remembered, Then, Turn, d as own_case, forced_fine, hard, onward, plain_fine, place as place_in, q as half_in, r0, silent_fine, v as wire_in}
-use Rattle.tree_cascades.proofs.TurnsVotes.{IsSilent, abort_sent, aborted_issued, asked_issued, at_collecting, first_closes, last_closes, may_vote, open_at, phase_asked, read_moves, read_said, said_read, silent_if}
+use Rattle.tree_cascades.proofs.TurnsVotes.{IsSilent, abort_sent, aborted_issued, asked_issued, at_collecting, may_vote, open_at, read_moves, read_said, said_read, silent_if}
 
 module _ (turn : Turn) where
-  open turn use {c, t, p, tree, n, h, net, up, asked, pr, of, root, outcome, above, half, inv}
+  open turn use {c, t, p, tree, n, h, net, up, alike, asked, pr, of, root, outcome, above, half, inv}
 
   abbrev d : Case
   d = own_case turn
@@ -59,7 +60,7 @@ module _ (turn : Turn) where
 
   -- PREPARE was sent to a case that collects
   pub asked_for : (coordinator_view place n d).standing ≡ Collecting → v.prepare ≡ true
-  asked_for e = asked (phase_asked turn e)
+  asked_for e = asked (phase_asked t.child p tree n h d alike e)
 
   pub silent_at : (coordinator_view place n d).standing ≡ Collecting → IsSilent turn
   silent_at e = silent_if turn (asked_issued turn (asked_for e)) (at_collecting turn e)
@@ -74,7 +75,7 @@ module _ (turn : Turn) where
       (row_effect d (counting u w (record (collecting_read_only seat) { written = read_only_end seat PresumeAbort })))
       next refl (said_read turn) (read_said turn)
       (λ o f. read_moves turn (asked_for k.vote.stands) (at_collecting turn k.vote.stands) o
-      (f ∙ last_closes turn w u ys k))
+      (f ∙ last_closes t.child p tree n h d alike w u ys k))
   reads_only_own u w ys PresumeCommit k next =
       plain_fine turn
       (row_effect d (counting u w (record (collecting_read_only seat) { written = read_only_end seat PresumeCommit })))
@@ -82,7 +83,7 @@ module _ (turn : Turn) where
       (λ o f. subst (λ (z : OwnHalf). Fits pr (r0 turn) (R turn (stands_so o z) (record v { read = true })))
       (sym (aside d (EndRecord d) b q (record { no_prepare = refl; no_commit = refl; no_abort = refl })))
       (read_moves turn (asked_for k.vote.stands) (at_collecting turn k.vote.stands) o
-      (f ∙ last_closes turn w u ys k)))
+      (f ∙ last_closes t.child p tree n h d alike w u ys k)))
 
   -- The promise.
 
@@ -104,7 +105,7 @@ module _ (turn : Turn) where
       (λ o f. subst (λ (z : Reading). Fits pr (r0 turn) z)
       (sym (ap (λ (x : OwnHalf). R turn (stands_so o (hardens x)) (record v { yes = true })) (promises_record d ys b q)
       ∙ (ap (λ x. R turn (stands_so x (hardens (promises q))) (record v { yes = true }))
-      (f ∙ last_closes turn w u ys k)
+      (f ∙ last_closes t.child p tree n h d alike w u ys k)
       ∙ readings.reading-yes root outcome above half q v (at_collecting turn stands) none.no_abort)))
       (onward turn (move.votes_yes (move.hardens_child (r0 turn)))
       (moves.votes_yes pr (move.hardens_child (r0 turn)) (hard turn).invariant
@@ -156,7 +157,7 @@ module _ (turn : Turn) where
       let is_open = at_collecting turn k.stands in
       abort_plain (row_effect d (counting u VoteNo
       (collecting_abort_by seat ByVote (voted (coordinator_view place n d) u VoteNo) us PresumeAbort)))
-      next [] refl (first_closes turn u k) (record nothing { no = true }) (no_said us) (move.votes_no (r0 turn))
+      next [] refl (first_closes t.child p tree n h d alike u k) (record nothing { no = true }) (no_said us) (move.votes_no (r0 turn))
       (readings.reading-no root outcome above half q v is_open s.issued s.none_kept s.none_ever s.no_read b)
       (moves.votes_no pr (r0 turn) inv (may_vote turn (asked_for k.stands) is_open))
   hears_no_own u us PresumeCommit k next =
@@ -165,7 +166,7 @@ module _ (turn : Turn) where
       let may = may_vote turn (asked_for k.stands) is_open in
       abort_forced (row_effect d (counting u VoteNo
       (collecting_abort_by seat ByVote (voted (coordinator_view place n d) u VoteNo) us PresumeCommit)))
-      next us refl (first_closes turn u k) (record nothing { no = true }) (no_said us)
+      next us refl (first_closes t.child p tree n h d alike u k) (record nothing { no = true }) (no_said us)
       (move.votes_no (move.hardens_child (r0 turn)))
       (readings.reading-no_forced root outcome above half q v is_open s.issued s.none_kept s.none_ever s.no_read b)
       (onward turn (move.votes_no (move.hardens_child (r0 turn)))

@@ -29,6 +29,7 @@ use Rattle.tree_nodes.proofs.Deliveries.{was_sent}
 use Rattle.tree_nodes.proofs.Cases.{viewed}
 use Rattle.tree_children.proofs.Moves as moves
 use Rattle.tree_children.proofs.Moves.{Fits}
+use Rattle.tree_cascades.proofs.Closings as closings
 use Rattle.tree_cascades.proofs.Halves.{OwnHalf, stands_so}
 use Rattle.tree_cascades.proofs.Letters as letters
 use Rattle.tree_cascades.proofs.Letters.{Said, nothing, said_by}
@@ -36,21 +37,6 @@ use Rattle.tree_cascades.proofs.Opens as opens
 use Rattle.tree_cascades.proofs.Opens.{live}
 use Rattle.tree_cascades.proofs.Readings as readings
 use Rattle.tree_cascades.proofs.Turns.{Fine, R, Remembered, Then, Turn, d as own_case, place as place_in, q as half_in, r0, silent_fine, v as wire_in}
-
--- a ticket belongs to a case of its transaction
-found_passes : (f g : Case → Bool) (cs : List Case) (c : Case) → find g (filter f cs) ≡ Some c → f c ≡ true
-found_passes f g [] c e = absurd (cc)
-found_passes f g (x ∷ cs) c e = by_test (f x) refl (found_passes f g cs c) e
-  where
-    by_next : (b : Bool) → f x ≡ true → (find g (filter f cs) ≡ Some c → f c ≡ true)
-        → (if b then Some x else find g (filter f cs)) ≡ Some c → f c ≡ true
-    by_next true a rest k = subst (λ (z : Case). f z ≡ true) (let s : x ≡ c = cc in s) a
-    by_next false a rest k = rest k
-
-    by_test : (b : Bool) → f x ≡ b → (find g (filter f cs) ≡ Some c → f c ≡ true)
-        → find g (if b then x ∷ filter f cs else filter f cs) ≡ Some c → f c ≡ true
-    by_test true a rest k = by_next (g x) a rest k
-    by_test false a rest k = rest k
 
 live_at : (f : Bool) (s u : Standing) → f ≡ false → s ≡ u → (u ≡ Active) ⊎ (u ≡ Collecting)
     → is_live (phase_by f s) ≡ true
@@ -87,16 +73,6 @@ module _ (turn : Turn) where
 
   pub at_collecting : (coordinator_view place n d).standing ≡ Collecting → q.is_open ≡ true
   at_collecting e = open_at Collecting e (inr refl)
-
-  pub phase_asked : (coordinator_view place n d).standing ≡ Collecting → (memory_of place n d).phase ≡ Asked
-  phase_asked e = alike.collecting_is_asked e
-
-  pub phase_open : (coordinator_view place n d).standing ≡ Active → (memory_of place n d).phase ≡ Open
-  phase_open e = opens.active_is_open (kept n) d (memory_of place n d).phase (sym (viewed place n d) ∙ e)
-
-  not_unknown : (s : Standing) → (coordinator_view place n d).standing ≡ s → (s ≡ Unknown → ⊥)
-      → (coordinator_view place n d).standing ≡ Unknown → ⊥
-  not_unknown s e f g = f (sym e ∙ g)
 
   -- it may vote
   pub may_vote : v.prepare ≡ true → q.is_open ≡ true → move.MayVote (r0 turn)
@@ -157,50 +133,6 @@ module _ (turn : Turn) where
       → (coordinator_view place n d).standing ≡ Active → none_of (coordinator_view place n d).accepted ≡ true
       → Then turn (row_effect d (active_commit_alone seat)) → Fine turn (row_effect d (active_commit_alone seat))
   finds_nobody_own j k i e none next =
-      let lists = opens.lists_seen place n d (not_unknown Active e (λ x. cc)) in
-      let closes : live (Remembered turn).phase ≡ false =
-      ap (λ (x : Input). live (cascaded_remembers t.child (boot_of (kept n)) d (memory_of place n d) x).phase) i
-      ∙ opens.prepare_closes t.child (boot_of (kept n)) d (memory_of place n d) j k (phase_open e)
-      (ap none_of (sym lists.0) ∙ none) in
+      let closes = closings.nobody_closes t.child p tree n h d alike j k i e none in
       silent_fine turn (row_effect d (active_commit_alone seat)) next refl said_read read_said
       (λ o f. read_moves (prepare_sent j k i) (open_at Active e (inl refl)) o (f ∙ closes))
-
-  -- The last vote.
-
-  same_own : (x : Txn) (u : Ticket) → case_of_child place n x u ≡ Some d → same_txn x d.txn ≡ true
-  same_own x u found = swap (found_passes (λ y. same_txn y.txn x) _
-      (cases_in (kept n) ++ (memory_of place n (some_case place)).issued) d found)
-    where
-      swap : same_txn d.txn x ≡ true → same_txn x d.txn ≡ true
-      swap e = elim (same_txn_tells d.txn x) [
-        | inl s ↦ subst (λ (y : Txn). same_txn y d.txn ≡ true) s.1 (same_txn-refl d.txn)
-        | inr g ↦ absurd (let k = g.0 in cc)
-      ]
-
-  counted : (w : Vote) (u : Ticket) → CountsVote place n h d u w
-      → is_counted (memory_of place n d).accepted (memory_of place n d).votes u ≡ true
-  counted w u k =
-      let lists = opens.lists_seen place n d (not_unknown Collecting k.stands (λ x. cc)) in
-      ap (λ (ts : List Ticket). is_counted ts (memory_of place n d).votes u) (sym lists.0)
-      ∙ (ap (λ (vs : List (Ticket × Vote)). is_counted (coordinator_view place n d).accepted vs u) (sym lists.1) ∙ k.counts)
-
-  pub last_closes : (w : Vote) (u : Ticket) (ys : List Ticket) → CountsLast place n h d u w ys
-      → live (Remembered turn).phase ≡ false
-  last_closes w u ys k =
-      let lists = opens.lists_seen place n d (not_unknown Collecting k.vote.stands (λ x. cc)) in
-      let heard = k.vote.hears in
-      ap (λ (x : Input). live (cascaded_remembers t.child (boot_of (kept n)) d (memory_of place n d) x).phase)
-      heard.hears.1
-      ∙ opens.vote_closes t.child (boot_of (kept n)) d (memory_of place n d) heard.hears.0 w heard.txn u
-      (same_own heard.txn u heard.belongs) (phase_asked k.vote.stands) (counted w u k.vote) k.consents
-      (ap (λ (ts : List Ticket). all_voted ts ((memory_of place n d).votes ++ (u, w) ∷ [])) (sym lists.0)
-      ∙ (ap (λ (vs : List (Ticket × Vote)). all_voted (coordinator_view place n d).accepted (vs ++ (u, w) ∷ [])) (sym lists.1)
-      ∙ k.all))
-
-  pub first_closes : (u : Ticket) → CountsVote place n h d u VoteNo → live (Remembered turn).phase ≡ false
-  first_closes u k =
-      let heard = k.hears in
-      ap (λ (x : Input). live (cascaded_remembers t.child (boot_of (kept n)) d (memory_of place n d) x).phase)
-      heard.hears.1
-      ∙ opens.no_closes t.child (boot_of (kept n)) d (memory_of place n d) heard.hears.0 heard.txn u
-      (same_own heard.txn u heard.belongs) (phase_asked k.stands) (counted VoteNo u k)
