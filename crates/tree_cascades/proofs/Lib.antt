@@ -22,3 +22,5 @@ pub mod ChildSteps
 pub mod RowWords
 pub mod ReadCases
 pub mod ReadSteps
+pub mod ReadsHold
+pub mod AllRead

@@ -121,7 +121,7 @@ module _ (me p : ProcessId) (tree : List TreeEntry) (net : List Envelope) (n : N
 
     -- The records.
 
-    promise_open : has (is_prepare c) new ≡ true → live m.phase ≡ true
+    pub promise_open : has (is_prepare c) new ≡ true → live m.phase ≡ true
     promise_open f = by_words words
       where
         by_words : Words c e (live m.phase) (live Then.phase) → live m.phase ≡ true
@@ -130,7 +130,7 @@ module _ (me p : ProcessId) (tree : List TreeEntry) (net : List Envelope) (n : N
         by_words (promises_now ts w i x y) = w
         by_words (collects_now w x y) = w
 
-    collecting_open : has (is_collecting c) new ≡ true → live m.phase ≡ true
+    pub collecting_open : has (is_collecting c) new ≡ true → live m.phase ≡ true
     collecting_open f = by_words words
       where
         by_words : Words c e (live m.phase) (live Then.phase) → live m.phase ≡ true
@@ -139,7 +139,7 @@ module _ (me p : ProcessId) (tree : List TreeEntry) (net : List Envelope) (n : N
         by_words (promises_now ts w i x y) = w
         by_words (collects_now w x y) = w
 
-    open_none : live m.phase ≡ true → has (is_prepare c) n.life ≡ false
+    pub open_none : live m.phase ≡ true → has (is_prepare c) n.life ≡ false
     open_none f = old.open_promised_nothing up c f
 
     -- What is said.
@@ -156,7 +156,7 @@ module _ (me p : ProcessId) (tree : List TreeEntry) (net : List Envelope) (n : N
         by_words (collects_now w x y) = absurd (let k = sym (read_sent me c e.messages f) ∙ x in cc)
 
     -- behind a front of what was written
-    promised_nothing : (xs : List Record) → (has (is_prepare c) xs ≡ true → has (is_prepare c) new ≡ true)
+    pub promised_nothing : (xs : List Record) → (has (is_prepare c) xs ≡ true → has (is_prepare c) new ≡ true)
         → (k : Node) → k.life ≡ reverse xs ++ n.life → said_read me c net ≡ true → has (is_prepare c) k.life ≡ false
     promised_nothing xs sub k life f =
         ap (has (is_prepare c)) life

@@ -66,7 +66,7 @@ root_given y (l ∷ ls) e = elim (either (gives_case (root_case y) l.message) _ 
 
 module _ (c : Case) where
   -- letters down
-  each_unread : (s : Seat) (o : Outcome) (ts : List Ticket) → sent (is_read_message c) (each s (tells_outcome o) ts) ≡ false
+  pub each_unread : (s : Seat) (o : Outcome) (ts : List Ticket) → sent (is_read_message c) (each s (tells_outcome o) ts) ≡ false
   unfolding sent
   each_unread s o [] = refl
   each_unread s CommittedOutcome (t ∷ ts) = each_unread s CommittedOutcome ts

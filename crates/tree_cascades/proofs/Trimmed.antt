@@ -3,8 +3,8 @@ use Rattle.std.proofs.Common.{◌≡◌, ◌∙◌, ◌||◌, ◌&&◌, ℕ, Boo
 use Rattle.tree_model.specs.declared.names.Case.{Case}
 use Rattle.tree_model.specs.declared.names.ProcessId.{ProcessId}
 use Rattle.tree_model.specs.declared.records.Record.{Record}
-use Rattle.tree_model.specs.declared.records.Record.TheVariants.{Opened, Prepare as PrepareRecord, Commit as CommitRecord, Abort as AbortRecord, End as EndRecord}
-use Rattle.tree_model.specs.Records.{boot_of, has, is_abort, is_commit, is_end, is_prepare, record_case}
+use Rattle.tree_model.specs.declared.records.Record.TheVariants.{Opened, Collecting as CollectingRecord, Prepare as PrepareRecord, Commit as CommitRecord, Abort as AbortRecord, End as EndRecord}
+use Rattle.tree_model.specs.Records.{boot_of, has, is_abort, is_collecting, is_commit, is_end, is_prepare, record_case}
 use Rattle.tree_model.specs.Nodes.{Below}
 use Rattle.tree_model.specs.Restarts.{case_stays, is_known, recorded_view, staying, trimmed}
 use Rattle.tree_nodes.proofs.GivenCases.{same_of}
@@ -31,6 +31,10 @@ of_commit c r e = absurd (cc)
 pub of_abort : (c : Case) → IsOf c (is_abort c)
 of_abort c (AbortRecord d ts) e = ap Some (same_of d c e)
 of_abort c r e = absurd (cc)
+
+pub of_collecting : (c : Case) → IsOf c (is_collecting c)
+of_collecting c (CollectingRecord d ts) e = ap Some (same_of d c e)
+of_collecting c r e = absurd (cc)
 
 pub of_end : (c : Case) → IsOf c (is_end c)
 of_end c (EndRecord d) e = ap Some (same_of d c e)
