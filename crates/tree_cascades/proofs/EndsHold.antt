@@ -61,7 +61,7 @@ module _ (p : ProcessId) (me : ProcessId) (tree : List TreeEntry) (n : Node) (fi
   left_whole k = append_assoc n.forced (take k n.unforced) (drop k n.unforced)
       ∙ ap (λ l. n.forced ++ l) (take-append-drop k n.unforced)
 
-  ends_left : (k : ℕ) → EndsDecided (left_of n k)
+  pub ends_left : (k : ℕ) → EndsDecided (left_of n k)
   ends_left k =
       ends_front (left_of n k) (drop k n.unforced) (subst (AllFit []) (sym (left_whole k)) fit)
       (subst EndsDecided (sym (left_whole k)) old)

@@ -24,3 +24,5 @@ pub mod ReadCases
 pub mod ReadSteps
 pub mod ReadsHold
 pub mod AllRead
+pub mod RestartHalves
+pub mod Resumes

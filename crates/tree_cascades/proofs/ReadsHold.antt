@@ -145,11 +145,11 @@ module _ (me p : ProcessId) (tree : List TreeEntry) (net : List Envelope) (n : N
     abbrev new : List Record
     new = coordinator_reopens left
 
-    whole : (left_of n j ++ drop j n.unforced) ≡ kept n
+    pub whole : (left_of n j ++ drop j n.unforced) ≡ kept n
     whole = append_assoc n.forced (take j n.unforced) (drop j n.unforced)
         ∙ ap (λ l. n.forced ++ l) (take-append-drop j n.unforced)
 
-    had : (q : Record → Bool) → has q (left_of n j) ≡ true → has q (kept n) ≡ true
+    pub had : (q : Record → Bool) → has q (left_of n j) ≡ true → has q (kept n) ≡ true
     had q e = ap (has q) (sym whole) ∙ in_first q left (drop j n.unforced) e
 
     -- records that a restart appends neither promise nor collect
@@ -167,7 +167,7 @@ module _ (me p : ProcessId) (tree : List TreeEntry) (net : List Envelope) (n : N
     only_left q ys none e = elim (in_either q left ys e) [ inl x ↦ x | inr x ↦ not_both q (has q ys) x none ]
 
     -- a promise that is lost was never forced
-    lost : (c : Case) → has (is_prepare c) n.life ≡ true → has (is_collecting c) (left_of n j) ≡ true
+    pub lost : (c : Case) → has (is_prepare c) n.life ≡ true → has (is_collecting c) (left_of n j) ≡ true
         → has (is_prepare c) (left_of n j) ≡ false → has (is_prepare c) n.durable ≡ false
     lost c e f g = by_ever (has (is_prepare c) n.durable) refl (old.collected_promise c e (had (is_collecting c) f))
       where
