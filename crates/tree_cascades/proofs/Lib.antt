@@ -26,3 +26,4 @@ pub mod ReadsHold
 pub mod AllRead
 pub mod RestartHalves
 pub mod Resumes
+pub mod Restarts
