@@ -1,5 +1,5 @@
 -- In every run of every tree a cascaded coordinator that said READ of a case never promised it.
-use Rattle.std.proofs.Common.{◌≡◌, ◌∙◌, ◌⊎◌, inl, inr, ◌&&◌, ◌||◌, ℕ, zero, suc, Bool, true, false, Some, List, [], ◌∷◌, ◌++◌, refl, sym, ap, subst, if◌then◌else◌}
+use Rattle.std.proofs.Common.{◌≡◌, ◌∙◌, ◌⊎◌, inl, inr, ◌&&◌, ℕ, zero, suc, Bool, true, false, List, [], ◌++◌, refl, sym, ap, subst}
 use Rattle.std.proofs.lemmas.List.{append-nil}
 use Rattle.tree_model.specs.declared.names.Case.{Case}
 use Rattle.tree_model.specs.declared.names.ProcessId.{ProcessId}
@@ -11,18 +11,16 @@ use Rattle.tree_model.specs.Records.{has, is_collecting, is_prepare}
 use Rattle.tree_model.specs.Memory.{Memory, memory_of}
 use Rattle.tree_model.specs.Nodes.{Below, Effect, Node, Place, Role, kept, opened_node, place_of, role_of}
 use Rattle.tree_model.specs.Restarts.{is_known, recorded_view, trim_fails, trimmed, trims}
-use Rattle.tree_model.specs.World.{IsRun, Made, Move, World, makes, opens, put_at}
+use Rattle.tree_model.specs.World.{IsRun, Made, Move, World, makes, opens}
 use Rattle.tree_model.proofs.RunLaws.{makes_at}
 use Rattle.tree_readings.specs.ReadingOf.{gives_case}
 use Rattle.tree_readings.proofs.Lists.{sent-append}
 use Rattle.tree_turns.specs.Steps.{StepOf, failed_in, failed_passing, failed_reopening, failed_trimming, handled, heard_in, passed, reopened, trimmed as trims_log}
 use Rattle.tree_turns.proofs.Steps.{step_of}
-use Rattle.tree_nodes.specs.Lasts.{Lasts, logs_of}
-use Rattle.tree_nodes.specs.WorldHolds.{NodeHolds, RoleHolds}
+use Rattle.tree_nodes.specs.WorldHolds.{RoleHolds}
 use Rattle.tree_nodes.proofs.Boots.{trims_memory}
-use Rattle.tree_nodes.proofs.CoordinatorKept.{memory_empty}
 use Rattle.tree_nodes.proofs.CoordinatorsHold.{cascaded_nodes_hold}
-use Rattle.tree_nodes.proofs.Tests.{both, in_first, in_none, not_both, right}
+use Rattle.tree_nodes.proofs.Tests.{both, in_first, in_none, right}
 use Rattle.tree_cascades.specs.Letters.{AllSentBy}
 use Rattle.tree_cascades.proofs.Opens.{live}
 use Rattle.tree_cascades.proofs.ReadCases.{Reads, first_or, none_read, others_unread, said_read}

@@ -1,13 +1,11 @@
--- In every run, each input and each trim of a cascaded coordinator keeps the pairs above it.
-use Rattle.std.proofs.Common.{◌≡◌, ◌∙◌, ◌⊎◌, inl, inr, ℕ, zero, suc, Bool, true, false, List, [], ◌∷◌, ◌++◌, refl, sym, ap, subst}
+-- In every run, each step of a cascaded coordinator keeps the pairs above it.
+use Rattle.std.proofs.Common.{◌≡◌, ◌∙◌, inl, inr, ◌||◌, ℕ, zero, suc, Bool, true, false, List, [], ◌∷◌, ◌++◌, refl, sym, ap, subst, arith}
 use Rattle.std.specs.Prelude.{not}
 use Rattle.tree_model.specs.declared.names.Case.{Case}
 use Rattle.tree_model.specs.declared.names.Presumption.{Presumption}
 use Rattle.tree_model.specs.declared.names.ProcessId.{ProcessId}
 use Rattle.tree_model.specs.declared.names.Ticket.{Ticket}
 use Rattle.tree_model.specs.declared.messages.Envelope.{Envelope}
-use Rattle.tree_model.specs.declared.messages.Message.{Message}
-use Rattle.tree_model.specs.declared.messages.Message.TheVariants.{Join, Joined, Work, Prepare, Yes, No, Read, Commit, Abort, Ack, Inquire}
 use Rattle.tree_model.specs.declared.events.Happening.{Happening}
 use Rattle.tree_model.specs.declared.events.Input.{Input}
 use Rattle.tree_model.specs.declared.events.Input.TheVariants.{Act as ActInput, Message as MessageInput}
@@ -18,7 +16,7 @@ use Rattle.tree_model.specs.Memory.{Asked, memory_of}
 use Rattle.tree_model.specs.Nodes.{Below, Effect, Heard, Node, Place, Role, after, entries_written, fails_in, is_any_forced, kept, place_of, role_of}
 use Rattle.tree_model.specs.Outcomes.{sent}
 use Rattle.tree_model.specs.Reactions.{is_early_ack, passes_at}
-use Rattle.tree_model.specs.Restarts.{trim_fails, trims}
+use Rattle.tree_model.specs.Restarts.{restart_fails, trim_fails, trims}
 use Rattle.tree_model.specs.Standings.{coordinator_view}
 use Rattle.tree_model.specs.Views.{IsOpenAlike}
 use Rattle.tree_model.specs.World.{InputStands, IsRun, Move, Stands, World, makes, put_at}
@@ -32,21 +30,23 @@ use Rattle.tree_nodes.specs.CaseOrder.{CaseInOrder, IsCoordinator}
 use Rattle.tree_nodes.specs.Lasts.{Coordinates as CoordinatorLogs, Lasts, Logs, Nested, logs_of}
 use Rattle.tree_nodes.specs.Numbers.{IsIssuer, Numbers}
 use Rattle.tree_nodes.specs.ProcessSteps.{ChildStep, seen_above}
-use Rattle.tree_nodes.specs.WorldHolds.{AllGo, Coordinates, InvariantOf, IsChildRole, IsPair, RoleHolds}
+use Rattle.tree_nodes.specs.WorldHolds.{AllGo, InvariantOf, IsChildRole, IsFree, IsPair, RoleHolds, gives_other}
 use Rattle.tree_nodes.proofs.Appends.{either_logs}
 use Rattle.tree_nodes.proofs.CaseOrders.{AllFit}
 use Rattle.tree_nodes.proofs.ChildOf.{NoBranch, no_branch}
 use Rattle.tree_nodes.proofs.CoordinatorLogs.{all_fit, cases_in_order}
+use Rattle.tree_nodes.proofs.CoordinatorsHold.{cascaded_nodes_hold}
 use Rattle.tree_nodes.proofs.Levels.{parent_elsewhere}
 use Rattle.tree_nodes.proofs.ManagersHold.{numbers_are_given_once}
 use Rattle.tree_nodes.proofs.Tests.{both}
 use Rattle.tree_nodes.proofs.Unlisted.{makes_listed}
 use Rattle.tree_nodes.proofs.Worlds.{all_last}
+use Rattle.tree_readings.proofs.Lists.{sent-append}
 use Rattle.tree_readings.proofs.ReadingSteps.{same_process-refl}
 use Rattle.tree_children.proofs.Moves as moves
 use Rattle.tree_children.proofs.Moves.{Fits}
 use Rattle.tree_children.proofs.Wires.{wire-none}
-use Rattle.tree_cascades.specs.CascadedSteps.{CascadedChildSteps, IsNoRestart}
+use Rattle.tree_cascades.specs.CascadedSteps.{CascadedChildSteps}
 use Rattle.tree_cascades.specs.Letters.{AllSentBy}
 use Rattle.tree_cascades.proofs.Ends.{EndsDecided}
 use Rattle.tree_cascades.proofs.EndsHold.{all_end}
@@ -56,6 +56,10 @@ use Rattle.tree_cascades.proofs.FaultRows as fault_rows
 use Rattle.tree_cascades.proofs.Halves.{OwnHalf, as_child, half_above, own_half_at}
 use Rattle.tree_cascades.proofs.Joins.{join_fits, joined_silent}
 use Rattle.tree_cascades.proofs.Opens.{IsRow, input_is}
+use Rattle.tree_cascades.proofs.AllRead.{all_read}
+use Rattle.tree_cascades.proofs.ReadCases.{Reads}
+use Rattle.tree_cascades.proofs.ReadSteps.{Keeps}
+use Rattle.tree_cascades.proofs.Restarts as restarts
 use Rattle.tree_cascades.proofs.Rows.{turn_fits}
 use Rattle.tree_cascades.proofs.Senders.{step_sent}
 use Rattle.tree_cascades.proofs.Trims as trims_of
@@ -75,6 +79,9 @@ pub record Known (tree : List TreeEntry) (net : List Envelope) (me p : ProcessId
   pub fit : AllFit [] (kept n)
   pub order : (c : Case) → CaseInOrder c (kept n)
   pub ends : EndsDecided (kept n)
+  pub keeps : Keeps me p tree net n
+  pub reads : Reads (record { me = me; role = Below p; tree = tree }) net n
+  pub went : AllGo tree net
 
 -- and of what a step leaves of it
 pub record Behind (tree : List TreeEntry) (me p : ProcessId) (e : Effect) (k : Node) : Type 0 where
@@ -95,7 +102,8 @@ early_up place n (MessageInput k m) p e = is_up n.failed ((both (is_early_ack pl
 early_up place n (ActInput a) p e = absurd (cc)
 
 module _ (c : Case) (t : Ticket) (p : ProcessId) (tree : List TreeEntry) (n : Node) (net : List Envelope)
-    (pair : IsPair tree c t) (known : Known tree net t.child p n) (outcome above : Bool) (half : ParentHalf) where
+    (pair : IsPair tree c t) (free : IsFree net c t) (known : Known tree net t.child p n) (outcome above : Bool)
+    (half : ParentHalf) where
   abbrev d : Case
   d = child_case c.txn t
 
@@ -117,11 +125,11 @@ module _ (c : Case) (t : Ticket) (p : ProcessId) (tree : List TreeEntry) (n : No
   abbrev pr : Presumption
   pr = c.txn.presumption
 
-  abbrev Keeps : Node → List Envelope → Type 0
-  Keeps k ls = Fits pr (R q v) (R (own_half_at (opens place k d) k d) (wire c t (net ++ ls)))
+  abbrev Fine : Node → List Envelope → Type 0
+  Fine k ls = Fits pr (R q v) (R (own_half_at (opens place k d) k d) (wire c t (net ++ ls)))
 
   -- a step that sends nothing
-  silent : (k : Node) → Fits pr (R q v) (R (own_half_at (opens place k d) k d) (wire c t net)) → Keeps k []
+  silent : (k : Node) → Fits pr (R q v) (R (own_half_at (opens place k d) k d) (wire c t net)) → Fine k []
   silent k f =
       subst (λ (z : Wire). Fits pr (R q v) (R (own_half_at (opens place k d) k d) z))
       (sym (wire-none c t t.child p net)) f
@@ -162,9 +170,9 @@ module _ (c : Case) (t : Ticket) (p : ProcessId) (tree : List TreeEntry) (n : No
   }
 
   own_steps : InvariantOf pr (R q v) → (m : Move) → Stands net t.child m.step.happening
-      → IsNoRestart m.step.happening → (e : Effect) (k : Node) → StepOf place n m e k
-      → Behind tree t.child p e k → Keeps k e.messages
-  own_steps inv m stands rest _ _ (handled i g hp np r) b =
+      → (e : Effect) (k : Node) → StepOf place n m e k
+      → Behind tree t.child p e k → Fine k e.messages
+  own_steps inv m stands _ _ (handled i g hp np r) b =
       let h = heard_in m i in
       let turn = turn_of place n h g r in
       let up = turn.up in
@@ -176,7 +184,7 @@ module _ (c : Case) (t : Ticket) (p : ProcessId) (tree : List TreeEntry) (n : No
         | inr row ↦ turn_fits (row_turn inv h up here row) g (coordinator_turn_of place n h g r)
             (record { alike_then = b.alike (up_after h g up) d; sent_here = b.sent_here; go = b.go })
       ]
-  own_steps inv m stands rest _ _ (failed_in i f g fl hp np r) b =
+  own_steps inv m stands _ _ (failed_in i f g fl hp np r) b =
       let h = heard_in m i in
       let up = (turn_of place n h g r).up in
       let here : InputStands net t.child i = subst (λ (x : Happening). Stands net t.child x) hp stands in
@@ -186,19 +194,24 @@ module _ (c : Case) (t : Ticket) (p : ProcessId) (tree : List TreeEntry) (n : No
         | inr row ↦ fault_rows.turn_fails (row_turn inv h up here row) g (coordinator_turn_of place n h g r)
             f.appended f.forced b.fit
       ])
-  own_steps inv m stands rest _ _ (passed i hp r) b = silent n (moves.unmoved pr (R q v) inv)
-  own_steps inv m stands rest _ _ (failed_passing i f fl hp r) b =
+  own_steps inv m stands _ _ (passed i hp r) b = silent n (moves.unmoved pr (R q v) inv)
+  own_steps inv m stands _ _ (failed_passing i f fl hp r) b =
       silent (record n { failed = true })
       (faults.fails_quietly d n v pr root outcome above half (opens place n d) inv (record n { failed = true }) b.fit
       (λ x y. y) (early_up place n i p r)
       (own_breaks (opens place n d) n d (λ x. ((moves.common_of pr (R q v) inv).child_forced_promise x).1)))
-  own_steps inv m stands rest _ _ (reopened j hp) b = absurd (subst IsNoRestart hp rest)
-  own_steps inv m stands rest _ _ (failed_reopening j f fl hp) b = absurd (subst IsNoRestart hp rest)
-  own_steps inv m stands rest _ _ (trimmed hp up) b =
+  own_steps inv m stands _ _ (reopened j hp) b =
+      restarts.restart_fits c t p tree n net known.fit known.ends known.keeps known.reads known.went free pr root outcome
+      above half (opens place n d) j inv known.below known.apart pair (b.alike refl d) b.sent_here b.go
+  own_steps inv m stands _ _ (failed_reopening j f fl hp) b =
+      silent (restart_fails place n j f.appended f.forced)
+      (restarts.restart_breaks c t p tree n net known.fit known.ends known.keeps known.reads known.went free pr root
+      outcome above half (opens place n d) j inv f.appended f.forced b.fit)
+  own_steps inv m stands _ _ (trimmed hp up) b =
       silent (trims place n)
       (trims_of.trim_fits t.child p tree n d v up (known.alike up d) known.ends pr root outcome above half inv
       (b.alike up d))
-  own_steps inv m stands rest _ _ (failed_trimming f fl hp up) b =
+  own_steps inv m stands _ _ (failed_trimming f fl hp up) b =
       silent (trim_fails place n f.appended) (by_log f.appended b.fit)
     where
       by_log : (a : ℕ) → AllFit [] (kept (trim_fails place n a))
@@ -217,22 +230,28 @@ module _ (c : Case) (t : Ticket) (p : ProcessId) (tree : List TreeEntry) (n : No
       ap (λ (z : ChildHalf). reading_from root false outcome above half z w)
       (half_above (coordinator_view place k d).standing k d (branchless k h l))
 
-  pub step_fits : (m : Move) → Stands net t.child m.step.happening → IsNoRestart m.step.happening
+  pub step_fits : (m : Move) → Stands net t.child m.step.happening
       → (e : Effect) (k : Node) → StepOf place n m e k → Behind tree t.child p e k
       → InvariantOf pr (seen_above place net n c t outcome above half)
       → Fits pr (seen_above place net n c t outcome above half)
       (seen_above place (net ++ e.messages) k c t outcome above half)
-  step_fits m stands rest e k s b inv =
+  step_fits m stands e k s b inv =
       let old = seen n v known.nested known.logs in
       subst (λ (z : Reading). Fits pr z (seen_above place (net ++ e.messages) k c t outcome above half)) (sym old)
       (subst (λ (z : Reading). Fits pr (R q v) z) (sym (seen k (wire c t (net ++ e.messages)) b.nested b.logs))
-      (own_steps (subst (λ (z : Reading). InvariantOf pr z) old inv) m stands rest e k s b))
+      (own_steps (subst (λ (z : Reading). InvariantOf pr z) old inv) m stands e k s b))
+
+free_before : (net ls : List Envelope) (c : Case) (t : Ticket) → IsFree (net ++ ls) c t → IsFree net c t
+free_before net ls c t e = second_false _ _ (sym (sent-append (gives_other c t) net ls) ∙ e)
+  where
+    second_false : (a b : Bool) → (a || b) ≡ false → b ≡ false
+    second_false a b e = grind arith
 
 put_self : (q : ProcessId) (k : Node) (at : ProcessId → Node) → put_at q k at q ≡ k
 put_self q k at = rw (same_process-refl q) refl
 
 pub cascaded_child_steps : CascadedChildSteps
-cascaded_child_steps tree is_tree es w run holds m e w' p below stands made coordinates go rest =
+cascaded_child_steps tree is_tree es w run went m e w' p below stands made go =
     let q = m.step.process in
     let listed = makes_listed tree w m e w' made in
     let at = makes_at tree w m e w' made in
@@ -241,7 +260,8 @@ cascaded_child_steps tree is_tree es w run holds m e w' p below stands made coor
     let run_then : IsRun tree (record { move = m; effect = e } ∷ es) w' = makes es w m e w' run stands made in
     let s = subst (λ (r : Role). StepOf (place r) (w.at q) m e at.node) below
     (step_of (place_of tree q) (w.at q) m e at.node at.made) in
-    let before = holds.nodes q listed in
+    let before = cascaded_nodes_hold tree es w run q p below in
+    let after_it = cascaded_nodes_hold tree (record { move = m; effect = e } ∷ es) w' run_then q p below in
     let parts : RoleHolds (Below p) (place (Below p)) w.net (w.at q) =
     subst (λ (r : Role). RoleHolds r (place r) w.net (w.at q)) below before.role in
     let last : Lasts (Below p) (logs_of (w.at q)) = subst (λ (r : Role). Lasts r (logs_of (w.at q))) below before.lasts in
@@ -263,14 +283,17 @@ cascaded_child_steps tree is_tree es w run holds m e w' p below stands made coor
       fit = all_fit tree es w run q is;
       order = cases_in_order tree es w run q is;
       ends = all_end tree es w run q p below;
+      keeps = record { nested = last.nested; alike = parts.0.alike; issues = parts.1.1 };
+      reads = all_read tree es w run q p below;
+      went = went;
     } in
-    let coordinates_then : Coordinates (place (Below p)) (w.net ++ e.messages) at.node =
-    subst (λ (r : Role). Coordinates (place r) (w.net ++ e.messages) at.node) below
-    (subst (λ (k : Node). Coordinates (place_of tree q) (w.net ++ e.messages) k) there coordinates) in
+    let parts_then : RoleHolds (Below p) (place (Below p)) w'.net at.node =
+    subst (λ (k : Node). RoleHolds (Below p) (place (Below p)) w'.net k) there
+    (subst (λ (r : Role). RoleHolds r (place r) w'.net (w'.at q)) below after_it.role) in
     let behind : Behind tree q p e at.node = record {
       nested = last_then.nested;
       logs = last_then.by_role;
-      alike = coordinates_then.alike;
+      alike = parts_then.0.alike;
       fit = subst (λ (k : Node). AllFit [] (kept k)) there
           (all_fit tree (record { move = m; effect = e } ∷ es) w' run_then q is);
       sent_here = step_sent (place (Below p)) (w.at q) m e at.node s;
@@ -289,7 +312,7 @@ cascaded_child_steps tree is_tree es w run holds m e w' p below stands made coor
           (seen_above (record { me = x; role = Below p; tree = tree }) w.net (w.at q) c t outcome above half)
           (seen_above (record { me = x; role = Below p; tree = tree }) (w.net ++ e.messages) at.node c t outcome above
           half)) same
-          (λ known' behind' stands' s' inv'. step_fits c t p tree (w.at q) w.net pair known' outcome above half m
-          stands' rest e at.node s' behind' inv')
+          (λ known' behind' stands' s' inv'. step_fits c t p tree (w.at q) w.net pair
+          (free_before w.net e.messages c t free) known' outcome above half m stands' e at.node s' behind' inv')
           known behind stands s inv;
     }))

@@ -1,5 +1,5 @@
 -- A cascaded coordinator that said READ of a case never promised it, and what a crash took of a promise was not forced.
-use Rattle.std.proofs.Common.{◌≡◌, ◌∙◌, ◌||◌, ◌&&◌, ◌⊎◌, inl, inr, ℕ, Bool, true, false, List, [], ◌∷◌, ◌++◌, take, refl, sym, ap, subst, arith}
+use Rattle.std.proofs.Common.{◌≡◌, ◌∙◌, ◌||◌, ◌&&◌, ◌⊎◌, inl, inr, Bool, true, false, List, [], ◌∷◌, ◌++◌, refl, sym, ap, arith}
 use Rattle.std.specs.Prelude.{reverse}
 use Rattle.std.specs.List.{list_any}
 use Rattle.std.proofs.lemmas.List.Folds.{list_any-append}
@@ -14,8 +14,7 @@ use Rattle.tree_model.specs.Memory.{memory_of}
 use Rattle.tree_model.specs.Nodes.{Node, Place, kept}
 use Rattle.tree_model.specs.Outcomes.{is_read_message, sent}
 use Rattle.tree_readings.specs.ReadingOf.{gives_case}
-use Rattle.tree_nodes.specs.Lasts.{Nested, logs_of}
-use Rattle.tree_nodes.proofs.Tests.{both, either, has-append, has-reverse, in_either, in_first, in_second, left, neither, not_both, right}
+use Rattle.tree_nodes.proofs.Tests.{either, has-reverse, in_either, in_first, in_second, left, neither, not_both, right}
 use Rattle.tree_cascades.specs.Letters.{AllSentBy}
 use Rattle.tree_cascades.proofs.Opens.{live}
 

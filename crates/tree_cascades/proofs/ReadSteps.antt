@@ -1,22 +1,18 @@
 -- What a cascaded coordinator keeps of READ and of its promises lasts through each of its steps.
-use Rattle.std.proofs.Common.{◌≡◌, ◌∙◌, ◌⊎◌, inl, inr, ◌+◌, ◌||◌, ◌&&◌, ℕ, zero, suc, Bool, true, false, Option, Some, None, List, [], ◌∷◌, ◌++◌, take, drop, append_assoc, refl, sym, ap, subst, arith, if◌then◌else◌}
-use Rattle.std.specs.Prelude.{length, reverse}
-use Rattle.std.proofs.lemmas.List.{append-nil, take-append-drop}
+use Rattle.std.proofs.Common.{◌≡◌, ◌∙◌, ◌⊎◌, inl, inr, ◌+◌, ◌||◌, Bool, true, false, List, [], ◌∷◌, ◌++◌, append_assoc, refl, sym, ap, subst, arith}
+use Rattle.std.specs.Prelude.{reverse}
+use Rattle.std.proofs.lemmas.List.{append-nil}
 use Rattle.tree_model.specs.declared.names.Case.{Case}
 use Rattle.tree_model.specs.declared.names.ProcessId.{ProcessId}
-use Rattle.tree_model.specs.declared.names.Ticket.{Ticket}
 use Rattle.tree_model.specs.declared.messages.Envelope.{Envelope}
-use Rattle.tree_model.specs.declared.messages.Message.TheVariants.{Join}
 use Rattle.tree_model.specs.declared.records.Record.{Record}
-use Rattle.tree_model.specs.declared.records.Record.TheVariants.{Prepare as PrepareRecord}
 use Rattle.tree_model.specs.declared.events.Input.{Input}
-use Rattle.tree_model.specs.declared.events.Input.TheVariants.{Message as MessageInput}
 use Rattle.tree_model.specs.declared.trees.TreeEntry.{TreeEntry}
-use Rattle.tree_model.specs.Names.{child_case, process_of, same_case}
+use Rattle.tree_model.specs.Names.{child_case, same_case}
 use Rattle.tree_model.specs.Records.{boot_of, has, is_collecting, is_prepare}
-use Rattle.tree_model.specs.Memory.{Idle, Memory, Phase, active_ticket, cascaded_remembers, joins, memory_of, next_ticket}
-use Rattle.tree_model.specs.Nodes.{Below, Effect, Heard, Node, Place, after, entries_written, fails_in, is_any_forced, kept}
-use Rattle.tree_model.specs.Outcomes.{is_joined_message, is_read_message, sent}
+use Rattle.tree_model.specs.Memory.{Idle, Memory, Phase, active_ticket, cascaded_remembers, memory_of, next_ticket}
+use Rattle.tree_model.specs.Nodes.{Below, Effect, Heard, Node, Place, after, entries_written, is_any_forced, kept}
+use Rattle.tree_model.specs.Outcomes.{sent}
 use Rattle.tree_model.specs.Reactions.{Does, reacts}
 use Rattle.tree_model.specs.Standings.{some_case}
 use Rattle.tree_model.specs.Views.{IsOpenAlike}
@@ -27,19 +23,18 @@ use Rattle.tree_readings.proofs.Memories.{memory_of-heard}
 use Rattle.tree_turns.proofs.CoordinatorReactions.{coordinator_turn_of}
 use Rattle.tree_turns.proofs.Steps.{turn_of}
 use Rattle.tree_nodes.specs.Lasts.{Logs, Nested, logs_of, standing}
-use Rattle.tree_nodes.specs.Numbers.{Numbers}
 use Rattle.tree_nodes.specs.WorldHolds.{Issues, is_record_of}
-use Rattle.tree_nodes.proofs.Appends.{breaks_keeps, either_logs}
+use Rattle.tree_nodes.proofs.Appends.{either_logs}
 use Rattle.tree_nodes.proofs.Boots.{boot_written, turn_none}
 use Rattle.tree_nodes.proofs.GivenCases.{same_of}
 use Rattle.tree_nodes.proofs.PairOf.{given}
 use Rattle.tree_nodes.proofs.Selves.{Self, self_same}
-use Rattle.tree_nodes.proofs.Tests.{front_none, has-append, has-cons, has-nil, has-reverse, in_either, in_first, in_front, in_none, in_second, not_both, right}
+use Rattle.tree_nodes.proofs.Tests.{has-cons, has-nil, has-reverse, in_either, in_first, in_none, in_second, not_both, right}
 use Rattle.tree_nodes.proofs.Worlds.{has_other}
 use Rattle.tree_cascades.proofs.Joins.{joins_phase, not_again}
-use Rattle.tree_cascades.proofs.Opens.{IsRow, falls, input_is, IsJoin, live}
-use Rattle.tree_cascades.proofs.ReadCases.{Appended, Reads, collected_then, first_or, life_of, none_read, read_sent, said_read, unread}
-use Rattle.tree_cascades.proofs.RowWords.{IsPlain, Words, collects_now, plainly, promises_now, reads_now, turn_words}
+use Rattle.tree_cascades.proofs.Opens.{falls, input_is, IsJoin, live}
+use Rattle.tree_cascades.proofs.ReadCases.{Appended, Reads, collected_then, first_or, life_of, none_read, read_sent, said_read}
+use Rattle.tree_cascades.proofs.RowWords.{Words, collects_now, plainly, promises_now, reads_now, turn_words}
 
 promise_of : (c : Case) (r : Record) → is_prepare c r ≡ true → is_record_of c r ≡ true
 promise_of c r e = grind arith

@@ -1,5 +1,5 @@
 -- In every run a cascaded coordinator that said READ of a case never promised it.
-use Rattle.std.proofs.Common.{◌≡◌, ◌∙◌, ◌⊎◌, inl, inr, ◌+◌, ◌&&◌, ◌||◌, ℕ, zero, suc, Bool, true, false, Some, List, [], ◌∷◌, ◌++◌, take, drop, append_assoc, refl, sym, ap, subst, arith}
+use Rattle.std.proofs.Common.{◌≡◌, ◌∙◌, ◌⊎◌, inl, inr, ◌&&◌, ◌||◌, ℕ, Bool, true, false, Some, List, [], ◌∷◌, ◌++◌, take, drop, append_assoc, refl, sym, ap, subst, arith}
 use Rattle.std.specs.Prelude.{reverse}
 use Rattle.std.specs.List.{flat_map}
 use Rattle.std.proofs.lemmas.List.{append-nil, take-append-drop}
@@ -12,30 +12,23 @@ use Rattle.tree_model.specs.declared.standings.Standing.{Standing}
 use Rattle.tree_model.specs.declared.standings.Standing.TheVariants.{Unknown, Active, Collecting, Prepared, Committing, Aborting, Heuristic}
 use Rattle.tree_model.specs.declared.trees.TreeEntry.{TreeEntry}
 use Rattle.tree_model.specs.Records.{cases_in, has, is_collecting, is_prepare}
-use Rattle.tree_model.specs.CoordinatorRows.{Seat, each}
 use Rattle.tree_model.specs.Memory.{Memory, memory_of}
-use Rattle.tree_model.specs.Nodes.{Below, Effect, Heard, Node, Place, Role, entries_written, fails_in, kept, opened_node, place_of, role_of}
+use Rattle.tree_model.specs.Nodes.{Below, Effect, Heard, Node, Place, entries_written, fails_in, kept}
 use Rattle.tree_model.specs.Outcomes.{is_read_message, sent}
 use Rattle.tree_model.specs.Reactions.{Does, reacts}
-use Rattle.tree_model.specs.Restarts.{coordinator_reopens, coordinator_resumes, is_known, left_of, recorded_view, restart_fails, restarted, resumes, resumes_by, trim_fails, trimmed, trims}
+use Rattle.tree_model.specs.Restarts.{coordinator_reopens, coordinator_resumes, left_of, recorded_view, restart_fails, restarted, resumes, resumes_by}
 use Rattle.tree_model.specs.Standings.{CoordinatorView}
-use Rattle.tree_model.specs.World.{IsRun, Made, Move, World, makes, opens, put_at}
-use Rattle.tree_model.proofs.RunLaws.{makes_at}
 use Rattle.tree_readings.specs.ReadingOf.{gives_case}
 use Rattle.tree_readings.proofs.Lists.{sent-append}
-use Rattle.tree_turns.specs.Steps.{StepOf, failed_in, failed_passing, failed_reopening, failed_trimming, handled, heard_in, passed, reopened, trimmed as trims_log}
-use Rattle.tree_nodes.specs.Lasts.{Nested, logs_of}
+use Rattle.tree_nodes.specs.Lasts.{logs_of}
 use Rattle.tree_nodes.proofs.Appends.{breaks_keeps, loses}
-use Rattle.tree_nodes.proofs.Boots.{trims_memory}
 use Rattle.tree_nodes.proofs.CoordinatorKept.{memory_empty}
-use Rattle.tree_nodes.proofs.Tests.{both, has-append, has-reverse, in_either, in_first, in_front, in_none, in_second, neither, not_both, right}
-use Rattle.tree_cascades.specs.Letters.{AllSentBy}
+use Rattle.tree_nodes.proofs.Tests.{has-reverse, in_either, in_first, in_front, in_none, in_second, not_both, right}
 use Rattle.tree_cascades.proofs.Ends.{none_reopens, none_taken}
 use Rattle.tree_cascades.proofs.Opens.{live}
-use Rattle.tree_cascades.proofs.ReadCases.{Appended, Reads, collected_then, first_or, none_read, others_unread, said_read, unread}
-use Rattle.tree_cascades.proofs.ReadSteps.{Keeps, collecting_open, handled_reads, open_none, promise_open, promised_nothing}
+use Rattle.tree_cascades.proofs.ReadCases.{Reads, collected_then, first_or, said_read, unread}
+use Rattle.tree_cascades.proofs.ReadSteps.{Keeps, collecting_open, open_none, promise_open, promised_nothing}
 use Rattle.tree_cascades.proofs.RowWords.{each_unread}
-use Rattle.tree_cascades.proofs.Trimmed.{of_collecting, of_prepare, trimmed_has}
 
 and-both : (a b : Bool) → a ≡ true → b ≡ true → (a && b) ≡ true
 and-both a b e f = grind arith

@@ -1,19 +1,18 @@
 -- What a restart makes of a cascaded coordinator's half, and the readings: the log is cut to a front, and a case that was
 -- collecting votes is aborted.
-use Rattle.std.proofs.Common.{◌≡◌, ◌∙◌, ◌⊎◌, inl, inr, ◌||◌, ◌&&◌, ◌+◌, ℕ, Bool, true, false, Some, List, [], ◌∷◌, ◌++◌, take, drop, append_assoc, refl, sym, ap, subst, arith}
+use Rattle.std.proofs.Common.{◌≡◌, ◌∙◌, inl, inr, ◌||◌, ◌&&◌, ◌+◌, ℕ, Bool, true, false, List, [], ◌∷◌, ◌++◌, take, drop, append_assoc, refl, sym, ap, subst, arith}
 use Rattle.std.specs.Prelude.{not, reverse}
 use Rattle.std.specs.List.{flat_map}
 use Rattle.std.proofs.lemmas.List.{take-append-drop}
 use Rattle.tree_model.specs.declared.names.Case.{Case}
 use Rattle.tree_model.specs.declared.names.ProcessId.{ProcessId}
 use Rattle.tree_model.specs.declared.records.Record.{Record}
-use Rattle.tree_model.specs.declared.records.Record.TheVariants.{Opened, Abort as AbortRecord}
+use Rattle.tree_model.specs.declared.records.Record.TheVariants.{Opened}
 use Rattle.tree_model.specs.declared.standings.Standing.{Standing}
 use Rattle.tree_model.specs.declared.standings.Standing.TheVariants.{Unknown, Active, Collecting, Prepared, Committing, Aborting, Heuristic}
 use Rattle.tree_model.specs.declared.trees.TreeEntry.{TreeEntry}
 use Rattle.tree_model.specs.Names.{same_case}
-use Rattle.tree_model.specs.Records.{boot_of, cases_in, has, is_abort, is_collecting, is_commit, is_prepare}
-use Rattle.tree_model.specs.Memory.{Idle}
+use Rattle.tree_model.specs.Records.{boot_of, cases_in, has, is_abort, is_commit, is_prepare}
 use Rattle.tree_model.specs.Nodes.{Below, Node, Place, kept}
 use Rattle.tree_model.specs.Outcomes.{follows}
 use Rattle.tree_model.specs.Restarts.{aborts_collecting, coordinator_reopens, left_of, recorded_view, restart_abort, restart_fails, restarted}

@@ -1,7 +1,6 @@
 -- A restart of a cascaded coordinator keeps the invariant of its pairs, whatever is left of its log.
-use Rattle.std.proofs.Common.{◌≡◌, ◌∙◌, ◌⊎◌, inl, inr, ◌||◌, ◌&&◌, ◌+◌, ℕ, zero, suc, Bool, true, false, Some, List, [], ◌∷◌, ◌++◌, take, drop, append_assoc, refl, sym, ap, subst, arith}
+use Rattle.std.proofs.Common.{◌≡◌, ◌∙◌, inl, inr, ◌||◌, ◌&&◌, ℕ, Bool, true, false, List, [], ◌∷◌, ◌++◌, take, drop, refl, sym, ap, subst, arith}
 use Rattle.std.specs.Prelude.{not}
-use Rattle.std.proofs.lemmas.List.{append-nil}
 use Rattle.tree_model.specs.declared.names.Case.{Case}
 use Rattle.tree_model.specs.declared.names.Presumption.{Presumption}
 use Rattle.tree_model.specs.declared.names.ProcessId.{ProcessId}
@@ -14,12 +13,12 @@ use Rattle.tree_model.specs.declared.standings.Standing.TheVariants.{Collecting}
 use Rattle.tree_model.specs.declared.trees.TreeEntry.{TreeEntry}
 use Rattle.tree_model.specs.Names.{child_case, process_of, same_case, same_process, same_ticket}
 use Rattle.tree_model.specs.NameLaws.{same_case_tells, same_process_tells}
-use Rattle.tree_model.specs.Records.{has, is_abort, is_collecting, is_commit, is_end, is_prepare}
+use Rattle.tree_model.specs.Records.{has, is_abort, is_commit, is_end, is_prepare}
 use Rattle.tree_model.specs.Memory.{Idle, Memory}
 use Rattle.tree_model.specs.Nodes.{Below, Node, Place, kept, role_of}
 use Rattle.tree_model.specs.Outcomes.{is_joined_message, is_read_message, sent}
 use Rattle.tree_model.specs.Reactions.{is_prepared_standing}
-use Rattle.tree_model.specs.Restarts.{coordinator_reopens, left_of, recorded_view, restart_effect, restart_fails, restarted, resumes}
+use Rattle.tree_model.specs.Restarts.{coordinator_reopens, left_of, recorded_view, restart_fails, restarted, resumes}
 use Rattle.tree_model.specs.Views.{IsOpenAlike}
 use Rattle.tree_pairs.specs.ChildCrash as crash
 use Rattle.tree_pairs.specs.Invariant.{Common}
@@ -44,7 +43,7 @@ use Rattle.tree_cascades.proofs.Ends.{EndsDecided, ends_front, ends_more, none_r
 use Rattle.tree_cascades.proofs.Fails.{OwnFront, as_front, front_of}
 use Rattle.tree_cascades.proofs.Faults as faults
 use Rattle.tree_cascades.proofs.Halves.{OwnHalf, as_child, own_half_at}
-use Rattle.tree_cascades.proofs.Letters.{hears, nothing, said_by, wire_behind}
+use Rattle.tree_cascades.proofs.Letters.{hears, wire_behind}
 use Rattle.tree_cascades.proofs.Opens.{live, open_by_phase}
 use Rattle.tree_cascades.proofs.ReadCases.{Reads, said_read}
 use Rattle.tree_cascades.proofs.ReadSteps.{Keeps}
@@ -182,8 +181,7 @@ module _ (c : Case) (t : Ticket) (p : ProcessId) (tree : List TreeEntry) (n : No
       → IsLost aborted (has (is_prepare d) n.life) front.prepare q.prepare_ever v.issued v.read
   lost_so aborted f e =
       let b = both aborted (has (is_prepare d) n.life) e in
-      let a = f b.0 in
-      (
+      let a = f b.0 in (
         unpromised a,
         (
           lost t.child p tree net n keeps reads j d b.1 (idle_standing d rs (collecting a)) (unpromised a),

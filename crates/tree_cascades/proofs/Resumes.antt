@@ -1,5 +1,5 @@
 -- What a restart of a cascaded coordinator says up: it asks for the outcome of just the cases that its log leaves in doubt.
-use Rattle.std.proofs.Common.{◌≡◌, ◌∙◌, ◌⊎◌, inl, inr, ◌||◌, ◌&&◌, Bool, true, false, Some, List, [], ◌∷◌, ◌++◌, refl, sym, ap, subst, arith}
+use Rattle.std.proofs.Common.{◌≡◌, ◌∙◌, ◌⊎◌, inl, inr, ◌||◌, ◌&&◌, Bool, true, false, Some, List, [], ◌∷◌, refl, sym, ap, arith}
 use Rattle.std.specs.Prelude.{not}
 use Rattle.std.specs.List.{flat_map}
 use Rattle.tree_model.specs.declared.names.Case.{Case}
@@ -25,10 +25,9 @@ use Rattle.tree_readings.specs.ReadingOf.{is_ack_message, is_inquiry_message, is
 use Rattle.tree_readings.proofs.Lists.{sent-append}
 use Rattle.tree_nodes.specs.WorldHolds.{is_record_of}
 use Rattle.tree_nodes.proofs.GivenCases.{same_of}
-use Rattle.tree_nodes.proofs.Phases.{standing_at}
 use Rattle.tree_nodes.proofs.RootLogs.{recorded_case, recorded_stands}
 use Rattle.tree_nodes.proofs.Worlds.{has_other}
-use Rattle.tree_cascades.proofs.Letters.{Said, nothing, said_by}
+use Rattle.tree_cascades.proofs.Letters.{nothing, said_by}
 
 or-none : (a b : Bool) → a ≡ false → b ≡ false → (a || b) ≡ false
 or-none a b e f = grind arith

@@ -1,6 +1,6 @@
 -- Which inputs of a cascaded coordinator say READ of a case, promise it, or collect its votes: it was open, and READ and
 -- the promise close it.
-use Rattle.std.proofs.Common.{◌≡◌, ◌∙◌, ◌||◌, inl, inr, ℕ, Bool, true, false, Option, Some, None, List, [], ◌∷◌, ◌++◌, map, refl, sym, ap, subst, if◌then◌else◌}
+use Rattle.std.proofs.Common.{◌≡◌, ◌∙◌, inl, inr, Bool, true, false, Some, None, List, [], ◌∷◌, ◌++◌, map, refl, sym, ap, subst}
 use Rattle.tree_model.specs.declared.names.Case.{Case}
 use Rattle.tree_model.specs.declared.names.Outcome.{Outcome}
 use Rattle.tree_model.specs.declared.names.Outcome.TheVariants.{Committed as CommittedOutcome, Aborted as AbortedOutcome}
@@ -11,7 +11,7 @@ use Rattle.tree_model.specs.declared.names.Ticket.{Ticket}
 use Rattle.tree_model.specs.declared.names.Txn.{Txn}
 use Rattle.tree_model.specs.declared.messages.Envelope.{Envelope}
 use Rattle.tree_model.specs.declared.messages.Message.{Message}
-use Rattle.tree_model.specs.declared.messages.Message.TheVariants.{Ack, Commit, Abort, Joined, No, Prepare, Read}
+use Rattle.tree_model.specs.declared.messages.Message.TheVariants.{Ack, Commit, Abort, Joined, No, Prepare}
 use Rattle.tree_model.specs.declared.records.Record.TheVariants.{Prepare as PrepareRecord}
 use Rattle.tree_model.specs.declared.standings.Standing.TheVariants.{Active}
 use Rattle.tree_model.specs.declared.standings.Vote.{Vote}
@@ -20,7 +20,7 @@ use Rattle.tree_model.specs.Names.{child_case, presumed, root_case, same_case}
 use Rattle.tree_model.specs.NameLaws.{same_case_tells}
 use Rattle.tree_model.specs.Records.{boot_of, has, is_collecting, is_prepare, none_of}
 use Rattle.tree_model.specs.CoordinatorRows.{ByAbort, ByAct, ByVote, Reason, Row, Seat, abort_heard_above, acknowledges_abort, active_commit_alone, active_commit_with, cascaded_prepares, collecting_read_only, each, forced, post, read_only_end, tells_outcome}
-use Rattle.tree_model.specs.Memory.{Idle, Memory, Phase, cascaded_remembers, memory_of, works_of}
+use Rattle.tree_model.specs.Memory.{Idle, cascaded_remembers, memory_of, works_of}
 use Rattle.tree_model.specs.Nodes.{Below, Effect, Heard, Node, Place, entries_written, kept}
 use Rattle.tree_model.specs.Outcomes.{is_read_message, sent}
 use Rattle.tree_model.specs.Reactions.{row_effect, seat_of}

@@ -1,42 +1,33 @@
 -- The rows of the pair's case that vote, and those by which it aborts before its promise, keep the pair's invariant.
-use Rattle.std.proofs.Common.{◌≡◌, ◌∙◌, ◌⊎◌, inl, inr, ℕ, Bool, true, false, Some, None, List, [], ◌∷◌, ◌++◌, refl, sym, ap, subst, if◌then◌else◌}
-use Rattle.std.specs.Prelude.{filter, find}
+use Rattle.std.proofs.Common.{◌≡◌, ◌∙◌, ◌⊎◌, inl, inr, ℕ, Bool, true, false, Some, None, [], ◌∷◌, refl, sym, ap, subst}
 use Rattle.tree_model.specs.declared.names.Case.{Case}
 use Rattle.tree_model.specs.declared.names.Outcome.TheVariants.{Aborted as AbortedOutcome}
 use Rattle.tree_model.specs.declared.names.Ticket.{Ticket}
 use Rattle.tree_model.specs.declared.names.Txn.{Txn}
 use Rattle.tree_model.specs.declared.messages.Message.TheVariants.{Prepare, Read, Abort}
 use Rattle.tree_model.specs.declared.standings.Standing.{Standing}
-use Rattle.tree_model.specs.declared.standings.Standing.TheVariants.{Unknown, Active, Collecting}
-use Rattle.tree_model.specs.declared.standings.Vote.{Vote}
-use Rattle.tree_model.specs.declared.standings.Vote.TheVariants.{No as VoteNo}
-use Rattle.tree_model.specs.declared.events.Input.{Input}
+use Rattle.tree_model.specs.declared.standings.Standing.TheVariants.{Active, Collecting}
 use Rattle.tree_model.specs.declared.events.Input.TheVariants.{Message as MessageInput}
-use Rattle.tree_model.specs.Names.{child_case, same_txn}
-use Rattle.tree_model.specs.NameLaws.{same_case-refl, same_txn-refl, same_txn_tells}
-use Rattle.tree_model.specs.Records.{boot_of, cases_in, none_of}
+use Rattle.tree_model.specs.Names.{child_case}
+use Rattle.tree_model.specs.NameLaws.{same_case-refl}
+use Rattle.tree_model.specs.Records.{none_of}
 use Rattle.tree_model.specs.CoordinatorRows.{Seat, active_commit_alone, post}
-use Rattle.tree_model.specs.Memory.{Asked, Open, all_voted, cascaded_remembers, is_counted, memory_of}
-use Rattle.tree_model.specs.Nodes.{Place, kept}
+use Rattle.tree_model.specs.Nodes.{Place}
 use Rattle.tree_model.specs.Outcomes.{is_outcome_message}
 use Rattle.tree_model.specs.Reactions.{row_effect, seat_of}
-use Rattle.tree_model.specs.Standings.{case_of_child, coordinator_view, some_case}
+use Rattle.tree_model.specs.Standings.{coordinator_view}
 use Rattle.tree_pairs.specs.ChildMoves as move
 use Rattle.tree_pairs.specs.Reading.{Reading, is_live}
 use Rattle.tree_readings.specs.ReadingOf.{Wire, is_prepare_message, phase_by}
-use Rattle.tree_turns.specs.CoordinatorTurns.{CountsLast, CountsVote}
 use Rattle.tree_nodes.proofs.Deliveries.{was_sent}
-use Rattle.tree_nodes.proofs.Cases.{viewed}
 use Rattle.tree_children.proofs.Moves as moves
 use Rattle.tree_children.proofs.Moves.{Fits}
 use Rattle.tree_cascades.proofs.Closings as closings
 use Rattle.tree_cascades.proofs.Halves.{OwnHalf, stands_so}
 use Rattle.tree_cascades.proofs.Letters as letters
 use Rattle.tree_cascades.proofs.Letters.{Said, nothing, said_by}
-use Rattle.tree_cascades.proofs.Opens as opens
-use Rattle.tree_cascades.proofs.Opens.{live}
 use Rattle.tree_cascades.proofs.Readings as readings
-use Rattle.tree_cascades.proofs.Turns.{Fine, R, Remembered, Then, Turn, d as own_case, place as place_in, q as half_in, r0, silent_fine, v as wire_in}
+use Rattle.tree_cascades.proofs.Turns.{Fine, R, Then, Turn, d as own_case, place as place_in, q as half_in, r0, silent_fine, v as wire_in}
 
 live_at : (f : Bool) (s u : Standing) → f ≡ false → s ≡ u → (u ≡ Active) ⊎ (u ≡ Collecting)
     → is_live (phase_by f s) ≡ true
