@@ -41,7 +41,7 @@ use Rattle.tree_nodes.proofs.Worlds.{has_other}
 use Rattle.tree_headline.specs.ProcessLaws.{AllFrom}
 use Rattle.tree_headline.proofs.Grows.{sent_still, sent_then}
 
-goes_at : (tree : List TreeEntry) (net : List Envelope) (k : ℕ) (l : Envelope) → AllGo tree net
+pub goes_at : (tree : List TreeEntry) (net : List Envelope) (k : ℕ) (l : Envelope) → AllGo tree net
     → slice_get net k ≡ Some l → GoesBy tree l l.message
 goes_at tree [] k l g e = absurd (cc)
 goes_at tree (m ∷ ls) zero l g e =

@@ -23,7 +23,7 @@ parts a b e = grind arith
 four : (a b c d : Bool) → ((a || b) || (c || d)) ≡ ((a || c) || (b || d))
 four a b c d = grind arith
 
-either_has : (q r : Record → Bool) (l : List Record) → has (λ x. q x || r x) l ≡ (has q l || has r l)
+pub either_has : (q r : Record → Bool) (l : List Record) → has (λ x. q x || r x) l ≡ (has q l || has r l)
 unfolding has
 either_has q r [] = refl
 either_has q r (x ∷ l) = ap (λ b. (q x || r x) || b) (either_has q r l) ∙ four (q x) (r x) (has q l) (has r l)

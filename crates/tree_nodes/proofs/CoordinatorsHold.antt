@@ -167,7 +167,7 @@ module _ (tree : List TreeEntry) where
   is_coordinator None = tt
   is_coordinator (Some p) = tt
 
-  premises : (es : List Made) (w : World) → IsRun tree es w → (q : ProcessId) (parent : Option ProcessId)
+  pub premises : (es : List Made) (w : World) → IsRun tree es w → (q : ProcessId) (parent : Option ProcessId)
       → role_of tree q ≡ role_below parent → Coordinated (coordinator_place q parent tree) (w.at q)
       → Premises q parent tree (w.at q)
   premises es w run q None e old =
@@ -225,7 +225,7 @@ module _ (tree : List TreeEntry) where
       own_case q _ _ c ((all_root_cases tree es w run q e).begun_before c (accepted t f))
   whose es w run q (Some p) e c t f = ((all_give tree es w run q p e).accepted_is_given c t f).0
 
-  coordinates : (es : List Made) (w : World) → IsRun tree es w → (q : ProcessId) (parent : Option ProcessId)
+  pub coordinates : (es : List Made) (w : World) → IsRun tree es w → (q : ProcessId) (parent : Option ProcessId)
       → role_of tree q ≡ role_below parent → Coordinates (coordinator_place q parent tree) w.net (w.at q)
   coordinates es w run q parent e =
       let place = coordinator_place q parent tree in

@@ -46,6 +46,8 @@ pub mod RowWrites
 pub mod RootTraces
 pub mod RootBegun
 pub mod RootBegins
+pub mod Levels
+pub mod ChildOf
 pub mod VoteInputs
 pub mod Remembering
 pub mod OwnCases
@@ -61,8 +63,10 @@ pub mod CoordinatorVotes
 pub mod CoordinatorSteps
 pub mod CoordinatorRestarts
 pub mod CoordinatorsHold
+pub mod RootDecisions
+pub mod RootNever
+pub mod RootNeverLasts
+pub mod RootsHold
 pub mod CascadedGives
 pub mod CascadedMemories
 pub mod CascadesHold
-pub mod Levels
-pub mod ChildOf

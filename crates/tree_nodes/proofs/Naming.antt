@@ -52,12 +52,12 @@ in_filtered f (u ∷ ts) t e = by_test (f u) refl e (in_filtered f ts t)
         right (same_ticket u t) (in_list ts t)
         (r (ap (λ b. in_list (if b then u ∷ filter f ts else filter f ts) t) (sym k) ∙ g))
 
-in_yesses : (ts : List Ticket) (vs : List (Ticket × Vote)) (t : Ticket) → in_list (yes_of ts vs) t ≡ true
+pub in_yesses : (ts : List Ticket) (vs : List (Ticket × Vote)) (t : Ticket) → in_list (yes_of ts vs) t ≡ true
     → in_list ts t ≡ true
 unfolding yes_of
 in_yesses ts vs t e = in_filtered _ ts t e
 
-in_undecided : (ts : List Ticket) (vs : List (Ticket × Vote)) (t : Ticket) → in_list (undecided_of ts vs) t ≡ true
+pub in_undecided : (ts : List Ticket) (vs : List (Ticket × Vote)) (t : Ticket) → in_list (undecided_of ts vs) t ≡ true
     → in_list ts t ≡ true
 unfolding undecided_of
 in_undecided ts vs t e = in_filtered _ ts t e
@@ -108,7 +108,7 @@ in_both : (xs ys : List Ticket) (t : Ticket) → in_list (xs ++ ys) t ≡ true
 unfolding in_list
 in_both xs ys t e = either _ _ (sym (list_any-append _ xs ys) ∙ e)
 
-promises_name : (c : Case) (t : Ticket) (rs : List Record) → in_list (promised_by c rs) t ≡ true
+pub promises_name : (c : Case) (t : Ticket) (rs : List Record) → in_list (promised_by c rs) t ≡ true
     → has (is_naming c t) rs ≡ true
 unfolding promised_by
 promises_name c t [] e = in_nobody t e
@@ -225,7 +225,7 @@ unfolding in_list
 in_one xs ys t e = either _ _ (sym (list_any-append _ xs ys) ∙ e)
 
 -- a case that collects by its records has all that they name in its view
-view_names : (rs : List Record) (d : Case) (v : CoordinatorView) → v ≡ recorded_view rs d → v.standing ≡ Collecting
+pub view_names : (rs : List Record) (d : Case) (v : CoordinatorView) → v ≡ recorded_view rs d → v.standing ≡ Collecting
     → v.named ≡ named_by d rs
 unfolding recorded_view
 view_names rs d v e s =

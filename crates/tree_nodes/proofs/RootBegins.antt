@@ -37,7 +37,7 @@ opened_begun me tree = record {
     both : {b : Bool} → b ≡ false → b ≡ true → ⊥
     both e f = cc
 
-all_begun : (tree : List TreeEntry) (es : List Made) (w : World) → IsRun tree es w → (p : ProcessId)
+pub all_begun : (tree : List TreeEntry) (es : List Made) (w : World) → IsRun tree es w → (p : ProcessId)
     → role_of tree p ≡ AtRoot → BegunSo p tree (w.at p)
 all_begun tree _ _ opens p role = opened_begun p tree
 all_begun tree _ _ (makes es w m e w' run stands step) p at_top =
@@ -61,7 +61,7 @@ module _ (me : ProcessId) (tree : List TreeEntry) (n : Node) (cases : RootCases 
     place = root_place me tree
 
     -- a transaction that left a trace was begun
-    was_begun : (x : Txn) → has_begun place n x ≡ true → InHistory n (root_case x)
+    pub was_begun : (x : Txn) → has_begun place n x ≡ true → InHistory n (root_case x)
     was_begun x e = begun x refl (by_trace (traces place n x e))
       where
         by_trace : (is_begun (memory_of place n (root_case x)).phase ≡ true)
@@ -79,7 +79,7 @@ module _ (me : ProcessId) (tree : List TreeEntry) (n : Node) (cases : RootCases 
     boot_before b k f c (inl l) = omega (arith, l)
     boot_before b k f c (inr s) = absurd (let z = s.1 in omega (arith, z, c))
 
-    leaves_trace : (c : Case) → InHistory n c → has_begun place n c.txn ≡ true
+    pub leaves_trace : (c : Case) → InHistory n c → has_begun place n c.txn ≡ true
     leaves_trace c x = h.known c.txn (h.in_histories c x)
 
     holds : OwnTransactions (root_place me tree) n

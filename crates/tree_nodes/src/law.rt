@@ -11,7 +11,7 @@ ghost use Rattle.tree_model.specs.declared.names.Txn.{Txn};
 ghost use Rattle.tree_nodes.specs.Numbers.{IsIssuer, Numbers};
 ghost use Rattle.tree_nodes.specs.CaseOrder.{CaseInOrder, IsCoordinator};
 ghost use Rattle.tree_nodes.specs.RootBegins.{OwnTransactions};
-ghost use Rattle.tree_nodes.specs.WorldHolds.{Boots, Cascades, Coordinates, IsPair, Issues, JoinedOnce, NodeHolds, WorldHolds, pair_reading};
+ghost use Rattle.tree_nodes.specs.WorldHolds.{Begins, Boots, Cascades, Coordinates, IsPair, Issues, JoinedOnce, NodeHolds, WorldHolds, pair_reading};
 ghost use Rattle.tree_pairs.specs.Invariant.{Common};
 ghost use Rattle.tree_readings.specs.ReadingOf.{gives_case};
 ghost use Rattle.tree_model.specs.World.{IsRun, Made, World};
@@ -112,6 +112,25 @@ pub fn cascades_hold()
 pub fn cascaded_nodes_hold()
     ensures { (tree : List TreeEntry) (es : List Made) (w : World) → IsRun tree es w → (q p : ProcessId)
         → role_of tree q ≡ Below p → NodeHolds (place_of tree q) w.net (w.at q) }
+{}
+
+/// In every run of every tree a transaction never commits once the root told `aborted` of it, appended an Abort of it,
+/// or found it undecided in a restart; and each transaction that the root has begun is its own.
+pub fn roots_begin()
+    ensures { (tree : List TreeEntry) (es : List Made) (w : World) → IsRun tree es w → (q : ProcessId)
+        → role_of tree q ≡ AtRoot → Begins (place_of tree q) (w.at q) }
+{}
+
+/// In every run of every tree each root keeps its part of the world's invariant, the whole of it.
+pub fn root_nodes_hold()
+    ensures { (tree : List TreeEntry) (es : List Made) (w : World) → IsRun tree es w → (q : ProcessId)
+        → role_of tree q ≡ AtRoot → NodeHolds (place_of tree q) w.net (w.at q) }
+{}
+
+/// In every run of every tree each process keeps its part of the world's invariant, whatever its role.
+pub fn nodes_hold()
+    ensures { (tree : List TreeEntry) (es : List Made) (w : World) → IsRun tree es w → (q : ProcessId)
+        → NodeHolds (place_of tree q) w.net (w.at q) }
 {}
 
 /// In every run of every tree JOINED gives each ticket to one case.

@@ -1,0 +1,17 @@
+pub mod Named
+pub mod Fronts
+pub mod Reopened
+pub mod Resumed
+pub mod Losing
+pub mod LostHalves
+pub mod Crashes
+pub mod Behind
+pub mod Moves
+pub mod Restarts
+pub mod Trimmed
+pub mod Trims
+pub mod CrashSteps
+pub mod RootListed
+pub mod CrashPairs
+pub mod Promised
+pub mod CoordinatorCrashes

@@ -1,0 +1,3 @@
+pub mod CoordinatorLetters
+pub mod TurnLetters
+pub mod LettersHold
