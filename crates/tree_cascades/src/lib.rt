@@ -1,0 +1,5 @@
+//! What a step of a cascaded coordinator does to the pairs above it. The functions do nothing: each one's contract is a
+//! law.
+#![tactic(auto)]
+
+pub mod law;
