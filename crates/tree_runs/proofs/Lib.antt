@@ -4,3 +4,4 @@ pub mod LettersHold
 pub mod NetsHold
 pub mod Born
 pub mod BornHolds
+pub mod Headline
