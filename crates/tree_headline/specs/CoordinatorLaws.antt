@@ -1,4 +1,4 @@
--- What is left to prove of coordinators: the rest of what their steps keep is proved.
+-- What is enough of coordinators: the rest of what their steps keep follows.
 use Rattle.std.specs.Prelude.{◌≡◌, ◌≢◌, true, false, Some, List, ◌++◌}
 use Rattle.tree_model.specs.declared.messages.Envelope.{Envelope}
 use Rattle.tree_model.specs.declared.names.Case.{Case}
