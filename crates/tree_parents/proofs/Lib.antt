@@ -24,3 +24,4 @@ pub mod OwnTurns
 pub mod NoCase
 pub mod Born
 pub mod Steps
+pub mod Faults
