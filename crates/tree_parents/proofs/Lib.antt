@@ -25,3 +25,7 @@ pub mod NoCase
 pub mod Born
 pub mod Steps
 pub mod Faults
+pub mod FaultHears
+pub mod FaultNothing
+pub mod FaultReadings
+pub mod FaultOwn

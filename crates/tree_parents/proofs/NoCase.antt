@@ -224,7 +224,7 @@ module _ (turn : Turn) where
   not_taken (Abort d) i None s e = rested.rest_same turn (by_input.root_passes turn (Abort d) i.0 s i.1 refl)
   not_taken msg i o s e = absurd e
 
-  of_no_case : IsOfNoCase place parent n h → Rests turn
+  pub of_no_case : IsOfNoCase place parent n h → Rests turn
   of_no_case (turns.unticketed says x k i) = unticketed says x k i
   of_no_case (turns.belongs_nowhere says x u k i none) = nowhere says x u k i none
   of_no_case (turns.not_taken msg i e) = not_taken msg i parent refl e
