@@ -65,7 +65,7 @@ module _ (turn : Turn) where
         ap (λ b. b || list_any (is_told_of_txn c.txn) n.told || list_any (λ y. same_txn y c.txn) n.found_undecided ||
         has (is_commit c) then.life) e
 
-    begun_still : (ph : Phase) → has (is_commit c) then.life ≡ has (is_commit c) n.life → is_begun ph ≡ is_begun m.phase
+    pub begun_still : (ph : Phase) → has (is_commit c) then.life ≡ has (is_commit c) n.life → is_begun ph ≡ is_begun m.phase
         → begun_after ph then c ≡ p0.begun
     begun_still ph g e =
         ap (λ b. b || list_any (is_told_of_txn c.txn) n.told || list_any (λ y. same_txn y c.txn) n.found_undecided ||

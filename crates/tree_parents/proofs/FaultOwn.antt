@@ -104,27 +104,27 @@ module _ (turn : Turn) where
     rests = λ x y. absurd (let z = sym l ∙ x in cc);
   }
 
-  plain_goes : (row : Row) (ph : Phase) → is_live p0.phase ≡ true → Goes turn ph → is_begun ph ≡ true
+  pub plain_goes : (row : Row) (ph : Phase) → is_live p0.phase ≡ true → Goes turn ph → is_begun ph ≡ true
       → heard_so (row_effect c row) c t p0 ≡ p0 → Hears turn (row_effect c row)
   plain_goes row ph l s b is =
       of_goes (row_effect c row) ph l s b p0 is refl refl refl refl (unmoved c.txn.presumption (reading turn) inv)
 
-  active_live : v.standing ≡ Active → is_live p0.phase ≡ true
+  pub active_live : v.standing ≡ Active → is_live p0.phase ≡ true
   active_live e = ap is_live (active.active_phase turn e)
 
   -- a vote was heard
-  heard_vote : (e : Effect) (u : Ticket) (w : Vote) → e.accepts ≡ [] → e.counts ≡ (c, (u, w)) ∷ []
+  pub heard_vote : (e : Effect) (u : Ticket) (w : Vote) → e.accepts ≡ [] → e.counts ≡ (c, (u, w)) ∷ []
       → heard_so e c t p0 ≡ heard w (same_ticket u t) p0
   heard_vote e u w none one = rw (none, one) (simp (same_case-refl, or-false))
 
-  vote_goes : (e : Effect) (u : Ticket) (w : Vote) (i : CountsVote place n h c u w) → turns.Consents w
+  pub vote_goes : (e : Effect) (u : Ticket) (w : Vote) (i : CountsVote place n h c u w) → turns.Consents w
       → e.accepts ≡ [] → e.counts ≡ (c, (u, w)) ∷ [] → (ph : Phase) → Goes turn ph → is_begun ph ≡ true → Hears turn e
   vote_goes e u w i k none one ph s b =
       of_goes e ph (ap is_live (votes.phase turn u w i)) s b (heard w (same_ticket u t) p0) (heard_vote e u w none one) refl refl refl refl
       (votes.hears turn u w i k)
 
   -- JOINED is accepted
-  joined_goes : (u : Ticket) → HearsMessage h (Joined c u) → v.standing ≡ Active → has_child v.accepted u.child ≡ false
+  pub joined_goes : (u : Ticket) → HearsMessage h (Joined c u) → v.standing ≡ Active → has_child v.accepted u.child ≡ false
       → (row : Row) → row.accepts ≡ u ∷ [] → row.counts ≡ [] → Hears turn (row_effect c row)
   joined_goes u i e f row one none = record {
     phase = Open;

@@ -29,3 +29,6 @@ pub mod FaultHears
 pub mod FaultNothing
 pub mod FaultReadings
 pub mod FaultOwn
+pub mod FaultTurns
+pub mod FaultCases
+pub mod FaultEnds

@@ -183,10 +183,10 @@ module _ (turn : Turn) where
     abbrev its : Bool
     its = same_ticket u t
 
-    abbrev no_row : Presumption → Row
+    abbrev pub no_row : Presumption → Row
     no_row p = counting u VoteNo (collecting_abort_by (seat_of place parent c) ByVote (voted v u VoteNo) us p)
 
-    a : m.phase ≡ Asked
+    pub a : m.phase ≡ Asked
     a = votes.asked turn u VoteNo i
 
     in_them : in_list us t ≡ (p0.accepted && (not (voted_so VoteNo (votes.votes turn u VoteNo i) t) && not (voted_so VoteRead (votes.votes turn u VoteNo i) t)))
@@ -199,7 +199,7 @@ module _ (turn : Turn) where
     pub goes : Goes turn Over
     goes = votes.vote_says turn u VoteNo i Over refl
 
-    did_no : (p : Presumption) → did (row_effect c (no_row p)) c t p0 ≡ told_so false root (heard VoteNo its p0)
+    pub did_no : (p : Presumption) → did (row_effect c (no_row p)) c t p0 ≡ told_so false root (heard VoteNo its p0)
     did_no PresumeAbort = own.did_vote turn (row_effect c (no_row PresumeAbort)) u VoteNo false root p0 refl refl (own.abort_no_commit turn) (own.told_aborted turn)
     did_no PresumeCommit = own.did_vote turn (row_effect c (no_row PresumeCommit)) u VoteNo false root p0 refl refl (own.abort_no_commit turn) (own.told_aborted turn)
 

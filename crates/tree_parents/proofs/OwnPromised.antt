@@ -148,10 +148,10 @@ module _ (turn : Turn) where
       by_test false x = x
       by_test true x = clash p0.abort_kept (stands_for c.txn.presumption q inv x) f
 
-  abbrev commit_row : Presumption → Row
+  abbrev pub commit_row : Presumption → Row
   commit_row p = prepared_commit_by (seat_of place parent c) v p
 
-  abbrev abort_row : Presumption → Row
+  abbrev pub abort_row : Presumption → Row
   abort_row p = prepared_abort_by (seat_of place parent c) v p
 
   abbrev X : Bool → Bool → ParentHalf → Wire → Reading

@@ -137,7 +137,7 @@ module _ (turn : Turn) where
 
       -- All read only.
 
-      abbrev read_row : Presumption → Row
+      abbrev pub read_row : Presumption → Row
       read_row p = counting u w (record (collecting_read_only (seat_of place parent c)) {
         written = read_only_end (seat_of place parent c) p;
       })
@@ -217,7 +217,7 @@ module _ (turn : Turn) where
           by_test false x = x
           by_test true x = clash p1.own_prepare_kept ((common_of c.txn.presumption r1 heard_it.invariant).names_has_yes x).1 alive.no_prepare
 
-      abbrev commit_row : Presumption → Row
+      abbrev pub commit_row : Presumption → Row
       commit_row p = counting u w (root_commits (seat_of place parent c) (voted v u w) ys p)
 
       told_commit : (p : Presumption) → did (row_effect c (commit_row p)) c t (half turn) ≡ told_so true false p1
@@ -274,7 +274,7 @@ module _ (turn : Turn) where
 
       -- A cascaded coordinator promises.
 
-      abbrev promise_row : Row
+      abbrev pub promise_row : Row
       promise_row = counting u w (cascaded_prepares (seat_of place parent c) (voted v u w) ys)
 
       pub promises : (p : ProcessId) → parent ≡ Some p → After turn promise_row → Fine turn (row_effect c promise_row)
