@@ -144,9 +144,3 @@ module _ (turn : Turn) where
           ≡ (if b then move.accepts (reading turn) else reading turn)
       by_test true = simp (or-true)
       by_test false = simp (or-false)
-
-  -- The first NO, of another ticket, or any other turn.
-
-  abbrev pub NotItsNo : (row : Row) → CaseTurn place parent n h c row → Type 0
-  NotItsNo _ (turns.hears_no u us p i f q) = same_ticket u t ≡ false
-  NotItsNo _ _ = Unit {0}

@@ -32,3 +32,4 @@ pub mod FaultOwn
 pub mod FaultTurns
 pub mod FaultCases
 pub mod FaultEnds
+pub mod FaultSteps

@@ -264,7 +264,7 @@ module _ (turn : Turn) where
           by_test true e = clash (in_list (named_by c (kept n)) t)
               (names_record c t (kept n) (has_other q (is_naming c t) (kept n) f e)) (not_named x t s none)
 
-  abbrev told : Txn → Ticket → Effect
+  abbrev pub told : Txn → Ticket → Effect
   told x u = sends_only (post place.me u.child (tells_outcome (presumed x.presumption) (child_case x u)) ∷ [])
 
   -- the net behind it
