@@ -1,30 +1,25 @@
 -- Faults behind the records of the pair's own case, on the pair.
-use Rattle.std.proofs.Common.{◌≡◌, ◌∙◌, ◌⊎◌, inl, inr, ℕ, Bool, true, false, ◌||◌, ◌&&◌, not, Option, Some, None, List, [], ◌∷◌, ◌++◌, take, refl, sym, ap, subst, arith, if◌then◌else◌}
+use Rattle.std.proofs.Common.{◌≡◌, ◌∙◌, inl, inr, ℕ, Bool, true, false, ◌&&◌, not, Some, None, List, [], ◌∷◌, take, refl, sym, ap, subst}
 use Rattle.tree_model.specs.declared.names.ProcessId.{ProcessId}
 use Rattle.tree_model.specs.declared.names.Ticket.{Ticket}
 use Rattle.tree_model.specs.declared.names.Presumption.{Presumption}
 use Rattle.tree_model.specs.declared.names.Presumption.TheVariants.{PresumeAbort, PresumeCommit}
-use Rattle.tree_model.specs.declared.messages.Message.TheVariants.{Commit, Abort, Ack}
-use Rattle.tree_model.specs.declared.names.Outcome.{Outcome}
 use Rattle.tree_model.specs.declared.records.Record.TheVariants.{Collecting as CollectingRecord, Prepare as PrepareRecord, Commit as CommitRecord, Abort as AbortRecord, End as EndRecord}
-use Rattle.tree_model.specs.declared.standings.Standing.TheVariants.{Active, Collecting, Prepared}
+use Rattle.tree_model.specs.declared.standings.Standing.TheVariants.{Active, Collecting}
 use Rattle.tree_model.specs.declared.standings.Vote.{Vote}
-use Rattle.tree_model.specs.declared.standings.Vote.TheVariants.{Yes as VoteYes, No as VoteNo, Read as VoteRead}
+use Rattle.tree_model.specs.declared.standings.Vote.TheVariants.{No as VoteNo}
 use Rattle.tree_model.specs.Names.{same_ticket}
-use Rattle.tree_model.specs.NameLaws.{same_case-refl}
 use Rattle.tree_model.specs.Records.{has, in_list, is_prepare, none_of}
 use Rattle.tree_model.specs.Nodes.{Effect, entries_written, fails_in, kept}
-use Rattle.tree_model.specs.Memory.{Memory, Phase, Open, Asked, Over, undecided_of}
-use Rattle.tree_model.specs.CoordinatorRows.{Row, Reason, ByVote, forced, plain, active_commit_with, collecting_abort_by, prepared_commit_by, prepared_abort_by}
+use Rattle.tree_model.specs.Memory.{Memory, Asked, Over, undecided_of}
+use Rattle.tree_model.specs.CoordinatorRows.{Row, Reason, ByVote, active_commit_with, collecting_abort_by}
 use Rattle.tree_model.specs.Reactions.{row_effect, seat_of}
 use Rattle.tree_model.specs.Standings.{CoordinatorView}
-use Rattle.tree_pairs.specs.Reading as pair
 use Rattle.tree_pairs.specs.Reading.{Reading, is_live}
-use Rattle.tree_pairs.specs.ParentMoves as move
 use Rattle.tree_pairs.specs.ParentCrash as crash
 use Rattle.tree_readings.specs.ReadingOf.{ParentHalf, Wire}
 use Rattle.tree_readings.proofs.Named.{in_list-none}
-use Rattle.tree_turns.specs.CoordinatorTurns.{IsToCommit, IsToAbort, CountsVote, CountsLast, HearsParent, voted}
+use Rattle.tree_turns.specs.CoordinatorTurns.{IsToCommit, IsToAbort, CountsVote, CountsLast, voted}
 use Rattle.tree_nodes.specs.WorldHolds.{InOrder}
 use Rattle.tree_parents.proofs.FaultHears.{Hears}
 use Rattle.tree_parents.proofs.FaultOwn as hears
@@ -39,7 +34,7 @@ use Rattle.tree_parents.proofs.OwnActive as active
 use Rattle.tree_parents.proofs.OwnMoves.{and_then, read_as, up_part}
 use Rattle.tree_parents.proofs.OwnVotes as last
 use Rattle.tree_parents.proofs.Readings.{Live}
-use Rattle.tree_parents.proofs.Turns.{Turn, Says, Fits_in, R as seen, m as remembered, p0 as half, v0 as net_part, o0 as told_outcome, r0 as reading, root as at_root}
+use Rattle.tree_parents.proofs.Turns.{Turn, Fits_in, R as seen, m as remembered, p0 as half, v0 as net_part, o0 as told_outcome, r0 as reading, root as at_root}
 use Rattle.tree_parents.proofs.Votes as votes
 use Rattle.tree_parents.proofs.Writes.{wrote}
 

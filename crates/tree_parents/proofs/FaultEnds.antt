@@ -1,13 +1,10 @@
 -- Faults behind the records of the pair's own case that has promised, or was decided, on the pair.
-use Rattle.std.proofs.Common.{◌≡◌, ◌∙◌, ◌⊎◌, inl, inr, ℕ, Bool, true, false, ◌||◌, ◌&&◌, not, Option, Some, None, List, [], ◌∷◌, ◌++◌, take, refl, sym, ap, subst}
-use Rattle.tree_model.specs.declared.names.ProcessId.{ProcessId}
+use Rattle.std.proofs.Common.{◌≡◌, ◌∙◌, ℕ, Bool, true, false, [], refl, sym, subst}
 use Rattle.tree_model.specs.declared.names.Ticket.{Ticket}
 use Rattle.tree_model.specs.declared.names.Outcome.{Outcome}
-use Rattle.tree_model.specs.declared.names.Outcome.TheVariants.{Committed as CommittedOutcome, Aborted as AbortedOutcome}
 use Rattle.tree_model.specs.declared.names.Presumption.{Presumption}
 use Rattle.tree_model.specs.declared.names.Presumption.TheVariants.{PresumeAbort, PresumeCommit}
 use Rattle.tree_model.specs.declared.messages.Message.TheVariants.{Commit, Abort, Ack}
-use Rattle.tree_model.specs.declared.records.Record.{Record}
 use Rattle.tree_model.specs.declared.records.Record.TheVariants.{Commit as CommitRecord, Abort as AbortRecord, End as EndRecord}
 use Rattle.tree_model.specs.declared.standings.Standing.TheVariants.{Prepared}
 use Rattle.tree_model.specs.Records.{has, is_commit, is_prepare, none_of}
@@ -22,7 +19,6 @@ use Rattle.tree_readings.specs.ReadingOf.{ParentHalf, Wire, acknowledged}
 use Rattle.tree_readings.proofs.Lists.{has-cons}
 use Rattle.tree_turns.specs.CoordinatorTurns.{Decided, HearsChild, HearsParent}
 use Rattle.tree_nodes.specs.WorldHolds.{InOrder}
-use Rattle.tree_parents.proofs.FaultHears.{Hears}
 use Rattle.tree_parents.proofs.FaultNothing.{begun_still}
 use Rattle.tree_parents.proofs.FaultOwn as hears
 use Rattle.tree_parents.proofs.FaultReadings as readings

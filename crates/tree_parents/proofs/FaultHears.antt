@@ -1,29 +1,19 @@
 -- A fault behind which nothing of the pair's case was appended: the pair's parent fails, behind what it heard.
-use Rattle.std.proofs.Common.{◌≡◌, ◌∙◌, ◌⊎◌, inl, inr, ℕ, Bool, true, false, ◌||◌, ◌&&◌, Option, Some, None, List, [], ◌∷◌, ◌++◌, take, refl, sym, ap, subst, arith}
-use Rattle.std.specs.List.{list_any}
-use Rattle.tree_model.specs.declared.names.Case.{Case}
-use Rattle.tree_model.specs.declared.names.Ticket.{Ticket}
-use Rattle.tree_model.specs.declared.records.Record.{Record}
-use Rattle.tree_model.specs.Names.{same_txn}
-use Rattle.tree_model.specs.Records.{boot_of, has, in_list, is_commit, is_prepare}
-use Rattle.tree_model.specs.Nodes.{Node, Heard, Effect, fails_in, entries_written, kept}
-use Rattle.tree_model.specs.Memory.{Memory, Phase as MemoryPhase, Idle, Open, Asked, Over, memory_of}
-use Rattle.tree_pairs.specs.Reading.{Reading, Phase, Closed, is_live}
+use Rattle.std.proofs.Common.{◌≡◌, ◌∙◌, Bool, true, false, ◌||◌, refl, sym, ap, subst, arith}
+use Rattle.tree_model.specs.Nodes.{Effect}
+use Rattle.tree_model.specs.Memory.{Memory, Phase as MemoryPhase, Idle, Open, Asked, Over}
+use Rattle.tree_pairs.specs.Reading.{Reading, is_live}
 use Rattle.tree_pairs.specs.Invariant.{Common}
 use Rattle.tree_pairs.specs.ParentCrash as crash
-use Rattle.tree_readings.specs.ReadingOf.{ParentHalf, ChildHalf, Wire, parent_half, reading_from, is_begun, is_dead, is_told_of_txn}
-use Rattle.tree_readings.proofs.Lists.{has-cons}
-use Rattle.tree_nodes.specs.WorldHolds.{InOrder}
+use Rattle.tree_readings.specs.ReadingOf.{ParentHalf, ChildHalf, Wire, reading_from, is_begun, is_dead}
 use Rattle.tree_children.proofs.Moves.{common_of, onward}
-use Rattle.tree_parents.proofs.Faults.{Fault_fine, cut, down, fault_fits, half_fails, half_fails_behind, heard_so, parent_front}
-use Rattle.tree_parents.proofs.Halves.{half_is_down, live_phase, phase_of, remembered_half}
+use Rattle.tree_parents.proofs.Faults.{down, heard_so}
+use Rattle.tree_parents.proofs.Halves.{live_phase, phase_of}
 use Rattle.tree_parents.proofs.Known.{clash}
 use Rattle.tree_parents.proofs.Moves as moves
 use Rattle.tree_parents.proofs.Own as own
-use Rattle.tree_parents.proofs.Quiet.{DoesNothing, Rests, Unrelated, rested, rest_fits}
 use Rattle.tree_parents.proofs.Readings.{Live}
-use Rattle.tree_parents.proofs.Turns.{Turn, Says, Fits_in, R as seen, m as remembered, m' as then_remembered, p0 as half, v0 as net_part, o0 as told_outcome, r0 as reading, root as at_root}
-use Rattle.tree_parents.proofs.Writes.{begun_after, wrote}
+use Rattle.tree_parents.proofs.Turns.{Turn, Says, Fits_in, R as seen, m as remembered, p0 as half, v0 as net_part, o0 as told_outcome, r0 as reading, root as at_root}
 
 or-true : (a : Bool) → (a || true) ≡ true
 or-true a = grind arith
@@ -150,3 +140,21 @@ module _ (turn : Turn) where
           (sym (reading-fails_closed manager above k root o0 b (record y.half_then { accepted = y.accepted; acked = y.acked }) v0
           (ap is_live y.same_phase ∙ l) (λ i. g (y.rests l i) ∙ sym y.same_begun)))
           fails
+
+  -- the parent fails, and heard nothing
+  pub fails_still : Fits_in turn (seen turn o0 (down p0.accepted p0.acked p0.begun p0) v0)
+  fails_still = by_live (is_live p0.phase) refl
+    where
+      fails : Fits_in turn (crash.parent_fails (reading turn))
+      fails = moves.parent_fails c.txn.presumption (reading turn) turn.inv (record { up = up })
+
+      by_live : (l : Bool) → is_live p0.phase ≡ l → Fits_in turn (seen turn o0 (down p0.accepted p0.acked p0.begun p0) v0)
+      by_live true l =
+          subst (λ (x : Bool). Fits_in turn (seen turn o0 (down p0.accepted p0.acked x p0) v0)) (sym (begun_live l))
+          (subst (λ (x : Reading). Fits_in turn x)
+          (sym (reading-fails_live manager above k root o0 p0 v0
+          (live_from p0 (common_of c.txn.presumption (reading turn) turn.inv) l (begun_live l))))
+          fails)
+      by_live false l =
+          subst (λ (x : Reading). Fits_in turn x)
+          (sym (reading-fails_closed manager above k root o0 p0.begun p0 v0 l (λ i. refl))) fails

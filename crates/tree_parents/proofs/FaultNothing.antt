@@ -1,11 +1,8 @@
 -- A fault behind which nothing of the pair's case was appended: nothing at all, or a record of another case.
-use Rattle.std.proofs.Common.{◌≡◌, ◌∙◌, ◌⊎◌, inl, inr, ℕ, Bool, true, false, ◌||◌, ◌&&◌, Option, Some, None, List, [], ◌∷◌, ◌++◌, take, refl, sym, ap, subst, arith}
+use Rattle.std.proofs.Common.{◌≡◌, ◌∙◌, ℕ, Bool, true, ◌||◌, List, [], ◌∷◌, take, refl, sym, ap}
 use Rattle.std.specs.Prelude.{fold}
 use Rattle.std.specs.List.{list_any}
 use Rattle.std.proofs.lemmas.Grind.{fold-append}
-use Rattle.std.proofs.lemmas.List.{append-nil}
-use Rattle.tree_model.specs.declared.names.Case.{Case}
-use Rattle.tree_model.specs.declared.names.Ticket.{Ticket}
 use Rattle.tree_model.specs.declared.records.Record.{Record}
 use Rattle.tree_model.specs.Names.{same_txn}
 use Rattle.tree_model.specs.Records.{boot_of, boot_after, has, in_list, is_commit, is_prepare}
@@ -22,7 +19,7 @@ use Rattle.tree_parents.proofs.Faults.{Fault_fine, cut, down, fault_fits, half_f
 use Rattle.tree_parents.proofs.Halves.{half_is_down, half_of, remembered_half, acked_of}
 use Rattle.tree_parents.proofs.Quiet.{Unrelated}
 use Rattle.tree_parents.proofs.Turns.{Turn, Says, m as remembered, m' as then_remembered, p0 as half}
-use Rattle.tree_parents.proofs.Writes.{begun_after, wrote}
+use Rattle.tree_parents.proofs.Writes.{begun_after}
 
 module _ (turn : Turn) where
   open turn use {place, n, h, net, c, t, up, nested}

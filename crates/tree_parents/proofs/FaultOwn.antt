@@ -1,18 +1,16 @@
 -- What a turn of the pair's own case leads to even where the device fails in it, behind no record of it.
-use Rattle.std.proofs.Common.{◌≡◌, ◌∙◌, ◌⊎◌, inl, inr, ℕ, Bool, true, false, ◌||◌, ◌&&◌, not, Option, Some, None, List, [], ◌∷◌, ◌++◌, refl, sym, ap, subst, arith, if◌then◌else◌}
+use Rattle.std.proofs.Common.{◌≡◌, ◌∙◌, Bool, true, false, ◌||◌, [], ◌∷◌, refl, sym, ap, subst, arith, if◌then◌else◌}
 use Rattle.tree_model.specs.declared.names.Ticket.{Ticket}
 use Rattle.tree_model.specs.declared.messages.Message.TheVariants.{Joined}
-use Rattle.tree_model.specs.declared.standings.Standing.TheVariants.{Active, Collecting, Prepared}
+use Rattle.tree_model.specs.declared.standings.Standing.TheVariants.{Active}
 use Rattle.tree_model.specs.declared.standings.Vote.{Vote}
-use Rattle.tree_model.specs.declared.standings.Vote.TheVariants.{Yes as VoteYes, No as VoteNo, Read as VoteRead}
-use Rattle.tree_model.specs.Names.{same_case, same_ticket, child_case}
+use Rattle.tree_model.specs.Names.{same_ticket}
 use Rattle.tree_model.specs.NameLaws.{same_case-refl}
 use Rattle.tree_model.specs.Nodes.{Effect}
 use Rattle.tree_model.specs.Memory.{Memory, Phase, Idle, Open, Asked, Over, has_child}
 use Rattle.tree_model.specs.CoordinatorRows.{Row}
 use Rattle.tree_model.specs.Reactions.{row_effect}
 use Rattle.tree_model.specs.Standings.{CoordinatorView}
-use Rattle.tree_pairs.specs.Reading as pair
 use Rattle.tree_pairs.specs.Reading.{Reading, is_live}
 use Rattle.tree_pairs.specs.ParentMoves as move
 use Rattle.tree_readings.specs.ReadingOf.{ParentHalf, Wire, is_begun}
@@ -23,21 +21,14 @@ use Rattle.tree_children.proofs.Moves.{unmoved}
 use Rattle.tree_parents.proofs.FaultHears.{Hears}
 use Rattle.tree_parents.proofs.Faults.{heard_so}
 use Rattle.tree_parents.proofs.Halves.{live_phase}
-use Rattle.tree_parents.proofs.Memories as by_input
 use Rattle.tree_parents.proofs.Own as own
 use Rattle.tree_parents.proofs.Own.{Goes, heard}
-use Rattle.tree_parents.proofs.OwnAborts as aborts
 use Rattle.tree_parents.proofs.OwnActive as active
 use Rattle.tree_parents.proofs.OwnPromised as promised
 use Rattle.tree_parents.proofs.OwnPromised.{not_open}
-use Rattle.tree_parents.proofs.OwnQuiet.{rest_nothing, rest_prepare, rest_outcome}
-use Rattle.tree_parents.proofs.OwnTurns.{refuses_late, acknowledges_late}
-use Rattle.tree_parents.proofs.OwnVotes as last_votes
-use Rattle.tree_parents.proofs.Quiet.{Rests, rests_as, rest_fits}
-use Rattle.tree_parents.proofs.Rested as rested
-use Rattle.tree_parents.proofs.Turns.{Turn, Says, Fits_in, R as seen, m as remembered, p0 as half, v0 as net_part, o0 as told_outcome, r0 as reading, root as at_root}
+use Rattle.tree_parents.proofs.Quiet.{Rests, rest_fits}
+use Rattle.tree_parents.proofs.Turns.{Turn, Fits_in, R as seen, m as remembered, p0 as half, v0 as net_part, o0 as told_outcome, r0 as reading}
 use Rattle.tree_parents.proofs.Votes as votes
-use Rattle.tree_parents.proofs.Writes.{accepts_so, counts_so}
 
 or-false : (a : Bool) → (a || false) ≡ a
 or-false a = grind arith

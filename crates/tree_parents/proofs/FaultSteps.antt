@@ -1,5 +1,5 @@
 -- Each turn of a coordinator keeps the pair where the device fails in it.
-use Rattle.std.proofs.Common.{◌≡◌, ◌≢◌, ◌∙◌, ◌⊎◌, inl, inr, ℕ, zero, suc, Bool, true, false, ◌||◌, ◌&&◌, Option, Some, None, List, [], ◌∷◌, ◌++◌, map, take, refl, sym, ap, subst, arith}
+use Rattle.std.proofs.Common.{◌≡◌, ◌≢◌, ◌∙◌, ◌⊎◌, inl, inr, ℕ, Bool, true, false, Some, None, [], ◌∷◌, take, refl, sym, ap, subst}
 use Rattle.std.proofs.Math.Seq.{take-nil}
 use Rattle.tree_model.specs.declared.names.Case.{Case}
 use Rattle.tree_model.specs.declared.names.Ticket.{Ticket}
@@ -10,7 +10,6 @@ use Rattle.tree_model.specs.declared.messages.Message.TheVariants.{Join, Joined}
 use Rattle.tree_model.specs.declared.records.Record.{Record}
 use Rattle.tree_model.specs.declared.events.Act.TheVariants.{Begin}
 use Rattle.tree_model.specs.declared.events.Input.TheVariants.{Act as ActInput}
-use Rattle.tree_model.specs.declared.records.Record.TheVariants.{Collecting as CollectingRecord, Prepare as PrepareRecord, Commit as CommitRecord, Abort as AbortRecord, End as EndRecord}
 use Rattle.tree_model.specs.declared.standings.Standing.TheVariants.{Active, Prepared}
 use Rattle.tree_model.specs.declared.standings.Vote.{Vote}
 use Rattle.tree_model.specs.declared.standings.Vote.TheVariants.{Yes as VoteYes, No as VoteNo, Read as VoteRead}
@@ -19,10 +18,9 @@ use Rattle.tree_model.specs.NameLaws.{same_case_tells}
 use Rattle.tree_model.specs.Nodes.{Effect, entries_written, fails_in, kept, no_effect}
 use Rattle.tree_model.specs.Memory.{Phase, Open, Asked, Over, active_ticket, all_voted, has_child, memory_of}
 use Rattle.tree_model.specs.CoordinatorRows.{Row}
-use Rattle.tree_model.specs.Reactions.{row_effect, seat_of}
-use Rattle.tree_model.specs.Standings.{CoordinatorView, coordinator_view}
+use Rattle.tree_model.specs.Reactions.{row_effect}
 use Rattle.tree_model.specs.Views.{begin_effect}
-use Rattle.tree_pairs.specs.Reading.{Reading, is_live}
+use Rattle.tree_pairs.specs.Reading.{is_live}
 use Rattle.tree_pairs.specs.RootMoves as at_top
 use Rattle.tree_pairs.specs.ParentCrash as crash
 use Rattle.tree_readings.specs.ReadingOf.{ParentHalf, ChildHalf, Wire, reading_from, is_begun, is_dead, is_vote}
@@ -30,7 +28,7 @@ use Rattle.tree_turns.specs.CoordinatorTurns.{CaseTurn, CoordinatorTurn}
 use Rattle.tree_turns.specs.CoordinatorTurns as turns
 use Rattle.tree_turns.specs.LeafTurns.{Hears as HearsMessage}
 use Rattle.tree_nodes.specs.WorldHolds.{InOrder}
-use Rattle.tree_children.proofs.Moves.{unmoved, common_of}
+use Rattle.tree_children.proofs.Moves.{unmoved}
 use Rattle.tree_parents.proofs.Born as born
 use Rattle.tree_parents.proofs.Elsewhere as elsewhere
 use Rattle.tree_parents.proofs.Elsewhere.{WroteElsewhere, none_written as wrote_none, one_plain, one_forced}
@@ -55,7 +53,7 @@ use Rattle.tree_parents.proofs.OwnTurns.{refuses_late, acknowledges_late}
 use Rattle.tree_parents.proofs.OwnVotes.{goes_on}
 use Rattle.tree_parents.proofs.Quiet.{Rests, Unrelated, rests_as}
 use Rattle.tree_parents.proofs.Rested as rested
-use Rattle.tree_parents.proofs.Turns.{Turn, Says, Fits_in, R as seen, p0 as half, v0 as net_part, o0 as told_outcome, r0 as reading, root as at_root}
+use Rattle.tree_parents.proofs.Turns.{Turn, Says, p0 as half, v0 as net_part, o0 as told_outcome, r0 as reading, root as at_root}
 use Rattle.tree_parents.proofs.Votes as votes
 
 dead-now : is_dead false false true false ≡ true

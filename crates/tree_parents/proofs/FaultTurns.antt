@@ -1,44 +1,17 @@
 -- A fault in a turn of the pair's own case, by what was appended.
-use Rattle.std.proofs.Common.{◌≡◌, ◌∙◌, ◌⊎◌, inl, inr, ℕ, zero, suc, Bool, true, false, ◌||◌, ◌&&◌, not, Option, Some, None, List, [], ◌∷◌, ◌++◌, take, refl, sym, ap, subst, arith, if◌then◌else◌}
+use Rattle.std.proofs.Common.{◌≡◌, ◌∙◌, ◌⊎◌, inl, inr, ℕ, zero, suc, Bool, List, [], ◌∷◌, take, refl, sym, ap}
 use Rattle.std.proofs.Math.Seq.{take-nil}
-use Rattle.tree_model.specs.declared.names.ProcessId.{ProcessId}
-use Rattle.tree_model.specs.declared.names.Ticket.{Ticket}
-use Rattle.tree_model.specs.declared.names.Presumption.{Presumption}
-use Rattle.tree_model.specs.declared.names.Presumption.TheVariants.{PresumeAbort, PresumeCommit}
-use Rattle.tree_model.specs.declared.messages.Message.TheVariants.{Commit, Abort}
 use Rattle.tree_model.specs.declared.records.Record.{Record}
-use Rattle.tree_model.specs.declared.records.Record.TheVariants.{Collecting as CollectingRecord, Prepare as PrepareRecord, Commit as CommitRecord, Abort as AbortRecord, End as EndRecord}
-use Rattle.tree_model.specs.declared.standings.Standing.TheVariants.{Active, Collecting, Prepared}
-use Rattle.tree_model.specs.declared.standings.Vote.{Vote}
-use Rattle.tree_model.specs.declared.standings.Vote.TheVariants.{Yes as VoteYes, No as VoteNo, Read as VoteRead}
-use Rattle.tree_model.specs.Names.{same_ticket}
-use Rattle.tree_model.specs.Records.{boot_after, boot_of, has, in_list, is_prepare, none_of}
-use Rattle.tree_model.specs.Nodes.{Effect, Node, entries_written, fails_in, kept, Written}
-use Rattle.tree_model.specs.Memory.{Memory, Phase, Open, Asked, Over}
-use Rattle.tree_model.specs.CoordinatorRows.{Row, Reason, forced, plain, active_commit_with}
-use Rattle.tree_model.specs.Reactions.{row_effect, seat_of}
-use Rattle.tree_model.specs.Standings.{CoordinatorView}
-use Rattle.tree_pairs.specs.Reading as pair
-use Rattle.tree_pairs.specs.Reading.{Reading, is_live}
-use Rattle.tree_pairs.specs.ParentMoves as move
-use Rattle.tree_pairs.specs.ParentCrash as crash
-use Rattle.tree_readings.specs.ReadingOf.{ParentHalf, Wire, is_begun}
-use Rattle.tree_turns.specs.CoordinatorTurns.{CaseTurn, IsToCommit, IsToAbort, CountsVote, CountsLast, HearsParent}
-use Rattle.tree_turns.specs.CoordinatorTurns as turns
+use Rattle.tree_model.specs.Records.{boot_after, boot_of, has, in_list, is_prepare}
+use Rattle.tree_model.specs.Nodes.{Effect, entries_written, fails_in, kept}
+use Rattle.tree_model.specs.Memory.{Memory, Phase}
+use Rattle.tree_readings.specs.ReadingOf.{ParentHalf, Wire}
 use Rattle.tree_nodes.specs.WorldHolds.{InOrder}
-use Rattle.tree_children.proofs.Moves.{unmoved}
 use Rattle.tree_parents.proofs.FaultHears.{Hears}
 use Rattle.tree_parents.proofs.FaultNothing.{half_so, nothing_appended}
-use Rattle.tree_parents.proofs.FaultReadings as readings
 use Rattle.tree_parents.proofs.Faults.{Fault_fine, cut, down, fault_fits, half_fails, half_fails_behind, heard_so, parent_front}
 use Rattle.tree_parents.proofs.Halves.{acked_of}
-use Rattle.tree_parents.proofs.Moves as moves
-use Rattle.tree_parents.proofs.Own as own
-use Rattle.tree_parents.proofs.Own.{Goes}
-use Rattle.tree_parents.proofs.OwnActive as active
-use Rattle.tree_parents.proofs.OwnMoves.{and_then, read_as}
-use Rattle.tree_parents.proofs.Readings.{Live}
-use Rattle.tree_parents.proofs.Turns.{Turn, Says, Fits_in, R as seen, m as remembered, p0 as half, v0 as net_part, o0 as told_outcome, r0 as reading, root as at_root}
+use Rattle.tree_parents.proofs.Turns.{Turn, Says, Fits_in, R as seen, m as remembered, p0 as half, v0 as net_part, o0 as told_outcome, root as at_root}
 use Rattle.tree_parents.proofs.Writes.{begun_after, wrote}
 
 -- what was appended of one record, or of none

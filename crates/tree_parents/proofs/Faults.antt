@@ -1,31 +1,27 @@
 -- A fault in an event of a coordinator, on the pair: the half that it leaves, and the forced front that stands then.
-use Rattle.std.proofs.Common.{◌≡◌, ◌∙◌, ◌⊎◌, inl, inr, ℕ, Bool, true, false, ◌||◌, ◌&&◌, Option, Some, None, List, [], ◌∷◌, ◌++◌, take, drop, refl, sym, ap, subst, arith}
-use Rattle.std.specs.List.{list_any}
+use Rattle.std.proofs.Common.{◌≡◌, ◌∙◌, ◌⊎◌, inl, inr, ℕ, Bool, true, false, ◌||◌, ◌&&◌, List, [], ◌∷◌, ◌++◌, take, drop, refl, sym, ap, subst, arith}
 use Rattle.std.proofs.lemmas.List.{append_assoc, take-append-drop}
 use Rattle.std.proofs.lemmas.List.Folds.{list_any-append}
 use Rattle.tree_model.specs.declared.names.Case.{Case}
-use Rattle.tree_model.specs.declared.names.ProcessId.{ProcessId}
 use Rattle.tree_model.specs.declared.names.Ticket.{Ticket}
 use Rattle.tree_model.specs.declared.records.Record.{Record}
 use Rattle.tree_model.specs.declared.standings.Vote.TheVariants.{Yes as VoteYes, No as VoteNo, Read as VoteRead}
-use Rattle.tree_model.specs.Names.{same_case, same_ticket}
-use Rattle.tree_model.specs.Records.{has, in_list, is_collecting, is_prepare, is_commit, is_abort, is_end}
+use Rattle.tree_model.specs.Records.{has, is_collecting, is_prepare, is_commit, is_abort, is_end}
 use Rattle.tree_model.specs.Nodes.{Role, AtRoot, Below, AtLeaf, Node, Heard, Effect, fails_in, entries_written, kept}
-use Rattle.tree_model.specs.Memory.{Phase, memory_of}
-use Rattle.tree_pairs.specs.Reading.{Reading, Closed, is_live}
+use Rattle.tree_model.specs.Memory.{Phase}
+use Rattle.tree_pairs.specs.Reading.{Reading, Closed}
 use Rattle.tree_pairs.specs.ParentCrash as crash
 use Rattle.tree_pairs.specs.ParentCrash.{ParentFront, IsParentFront}
-use Rattle.tree_readings.specs.ReadingOf.{ParentHalf, ChildHalf, Wire, parent_half, reading_from, is_dead}
+use Rattle.tree_readings.specs.ReadingOf.{ParentHalf, ChildHalf, Wire, parent_half, reading_from}
 use Rattle.tree_readings.proofs.Lists.{has-push_behind, has-nil_behind}
 use Rattle.tree_nodes.specs.ProcessSteps.{outcome_in}
 use Rattle.tree_nodes.specs.WorldHolds.{InOrder, stands_behind}
-use Rattle.tree_nodes.proofs.Tests.{has-cons, in_first, either, left, right, both}
+use Rattle.tree_nodes.proofs.Tests.{has-cons, in_first, either, left, right}
 use Rattle.tree_children.proofs.Moves.{Fits, onward}
-use Rattle.tree_parents.proofs.Halves.{half_of, half_is_down, remembered_half, acked_of, phase_of}
+use Rattle.tree_parents.proofs.Halves.{half_of}
 use Rattle.tree_parents.proofs.Known.{clash}
 use Rattle.tree_parents.proofs.Moves as moves
-use Rattle.tree_parents.proofs.Readings.{Live}
-use Rattle.tree_parents.proofs.Turns.{Turn, is_top, Says, Fits_in, R as seen, m as remembered, m' as then_remembered, p0 as half, v0 as net_part, o0 as told_outcome, r0 as reading, root as at_root}
+use Rattle.tree_parents.proofs.Turns.{Turn, is_top, Fits_in, R as seen, p0 as half, v0 as net_part, o0 as told_outcome, r0 as reading, root as at_root}
 use Rattle.tree_parents.proofs.Writes.{wrote, counts_so, accepts_so, begun_after}
 
 has-cut : (q : Record → Bool) (fo : List Record) (f : ℕ) (b : List Record)

@@ -33,3 +33,4 @@ pub mod FaultTurns
 pub mod FaultCases
 pub mod FaultEnds
 pub mod FaultSteps
+pub mod FaultLaws
