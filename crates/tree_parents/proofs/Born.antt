@@ -120,22 +120,25 @@ module _ (turn : Turn) where
     | inr z ↦ clash (same_case (child_case d.txn u) c) e z.0
   ]
 
-  abbrev answer : ProcessId → Case → Ticket → Effect
+  abbrev pub answer : ProcessId → Case → Ticket → Effect
   answer p d u = sends_only (post place.me p (Joined d u) ∷ [])
 
   nothing_done : (p : ProcessId) (d : Case) (u : Ticket) → DoesNothing turn (answer p d u)
   nothing_done p d u =
       record { accepts = refl; yes_votes = refl; no_votes = refl; read_votes = refl; committed = refl; aborted = refl; told = refl }
 
+  pub again_says : (p : ProcessId) (d : Case) (u : Ticket) → parent ≡ Some p → Hears h (Join d)
+      → active_ticket (memory_of place n d).active d ≡ Some u → Says turn m.phase p0.accepted p0.acked
+  again_says p d u s i e =
+      let here : active_ticket m.active d ≡ Some u = ap (λ as'. active_ticket as' d) (self d c).active ∙ e in
+      stays turn m (by_input.join_comes turn d i.0 p s i.1 ∙ ap (λ o. joins place.me boot c d m o) here) (itself turn)
+
   pub gives_again : (p : ProcessId) (d : Case) (u : Ticket) → parent ≡ Some p → Hears h (Join d)
       → active_ticket (memory_of place n d).active d ≡ Some u → IsOpenAlike place (after n h (answer p d u)) c
       → Fine turn (answer p d u)
   gives_again p d u s i e later =
-      let own_one = (issues p s).active_was_joined up d d u e in
-      let here : active_ticket m.active d ≡ Some u = ap (λ as'. active_ticket as' d) (self d c).active ∙ e in
-      only_sends (answer p d u) refl (nothing_done p d u) later
-      (stays turn m (by_input.join_comes turn d i.0 p s i.1 ∙ ap (λ o. joins place.me boot c d m o) here) (itself turn))
-      (by_test own_one (same_case (child_case d.txn u) c) refl)
+      only_sends (answer p d u) refl (nothing_done p d u) later (again_says p d u s i e)
+      (by_test ((issues p s).active_was_joined up d d u e) (same_case (child_case d.txn u) c) refl)
     where
       by_test : (u.child ≡ place.me) × (sent (is_joined_message d u) net ≡ true) → (b : Bool)
           → same_case (child_case d.txn u) c ≡ b
@@ -145,16 +148,19 @@ module _ (turn : Turn) where
           wires.wire-joined c t net place.me p d u true (not_childs_ticket u o.0) f
           ∙ ap (λ b. record v0 { given = b }) (sym (joined_case d u o.1 f))
 
-  abbrev fresh : Case → Ticket
+  abbrev pub fresh : Case → Ticket
   fresh d = next_ticket place.me boot (memory_of place n d)
 
   not_again : {A : Type 0} (now given number : ℕ) → number ≡ given + 1 → IsGivenOut now number now given → A
   not_again now given number e (inl f) = absurd (omega (arith, f))
   not_again now given number e (inr f) = absurd (omega (arith, e, f.1))
 
-  -- the fresh ticket's case was not given before
-  not_given : (p : ProcessId) → parent ≡ Some p → (d : Case) → same_case c (child_case d.txn (fresh d)) ≡ true
-      → v0.given ≡ false
+  -- the fresh ticket's case
+  abbrev pub IsFresh : Case → Bool → Type 0
+  IsFresh d b = same_case c (child_case d.txn (fresh d)) ≡ b
+
+  -- was not given before
+  not_given : (p : ProcessId) → parent ≡ Some p → (d : Case) → IsFresh d true → v0.given ≡ false
   not_given p s d e = by_test v0.given refl
     where
       is_it : c ≡ child_case d.txn (fresh d)
@@ -177,60 +183,68 @@ module _ (turn : Turn) where
   abbrev is_as : (b : Bool) (d : Case) → Memory
   is_as b d = if b then opens_case (gives m d (fresh d)) else gives m d (fresh d)
 
-  pub gives_fresh : (p : ProcessId) (d : Case) → parent ≡ Some p → Hears h (Join d)
-      → active_ticket (memory_of place n d).active d ≡ None → IsOpenAlike place (after n h (answer p d (fresh d))) c
-      → Fine turn (answer p d (fresh d))
-  gives_fresh p d s i e later = by_test (same_case c (child_case d.txn (fresh d))) refl
-    where
-      here : active_ticket m.active d ≡ None
-      here = ap (λ as'. active_ticket as' d) (self d c).active ∙ e
+  module _ (p : ProcessId) (d : Case) (s : parent ≡ Some p) (i : Hears h (Join d))
+      (e : active_ticket (memory_of place n d).active d ≡ None) where
+    fresh_now : (b : Bool) → IsFresh d b → then_remembered turn ≡ is_as b d
+    fresh_now b f =
+        by_input.join_comes turn d i.0 p s i.1
+        ∙ (ap (λ o. joins place.me boot c d m o) (ap (λ as'. active_ticket as' d) (self d c).active ∙ e)
+        ∙ (ap (λ (u : Ticket). if same_case c (child_case d.txn u) then opens_case (gives m d u) else gives m d u)
+        (ap next_by (self d c).given)
+        ∙ ap (λ b. is_as b d) f))
 
-      same_next : next_ticket place.me boot m ≡ fresh d
-      same_next = ap next_by (self d c).given
+    pub fresh_elsewhere : IsFresh d false → Says turn m.phase p0.accepted p0.acked
+    fresh_elsewhere f =
+        stays turn (is_as false d) (fresh_now false f) (record { phase = refl; accepted = refl; acks = refl })
 
-      now : (b : Bool) → same_case c (child_case d.txn (fresh d)) ≡ b → then_remembered turn ≡ is_as b d
-      now b f =
-          by_input.join_comes turn d i.0 p s i.1
-          ∙ (ap (λ o. joins place.me boot c d m o) here
-          ∙ (ap (λ (u : Ticket). if same_case c (child_case d.txn u) then opens_case (gives m d u) else gives m d u) same_next
-          ∙ ap (λ b. is_as b d) f))
+    pub fresh_unborn : IsFresh d true → (reading turn).born ≡ false
+    fresh_unborn f =
+        let b = is_below turn p s in
+        let none = not_given p s d f in
+        rw (b, none) refl
 
-      reversed : (b : Bool) → same_case c (child_case d.txn (fresh d)) ≡ b → same_case (child_case d.txn (fresh d)) c ≡ b
-      reversed b f = swapped (child_case d.txn (fresh d)) c ∙ f
-        where
-          swapped : (x y : Case) → same_case x y ≡ same_case y x
-          swapped x y = grind (arith, names)
+    pub fresh_says : IsFresh d true → Says turn Open p0.accepted p0.acked
+    fresh_says f =
+        let has = unborn_half (fresh_unborn f) in
+        record {
+          phase = ap (λ (y : Memory). y.phase) (fresh_now true f);
+          accepted_so = ap (λ (y : Memory). in_list y.accepted t) (fresh_now true f) ∙ (in_list-none t ∙ sym has.0);
+          acked_so = ap (λ (y : Memory). acked_of y c t) (fresh_now true f) ∙ (no_acks _ t ∙ sym has.1);
+        }
 
-      sent_wire : (b : Bool) → same_case c (child_case d.txn (fresh d)) ≡ b
-          → wire c t (net ++ post place.me p (Joined d (fresh d)) ∷ []) ≡ record v0 { given = b || v0.given }
-      sent_wire b f = wires.wire-joined c t net place.me p d (fresh d) b (not_childs_ticket (fresh d) refl) (reversed b f)
+    reversed : (b : Bool) → IsFresh d b → same_case (child_case d.txn (fresh d)) c ≡ b
+    reversed b f = swapped (child_case d.txn (fresh d)) c ∙ f
+      where
+        swapped : (x y : Case) → same_case x y ≡ same_case y x
+        swapped x y = grind (arith, names)
 
-      by_test : (b : Bool) → same_case c (child_case d.txn (fresh d)) ≡ b → Fine turn (answer p d (fresh d))
-      by_test false f =
-          only_sends (answer p d (fresh d)) refl (nothing_done p d (fresh d)) later
-          (stays turn (is_as false d) (now false f) (record { phase = refl; accepted = refl; acks = refl })) (sent_wire false f)
-      by_test true f =
-          let b = is_below turn p s in
-          let none = not_given p s d f in
-          let unborn : (reading turn).born ≡ false = rw (b, none) refl in
-          let has = unborn_half unborn in
-          let u = (own.common turn).unborn unborn in
-          let says : Says turn Open p0.accepted p0.acked = record {
-            phase = ap (λ (y : Memory). y.phase) (now true f);
-            accepted_so = ap (λ (y : Memory). in_list y.accepted t) (now true f) ∙ (in_list-none t ∙ sym has.0);
-            acked_so = ap (λ (y : Memory). acked_of y c t) (now true f) ∙ (no_acks _ t ∙ sym has.1);
-          } in
-          let w : Wire = record v0 { given = true } in
-          fine_silent turn (answer p d (fresh d)) later Open p0.accepted p0.acked says w (sent_wire true f) refl
-          (read_as turn _ _
-          (subst (λ y. readings.R manager above k c t y (told_outcome turn) (stands_so false Open p0.accepted p0.acked true p0) w
-          ≡ below.is_born (readings.R manager above k c t y (told_outcome turn) p0 v0)) (sym b)
-          (readings.reading-born manager above k c t (told_outcome turn) p0 v0 none (not_obeyed root _ p0.obeyed_abort _ b u.not_refused)))
-          (moves.is_born c.txn.presumption (reading turn) inv (record { cascaded = b; fresh = unborn; up = up })))
+    sent_wire : (b : Bool) → IsFresh d b
+        → wire c t (net ++ post place.me p (Joined d (fresh d)) ∷ []) ≡ record v0 { given = b || v0.given }
+    sent_wire b f = wires.wire-joined c t net place.me p d (fresh d) b (not_childs_ticket (fresh d) refl) (reversed b f)
+
+    by_fresh : IsOpenAlike place (after n h (answer p d (fresh d))) c → (b : Bool) → IsFresh d b
+        → Fine turn (answer p d (fresh d))
+    by_fresh later false f =
+        only_sends (answer p d (fresh d)) refl (nothing_done p d (fresh d)) later (fresh_elsewhere f) (sent_wire false f)
+    by_fresh later true f =
+        let b = is_below turn p s in
+        let none = not_given p s d f in
+        let unborn = fresh_unborn f in
+        let u = (own.common turn).unborn unborn in
+        let w : Wire = record v0 { given = true } in
+        fine_silent turn (answer p d (fresh d)) later Open p0.accepted p0.acked (fresh_says f) w (sent_wire true f) refl
+        (read_as turn _ _
+        (subst (λ y. readings.R manager above k c t y (told_outcome turn) (stands_so false Open p0.accepted p0.acked true p0) w
+        ≡ below.is_born (readings.R manager above k c t y (told_outcome turn) p0 v0)) (sym b)
+        (readings.reading-born manager above k c t (told_outcome turn) p0 v0 none (not_obeyed root _ p0.obeyed_abort _ b u.not_refused)))
+        (moves.is_born c.txn.presumption (reading turn) inv (record { cascaded = b; fresh = unborn; up = up })))
+
+    pub gives_fresh : IsOpenAlike place (after n h (answer p d (fresh d))) c → Fine turn (answer p d (fresh d))
+    gives_fresh later = by_fresh later (same_case c (child_case d.txn (fresh d))) refl
 
   -- The root begins.
 
-  abbrev begun_txn : Presumption → Txn
+  abbrev pub begun_txn : Presumption → Txn
   begun_txn q = next_begun place n q
 
   begins_nothing : (q : Presumption) → DoesNothing turn (begin_effect (begun_txn q))
@@ -246,52 +260,68 @@ module _ (turn : Turn) where
   root_begins : parent ≡ None → Begins place n
   root_begins s = top_is place.role parent seat (λ r. RoleHolds r place net n → Begins place n) s (λ x. x.1) by_role
 
-  pub begins : (q : Presumption) → parent ≡ None → h.input ≡ ActInput (Begin q)
-      → IsOpenAlike place (after n h (begin_effect (begun_txn q))) c → Fine turn (begin_effect (begun_txn q))
-  begins q s i later = by_test (same_case (root_case (begun_txn q)) c) refl
-    where
-      now : (b : Bool) → same_case (root_case (begun_txn q)) c ≡ b → then_remembered turn ≡ opened_as b
-      now b f =
-          by_input.begin_act turn q s i
-          ∙ (ap (λ x. if same_case (root_case (txn_by q x)) c then opens_case (record m { begun = m.begun + 1 }) else record m { begun = m.begun + 1 })
-          (self (some_case place) c).begun
-          ∙ ap opened_as f)
+  -- the transaction that begins is the case's
+  abbrev pub IsNew : Presumption → Bool → Type 0
+  IsNew q b = same_case (root_case (begun_txn q)) c ≡ b
 
-      not_begun : same_case (root_case (begun_txn q)) c ≡ true → p0.begun ≡ false
-      not_begun f = by_begun p0.begun refl
-        where
-          is_it : root_case (begun_txn q) ≡ c
-          is_it = elim (same_case_tells (root_case (begun_txn q)) c) [
-            | inl z ↦ z.1
-            | inr z ↦ clash (same_case (root_case (begun_txn q)) c) f z.0
-          ]
+  module _ (q : Presumption) (s : parent ≡ None) (i : h.input ≡ ActInput (Begin q)) where
+    begin_now : (b : Bool) → IsNew q b → then_remembered turn ≡ opened_as b
+    begin_now b f =
+        by_input.begin_act turn q s i
+        ∙ (ap (λ x. if same_case (root_case (txn_by q x)) c then opens_case (record m { begun = m.begun + 1 }) else record m { begun = m.begun + 1 })
+        (self (some_case place) c).begun
+        ∙ ap opened_as f)
 
-          by_begun : (b : Bool) → p0.begun ≡ b → p0.begun ≡ false
-          by_begun false g = g
-          by_begun true g =
-              not_again boot (memory_of place n (some_case place)).begun (begun_txn q).sequence refl
-              (((root_begins s).begun_once up (begun_txn q)
-              (subst (λ (x : Case). (remembered_half (memory_of place n x) n x t).begun ≡ true) (sym is_it) g)).1)
+    pub begin_elsewhere : IsNew q false → Says turn m.phase p0.accepted p0.acked
+    begin_elsewhere f =
+        stays turn (opened_as false) (begin_now false f) (record { phase = refl; accepted = refl; acks = refl })
 
-      at_the_root : root ≡ true
-      at_the_root = own.seat_is turn (λ s' e. e) (λ p s' e. absurd (let z = sym s ∙ s' in cc))
+    pub at_the_root : root ≡ true
+    at_the_root = own.seat_is turn (λ s' e. e) (λ p s' e. absurd (let z = sym s ∙ s' in cc))
 
-      by_test : (b : Bool) → same_case (root_case (begun_txn q)) c ≡ b → Fine turn (begin_effect (begun_txn q))
-      by_test false f =
-          only_sends (begin_effect (begun_txn q)) refl (begins_nothing q) later
-          (stays turn (opened_as false) (now false f) (record { phase = refl; accepted = refl; acks = refl })) (wires.wire-nothing c t net)
-      by_test true f =
-          let none = not_begun f in
-          let unborn : (reading turn).born ≡ false = rw (at_the_root) none in
-          let has = unborn_half unborn in
-          let says : Says turn Open p0.accepted p0.acked = record {
-            phase = ap (λ (y : Memory). y.phase) (now true f);
-            accepted_so = ap (λ (y : Memory). in_list y.accepted t) (now true f) ∙ (in_list-none t ∙ sym has.0);
-            acked_so = ap (λ (y : Memory). acked_of y c t) (now true f) ∙ (no_acks _ t ∙ sym has.1);
-          } in
-          fine_silent turn (begin_effect (begun_txn q)) later Open p0.accepted p0.acked says v0 (wires.wire-nothing c t net) refl
-          (read_as turn _ _
-          (subst (λ y. readings.R manager above k c t y (told_outcome turn) (stands_so false Open p0.accepted p0.acked true p0) v0
-          ≡ at_top.begins (readings.R manager above k c t y (told_outcome turn) p0 v0)) (sym at_the_root)
-          (readings.reading-begins manager above k c t (told_outcome turn) p0 v0 none))
-          (moves.begins c.txn.presumption (reading turn) inv (record { root = at_the_root; fresh = unborn; up = up })))
+    pub not_begun : IsNew q true → p0.begun ≡ false
+    not_begun f = by_begun p0.begun refl
+      where
+        is_it : root_case (begun_txn q) ≡ c
+        is_it = elim (same_case_tells (root_case (begun_txn q)) c) [
+          | inl z ↦ z.1
+          | inr z ↦ clash (same_case (root_case (begun_txn q)) c) f z.0
+        ]
+
+        by_begun : (b : Bool) → p0.begun ≡ b → p0.begun ≡ false
+        by_begun false g = g
+        by_begun true g =
+            not_again boot (memory_of place n (some_case place)).begun (begun_txn q).sequence refl
+            (((root_begins s).begun_once up (begun_txn q)
+            (subst (λ (x : Case). (remembered_half (memory_of place n x) n x t).begun ≡ true) (sym is_it) g)).1)
+
+    pub begin_unborn : IsNew q true → (reading turn).born ≡ false
+    begin_unborn f = rw (at_the_root) (not_begun f)
+
+    pub begin_says : IsNew q true → Says turn Open p0.accepted p0.acked
+    begin_says f =
+        let has = unborn_half (begin_unborn f) in
+        record {
+          phase = ap (λ (y : Memory). y.phase) (begin_now true f);
+          accepted_so = ap (λ (y : Memory). in_list y.accepted t) (begin_now true f) ∙ (in_list-none t ∙ sym has.0);
+          acked_so = ap (λ (y : Memory). acked_of y c t) (begin_now true f) ∙ (no_acks _ t ∙ sym has.1);
+        }
+
+    pub begin_fits : IsNew q true → Fits_in turn (at_top.begins (reading turn))
+    begin_fits f =
+        moves.begins c.txn.presumption (reading turn) inv (record { root = at_the_root; fresh = begin_unborn f; up = up })
+
+    by_new : IsOpenAlike place (after n h (begin_effect (begun_txn q))) c → (b : Bool) → IsNew q b
+        → Fine turn (begin_effect (begun_txn q))
+    by_new later false f =
+        only_sends (begin_effect (begun_txn q)) refl (begins_nothing q) later (begin_elsewhere f) (wires.wire-nothing c t net)
+    by_new later true f =
+        fine_silent turn (begin_effect (begun_txn q)) later Open p0.accepted p0.acked (begin_says f) v0 (wires.wire-nothing c t net) refl
+        (read_as turn _ _
+        (subst (λ y. readings.R manager above k c t y (told_outcome turn) (stands_so false Open p0.accepted p0.acked true p0) v0
+        ≡ at_top.begins (readings.R manager above k c t y (told_outcome turn) p0 v0)) (sym at_the_root)
+        (readings.reading-begins manager above k c t (told_outcome turn) p0 v0 (not_begun f)))
+        (begin_fits f))
+
+    pub begins : IsOpenAlike place (after n h (begin_effect (begun_txn q))) c → Fine turn (begin_effect (begun_txn q))
+    begins later = by_new later (same_case (root_case (begun_txn q)) c) refl

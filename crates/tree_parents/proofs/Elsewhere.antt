@@ -34,12 +34,12 @@ use Rattle.tree_parents.proofs.Writes.{is_told_so}
 
 -- Lists of another case's.
 
-other_accepts : (c d : Case) (t : Ticket) (us : List Ticket) → same_case d c ≡ false
+pub other_accepts : (c d : Case) (t : Ticket) (us : List Ticket) → same_case d c ≡ false
     → list_any (λ (a : Case × Ticket). same_case a.0 c && same_ticket a.1 t) (map (λ u. (d, u)) us) ≡ false
 other_accepts c d t [] e = refl
 other_accepts c d t (u ∷ us) e = rw e (other_accepts c d t us e)
 
-other_counts : (c d : Case) (t : Ticket) (f : Vote → Bool) (vs : List (Ticket × Vote)) → same_case d c ≡ false
+pub other_counts : (c d : Case) (t : Ticket) (f : Vote → Bool) (vs : List (Ticket × Vote)) → same_case d c ≡ false
     → list_any (λ (a : Case × (Ticket × Vote)). same_case a.0 c && (same_ticket a.1.0 t && f a.1.1)) (map (λ v. (d, v)) vs) ≡ false
 other_counts c d t f [] e = refl
 other_counts c d t f (v ∷ vs) e = rw e (other_counts c d t f vs e)

@@ -450,3 +450,29 @@ module _ (turn : Turn) (d : Case) where
         row_fine _ later (rest_ack u o i) nothing_sent (inl refl) (one_plain (EndRecord d) refl (elsewhere.other_end turn d other))
     turn_elsewhere _ (turns.answers u o i e) later =
         row_fine _ later (rest_inquiry u i) (answer o i.txn u i.belongs) (inl refl) (none_written refl)
+
+    -- what the pair's case remembers behind the turn
+    pub rests_elsewhere : (row : Row) → CaseTurn place parent n h d row → Rests turn
+    rests_elsewhere _ (turns.rests r) = rest_nothing r
+    rests_elsewhere _ (turns.invites q i e f g) = rested.rest_same turn (by_input.join_act turn d q i)
+    rests_elsewhere _ (turns.accepts u i e f) =
+        rested.rest_joined turn d u i.0 i.1 (λ g k. clash (same_case d c) g other)
+    rests_elsewhere _ (turns.sends_work q u op i e f g) = rested.rest_work turn d q op i
+    rests_elsewhere _ (turns.finds_nobody i e f) = rest_to_commit i
+    rests_elsewhere _ (turns.asks_for_votes p i e f q) = rest_to_commit i
+    rests_elsewhere _ (turns.gives_up why p i e q) = rest_to_abort why i
+    rests_elsewhere _ (turns.counts_vote u w i k e) = rest_vote u w i.hears
+    rests_elsewhere _ (turns.reads_only u w ys p i e q) = rest_vote u w i.vote.hears
+    rests_elsewhere _ (turns.commits u w ys p i e s q) = rest_vote u w i.vote.hears
+    rests_elsewhere _ (turns.promises u w ys p i e s) = rest_vote u w i.vote.hears
+    rests_elsewhere _ (turns.hears_no u us p i f q) = rest_vote u VoteNo i.hears
+    rests_elsewhere _ (turns.aborts why us p i e f q) = rest_to_abort why i
+    rests_elsewhere _ (turns.passes_commit p i e q) = rest_commit i
+    rests_elsewhere _ (turns.passes_abort p i e q) = rest_abort i
+    rests_elsewhere _ (turns.repeats_yes k i e) = rest_prepare k i
+    rests_elsewhere _ (turns.asks i e) = rested.rest_same turn (by_input.ask_act turn d i)
+    rests_elsewhere _ (turns.refuses k i e) = rest_prepare k i
+    rests_elsewhere _ (turns.acknowledges o i e) = rest_outcome o i
+    rests_elsewhere _ (turns.waits_for_acks u o i e f g) = rest_ack u o i
+    rests_elsewhere _ (turns.ends u o i e f g) = rest_ack u o i
+    rests_elsewhere _ (turns.answers u o i e) = rest_inquiry u i

@@ -24,3 +24,13 @@ pub mod OwnTurns
 pub mod NoCase
 pub mod Born
 pub mod Steps
+pub mod Faults
+pub mod FaultHears
+pub mod FaultNothing
+pub mod FaultReadings
+pub mod FaultOwn
+pub mod FaultTurns
+pub mod FaultCases
+pub mod FaultEnds
+pub mod FaultSteps
+pub mod FaultLaws

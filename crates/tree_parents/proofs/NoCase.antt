@@ -224,7 +224,7 @@ module _ (turn : Turn) where
   not_taken (Abort d) i None s e = rested.rest_same turn (by_input.root_passes turn (Abort d) i.0 s i.1 refl)
   not_taken msg i o s e = absurd e
 
-  of_no_case : IsOfNoCase place parent n h → Rests turn
+  pub of_no_case : IsOfNoCase place parent n h → Rests turn
   of_no_case (turns.unticketed says x k i) = unticketed says x k i
   of_no_case (turns.belongs_nowhere says x u k i none) = nowhere says x u k i none
   of_no_case (turns.not_taken msg i e) = not_taken msg i parent refl e
@@ -264,7 +264,7 @@ module _ (turn : Turn) where
           by_test true e = clash (in_list (named_by c (kept n)) t)
               (names_record c t (kept n) (has_other q (is_naming c t) (kept n) f e)) (not_named x t s none)
 
-  abbrev told : Txn → Ticket → Effect
+  abbrev pub told : Txn → Ticket → Effect
   told x u = sends_only (post place.me u.child (tells_outcome (presumed x.presumption) (child_case x u)) ∷ [])
 
   -- the net behind it

@@ -113,7 +113,7 @@ module _ (turn : Turn) where
   pub phase_is : (ph : Phase) (q : pair.Phase) → m.phase ≡ ph → live_phase ph ≡ q → p0.phase ≡ q
   phase_is ph q e f = ap (λ b. phase_of b m.phase) up ∙ (ap live_phase e ∙ f)
 
-  begun_by : {ph : Phase} → m.phase ≡ ph → is_begun ph ≡ true → p0.begun ≡ true
+  pub begun_by : {ph : Phase} → m.phase ≡ ph → is_begun ph ≡ true → p0.begun ≡ true
   begun_by f g =
       ap (λ b. b || list_any (is_told_of_txn c.txn) n.told || list_any (λ y. same_txn y c.txn) n.found_undecided ||
       has (is_commit c) n.life)

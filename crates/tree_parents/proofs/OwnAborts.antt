@@ -151,7 +151,7 @@ module _ (turn : Turn) where
   nobody_said_no : m.phase ≡ Asked → p0.first_no ≡ false
   nobody_said_no a = ((own.common turn).undecided (ap pair.is_live (phase a))).no_first_no
 
-  told_now : m.phase ≡ Asked → v.standing ≡ Collecting → (us : List Ticket) → undecided_of v.accepted v.votes ≡ us → in_list us t ≡ told
+  pub told_now : m.phase ≡ Asked → v.standing ≡ Collecting → (us : List Ticket) → undecided_of v.accepted v.votes ≡ us → in_list us t ≡ told
   told_now a e us f =
       let no_no : voted_so VoteNo m.votes t ≡ false = sym (holds.votes up c t VoteNo (inr a)) ∙ nobody_said_no a in
       let reads : voted_so VoteRead m.votes t ≡ p0.first_read = sym (holds.votes up c t VoteRead (inr a)) in
@@ -183,10 +183,10 @@ module _ (turn : Turn) where
     abbrev its : Bool
     its = same_ticket u t
 
-    abbrev no_row : Presumption → Row
+    abbrev pub no_row : Presumption → Row
     no_row p = counting u VoteNo (collecting_abort_by (seat_of place parent c) ByVote (voted v u VoteNo) us p)
 
-    a : m.phase ≡ Asked
+    pub a : m.phase ≡ Asked
     a = votes.asked turn u VoteNo i
 
     in_them : in_list us t ≡ (p0.accepted && (not (voted_so VoteNo (votes.votes turn u VoteNo i) t) && not (voted_so VoteRead (votes.votes turn u VoteNo i) t)))
@@ -196,10 +196,10 @@ module _ (turn : Turn) where
         ∙ (ap (λ vs. in_list (undecided_of m.accepted (vs ++ (u, VoteNo) ∷ [])) t) (own.collecting_votes turn i.stands)
         ∙ in_undecided m.accepted (votes.votes turn u VoteNo i) t))
 
-    goes : Goes turn Over
+    pub goes : Goes turn Over
     goes = votes.vote_says turn u VoteNo i Over refl
 
-    did_no : (p : Presumption) → did (row_effect c (no_row p)) c t p0 ≡ told_so false root (heard VoteNo its p0)
+    pub did_no : (p : Presumption) → did (row_effect c (no_row p)) c t p0 ≡ told_so false root (heard VoteNo its p0)
     did_no PresumeAbort = own.did_vote turn (row_effect c (no_row PresumeAbort)) u VoteNo false root p0 refl refl (own.abort_no_commit turn) (own.told_aborted turn)
     did_no PresumeCommit = own.did_vote turn (row_effect c (no_row PresumeCommit)) u VoteNo false root p0 refl refl (own.abort_no_commit turn) (own.told_aborted turn)
 
@@ -207,11 +207,11 @@ module _ (turn : Turn) where
     did_by p b e = did_no p ∙ ap (λ x. told_so false root (heard VoteNo x p0)) e
 
     -- its own
-    not_told : its ≡ true → in_list us t ≡ false
+    pub not_told : its ≡ true → in_list us t ≡ false
     not_told e =
         in_them ∙ rw (sym (votes.heard_now turn u VoteNo i VoteNo), e) (and-false p0.accepted)
 
-    may_hear : its ≡ true → move.MayHearNo (reading turn)
+    pub may_hear : its ≡ true → move.MayHearNo (reading turn)
     may_hear e = record {
       waiting = phase a;
       accepted = votes.its_accepted turn u VoteNo i e;
@@ -220,7 +220,7 @@ module _ (turn : Turn) where
     }
 
     -- another's
-    told_others : its ≡ false → in_list us t ≡ told
+    pub told_others : its ≡ false → in_list us t ≡ told
     told_others e =
         in_them ∙ rw (sym (votes.heard_now turn u VoteNo i VoteNo), sym (votes.heard_now turn u VoteNo i VoteRead), e, nobody_said_no a) refl
 

@@ -76,13 +76,13 @@ module _ (turn : Turn) where
   abbrev F : Reading → Type 0
   F r = Fits_in turn r
 
-  active_phase : v.standing ≡ Active → p0.phase ≡ pair.Active
+  pub active_phase : v.standing ≡ Active → p0.phase ≡ pair.Active
   active_phase e = own.phase_is turn Open pair.Active (own.active_open turn e) refl
 
-  alive : v.standing ≡ Active → Live root o0 p0 v0
+  pub alive : v.standing ≡ Active → Live root o0 p0 v0
   alive e = own.live turn (inl (own.active_open turn e))
 
-  accepted_in_view : v.standing ≡ Active → in_list v.accepted t ≡ p0.accepted
+  pub accepted_in_view : v.standing ≡ Active → in_list v.accepted t ≡ p0.accepted
   accepted_in_view e = ap (λ ts. in_list ts t) (own.active_accepted turn e)
 
   -- JOINED is accepted.
@@ -94,7 +94,7 @@ module _ (turn : Turn) where
   joined_memory u Asked e f = absurd (cc)
   joined_memory u Over e f = absurd (cc)
 
-  joined_says : (u : Ticket) → Hears h (Joined c u) → v.standing ≡ Active → has_child v.accepted u.child ≡ false
+  pub joined_says : (u : Ticket) → Hears h (Joined c u) → v.standing ≡ Active → has_child v.accepted u.child ≡ false
       → Says turn Open (p0.accepted || same_ticket u t) p0.acked
   joined_says u i e f =
       let o = own.active_open turn e in
@@ -107,7 +107,7 @@ module _ (turn : Turn) where
         acked_so = ap (λ (y : Memory). acked_of y c t) x;
       }
 
-  accepts_fits : (u : Ticket) → Hears h (Joined c u) → v.standing ≡ Active → (b : Bool) → same_ticket u t ≡ b
+  pub accepts_fits : (u : Ticket) → Hears h (Joined c u) → v.standing ≡ Active → (b : Bool) → same_ticket u t ≡ b
       → F (if b then move.accepts (reading turn) else reading turn)
   accepts_fits u i e false f = unmoved c.txn.presumption (reading turn) inv
   accepts_fits u i e true f =
@@ -133,7 +133,7 @@ module _ (turn : Turn) where
 
   -- It is to commit, and finds nobody.
 
-  nobody_says : IsToCommit parent h c → v.standing ≡ Active → none_of v.accepted ≡ true → Goes turn Over
+  pub nobody_says : IsToCommit parent h c → v.standing ≡ Active → none_of v.accepted ≡ true → Goes turn Over
   nobody_says i e f =
       let g : none_of m.accepted ≡ true = ap none_of (sym (own.active_accepted turn e)) ∙ f in
       subst (λ b. Goes turn (if b then Over else Asked)) g (own.to_commit turn i (own.active_open turn e))
@@ -172,7 +172,7 @@ module _ (turn : Turn) where
 
   -- It asks for votes.
 
-  asks_says : IsToCommit parent h c → v.standing ≡ Active → none_of v.accepted ≡ false → Goes turn Asked
+  pub asks_says : IsToCommit parent h c → v.standing ≡ Active → none_of v.accepted ≡ false → Goes turn Asked
   asks_says i e f =
       let g : none_of m.accepted ≡ false = ap none_of (sym (own.active_accepted turn e)) ∙ f in
       subst (λ b. Goes turn (if b then Over else Asked)) g (own.to_commit turn i (own.active_open turn e))
@@ -183,7 +183,7 @@ module _ (turn : Turn) where
       wires.wire-prepares c t net (seat_of place parent c) v v.accepted p0.accepted
       (rw (same_txn-refl c.txn) (accepted_in_view e))
 
-  no_collects : v.standing ≡ Active → c.txn.presumption ≡ PresumeCommit → p0.collects ≡ false
+  pub no_collects : v.standing ≡ Active → c.txn.presumption ≡ PresumeCommit → p0.collects ≡ false
   no_collects e q =
       by_test p0.collects refl
     where

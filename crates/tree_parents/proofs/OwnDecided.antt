@@ -106,7 +106,7 @@ module _ (turn : Turn) where
       clash (none_of (owing_by c (kept n)))
       ((subst (λ (x : Presumption). NamesBy x c (kept n)) q (holds.names c)).1 f.abort) f.some
 
-  late_of : (o : Outcome) (s : Standing) → Decided o s → v.standing ≡ s → (m.phase ≡ Open → ⊥) × (m.phase ≡ Asked → ⊥)
+  pub late_of : (o : Outcome) (s : Standing) → Decided o s → v.standing ≡ s → (m.phase ≡ Open → ⊥) × (m.phase ≡ Asked → ⊥)
   late_of _ _ turns.by_commit e = (not_open turn Committing e (λ z. cc), not_asked turn Committing e (λ z. cc))
   late_of _ _ turns.by_abort e = (not_open turn Aborting e (λ z. cc), not_asked turn Aborting e (λ z. cc))
 
@@ -122,13 +122,13 @@ module _ (turn : Turn) where
       ∙ (in_owed m.acks AbortedOutcome (owing_by c (kept n)) t
       ∙ ap (λ b. b && not (has_acked m.acks AbortedOutcome t)) (owing_by-naming c t (kept n)))
 
-  may_end_commit : (b : Bool) → (s : Standing) → Decided CommittedOutcome s → v.standing ≡ s → (p0.owed ≡ true → b ≡ true)
+  pub may_end_commit : (b : Bool) → (s : Standing) → Decided CommittedOutcome s → v.standing ≡ s → (p0.owed ≡ true → b ≡ true)
       → move.MayEndCommit (seen turn o0 (rested turn b) v0)
   may_end_commit b _ turns.by_commit e f =
       let g = committing_facts place n c e in
       record { decided = record { up = up; decided = g.commit; not_ended = g.no_end }; all_acked = f }
 
-  may_end_abort : (b : Bool) → (s : Standing) → Decided AbortedOutcome s → v.standing ≡ s → (p0.owed ≡ true → b ≡ true)
+  pub may_end_abort : (b : Bool) → (s : Standing) → Decided AbortedOutcome s → v.standing ≡ s → (p0.owed ≡ true → b ≡ true)
       → move.MayEndAbort (seen turn o0 (rested turn b) v0)
   may_end_abort b _ turns.by_abort e f =
       let g = aborting_facts place n c e in
@@ -146,49 +146,66 @@ module _ (turn : Turn) where
       (moves.ends_abort c.txn.presumption q _ fits.invariant
       (may_end_abort b v.standing (subst (λ (x : Outcome). Decided x v.standing) e d) refl f))
 
-  abbrev end_row : Row
+  abbrev pub end_row : Row
   end_row = record (quiet unknown_view) { written = plain (EndRecord c) }
 
-  pub ends : (u : Ticket) (o : Outcome) → HearsChild place n h c u (λ d. Ack d o) → Decided o v.standing
-      → none_of (other_tickets u v.owed) ≡ true → After turn end_row → Fine turn (row_effect c end_row)
-  ends u o i d none later =
-      let late = late_of o v.standing d refl in
-      let same = own.of_txn turn i.txn u i.belongs in
-      let agrees = decided_as o v.standing d refl c.txn.presumption refl in
-      let b = acked_of m c t || heard_so turn u o in
-      let now : then_remembered turn ≡ record m { acks = m.acks ++ (u, o) ∷ [] } =
-      by_input.ack_comes turn o i.txn u i.hears.0 i.hears.1 ∙ (rw same refl ∙ acks_late m u o m.phase late.0 late.1) in
-      let says : Says turn m.phase p0.accepted b = record {
-        phase = ap (λ (y : Memory). y.phase) now;
-        accepted_so = ap (λ (y : Memory). in_list y.accepted t) now;
-        acked_so = ap (λ (y : Memory). acked_of y c t) now ∙ has_acked-push m.acks u o (acknowledged c.txn.presumption) t;
-      } in
-      let why = acked_now turn i.txn u o i.hears.0 i.hears.1 same (heard_so turn u o) refl in
-      let fits = rest_fits turn b why in
-      let x = has (is_prepare c) n.life in
-      fine_plain turn (row_effect c end_row) later.alike m.phase p0.accepted b says v0 (wires.wire-nothing c t net) (EndRecord c) (λ j. refl) refl
-      (subst (λ (y : Bool). Fits_in turn (seen turn o0 (stands_so false m.phase p0.accepted b y (wrote (EndRecord c) c t x p0)) v0))
-      (sym begun_so)
-      (subst (λ (y : ParentHalf). Fits_in turn (seen turn o0 y v0)) (sym (shown b x))
-      (read_as turn _ _ (readings.reading-ended manager above k c t root o0 x (rested turn b) v0)
-      (ends_fits b fits o c.txn.presumption refl agrees d (all_acked agrees)))))
-    where
-      begun_so : begun_after m.phase (after n h (row_effect c end_row)) c ≡ p0.begun
-      begun_so = begun_plain turn (row_effect c end_row) (EndRecord c) refl refl
-          (record { accepts = refl; yes_votes = refl; no_votes = refl; read_votes = refl; committed = refl; aborted = refl; told = refl })
+  -- The last ACK that is owed.
 
-      shown : (b x : Bool) → stands_so false m.phase p0.accepted b p0.begun (wrote (EndRecord c) c t x p0)
-          ≡ wrote (EndRecord c) c t x (rested turn b)
-      shown b x = rw up refl
+  module _ (u : Ticket) (o : Outcome) (i : HearsChild place n h c u (λ d. Ack d o)) (d : Decided o v.standing)
+      (none : none_of (other_tickets u v.owed) ≡ true) where
+    -- the pair's ACK was heard before, or is this one
+    abbrev pub heard_acks : Bool
+    heard_acks = acked_of m c t || heard_so turn u o
 
-      all_acked : o ≡ acknowledged c.txn.presumption → p0.owed ≡ true → (acked_of m c t || heard_so turn u o) ≡ true
-      all_acked e f =
-          ap (λ y. has_acked m.acks y t || heard_so turn u o) (sym e)
-          ∙ (ap (λ y. has_acked m.acks o t || (same_outcome o y && same_ticket u t)) (sym e)
-          ∙ (ap (λ y. has_acked m.acks o t || (y && same_ticket u t)) (outcome_refl o)
-          ∙ last_one p0.owed (has_acked m.acks o t) (same_ticket u t)
-          (ap (λ y. y && not (same_ticket u t)) (sym (owed_in o v.standing d refl)) ∙ (sym (in_others u v.owed t) ∙ none_in (other_tickets u v.owed) t none))
-          f))
+    ack_now : then_remembered turn ≡ record m { acks = m.acks ++ (u, o) ∷ [] }
+    ack_now =
+        let late = late_of o v.standing d refl in
+        let same = own.of_txn turn i.txn u i.belongs in
+        by_input.ack_comes turn o i.txn u i.hears.0 i.hears.1 ∙ (rw same refl ∙ acks_late m u o m.phase late.0 late.1)
+
+    pub ack_says : Says turn m.phase p0.accepted heard_acks
+    ack_says = record {
+      phase = ap (λ (y : Memory). y.phase) ack_now;
+      accepted_so = ap (λ (y : Memory). in_list y.accepted t) ack_now;
+      acked_so = ap (λ (y : Memory). acked_of y c t) ack_now ∙ has_acked-push m.acks u o (acknowledged c.txn.presumption) t;
+    }
+
+    pub ack_fits : Fits_in turn (seen turn o0 (rested turn heard_acks) v0)
+    ack_fits =
+        rest_fits turn heard_acks
+        (acked_now turn i.txn u o i.hears.0 i.hears.1 (own.of_txn turn i.txn u i.belongs) (heard_so turn u o) refl)
+
+    pub agrees : o ≡ acknowledged c.txn.presumption
+    agrees = decided_as o v.standing d refl c.txn.presumption refl
+
+    pub all_acked : p0.owed ≡ true → heard_acks ≡ true
+    all_acked f =
+        ap (λ y. has_acked m.acks y t || heard_so turn u o) (sym agrees)
+        ∙ (ap (λ y. has_acked m.acks o t || (same_outcome o y && same_ticket u t)) (sym agrees)
+        ∙ (ap (λ y. has_acked m.acks o t || (y && same_ticket u t)) (outcome_refl o)
+        ∙ last_one p0.owed (has_acked m.acks o t) (same_ticket u t)
+        (ap (λ y. y && not (same_ticket u t)) (sym (owed_in o v.standing d refl))
+        ∙ (sym (in_others u v.owed t) ∙ none_in (other_tickets u v.owed) t none))
+        f))
+
+    pub ends : After turn end_row → Fine turn (row_effect c end_row)
+    ends later =
+        let x = has (is_prepare c) n.life in
+        fine_plain turn (row_effect c end_row) later.alike m.phase p0.accepted heard_acks ack_says v0 (wires.wire-nothing c t net)
+        (EndRecord c) (λ j. refl) refl
+        (subst (λ (y : Bool). Fits_in turn (seen turn o0 (stands_so false m.phase p0.accepted heard_acks y (wrote (EndRecord c) c t x p0)) v0))
+        (sym begun_so)
+        (subst (λ (y : ParentHalf). Fits_in turn (seen turn o0 y v0)) (sym (shown heard_acks x))
+        (read_as turn _ _ (readings.reading-ended manager above k c t root o0 x (rested turn heard_acks) v0)
+        (ends_fits heard_acks ack_fits o c.txn.presumption refl agrees d all_acked))))
+      where
+        begun_so : begun_after m.phase (after n h (row_effect c end_row)) c ≡ p0.begun
+        begun_so = begun_plain turn (row_effect c end_row) (EndRecord c) refl refl
+            (record { accepts = refl; yes_votes = refl; no_votes = refl; read_votes = refl; committed = refl; aborted = refl; told = refl })
+
+        shown : (b x : Bool) → stands_so false m.phase p0.accepted b p0.begun (wrote (EndRecord c) c t x p0)
+            ≡ wrote (EndRecord c) c t x (rested turn b)
+        shown b x = rw up refl
 
   -- Answers.
 

@@ -84,32 +84,32 @@ module _ (turn : Turn) where
   pub phase_stays : p0.phase ≡ phase_of false m.phase
   phase_stays = ap (λ b. phase_of b m.phase) up
 
-  facts : v.standing ≡ Prepared → PreparedFacts p0.end_kept p0.commit_kept p0.abort_kept p0.own_prepare_kept
+  pub facts : v.standing ≡ Prepared → PreparedFacts p0.end_kept p0.commit_kept p0.abort_kept p0.own_prepare_kept
   facts e = prepared_facts place n c e
 
-  waits : v.standing ≡ Prepared → Waits (reading turn)
+  pub waits : v.standing ≡ Prepared → Waits (reading turn)
   waits e = let f = facts e in record { promised = f.promise; no_commit = f.no_commit; no_abort = f.no_abort }
 
-  names : v.standing ≡ Prepared → in_list v.promised t ≡ p0.names
+  pub names : v.standing ≡ Prepared → in_list v.promised t ≡ p0.names
   names e = ap (λ (x : CoordinatorView). in_list x.promised t) (view_so place n c Prepared e) ∙ promised_by-naming c t (kept_records)
     where
       kept_records : List Record
       kept_records = kept n
 
-  promise_written : v.standing ≡ Prepared → promised ≡ true
+  pub promise_written : v.standing ≡ Prepared → promised ≡ true
   promise_written e = nested.kept_was_written (is_prepare c) (λ j. refl) (facts e).promise
 
   -- what it is told is the outcome
   outcome_is : (p : ProcessId) → parent ≡ Some p → o0 ≡ outcome
   outcome_is p s = below_is place.role parent seat (λ r. outcome_in r n c outcome ≡ outcome) p s refl
 
-  commit_told : v.standing ≡ Prepared → HearsParent parent h (Commit c) → o0 ≡ true
+  pub commit_told : v.standing ≡ Prepared → HearsParent parent h (Commit c) → o0 ≡ true
   commit_told e i =
       outcome_is i.from i.is_parent
       ∙ (from_above_says turn i.from i.is_parent).commit_is_true
       (was_sent (is_outcome_message CommittedOutcome c) net place.me h.input i.hears.0 (Commit c) stands i.hears.1 (same_case-refl c)) e
 
-  abort_told : v.standing ≡ Prepared → HearsParent parent h (Abort c) → o0 ≡ false
+  pub abort_told : v.standing ≡ Prepared → HearsParent parent h (Abort c) → o0 ≡ false
   abort_told e i =
       outcome_is i.from i.is_parent
       ∙ (from_above_says turn i.from i.is_parent).abort_is_true
@@ -121,12 +121,12 @@ module _ (turn : Turn) where
   pub commit_says : HearsParent parent h (Commit c) → Goes turn m.phase
   commit_says i = stays turn m (by_input.commit_comes turn c i.hears.0 i.hears.1) (itself turn)
 
-  abort_says : v.standing ≡ Prepared → HearsParent parent h (Abort c) → Goes turn m.phase
+  pub abort_says : v.standing ≡ Prepared → HearsParent parent h (Abort c) → Goes turn m.phase
   abort_says e i =
       rested.abort_stays turn c i.hears.0 i.from i.is_parent i.hears.1 (λ x o. not_open Prepared e (λ z. cc) o)
       (λ x o. not_asked Prepared e (λ z. cc) o)
 
-  no_owed_abort : c.txn.presumption ≡ PresumeAbort → p0.commit_kept ≡ false → p0.owed ≡ false
+  pub no_owed_abort : c.txn.presumption ≡ PresumeAbort → p0.commit_kept ≡ false → p0.owed ≡ false
   no_owed_abort q f = by_test p0.owed refl
     where
       stands_for : (pr : Presumption) → pr ≡ PresumeAbort → InvariantOf pr (reading turn) → p0.owed ≡ true → p0.commit_kept ≡ true
@@ -137,7 +137,7 @@ module _ (turn : Turn) where
       by_test false x = x
       by_test true x = clash p0.commit_kept (stands_for c.txn.presumption q inv x) f
 
-  no_owed_commit : c.txn.presumption ≡ PresumeCommit → p0.abort_kept ≡ false → p0.owed ≡ false
+  pub no_owed_commit : c.txn.presumption ≡ PresumeCommit → p0.abort_kept ≡ false → p0.owed ≡ false
   no_owed_commit q f = by_test p0.owed refl
     where
       stands_for : (pr : Presumption) → pr ≡ PresumeCommit → InvariantOf pr (reading turn) → p0.owed ≡ true → p0.abort_kept ≡ true
@@ -148,10 +148,10 @@ module _ (turn : Turn) where
       by_test false x = x
       by_test true x = clash p0.abort_kept (stands_for c.txn.presumption q inv x) f
 
-  abbrev commit_row : Presumption → Row
+  abbrev pub commit_row : Presumption → Row
   commit_row p = prepared_commit_by (seat_of place parent c) v p
 
-  abbrev abort_row : Presumption → Row
+  abbrev pub abort_row : Presumption → Row
   abort_row p = prepared_abort_by (seat_of place parent c) v p
 
   abbrev X : Bool → Bool → ParentHalf → Wire → Reading

@@ -86,11 +86,11 @@ module _ (turn : Turn) where
       (stays turn m (by_input.inquires turn (child_case i.txn u) i.hears.0 i.hears.1) (itself turn)) v0 (answer_wire u o false f)
       (unmoved c.txn.presumption (reading turn) inv)
 
-  refuses_late : (s : Standing) → Refuses s → v.standing ≡ s → m.phase ≡ Open → ⊥
+  pub refuses_late : (s : Standing) → Refuses s → v.standing ≡ s → m.phase ≡ Open → ⊥
   refuses_late _ turns.unknown_refuses e o = not_open turn Unknown e (λ z. cc) o
   refuses_late _ turns.aborting_refuses e o = not_open turn Aborting e (λ z. cc) o
 
-  acknowledges_late : (o : Outcome) (p : Presumption) (s : Standing) → Acknowledges o p s → v.standing ≡ s
+  pub acknowledges_late : (o : Outcome) (p : Presumption) (s : Standing) → Acknowledges o p s → v.standing ≡ s
       → (m.phase ≡ Open → ⊥) × (m.phase ≡ Asked → ⊥)
   acknowledges_late _ _ _ turns.commit_presumed_abort e = (not_open turn Unknown e (λ z. cc), not_asked turn Unknown e (λ z. cc))
   acknowledges_late _ _ _ (turns.commit_again p) e = (not_open turn Committing e (λ z. cc), not_asked turn Committing e (λ z. cc))

@@ -41,7 +41,7 @@ use Rattle.tree_parents.proofs.Votes as votes
 use Rattle.tree_parents.proofs.Wires as wires
 use Rattle.tree_parents.proofs.Writes.{did, stands_so, hardens, wrote}
 
-goes_on : (w : Vote) → Consents w → (b : Bool) → phase_after w b ≡ (if b then Over else Asked)
+pub goes_on : (w : Vote) → Consents w → (b : Bool) → phase_after w b ≡ (if b then Over else Asked)
 goes_on _ turns.votes_yes b = refl
 goes_on _ turns.votes_read b = refl
 
@@ -76,7 +76,7 @@ module _ (turn : Turn) where
   at_literal : (b : Bool) → root ≡ b → (P : Bool → Type 0) → P b → P root
   at_literal b e P x = subst P (sym e) x
 
-  asked_takes_part : m.phase ≡ Asked → (p : ProcessId) → parent ≡ Some p → above ≡ true
+  pub asked_takes_part : m.phase ≡ Asked → (p : ProcessId) → parent ≡ Some p → above ≡ true
   asked_takes_part a p s =
       (from_above_says turn p s).asked_takes_part
       (below_is place.role parent seat (λ r. RoleHolds r place net n → sent (is_prepare_message c) net ≡ true) p s
@@ -105,19 +105,19 @@ module _ (turn : Turn) where
         (votes.hears turn u w i consents))
 
     module _ (ys : List Ticket) (l : CountsLast place n h c u w ys) where
-      i : CountsVote place n h c u w
+      pub i : CountsVote place n h c u w
       i = l.vote
 
-      all : all_voted m.accepted (votes.votes turn u w i) ≡ true
+      pub all : all_voted m.accepted (votes.votes turn u w i) ≡ true
       all = votes.all_seen turn u w i true l.all
 
-      ends_votes : Goes turn Over
+      pub ends_votes : Goes turn Over
       ends_votes = votes.vote_says turn u w i Over (goes_on w l.consents _ ∙ rw all refl)
 
-      alive : Live root o0 p1 v0
+      pub alive : Live root o0 p1 v0
       alive = votes.alive turn u w i
 
-      heard_it : F r1
+      pub heard_it : F r1
       heard_it = votes.hears turn u w i l.consents
 
       -- whom YES names
@@ -129,7 +129,7 @@ module _ (turn : Turn) where
           ∙ (in_list-yes m.accepted (votes.votes turn u w i) t
           ∙ ap (λ b. in_list m.accepted t && b) (sym (votes.heard_now turn u w i VoteYes)))))
 
-      all_read : none_of ys ≡ true → p1.accepted ≡ true → p1.first_read ≡ true
+      pub all_read : none_of ys ≡ true → p1.accepted ≡ true → p1.first_read ≡ true
       all_read none accepted = elim (votes.has_vote turn u w i l.consents all accepted) [
         | inl yes_said ↦ clash (in_list ys t) (yes_names ∙ rw (accepted, yes_said) refl) (none_in ys t none)
         | inr read_said ↦ read_said
@@ -137,7 +137,7 @@ module _ (turn : Turn) where
 
       -- All read only.
 
-      abbrev read_row : Presumption → Row
+      abbrev pub read_row : Presumption → Row
       read_row p = counting u w (record (collecting_read_only (seat_of place parent c)) {
         written = read_only_end (seat_of place parent c) p;
       })
@@ -199,7 +199,7 @@ module _ (turn : Turn) where
       forced_first : F (move.hardens_parent r1)
       forced_first = and_then turn r1 _ heard_it (moves.hardens c.txn.presumption r1 heard_it.invariant up)
 
-      no_owed : c.txn.presumption ≡ PresumeAbort → p1.owed ≡ false
+      pub no_owed : c.txn.presumption ≡ PresumeAbort → p1.owed ≡ false
       no_owed q = by_test p1.owed refl
         where
           stands_for : (pr : Presumption) → pr ≡ PresumeAbort → InvariantOf pr r1 → p1.owed ≡ true → p1.commit_kept ≡ true
@@ -210,14 +210,14 @@ module _ (turn : Turn) where
           by_test false x = x
           by_test true x = clash p1.commit_kept (stands_for c.txn.presumption q heard_it.invariant x) alive.no_commit
 
-      no_names : p1.names ≡ false
+      pub no_names : p1.names ≡ false
       no_names = by_test p1.names refl
         where
           by_test : (b : Bool) → p1.names ≡ b → p1.names ≡ false
           by_test false x = x
           by_test true x = clash p1.own_prepare_kept ((common_of c.txn.presumption r1 heard_it.invariant).names_has_yes x).1 alive.no_prepare
 
-      abbrev commit_row : Presumption → Row
+      abbrev pub commit_row : Presumption → Row
       commit_row p = counting u w (root_commits (seat_of place parent c) (voted v u w) ys p)
 
       told_commit : (p : Presumption) → did (row_effect c (commit_row p)) c t (half turn) ≡ told_so true false p1
@@ -274,7 +274,7 @@ module _ (turn : Turn) where
 
       -- A cascaded coordinator promises.
 
-      abbrev promise_row : Row
+      abbrev pub promise_row : Row
       promise_row = counting u w (cascaded_prepares (seat_of place parent c) (voted v u w) ys)
 
       pub promises : (p : ProcessId) → parent ≡ Some p → After turn promise_row → Fine turn (row_effect c promise_row)

@@ -90,7 +90,7 @@ coordinates_of AtRoot i place net n h = h.0
 coordinates_of (Below p) i place net n h = h.0
 coordinates_of (AtLeaf p) i place net n h = absurd i
 
-free_before : (net ls : List Envelope) (c : Case) (t : Ticket) → IsFree (net ++ ls) c t → IsFree net c t
+pub free_before : (net ls : List Envelope) (c : Case) (t : Ticket) → IsFree (net ++ ls) c t → IsFree net c t
 free_before net ls c t f = second _ _ _ (sent-append (gives_other c t) net ls) f
   where
     second : (a b x : Bool) → x ≡ (a || b) → x ≡ false → b ≡ false
@@ -191,7 +191,7 @@ same_step place net n = record {
       (sym (wire-nothing c t net)) (unmoved c.txn.presumption _ inv);
 }
 
-still_up : (n : Node) (h : Heard) (e : Effect) → n.failed ≡ false → (after n h e).failed ≡ false
+pub still_up : (n : Node) (h : Heard) (e : Effect) → n.failed ≡ false → (after n h e).failed ≡ false
 still_up n h e up =
     either_logs n (entries_written e.written) (is_any_forced e.written) (λ (l : Logs). l.failed ≡ false) (λ b. up) (λ b. up)
 

@@ -37,3 +37,14 @@ CoordinatorRows = (tree : List TreeEntry) (es : List Made) (w : World) → NoOwn
     → (let q = m.step.process in
     Coordinates (place_of tree q) (w.net ++ e.messages) (w'.at q)
     → ParentStep (place_of tree q) w.net e.messages (w.at q) (w'.at q))
+
+-- The same, and also where the device fails in the input, whatever of its records was appended, and whatever was forced.
+abbrev pub CoordinatorInputs : Type 0
+CoordinatorInputs = (tree : List TreeEntry) (es : List Made) (w : World) → NoOwnParent tree → IsRun tree es w
+    → WorldHolds tree w → JoinedAreBorn tree w
+    → (m : Move) (e : Effect) (w' : World) → IsCoordinator (role_of tree m.step.process)
+    → Stands w.net m.step.process m.step.happening → world_makes tree w m ≡ Some (e, w')
+    → (i : Input) → m.step.happening ≡ Handles i
+    → (let q = m.step.process in
+    Coordinates (place_of tree q) (w.net ++ e.messages) (w'.at q)
+    → ParentStep (place_of tree q) w.net e.messages (w.at q) (w'.at q))
