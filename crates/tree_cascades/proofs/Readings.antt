@@ -67,7 +67,8 @@ module _ (root outcome above : Bool) (p : ParentHalf) (q : OwnHalf) (v : Wire) w
 
     pub reading-dropped_acknowledged : R (stands_so false q) (record v { ack = true })
         ≡ move.drops_and_acknowledges (R q v)
-    reading-dropped_acknowledged = rw (none_kept, none_ever, issued, no_read, dead-now) (simp (and-false, or-true))
+    reading-dropped_acknowledged = rw (none_kept, none_ever, issued, no_read, dead-now)
+        (simp (and-false, or-true))
 
     -- it aborts, with a record
     pub reading-aborted : (b : Bool) → R (stands_so false (aborts b q)) v ≡ move.drops (R q v)
@@ -76,7 +77,8 @@ module _ (root outcome above : Bool) (p : ParentHalf) (q : OwnHalf) (v : Wire) w
     pub reading-aborted_acknowledged : (b : Bool)
         → R (stands_so false (hardens (aborts b q))) (record v { ack = true })
         ≡ move.drops_and_acknowledges (move.hardens_child (R q v))
-    reading-aborted_acknowledged b = rw (none_kept, none_ever, issued, no_read, dead-now) (simp (and-false, or-true))
+    reading-aborted_acknowledged b = rw (none_kept, none_ever, issued, no_read, dead-now)
+        (simp (and-false, or-true))
 
     pub reading-no : (b : Bool) → R (stands_so false (aborts b q)) (record v { no = true })
         ≡ move.votes_no (R q v)
