@@ -117,7 +117,7 @@ pub own_plain : (o o' : Bool) (n : Node) (h : Heard) (e : Effect) (d : Case) (r 
     ≡ plain r
     → own_half_at o' (after n h e) d ≡ stands_so o'
     (wrote r (has (is_prepare d) n.life) d (own_half_at o n d))
-own_plain o o' n h e d r one = rw one (simp (has-push_behind, has-cons, middle))
+own_plain o o' n h e d r one = rw one (simp (has-push_behind, has-cons))
 
 -- a record that promises, commits and aborts nothing of the case
 pub record IsAside (d : Case) (r : Record) : Type 0 where

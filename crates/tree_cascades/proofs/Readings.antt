@@ -104,11 +104,11 @@ module _ (root outcome above : Bool) (p : ParentHalf) (q : OwnHalf) (v : Wire) w
     reading-commit_forced = rw (closed, kept) (simp (or_twice, and-false, dead-promised))
 
     pub reading-commit_plain : R (stands_so false (commits q)) v ≡ move.commits (R q v)
-    reading-commit_plain = rw (closed, kept) (simp (or_twice, and-false, dead-promised))
+    reading-commit_plain = rw (closed, kept) (simp (and-false, dead-promised))
 
     pub reading-abort_plain : R (stands_so false (aborts true q)) v ≡ move.rolls_back (R q v)
-    reading-abort_plain = rw (closed, kept) (simp (or_twice, and-false, dead-promised))
+    reading-abort_plain = rw (closed, kept) (simp (and-false))
 
     pub reading-abort_forced : R (stands_so false (hardens (aborts true q))) (record v { ack = true })
         ≡ move.rolls_back_forced (move.hardens_child (R q v))
-    reading-abort_forced = rw (closed, kept) (simp (or_twice, and-false, dead-promised))
+    reading-abort_forced = rw (closed, kept) (simp (and-false))
