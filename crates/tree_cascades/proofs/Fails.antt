@@ -154,4 +154,4 @@ module _ (root outcome above : Bool) (p : ParentHalf) (q : OwnHalf) (v : Wire) (
 
     pub reading-fails_to_roll_back : R (failed_own front (aborts true q))
         ≡ crash.hardens_failed_child (as_front front) (crash.fails_to_roll_back (R q))
-    reading-fails_to_roll_back = rw (closed, kept) (simp (and-false, dead-promised))
+    reading-fails_to_roll_back = rw (closed, kept) (simp (and-false))
