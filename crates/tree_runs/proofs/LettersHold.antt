@@ -52,7 +52,7 @@ none_gives_now x (Abort d) e = cc
 none_gives_now x (Ack d o) e = cc
 none_gives_now x (Inquire d) e = cc
 
-none_gives : (x : Txn) (net : List Envelope) → sent (gives_case (record { txn = x; ticket = None })) net ≡ true → ⊥
+pub none_gives : (x : Txn) (net : List Envelope) → sent (gives_case (record { txn = x; ticket = None })) net ≡ true → ⊥
 unfolding sent
 none_gives x [] e = cc
 none_gives x (l ∷ ls) e = elim (either (gives_case (record { txn = x; ticket = None }) l.message) _ e) [
@@ -139,7 +139,7 @@ module _ (me : ProcessId) (parent : Option ProcessId) (tree : List TreeEntry) (n
     resumed None j a = a
     resumed (Some p) j a = a
 
-    step_sends : (m : Move) → Stands net me m.step.happening → (e : Effect) (k : Node) → StepOf place n m e k
+    pub step_sends : (m : Move) → Stands net me m.step.happening → (e : Effect) (k : Node) → StepOf place n m e k
         → AllWell tree me net e.messages
     step_sends m stands _ _ (handled i g hp np r) =
         turns.effect_sends me parent tree n net role listed goes given_before nested (coordinates parent holds)
