@@ -30,7 +30,8 @@ use Rattle.tree_cascades.proofs.Senders.{step_sent}
 use Rattle.tree_cascades.proofs.Trimmed.{of_collecting, of_prepare, trimmed_has}
 
 module _ (me p : ProcessId) (tree : List TreeEntry) (net : List Envelope) (n : Node)
-    (keeps : Keeps me p tree net n) (old : Reads (record { me = me; role = Below p; tree = tree }) net n) where
+    (keeps : Keeps me p tree net n) (old : Reads (record
+    { me = me; role = Below p; tree = tree }) net n) where
   abbrev place : Place
   place = record { me = me; role = Below p; tree = tree }
 
@@ -53,7 +54,8 @@ module _ (me p : ProcessId) (tree : List TreeEntry) (net : List Envelope) (n : N
   still_open : (c : Case) → live (memory_of place (trims place n) c).phase ≡ live (memory_of place n c).phase
   still_open c = ap (λ (m : Memory). live m.phase) (trims_memory place n c)
 
-  collected : (c : Case) → has (is_prepare c) n.life ≡ true → has (is_collecting c) (trimmed (Below p) (kept n)) ≡ true
+  collected : (c : Case) → has (is_prepare c) n.life ≡ true
+      → has (is_collecting c) (trimmed (Below p) (kept n)) ≡ true
       → (has (is_prepare c) (trimmed (Below p) (kept n)) ≡ true)
       ⊎ (has (is_prepare c) (trimmed (Below p) (kept n) ++ n.durable) ≡ false)
   collected c e f = by_known (both (is_known (recorded_view rs c).standing) (has (is_collecting c) rs)
@@ -113,7 +115,8 @@ module _ (me p : ProcessId) (tree : List TreeEntry) (net : List Envelope) (n : N
   read_step : (m : Move) (e : Effect) (k : Node) → StepOf place n m e k → Reads place (net ++ e.messages) k
   read_step m _ _ (handled i g hp np r) = handled_reads me p tree net n keeps old (heard_in m i) g r
   read_step m _ _ (failed_in i f g fl hp np r) =
-      silent me p tree net n keeps old _ (broken_reads me p tree net n keeps old (heard_in m i) g r f.appended f.forced)
+      silent me p tree net n keeps old _ (broken_reads me p tree net n keeps old
+      (heard_in m i) g r f.appended f.forced)
   read_step m _ _ (passed i hp r) = silent me p tree net n keeps old n old
   read_step m _ _ (failed_passing i f fl hp r) =
       silent me p tree net n keeps old (record n { failed = true }) (fallen me p tree net n keeps old)
@@ -182,14 +185,18 @@ all_read tree _ _ (makes es w m e w' run stands step) q p below =
     let here = makes_at tree w m e w' step in
     let x = m.step.process in
     let s = step_of (place_of tree x) (w.at x) m e here.node here.made in
-    subst (λ (z : World). Reads (record { me = q; role = Below p; tree = tree }) z.net (z.at q)) (sym here.world)
+    subst (λ (z : World). Reads (record { me = q; role = Below p; tree = tree }) z.net (z.at q))
+    (sym here.world)
     (elim (same_process_tells x q) [
       | inl same ↦ rw same.0 (subst (λ (y : ProcessId). role_of tree y ≡ Below p
           → StepOf (place_of tree y) (w.at y) m e here.node
           → Reads (record { me = y; role = Below p; tree = tree }) (w.net ++ e.messages) here.node) same.1
-          (λ b s'. read_step x p tree w.net (w.at x) (keeps_at tree es w run x p b) (all_read tree es w run x p b) m e
-          here.node (subst (λ (r : Role). StepOf (record { me = x; role = r; tree = tree }) (w.at x) m e here.node) b s'))
+          (λ b s'. read_step x p tree w.net (w.at x) (keeps_at tree es w run x p b)
+          (all_read tree es w run x p b) m e
+          here.node (subst (λ (r : Role). StepOf (record { me = x; role = r; tree = tree })
+          (w.at x) m e here.node) b s'))
           below (subst (λ (y : ProcessId). StepOf (place_of tree y) (w.at y) m e here.node) same.1 s))
-      | inr other ↦ rw other.0 (others_read (record { me = q; role = Below p; tree = tree }) w.net e.messages (w.at q) x
+      | inr other ↦ rw other.0 (others_read (record
+          { me = q; role = Below p; tree = tree }) w.net e.messages (w.at q) x
           other.1 (step_sent (place_of tree x) (w.at x) m e here.node s) (all_read tree es w run q p below))
     ])

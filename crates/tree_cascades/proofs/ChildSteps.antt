@@ -71,7 +71,8 @@ pub record Known (tree : List TreeEntry) (net : List Envelope) (me p : ProcessId
   pub apart : p ≡ me → ⊥
   pub nested : Nested (logs_of n)
   pub logs : CoordinatorLogs (logs_of n)
-  pub alike : n.failed ≡ false → (c : Case) → IsOpenAlike (record { me = me; role = Below p; tree = tree }) n c
+  pub alike : n.failed ≡ false → (c : Case) → IsOpenAlike
+      (record { me = me; role = Below p; tree = tree }) n c
   pub asked : n.failed ≡ false → (c : Case)
       → (memory_of (record { me = me; role = Below p; tree = tree }) n c).phase ≡ Asked
       → sent (is_prepare_message c) net ≡ true
@@ -87,7 +88,8 @@ pub record Known (tree : List TreeEntry) (net : List Envelope) (me p : ProcessId
 pub record Behind (tree : List TreeEntry) (me p : ProcessId) (e : Effect) (k : Node) : Type 0 where
   pub nested : Nested (logs_of k)
   pub logs : CoordinatorLogs (logs_of k)
-  pub alike : k.failed ≡ false → (c : Case) → IsOpenAlike (record { me = me; role = Below p; tree = tree }) k c
+  pub alike : k.failed ≡ false → (c : Case) → IsOpenAlike
+      (record { me = me; role = Below p; tree = tree }) k c
   pub fit : AllFit [] (kept k)
   pub sent_here : AllSentBy me e.messages
   pub go : AllGo tree e.messages
@@ -102,7 +104,8 @@ early_up place n (MessageInput k m) p e = is_up n.failed ((both (is_early_ack pl
 early_up place n (ActInput a) p e = absurd (cc)
 
 module _ (c : Case) (t : Ticket) (p : ProcessId) (tree : List TreeEntry) (n : Node) (net : List Envelope)
-    (pair : IsPair tree c t) (free : IsFree net c t) (known : Known tree net t.child p n) (outcome above : Bool)
+    (pair : IsPair tree c t) (free : IsFree net c t) (known : Known tree net t.child p n)
+    (outcome above : Bool)
     (half : ParentHalf) where
   abbrev d : Case
   d = child_case c.txn t
@@ -139,7 +142,8 @@ module _ (c : Case) (t : Ticket) (p : ProcessId) (tree : List TreeEntry) (n : No
       either_logs n (entries_written e.written) (is_any_forced e.written) (λ (l : Logs). l.failed ≡ false)
       (λ b. up) (λ b. up)
 
-  abbrev row_turn : InvariantOf pr (R q v) → (h : Heard) → n.failed ≡ false → InputStands net t.child h.input → IsRow h.input
+  abbrev row_turn : InvariantOf pr (R q v) → (h : Heard) → n.failed ≡ false
+      → InputStands net t.child h.input → IsRow h.input
       → Turn
   row_turn inv h up here row = record {
     c = c;
@@ -190,22 +194,26 @@ module _ (c : Case) (t : Ticket) (p : ProcessId) (tree : List TreeEntry) (n : No
       let here : InputStands net t.child i = subst (λ (x : Happening). Stands net t.child x) hp stands in
       silent (fails_in n h g f.appended f.forced) (elim (input_is i) [
         | inl join ↦ fault_rows.writes_none d n h v pr root outcome above half (opens place n d) inv up g
-            (joined_silent t.child p tree n h up join.number join.parents join.is g r) f.appended f.forced b.fit
+            (joined_silent t.child p tree n h up join.number join.parents join.is g r) f.appended
+            f.forced b.fit
         | inr row ↦ fault_rows.turn_fails (row_turn inv h up here row) g (coordinator_turn_of place n h g r)
             f.appended f.forced b.fit
       ])
   own_steps inv m stands _ _ (passed i hp r) b = silent n (moves.unmoved pr (R q v) inv)
   own_steps inv m stands _ _ (failed_passing i f fl hp r) b =
       silent (record n { failed = true })
-      (faults.fails_quietly d n v pr root outcome above half (opens place n d) inv (record n { failed = true }) b.fit
+      (faults.fails_quietly d n v pr root outcome above half (opens place n d) inv
+      (record n { failed = true }) b.fit
       (λ x y. y) (early_up place n i p r)
       (own_breaks (opens place n d) n d (λ x. ((moves.common_of pr (R q v) inv).child_forced_promise x).1)))
   own_steps inv m stands _ _ (reopened j hp) b =
-      restarts.restart_fits c t p tree n net known.fit known.ends known.keeps known.reads known.went free pr root outcome
+      restarts.restart_fits c t p tree n net known.fit known.ends known.keeps known.reads known.went free
+      pr root outcome
       above half (opens place n d) j inv known.below known.apart pair (b.alike refl d) b.sent_here b.go
   own_steps inv m stands _ _ (failed_reopening j f fl hp) b =
       silent (restart_fails place n j f.appended f.forced)
-      (restarts.restart_breaks c t p tree n net known.fit known.ends known.keeps known.reads known.went free pr root
+      (restarts.restart_breaks c t p tree n net known.fit known.ends known.keeps known.reads known.went
+      free pr root
       outcome above half (opens place n d) j inv f.appended f.forced b.fit)
   own_steps inv m stands _ _ (trimmed hp up) b =
       silent (trims place n)
@@ -215,17 +223,21 @@ module _ (c : Case) (t : Ticket) (p : ProcessId) (tree : List TreeEntry) (n : No
       silent (trim_fails place n f.appended) (by_log f.appended b.fit)
     where
       by_log : (a : ℕ) → AllFit [] (kept (trim_fails place n a))
-          → Fits pr (R q v) (R (own_half_at (opens place (trim_fails place n a) d) (trim_fails place n a) d) v)
-      by_log zero fit = trims_of.trim_breaks t.child p tree n d v up (known.alike up d) known.ends pr root outcome above
+          → Fits pr (R q v) (R (own_half_at (opens place (trim_fails place n a) d)
+          (trim_fails place n a) d) v)
+      by_log zero fit = trims_of.trim_breaks t.child p tree n d v up
+          (known.alike up d) known.ends pr root outcome above
           half inv zero fit
-      by_log (suc a) fit = trims_of.trim_breaks t.child p tree n d v up (known.alike up d) known.ends pr root outcome
+      by_log (suc a) fit = trims_of.trim_breaks t.child p tree n d v up
+          (known.alike up d) known.ends pr root outcome
           above half inv (suc a) fit
 
   branchless : (k : Node) → Nested (logs_of k) → CoordinatorLogs (logs_of k) → NoBranch (child_case c.txn t) k
   branchless k h l = no_branch d k h l
 
   seen : (k : Node) (w : Wire) → Nested (logs_of k) → CoordinatorLogs (logs_of k)
-      → reading_from root false outcome above half (child_half place k d) w ≡ R (own_half_at (opens place k d) k d) w
+      → reading_from root false outcome above half (child_half place k d) w
+      ≡ R (own_half_at (opens place k d) k d) w
   seen k w h l =
       ap (λ (z : ChildHalf). reading_from root false outcome above half z w)
       (half_above (coordinator_view place k d).standing k d (branchless k h l))
@@ -237,8 +249,10 @@ module _ (c : Case) (t : Ticket) (p : ProcessId) (tree : List TreeEntry) (n : No
       (seen_above place (net ++ e.messages) k c t outcome above half)
   step_fits m stands e k s b inv =
       let old = seen n v known.nested known.logs in
-      subst (λ (z : Reading). Fits pr z (seen_above place (net ++ e.messages) k c t outcome above half)) (sym old)
-      (subst (λ (z : Reading). Fits pr (R q v) z) (sym (seen k (wire c t (net ++ e.messages)) b.nested b.logs))
+      subst (λ (z : Reading). Fits pr z (seen_above place (net ++ e.messages) k c t outcome above half))
+      (sym old)
+      (subst (λ (z : Reading). Fits pr (R q v) z)
+      (sym (seen k (wire c t (net ++ e.messages)) b.nested b.logs))
       (own_steps (subst (λ (z : Reading). InvariantOf pr z) old inv) m stands e k s b))
 
 free_before : (net ls : List Envelope) (c : Case) (t : Ticket) → IsFree (net ++ ls) c t → IsFree net c t
@@ -264,7 +278,8 @@ cascaded_child_steps tree is_tree es w run went m e w' p below stands made go =
     let after_it = cascaded_nodes_hold tree (record { move = m; effect = e } ∷ es) w' run_then q p below in
     let parts : RoleHolds (Below p) (place (Below p)) w.net (w.at q) =
     subst (λ (r : Role). RoleHolds r (place r) w.net (w.at q)) below before.role in
-    let last : Lasts (Below p) (logs_of (w.at q)) = subst (λ (r : Role). Lasts r (logs_of (w.at q))) below before.lasts in
+    let last : Lasts (Below p) (logs_of (w.at q)) = subst
+    (λ (r : Role). Lasts r (logs_of (w.at q))) below before.lasts in
     let last_then : Lasts (Below p) (logs_of at.node) =
     subst (λ (k : Node). Lasts (Below p) (logs_of k)) there
     (subst (λ (r : Role). Lasts r (logs_of (w'.at q))) below
@@ -310,9 +325,11 @@ cascaded_child_steps tree is_tree es w run went m e w' p below stands made go =
           (seen_above (record { me = x; role = Below p; tree = tree }) w.net (w.at q) c t outcome above half)
           → Fits c.txn.presumption
           (seen_above (record { me = x; role = Below p; tree = tree }) w.net (w.at q) c t outcome above half)
-          (seen_above (record { me = x; role = Below p; tree = tree }) (w.net ++ e.messages) at.node c t outcome above
+          (seen_above (record { me = x; role = Below p; tree = tree })
+          (w.net ++ e.messages) at.node c t outcome above
           half)) same
           (λ known' behind' stands' s' inv'. step_fits c t p tree (w.at q) w.net pair
-          (free_before w.net e.messages c t free) known' outcome above half m stands' e at.node s' behind' inv')
+          (free_before w.net e.messages c t free) known' outcome above half m stands' e at.node s'
+          behind' inv')
           known behind stands s inv;
     }))

@@ -82,7 +82,8 @@ module _ (me p : ProcessId) (tree : List TreeEntry) (n : Node) (h : Heard) (d : 
   counted w u k =
       let lists = opens.lists_seen place n d (not_unknown Collecting k.stands (λ x. cc)) in
       ap (λ (ts : List Ticket). is_counted ts (memory_of place n d).votes u) (sym lists.0)
-      ∙ (ap (λ (vs : List (Ticket × Vote)). is_counted (coordinator_view place n d).accepted vs u) (sym lists.1) ∙ k.counts)
+      ∙ (ap (λ (vs : List (Ticket × Vote)). is_counted (coordinator_view place n d).accepted vs u)
+      (sym lists.1) ∙ k.counts)
 
   pub last_closes : (w : Vote) (u : Ticket) (ys : List Ticket) → CountsLast place n h d u w ys
       → live Remembered.phase ≡ false
@@ -94,7 +95,8 @@ module _ (me p : ProcessId) (tree : List TreeEntry) (n : Node) (h : Heard) (d : 
       ∙ opens.vote_closes me (boot_of (kept n)) d (memory_of place n d) heard.hears.0 w heard.txn u
       (same_own heard.txn u heard.belongs) (phase_asked k.vote.stands) (counted w u k.vote) k.consents
       (ap (λ (ts : List Ticket). all_voted ts ((memory_of place n d).votes ++ (u, w) ∷ [])) (sym lists.0)
-      ∙ (ap (λ (vs : List (Ticket × Vote)). all_voted (coordinator_view place n d).accepted (vs ++ (u, w) ∷ [])) (sym lists.1)
+      ∙ (ap (λ (vs : List (Ticket × Vote)). all_voted (coordinator_view place n d).accepted
+      (vs ++ (u, w) ∷ [])) (sym lists.1)
       ∙ k.all))
 
   pub first_closes : (u : Ticket) → CountsVote place n h d u VoteNo → live Remembered.phase ≡ false

@@ -52,7 +52,8 @@ one_is q r e = only (q r) (sym (has-cons q r [] ∙ ap (λ b. q r || b) (has-nil
 module _ (rs : List Record) (old : EndsDecided rs) (c : Case) where
   ends_now : (r : Record) → EndFits rs r → is_end c r ≡ true → has (is_prepare c) (rs ++ r ∷ []) ≡ true
       → IsDecided c rs
-  ends_now (EndRecord d) f e g = by_fit (subst (λ (x : Case). IsDecided x rs ⊎ (has (is_prepare x) rs ≡ false))
+  ends_now (EndRecord d) f e g = by_fit (subst (λ (x : Case). IsDecided x rs
+      ⊎ (has (is_prepare x) rs ≡ false))
       (same_of d c e) f) (in_either (is_prepare c) rs (EndRecord d ∷ []) g)
     where
       by_fit : IsDecided c rs ⊎ (has (is_prepare c) rs ≡ false)
@@ -90,7 +91,8 @@ ends_front xs ys fit h c e p =
     by_whole (inr x) = inr (end_behind_abort c xs ys fit e x)
 
 -- records that neither promise nor end
-pub ends_more : (xs ys : List Record) → ((c : Case) → has (is_end c) ys ≡ false) → ((c : Case) → has (is_prepare c) ys ≡ false)
+pub ends_more : (xs ys : List Record) → ((c : Case) → has (is_end c) ys ≡ false)
+    → ((c : Case) → has (is_prepare c) ys ≡ false)
     → EndsDecided xs → EndsDecided (xs ++ ys)
 ends_more xs ys f g h c e p =
     decided_first c xs ys (h c (first (is_end c) (f c) e) (first (is_prepare c) (g c) p))
@@ -105,7 +107,8 @@ AllEndFit rs [] = Unit {0}
 AllEndFit rs (r ∷ l) = EndFits rs r × (l ≡ [])
 
 module _ (place : Place) (parent : Option ProcessId) (n : Node) (h : Heard) (c : Case) where
-  decided_so : (o : Outcome) (s : Standing) → (coordinator_view place n c).standing ≡ s → Decided o s → IsDecided c (kept n)
+  decided_so : (o : Outcome) (s : Standing) → (coordinator_view place n c).standing ≡ s → Decided o s
+      → IsDecided c (kept n)
   decided_so _ _ e by_commit = inl (committing_facts place n c e).0
   decided_so _ _ e by_abort = inr (aborting_facts place n c e).0
 
@@ -166,7 +169,8 @@ ends_written rs (r ∷ l) (suc a) h f g =
     nothing zero = refl
     nothing (suc a) = refl
 
-pub ends_all : (rs new : List Record) → EndsDecided rs → AllFit rs new → AllEndFit rs new → EndsDecided (rs ++ new)
+pub ends_all : (rs new : List Record) → EndsDecided rs → AllFit rs new → AllEndFit rs new
+    → EndsDecided (rs ++ new)
 ends_all rs [] h f g = subst EndsDecided (sym (append-nil rs)) h
 ends_all rs (r ∷ l) h f g =
     subst (λ (x : List Record). EndsDecided (rs ++ r ∷ x)) (sym g.1) (λ c. one_more rs h c r f.0 g.0)
@@ -206,6 +210,8 @@ module _ (q : Record → Bool) (opened : (k : ℕ) → q (Opened k) ≡ false)
   pub none_taken : (a : ℕ) (rs : List Record) → has q (take a (coordinator_reopens rs)) ≡ false
   none_taken a rs = by_test (has q (take a (coordinator_reopens rs))) refl
     where
-      by_test : (b : Bool) → has q (take a (coordinator_reopens rs)) ≡ b → has q (take a (coordinator_reopens rs)) ≡ false
-      by_test true e = not_both q (has q (coordinator_reopens rs)) (in_front q a (coordinator_reopens rs) e) (none_reopens rs)
+      by_test : (b : Bool) → has q (take a (coordinator_reopens rs)) ≡ b
+          → has q (take a (coordinator_reopens rs)) ≡ false
+      by_test true e = not_both q (has q (coordinator_reopens rs))
+          (in_front q a (coordinator_reopens rs) e) (none_reopens rs)
       by_test false e = e

@@ -29,7 +29,8 @@ use Rattle.tree_cascades.proofs.Ends.{EndsDecided, ends_all, ends_front, ends_mo
 use Rattle.tree_cascades.proofs.Trimmed.{of_end, trimmed_has}
 
 -- an end is not kept through a trim
-ended_unknown : (c : Case) (rs : List Record) → has (is_end c) rs ≡ true → is_known (recorded_view rs c).standing ≡ false
+ended_unknown : (c : Case) (rs : List Record) → has (is_end c) rs ≡ true
+    → is_known (recorded_view rs c).standing ≡ false
 ended_unknown c rs e = ap is_known (recorded_stands c rs ∙ stands)
   where
     stands : standing_at rs c Idle ≡ Unknown
@@ -52,7 +53,8 @@ module _ (p : ProcessId) (me : ProcessId) (tree : List TreeEntry) (n : Node) (fi
   appended : (h : Heard) (e : Effect) → CoordinatorTurn place (Some p) n h e → Ends (after n h e)
   appended h e t =
       let new = entries_written e.written in
-      let all = ends_all (kept n) new old (fits_effect place (Some p) n h e t fit) (turn_ends place (Some p) n h e t) in
+      let all = ends_all (kept n) new old (fits_effect place (Some p) n h e t fit)
+      (turn_ends place (Some p) n h e t) in
       either_logs n new (is_any_forced e.written) (λ (l : Logs). EndsDecided (standing l))
       (λ b. subst EndsDecided (sym (append-nil (kept n ++ new))) all)
       (λ b. subst EndsDecided (append_assoc n.forced n.unforced new) all)
@@ -68,7 +70,8 @@ module _ (p : ProcessId) (me : ProcessId) (tree : List TreeEntry) (n : Node) (fi
 
   trim_failed : (a : ℕ) → Ends (trim_fails place n a)
   trim_failed zero = old
-  trim_failed (suc a) = subst EndsDecided (sym (append-nil (trimmed (Below p) (kept n)))) (ends_trimmed p (kept n))
+  trim_failed (suc a) = subst EndsDecided (sym (append-nil (trimmed (Below p) (kept n))))
+      (ends_trimmed p (kept n))
 
   pub ends_step : (m : Move) (e : Effect) (k : Node) → StepOf place n m e k → Ends k
   ends_step m _ _ (handled i g hp np r) =
@@ -90,7 +93,8 @@ module _ (p : ProcessId) (me : ProcessId) (tree : List TreeEntry) (n : Node) (fi
       let rs = left_of n k in
       let new = coordinator_reopens rs in
       subst EndsDecided (sym (breaks_keeps (loses (logs_of n) k) new f.appended f.forced))
-      (ends_more rs (take f.appended new) (λ c. none_taken (is_end c) (λ j. refl) (λ d ts. refl) f.appended rs)
+      (ends_more rs (take f.appended new) (λ c. none_taken (is_end c) (λ j. refl)
+      (λ d ts. refl) f.appended rs)
       (λ c. none_taken (is_prepare c) (λ j. refl) (λ d ts. refl) f.appended rs) (ends_left k))
   ends_step m _ _ (trims_log hp up) =
       subst EndsDecided (sym (append-nil (trimmed (Below p) (kept n)))) (ends_trimmed p (kept n))
@@ -107,7 +111,8 @@ all_end tree _ _ opens q p below = none_ends
 all_end tree _ _ (makes es w m e w' run stands step) q p below =
     let at = makes_at tree w m e w' step in
     let x = m.step.process in
-    let P : ProcessId → Node → Type 0 = λ y k. (p : ProcessId) → role_of tree y ≡ Below p → EndsDecided (kept k) in
+    let P : ProcessId → Node → Type 0 = λ y k. (p : ProcessId) → role_of tree y ≡ Below p
+    → EndsDecided (kept k) in
     subst (λ (z : World). P q (z.at q)) (sym at.world)
     (put P x q at.node w.at
     (λ r i. ends_step r x tree (w.at x)

@@ -23,7 +23,12 @@ pub record OwnFront : Type 0 where
   pub abort : Bool
 
 abbrev pub front_of : Case → List Record → OwnFront
-front_of d rs = record { prepare = has (is_prepare d) rs; commit = has (is_commit d) rs; abort = has (is_abort d) rs }
+front_of d rs = record {
+  prepare = has (is_prepare d) rs;
+  commit = has (is_commit d) rs;
+  abort = has
+      (is_abort d) rs;
+}
 
 -- so a child's front has it
 abbrev pub as_front : OwnFront → ChildFront
@@ -73,7 +78,8 @@ own_fails o n h e f d old =
     let b = n.unforced ++ [] in
     simp (ever-cut (is_prepare d) n.forced f b n.durable old, has-cut, has-nil_behind)
 
-pub own_fails_behind : (o : Bool) (n : Node) (h : Heard) (e : Effect) (a f : ℕ) (d : Case) (r : Record) (b : Bool)
+pub own_fails_behind : (o : Bool) (n : Node) (h : Heard) (e : Effect) (a f : ℕ) (d : Case) (r : Record)
+    (b : Bool)
     → e.written ≡ record { entry = r; is_forced = b } ∷ [] → IsOld (is_prepare d) n
     → own_half_at false (fails_in n h e (suc a) f) d
     ≡ failed_own (front_of d (fails_in n h e (suc a) f).forced)
@@ -119,7 +125,8 @@ module _ (root outcome above : Bool) (p : ParentHalf) (q : OwnHalf) (v : Wire) (
   reading-fails quiet sub =
       rw (
         and-false v.issued,
-        refused-fails q.obeyed_abort q.prepare_kept q.prepare_ever front.prepare q.is_open v.issued v.read quiet sub,
+        refused-fails q.obeyed_abort q.prepare_kept q.prepare_ever front.prepare q.is_open v.issued
+            v.read quiet sub,
       )
 
   pub reading-fails_to_promise : q.is_open ≡ true → q.abort_kept ≡ false
@@ -134,7 +141,8 @@ module _ (root outcome above : Bool) (p : ParentHalf) (q : OwnHalf) (v : Wire) (
   reading-fails_aborting b g h j k l sub =
       rw (
         and-false v.issued,
-        refused-aborts b q.obeyed_abort q.prepare_kept q.prepare_ever front.prepare q.is_open v.issued v.read g h j k l
+        refused-aborts b q.obeyed_abort q.prepare_kept q.prepare_ever front.prepare q.is_open v.issued
+            v.read g h j k l
             sub,
         j,
       ) (simp (and-false))
@@ -146,4 +154,4 @@ module _ (root outcome above : Bool) (p : ParentHalf) (q : OwnHalf) (v : Wire) (
 
     pub reading-fails_to_roll_back : R (failed_own front (aborts true q))
         ≡ crash.hardens_failed_child (as_front front) (crash.fails_to_roll_back (R q))
-    reading-fails_to_roll_back = rw (closed, kept) (simp (and-false, dead-promised))
+    reading-fails_to_roll_back = rw (closed, kept) (simp (and-false))

@@ -110,12 +110,15 @@ module _ (turn : Turn) where
     pub aside_fails : IsAside (own_case turn) r → Fails e
     aside_fails x zero f fit = quiet_zero e f fit
     aside_fails x (suc a) f fit =
-        faults.fails_quietly d n v pr root outcome above half (opens place n d) inv (fails_in n h e (suc a) f) fit
+        faults.fails_quietly d n v pr root outcome above half (opens place n d) inv
+        (fails_in n h e (suc a) f) fit
         (holds e (suc a) f) up
-        (behind a f ∙ ap (λ (z : OwnHalf). failed_own (front_of d (fails_in n h e (suc a) f).forced) z) (aside d r b q x))
+        (behind a f ∙ ap (λ (z : OwnHalf). failed_own (front_of d (fails_in n h e (suc a) f).forced) z)
+        (aside d r b q x))
 
     -- as this move, behind the record
-    own_fails_as : (x : OwnHalf) → wrote r (has (is_prepare (own_case turn)) n.life) (own_case turn) (half_in turn) ≡ x
+    own_fails_as : (x : OwnHalf) → wrote r (has (is_prepare (own_case turn)) n.life) (own_case turn)
+        (half_in turn) ≡ x
         → (s : Reading)
         → ((front : OwnFront) → (front.prepare ≡ true → x.prepare_kept ≡ true)
         → R turn (failed_own front x) v ≡ crash.hardens_failed_child (as_front front) s)
@@ -137,11 +140,13 @@ module _ (turn : Turn) where
       → e.written ≡ record { entry = PrepareRecord d ts; is_forced = is_forced } ∷ []
       → (coordinator_view place n d).standing ≡ Collecting → Fails e
   promise_fails e ts is_forced one stands =
-      let none = collecting_undecided (kept n) d (memory_of place n d).phase (sym (viewed place n d) ∙ stands) in
+      let none = collecting_undecided (kept n) d (memory_of place n d).phase
+      (sym (viewed place n d) ∙ stands) in
       let may = may_vote turn (asked_for turn stands) (at_collecting turn stands) in
       own_fails_as e (PrepareRecord d ts) is_forced one (halves.promises q) (promises_record d ts b q)
       (crash.fails_to_promise (r0 turn))
-      (λ front x. reading-fails_to_promise root outcome above half q v front (at_collecting turn stands) none.no_abort)
+      (λ front x. reading-fails_to_promise root outcome above half q v front
+      (at_collecting turn stands) none.no_abort)
       (fail.fails_to_promise pr (r0 turn) inv (record { asked = may.asked; is_open = may.is_open }))
       (record {
         failed = refl;
@@ -161,7 +166,8 @@ module _ (turn : Turn) where
       let s = silent_at turn stands in
       own_fails_as e (AbortRecord d ts) is_forced one (halves.aborts b q) (aborts_record d ts b q)
       (crash.child_fails (r0 turn))
-      (λ front x. reading-fails_aborting root outcome above half q v front b (at_collecting turn stands) s.issued
+      (λ front x. reading-fails_aborting root outcome above half q v front b
+      (at_collecting turn stands) s.issued
       s.none_kept s.none_ever s.no_read x)
       (fail.child_fails pr (r0 turn) inv (record { up = up }))
       (record {
@@ -177,13 +183,16 @@ module _ (turn : Turn) where
   -- behind it
   pub commit_fails : (e : Effect) (ts : List Ticket) (is_forced : Bool)
       → e.written ≡ record { entry = CommitRecord d ts; is_forced = is_forced } ∷ []
-      → (j : ℕ) → h.input ≡ MessageInput j (Commit d) → (coordinator_view place n d).standing ≡ Prepared → Fails e
+      → (j : ℕ) → h.input ≡ MessageInput j (Commit d) → (coordinator_view place n d).standing ≡ Prepared
+      → Fails e
   commit_fails e ts is_forced one j i stands =
       let doubt = doubt_at turn stands in
       own_fails_as e (CommitRecord d ts) is_forced one (halves.commits q) (commits_record d ts b q)
       (crash.fails_to_commit (r0 turn))
-      (λ front x. reading-fails_to_commit root outcome above half q v front (prepared_closed turn stands) doubt.prepared)
-      (fail.fails_to_commit pr (r0 turn) inv (record { up = up; told = commit_sent turn j i; in_doubt = doubt }))
+      (λ front x. reading-fails_to_commit root outcome above half q v front
+      (prepared_closed turn stands) doubt.prepared)
+      (fail.fails_to_commit pr (r0 turn) inv (record
+      { up = up; told = commit_sent turn j i; in_doubt = doubt }))
       (record {
         failed = refl;
         prepared = refl;
@@ -196,7 +205,8 @@ module _ (turn : Turn) where
 
   pub roll_back_fails : (e : Effect) (ts : List Ticket) (is_forced : Bool)
       → e.written ≡ record { entry = AbortRecord d ts; is_forced = is_forced } ∷ []
-      → (j : ℕ) → h.input ≡ MessageInput j (Abort d) → (coordinator_view place n d).standing ≡ Prepared → Fails e
+      → (j : ℕ) → h.input ≡ MessageInput j (Abort d) → (coordinator_view place n d).standing ≡ Prepared
+      → Fails e
   roll_back_fails e ts is_forced one j i stands =
       let doubt = doubt_at turn stands in
       own_fails_as e (AbortRecord d ts) is_forced one (halves.aborts true q)
@@ -235,7 +245,8 @@ module _ (turn : Turn) where
   own_row r (counts_vote u w i e f) = silent_fails (row_effect d r) refl
   own_row r (reads_only u w ys PresumeAbort i e f) = silent_fails (row_effect d r) refl
   own_row r (reads_only u w ys PresumeCommit i e f) =
-      aside_fails (row_effect d r) (EndRecord d) false refl (record { no_prepare = refl; no_commit = refl; no_abort = refl })
+      aside_fails (row_effect d r) (EndRecord d) false refl
+      (record { no_prepare = refl; no_commit = refl; no_abort = refl })
   own_row r (commits u w ys x i e f g) = absurd (cc)
   own_row r (promises u w ys x i e f) = promise_fails (row_effect d r) ys true refl i.vote.stands
   own_row r (hears_no u us PresumeAbort i e f) = abort_fails (row_effect d r) [] false refl i.stands
@@ -244,8 +255,10 @@ module _ (turn : Turn) where
   own_row r (aborts why us PresumeCommit i f g l) = abort_fails (row_effect d r) us true refl f
   own_row r (passes_commit PresumeAbort i e f) =
       commit_fails (row_effect d r) (view d).promised true refl i.hears.0 i.hears.1 e
-  own_row r (passes_commit PresumeCommit i e f) = commit_fails (row_effect d r) [] false refl i.hears.0 i.hears.1 e
-  own_row r (passes_abort PresumeAbort i e f) = roll_back_fails (row_effect d r) [] false refl i.hears.0 i.hears.1 e
+  own_row r (passes_commit PresumeCommit i e f) = commit_fails (row_effect d r)
+      [] false refl i.hears.0 i.hears.1 e
+  own_row r (passes_abort PresumeAbort i e f) = roll_back_fails (row_effect d r)
+      [] false refl i.hears.0 i.hears.1 e
   own_row r (passes_abort PresumeCommit i e f) =
       roll_back_fails (row_effect d r) (view d).promised true refl i.hears.0 i.hears.1 e
   own_row r (repeats_yes j i e) = silent_fails (row_effect d r) refl
@@ -254,7 +267,8 @@ module _ (turn : Turn) where
   own_row r (acknowledges o i e) = silent_fails (row_effect d r) refl
   own_row r (waits_for_acks u o i e f g) = silent_fails (row_effect d r) refl
   own_row r (ends u o i e f g) =
-      aside_fails (row_effect d r) (EndRecord d) false refl (record { no_prepare = refl; no_commit = refl; no_abort = refl })
+      aside_fails (row_effect d r) (EndRecord d) false refl
+      (record { no_prepare = refl; no_commit = refl; no_abort = refl })
   own_row r (answers u o i e) = silent_fails (row_effect d r) refl
 
   module _ (x : Case) (other : same_case x (own_case turn) ≡ false) where
@@ -278,35 +292,44 @@ module _ (turn : Turn) where
     other_row r (counts_vote u w i e f) = silent_fails (row_effect x r) refl
     other_row r (reads_only u w ys PresumeAbort i e f) = silent_fails (row_effect x r) refl
     other_row r (reads_only u w ys PresumeCommit i e f) =
-        aside_fails (row_effect x r) (EndRecord x) false refl (record { no_prepare = refl; no_commit = refl; no_abort = refl })
+        aside_fails (row_effect x r) (EndRecord x) false refl
+        (record { no_prepare = refl; no_commit = refl; no_abort = refl })
     other_row r (commits u w ys y i e f g) = absurd (cc)
     other_row r (promises u w ys y i e f) =
-        aside_fails (row_effect x r) (PrepareRecord x ys) true refl (record { no_prepare = other; no_commit = refl; no_abort = refl })
+        aside_fails (row_effect x r) (PrepareRecord x ys) true refl
+        (record { no_prepare = other; no_commit = refl; no_abort = refl })
     other_row r (hears_no u us PresumeAbort i e f) =
         aside_fails (row_effect x r) (AbortRecord x []) false refl (aside_abort [])
-    other_row r (hears_no u us PresumeCommit i e f) = aside_fails (row_effect x r) (AbortRecord x us) true refl (aside_abort us)
-    other_row r (aborts why us PresumeAbort i f g l) = aside_fails (row_effect x r) (AbortRecord x []) false refl (aside_abort [])
-    other_row r (aborts why us PresumeCommit i f g l) = aside_fails (row_effect x r) (AbortRecord x us) true refl (aside_abort us)
+    other_row r (hears_no u us PresumeCommit i e f) = aside_fails (row_effect x r)
+        (AbortRecord x us) true refl (aside_abort us)
+    other_row r (aborts why us PresumeAbort i f g l) = aside_fails (row_effect x r)
+        (AbortRecord x []) false refl (aside_abort [])
+    other_row r (aborts why us PresumeCommit i f g l) = aside_fails (row_effect x r)
+        (AbortRecord x us) true refl (aside_abort us)
     other_row r (passes_commit PresumeAbort i e f) =
-        aside_fails (row_effect x r) (CommitRecord x (view x).promised) true refl (aside_commit (view x).promised)
+        aside_fails (row_effect x r) (CommitRecord x (view x).promised) true refl
+        (aside_commit (view x).promised)
     other_row r (passes_commit PresumeCommit i e f) =
         aside_fails (row_effect x r) (CommitRecord x []) false refl (aside_commit [])
     other_row r (passes_abort PresumeAbort i e f) =
         aside_fails (row_effect x r) (AbortRecord x []) false refl (aside_abort [])
     other_row r (passes_abort PresumeCommit i e f) =
-        aside_fails (row_effect x r) (AbortRecord x (view x).promised) true refl (aside_abort (view x).promised)
+        aside_fails (row_effect x r) (AbortRecord x (view x).promised) true refl
+        (aside_abort (view x).promised)
     other_row r (repeats_yes j i e) = silent_fails (row_effect x r) refl
     other_row r (asks i e) = silent_fails (row_effect x r) refl
     other_row r (refuses j i e) = silent_fails (row_effect x r) refl
     other_row r (acknowledges o i e) = silent_fails (row_effect x r) refl
     other_row r (waits_for_acks u o i e f g) = silent_fails (row_effect x r) refl
     other_row r (ends u o i e f g) =
-        aside_fails (row_effect x r) (EndRecord x) false refl (record { no_prepare = refl; no_commit = refl; no_abort = refl })
+        aside_fails (row_effect x r) (EndRecord x) false refl
+        (record { no_prepare = refl; no_commit = refl; no_abort = refl })
     other_row r (answers u o i e) = silent_fails (row_effect x r) refl
 
   case_row : (x : Case) (r : Row) → CaseTurn place (Some p) n h x r → Fails (row_effect x r)
   case_row x r i = elim (same_case_tells x d) [
-    | inl s ↦ subst (λ (z : Case). CaseTurn place (Some p) n h z r → Fails (row_effect z r)) (sym s.1) (own_row r) i
+    | inl s ↦ subst (λ (z : Case). CaseTurn place (Some p) n h z r → Fails (row_effect z r)) (sym s.1)
+        (own_row r) i
     | inr f ↦ other_row x f.0 r i
   ]
 

@@ -1,4 +1,5 @@
--- A fault of a cascaded coordinator's device keeps the invariant of its pairs: a move of failing, then one of the front.
+-- A fault of a cascaded coordinator's device keeps the invariant of its pairs: a move of failing, then one of
+-- the front.
 use Rattle.std.proofs.Common.{◌≡◌, ◌∙◌, ◌⊎◌, inl, inr, ◌&&◌, Bool, true, false, [], refl, sym, ap, subst, arith}
 use Rattle.tree_model.specs.declared.names.Case.{Case}
 use Rattle.tree_model.specs.declared.names.Presumption.{Presumption}
@@ -20,7 +21,8 @@ use Rattle.tree_children.proofs.Moves.{Fits}
 use Rattle.tree_cascades.proofs.Fails.{OwnFront, as_front, failed_own, front_of, reading-fails}
 use Rattle.tree_cascades.proofs.Halves.{OwnHalf, as_child, own_half_at}
 
-both_more : (a b c d : Bool) → (a ≡ true → c ≡ true) → (b ≡ true → d ≡ true) → (a && b) ≡ true → (c && d) ≡ true
+both_more : (a b c d : Bool) → (a ≡ true → c ≡ true) → (b ≡ true → d ≡ true) → (a && b) ≡ true → (c && d)
+    ≡ true
 both_more a b c d f g e = grind arith
 
 second : (a b : Bool) → (a && b) ≡ true → b ≡ true
@@ -64,7 +66,8 @@ module _ (d : Case) (n : Node) (v : Wire) (pr : Presumption) (root outcome above
       stays : (x : Record → Bool) → has x n'.forced ≡ true → has x (kept n') ≡ true
       stays x e = in_first x n'.forced n'.unforced e
 
-      module _ (s : Reading) (e : R q' ≡ crash.hardens_failed_child (as_front front) s) (f : Fits pr r0 s) where
+      module _ (s : Reading) (e : R q' ≡ crash.hardens_failed_child (as_front front) s)
+          (f : Fits pr r0 s) where
         promised_before : has (is_commit d) n'.forced ≡ true → has (is_prepare d) n'.forced ≡ true
         promised_before x =
             commit_behind_promise d n'.forced n'.unforced fit x
@@ -86,7 +89,8 @@ module _ (d : Case) (n : Node) (v : Wire) (pr : Presumption) (root outcome above
           holds_prepared = λ x. holds (is_prepare d) (sym u.prepared ∙ x);
           holds_learnt_commit = λ x. holds (is_commit d) (sym u.learnt_commit ∙ x);
           holds_learnt_abort = λ x. both_more (has (is_abort d) n.forced) (has (is_prepare d) n.forced)
-              (has (is_abort d) n'.forced) (has (is_prepare d) n'.forced) (holds (is_abort d)) (holds (is_prepare d))
+              (has (is_abort d) n'.forced) (has (is_prepare d) n'.forced) (holds (is_abort d))
+              (holds (is_prepare d))
               (sym u.learnt_abort ∙ x);
           holds_heuristic = λ x. absurd (let y = sym u.no_heuristic ∙ x in cc);
           holds_forgot = λ x. absurd (let y = sym u.no_forgot ∙ x in cc);
@@ -94,7 +98,8 @@ module _ (d : Case) (n : Node) (v : Wire) (pr : Presumption) (root outcome above
           had_learnt_commit = λ x. sym (ap (λ (z : Reading). z.learnt_commit_kept) e) ∙ stays (is_commit d) x;
           had_learnt_abort = λ x. sym (ap (λ (z : Reading). z.learnt_abort_kept) e)
               ∙ both_more (has (is_abort d) n'.forced) (has (is_prepare d) n'.forced)
-              (has (is_abort d) (kept n')) (has (is_prepare d) (kept n')) (stays (is_abort d)) (stays (is_prepare d)) x;
+              (has (is_abort d) (kept n')) (has (is_prepare d) (kept n')) (stays (is_abort d))
+              (stays (is_prepare d)) x;
           had_heuristic = λ x. absurd (cc);
           had_forgot = λ x. absurd (cc);
           heuristic_behind_prepared = λ x. absurd (cc);

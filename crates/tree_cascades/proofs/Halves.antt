@@ -16,7 +16,8 @@ use Rattle.tree_readings.specs.ReadingOf.{ChildHalf, child_half_at, phase_by}
 use Rattle.tree_readings.proofs.Lists.{has-push, has-push_behind, has-nil, has-nil_behind, has-cons, has-history}
 use Rattle.tree_nodes.proofs.ChildOf.{NoBranch, half_as_child}
 
--- What the process says of its own case: whether it is open, whether it aborted behind its promise or committed, and
+-- What the process says of its own case: whether it is open, whether it aborted behind its promise or
+-- committed, and
 -- which of its records stand in the log, in its forced front, or ever stood there.
 pub record OwnHalf : Type 0 where
   pub failed : Bool
@@ -106,14 +107,17 @@ pub own_silent : (o o' : Bool) (n : Node) (h : Heard) (e : Effect) (d : Case) �
     → own_half_at o' (after n h e) d ≡ stands_so o' (own_half_at o n d)
 own_silent o o' n h e d none = rw none (simp (has-nil_behind))
 
-pub own_forced : (o o' : Bool) (n : Node) (h : Heard) (e : Effect) (d : Case) (r : Record) → e.written ≡ forced r
+pub own_forced : (o o' : Bool) (n : Node) (h : Heard) (e : Effect) (d : Case) (r : Record) → e.written
+    ≡ forced r
     → own_half_at o' (after n h e) d
     ≡ stands_so o' (hardens (wrote r (has (is_prepare d) n.life) d (own_half_at o n d)))
 own_forced o o' n h e d r one = rw one (simp (has-push, has-nil, has-cons, has-history, middle))
 
-pub own_plain : (o o' : Bool) (n : Node) (h : Heard) (e : Effect) (d : Case) (r : Record) → e.written ≡ plain r
-    → own_half_at o' (after n h e) d ≡ stands_so o' (wrote r (has (is_prepare d) n.life) d (own_half_at o n d))
-own_plain o o' n h e d r one = rw one (simp (has-push_behind, has-cons, middle))
+pub own_plain : (o o' : Bool) (n : Node) (h : Heard) (e : Effect) (d : Case) (r : Record) → e.written
+    ≡ plain r
+    → own_half_at o' (after n h e) d ≡ stands_so o'
+    (wrote r (has (is_prepare d) n.life) d (own_half_at o n d))
+own_plain o o' n h e d r one = rw one (simp (has-push_behind, has-cons))
 
 -- a record that promises, commits and aborts nothing of the case
 pub record IsAside (d : Case) (r : Record) : Type 0 where

@@ -1,4 +1,5 @@
--- JOIN at a cascaded coordinator keeps the invariant of its pairs: it gives an active ticket again, or the next one.
+-- JOIN at a cascaded coordinator keeps the invariant of its pairs: it gives an active ticket again, or the
+-- next one.
 use Rattle.std.proofs.Common.{◌≡◌, ◌∙◌, ◌+◌, ◌||◌, ◌&&◌, inl, inr, ℕ, Bool, true, false, Option, Some, None, List, [], ◌∷◌, ◌++◌, refl, sym, ap, subst, arith}
 use Rattle.tree_model.specs.declared.names.Case.{Case}
 use Rattle.tree_model.specs.declared.names.Presumption.{Presumption}
@@ -46,7 +47,8 @@ some_ticket : (t u : Ticket) → Some t ≡ Some u → t ≡ u
 some_ticket t u e = cc
 
 -- a number that is next was not given out
-pub not_again : {A : Type 0} (boot given number : ℕ) → number ≡ given + 1 → IsGivenOut boot number boot given → A
+pub not_again : {A : Type 0} (boot given number : ℕ) → number ≡ given + 1
+    → IsGivenOut boot number boot given → A
 not_again boot given number e (inl f) = absurd (omega (arith, f))
 not_again boot given number e (inr f) = absurd (omega (arith, e, f.1))
 
@@ -57,18 +59,21 @@ pub joins_phase : (me : ProcessId) (boot : ℕ) (c d : Case) (m : Memory) (o : O
 joins_phase me boot c d m (Some t) e = refl
 joins_phase me boot c d m None e = rw e refl
 
-again_phase : (me : ProcessId) (boot : ℕ) (c d : Case) (m : Memory) (o : Option Ticket) (u : Ticket) → o ≡ Some u
+again_phase : (me : ProcessId) (boot : ℕ) (c d : Case) (m : Memory) (o : Option Ticket) (u : Ticket) → o
+    ≡ Some u
     → (joins me boot c d m o).phase ≡ m.phase
 again_phase me boot c d m (Some t) u e = refl
 again_phase me boot c d m None u e = absurd (cc)
 
 opens_next : (me : ProcessId) (boot : ℕ) (c d : Case) (m : Memory) (o : Option Ticket) → o ≡ None
-    → same_case c (child_case d.txn (next_ticket me boot m)) ≡ true → live (joins me boot c d m o).phase ≡ true
+    → same_case c (child_case d.txn (next_ticket me boot m)) ≡ true → live (joins me boot c d m o).phase
+    ≡ true
 opens_next me boot c d m (Some t) e f = absurd (cc)
 opens_next me boot c d m None e f = rw f refl
 
 -- what JOIN does
-pub joined_by : (me p : ProcessId) (tree : List TreeEntry) (n : Node) (h : Heard) → n.failed ≡ false → (j : ℕ) (x : Case)
+pub joined_by : (me p : ProcessId) (tree : List TreeEntry) (n : Node) (h : Heard) → n.failed ≡ false
+    → (j : ℕ) (x : Case)
     → h.input ≡ MessageInput j (Join x) → (e : Effect)
     → (let place : Place = record { me = me; role = Below p; tree = tree } in
     reacts place n h ≡ Does e
@@ -80,7 +85,8 @@ joined_by me p tree n h up j x i e r = does_is e _ (sym r ∙ rw (i, up) refl)
     does_is e g f = cc
 
 -- it writes nothing
-pub joined_silent : (me p : ProcessId) (tree : List TreeEntry) (n : Node) (h : Heard) → n.failed ≡ false → (j : ℕ) (x : Case)
+pub joined_silent : (me p : ProcessId) (tree : List TreeEntry) (n : Node) (h : Heard) → n.failed ≡ false
+    → (j : ℕ) (x : Case)
     → h.input ≡ MessageInput j (Join x) → (e : Effect)
     → reacts (record { me = me; role = Below p; tree = tree }) n h ≡ Does e → e.written ≡ []
 joined_silent me p tree n h up j x i e r =
@@ -125,7 +131,8 @@ module _ (c : Case) (t : Ticket) (p : ProcessId) (tree : List TreeEntry) (n : No
   m = memory_of place n d
 
   abbrev Fine : Effect → Type 0
-  Fine e = Fits pr r0 (R (own_half_at (opens place (after n h e) d) (after n h e) d) (wire c t (net ++ e.messages)))
+  Fine e = Fits pr r0 (R (own_half_at (opens place (after n h e) d) (after n h e) d)
+      (wire c t (net ++ e.messages)))
 
   abbrev says : Case → Ticket → Effect
   says x u = sends_only (post t.child p (Joined x u) ∷ [])
@@ -139,9 +146,11 @@ module _ (c : Case) (t : Ticket) (p : ProcessId) (tree : List TreeEntry) (n : No
 
     -- what this letter says
     said : (u : Ticket) → wire c t (net ++ post t.child p (Joined x u) ∷ [])
-        ≡ hears (said_by c t (post t.child p (Joined x u) ∷ [])) v → wire c t (net ++ post t.child p (Joined x u) ∷ [])
+        ≡ hears (said_by c t (post t.child p (Joined x u) ∷ [])) v
+        → wire c t (net ++ post t.child p (Joined x u) ∷ [])
         ≡ record v { issued = (same_case x c && same_ticket u t) || v.issued }
-    said u e = e ∙ ap (λ s. hears s v) (letters.said_first c t (post t.child p (Joined x u)) [] (letters.none_silent c t))
+    said u e = e ∙ ap (λ s. hears s v) (letters.said_first c t (post t.child p (Joined x u)) []
+        (letters.none_silent c t))
 
     record Known (e : Effect) : Type 0 where
       alike_then : IsOpenAlike place (after n h e) d
@@ -185,7 +194,8 @@ module _ (c : Case) (t : Ticket) (p : ProcessId) (tree : List TreeEntry) (n : No
     again u a k =
         stays u k
         (again_phase t.child boot d x m (active_ticket m.active x) u
-        (ap (λ z. active_ticket z x) (sym active_same) ∙ a)) (by_names (same_case x c) (same_ticket u t) refl refl)
+        (ap (λ z. active_ticket z x) (sym active_same) ∙ a))
+        (by_names (same_case x c) (same_ticket u t) refl refl)
       where
         by_names : (a b : Bool) → same_case x c ≡ a → same_ticket u t ≡ b
             → ((same_case x c && same_ticket u t) || v.issued) ≡ v.issued
@@ -227,7 +237,8 @@ module _ (c : Case) (t : Ticket) (p : ProcessId) (tree : List TreeEntry) (n : No
 
         -- the ticket is this one
         this : same_case d (child_case x.txn next) ≡ true → t ≡ new
-        this e = some_ticket t next (ap (λ (y : Case). y.ticket) (same_of d (child_case x.txn next) e)) ∙ sym next_same
+        this e = some_ticket t next (ap (λ (y : Case). y.ticket) (same_of d (child_case x.txn next) e))
+            ∙ sym next_same
 
         opened : same_case d (child_case x.txn next) ≡ true → live Then.phase ≡ true
         opened e = opens_next t.child boot d x m (active_ticket m.active x)
@@ -242,7 +253,8 @@ module _ (c : Case) (t : Ticket) (p : ProcessId) (tree : List TreeEntry) (n : No
         not_issued e = by_test v.issued refl
           where
             by_test : (b : Bool) → v.issued ≡ b → v.issued ≡ false
-            by_test true f = never (subst (λ (u : Ticket). sent (is_joined_message c u) net ≡ true) (this e) f)
+            by_test true f = never (subst (λ (u : Ticket). sent (is_joined_message c u) net ≡ true)
+                (this e) f)
             by_test false f = f
 
         -- given to the pair's case, or to another case of its transaction
@@ -279,4 +291,5 @@ module _ (c : Case) (t : Ticket) (p : ProcessId) (tree : List TreeEntry) (n : No
           heard = wire_behind tree t.child p below apart c t pair refl net e.messages s g;
         } in
         subst (λ (z : Effect). Fine z) (sym same)
-        (by_active (active_ticket (memory_of place n x).active x) refl (subst (λ (z : Effect). Known z) same k))
+        (by_active (active_ticket (memory_of place n x).active x) refl
+        (subst (λ (z : Effect). Known z) same k))

@@ -81,10 +81,12 @@ module _ (tree : List TreeEntry) (me p : ProcessId) (below : role_of tree me ≡
   d = child_case c.txn t
 
   parent : process_of c ≡ p
-  parent = sym (subst (λ (r : Role). IsChildRole r (process_of c)) (ap (role_of tree) child ∙ below) pair.child)
+  parent = sym (subst (λ (r : Role). IsChildRole r (process_of c))
+      (ap (role_of tree) child ∙ below) pair.child)
 
   -- it sends nothing down to itself, and nothing of its parent's case
-  no_down : (l : Envelope) (e : Case) → l.from ≡ me → GoesDown tree l e → same_case e (child_case c.txn t) ≡ false
+  no_down : (l : Envelope) (e : Case) → l.from ≡ me → GoesDown tree l e → same_case e (child_case c.txn t)
+      ≡ false
   no_down l e from goes = unless_true (same_case e d) (λ same.
       let to : l.to ≡ me = sym goes.0 ∙ (ap process_of (same_of e d same) ∙ child) in
       apart (subst (λ (r : Role). IsChildRole r l.from) (ap (role_of tree) to ∙ below) goes.1 ∙ from))
@@ -124,7 +126,8 @@ module _ (tree : List TreeEntry) (me p : ProcessId) (below : role_of tree me ≡
   one l ls (Join e) is u f g = more l ls u (rw is refl) (rw is refl) (rw is refl) (rw is refl) (rw is refl)
   one l ls (Joined e x) is u f g =
       more l ls u (rw is (not_given l e x f g.0)) (rw is refl) (rw is refl) (rw is refl) (rw is refl)
-  one l ls (Work e i op) is u f g = more l ls u (rw is refl) (rw is refl) (rw is refl) (rw is refl) (rw is refl)
+  one l ls (Work e i op) is u f g = more l ls u (rw is refl) (rw is refl) (rw is refl) (rw is refl)
+      (rw is refl)
   one l ls (Prepare e k) is u f g =
       more l ls u (rw is refl) (rw is refl) (rw is (no_down l e f g)) (rw is refl) (rw is refl)
   one l ls (Commit e) is u f g =

@@ -1,4 +1,5 @@
--- Whether a cascaded coordinator's case is open: by the phase that is remembered, which an input but JOIN never opens.
+-- Whether a cascaded coordinator's case is open: by the phase that is remembered, which an input but JOIN
+-- never opens.
 use Rattle.std.proofs.Common.{◌≡◌, ◌∙◌, ◌⊎◌, inl, inr, ℕ, Bool, true, false, Option, Some, None, List, [], ◌∷◌, ◌++◌, refl, sym, ap, if◌then◌else◌}
 use Rattle.tree_model.specs.declared.names.Case.{Case}
 use Rattle.tree_model.specs.declared.names.Outcome.{Outcome}
@@ -52,7 +53,8 @@ pub active_is_open : (rs : List Record) (c : Case) (ph : Phase) → standing_at 
 active_is_open rs c ph e =
     active_phase c.txn.presumption ph (sym (unrecorded_stands rs c ph (active_unrecorded rs c ph e)) ∙ e)
 
-closed_standing : (s : Standing) → (s ≡ Active → ⊥) → (s ≡ Collecting → ⊥) → is_live (phase_by false s) ≡ false
+closed_standing : (s : Standing) → (s ≡ Active → ⊥) → (s ≡ Collecting → ⊥) → is_live (phase_by false s)
+    ≡ false
 closed_standing Unknown f g = refl
 closed_standing Active f g = absurd (f refl)
 closed_standing Collecting f g = absurd (g refl)
@@ -252,7 +254,8 @@ module _ (me : ProcessId) (boot : ℕ) (c : Case) (m : Memory) where
   last_vote VoteNo e = refl
 
   vote_heard : (j : ℕ) (w : Vote) (x : Txn) (t : Ticket) → same_txn x c.txn ≡ true
-      → cascaded_remembers me boot c m (MessageInput j (vote_message w (child_case x t))) ≡ takes_vote m t w m.phase
+      → cascaded_remembers me boot c m (MessageInput j (vote_message w (child_case x t)))
+      ≡ takes_vote m t w m.phase
   vote_heard j VoteYes x t e = rw e refl
   vote_heard j VoteNo x t e = rw e refl
   vote_heard j VoteRead x t e = rw e refl
@@ -271,5 +274,7 @@ module _ (me : ProcessId) (boot : ℕ) (c : Case) (m : Memory) where
 
   pub no_closes : (j : ℕ) (x : Txn) (t : Ticket) → same_txn x c.txn ≡ true → m.phase ≡ Asked
       → is_counted m.accepted m.votes t ≡ true
-      → live (cascaded_remembers me boot c m (MessageInput j (vote_message VoteNo (child_case x t)))).phase ≡ false
-  no_closes j x t e f g = ap (λ (y : Memory). live y.phase) (vote_heard j VoteNo x t e ∙ vote_counts VoteNo t f g)
+      → live (cascaded_remembers me boot c m (MessageInput j (vote_message VoteNo (child_case x t)))).phase
+      ≡ false
+  no_closes j x t e f g = ap (λ (y : Memory). live y.phase)
+      (vote_heard j VoteNo x t e ∙ vote_counts VoteNo t f g)

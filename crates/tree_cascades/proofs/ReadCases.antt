@@ -1,4 +1,5 @@
--- A cascaded coordinator that said READ of a case never promised it, and what a crash took of a promise was not forced.
+-- A cascaded coordinator that said READ of a case never promised it, and what a crash took of a promise was
+-- not forced.
 use Rattle.std.proofs.Common.{◌≡◌, ◌∙◌, ◌||◌, ◌&&◌, ◌⊎◌, inl, inr, Bool, true, false, List, [], ◌∷◌, ◌++◌, refl, sym, ap, arith}
 use Rattle.std.specs.Prelude.{reverse}
 use Rattle.std.specs.List.{list_any}
@@ -32,7 +33,8 @@ pub record Reads (place : Place) (net : List Envelope) (n : Node) : Type 0 where
       → has (is_prepare c) n.life ≡ false
   pub promise_is_once : (c : Case) → has (is_prepare c) (kept n) ≡ true → has (is_prepare c) n.durable ≡ true
       → has (is_prepare c) n.forced ≡ true
-  pub collected_promise : (c : Case) → has (is_prepare c) n.life ≡ true → has (is_collecting c) (kept n) ≡ true
+  pub collected_promise : (c : Case) → has (is_prepare c) n.life ≡ true → has (is_collecting c) (kept n)
+      ≡ true
       → (has (is_prepare c) (kept n) ≡ true) ⊎ (has (is_prepare c) n.durable ≡ false)
 
 -- Letters.
@@ -49,11 +51,12 @@ pub read_sent : (me : ProcessId) (c : Case) (ls : List Envelope) → said_read m
     → sent (is_read_message c) ls ≡ true
 unfolding sent
 read_sent me c [] e = e
-read_sent me c (l ∷ ls) e = elim (either (same_process l.from me && is_read_message c l.message) (said_read me c ls) e) [
-  | inl now ↦ left (is_read_message c l.message) (sent (is_read_message c) ls)
-      (second_true (same_process l.from me) (is_read_message c l.message) now)
-  | inr rest ↦ right (is_read_message c l.message) (sent (is_read_message c) ls) (read_sent me c ls rest)
-]
+read_sent me c (l ∷ ls) e = elim (either (same_process l.from me && is_read_message c l.message)
+    (said_read me c ls) e) [
+      | inl now ↦ left (is_read_message c l.message) (sent (is_read_message c) ls)
+          (second_true (same_process l.from me) (is_read_message c l.message) now)
+      | inr rest ↦ right (is_read_message c l.message) (sent (is_read_message c) ls) (read_sent me c ls rest)
+    ]
 
 pub unread : (me : ProcessId) (c : Case) (ls : List Envelope) → sent (is_read_message c) ls ≡ false
     → said_read me c ls ≡ false
@@ -78,12 +81,14 @@ others_unread me q c (l ∷ ls) f a =
       | inr o ↦ o.0
     ]
 
-pub first_or : {A : Type 0} (me : ProcessId) (c : Case) (xs ys : List Envelope) → said_read me c (xs ++ ys) ≡ true
+pub first_or : {A : Type 0} (me : ProcessId) (c : Case) (xs ys : List Envelope) → said_read me c (xs ++ ys)
+    ≡ true
     → (said_read me c xs ≡ true → A) → (said_read me c ys ≡ true → A) → A
-first_or me c xs ys e f g = elim (either (said_read me c xs) (said_read me c ys) (sym (read_append me c xs ys) ∙ e)) [
-  | inl x ↦ f x
-  | inr y ↦ g y
-]
+first_or me c xs ys e f g = elim (either (said_read me c xs) (said_read me c ys)
+    (sym (read_append me c xs ys) ∙ e)) [
+      | inl x ↦ f x
+      | inr y ↦ g y
+    ]
 
 pub none_read : (me : ProcessId) (c : Case) (xs ys : List Envelope) → said_read me c xs ≡ false
     → said_read me c ys ≡ false → said_read me c (xs ++ ys) ≡ false
@@ -109,11 +114,13 @@ module _ (n k : Node) (c : Case) (xs : List Record) (was : Bool) (a : Appended n
   now_if : (q : Record → Bool) → has q xs ≡ true → has q (kept k) ≡ true
   now_if q e = ap (has q) a.kept_then ∙ in_second q (kept n) xs e
 
-  pub life_of : has (is_prepare c) k.life ≡ true → (has (is_prepare c) xs ≡ true) ⊎ (has (is_prepare c) n.life ≡ true)
-  life_of e = elim (in_either (is_prepare c) (reverse xs) n.life (ap (has (is_prepare c)) (sym a.life_then) ∙ e)) [
-    | inl now ↦ inl (sym (has-reverse (is_prepare c) xs) ∙ now)
-    | inr before ↦ inr before
-  ]
+  pub life_of : has (is_prepare c) k.life ≡ true → (has (is_prepare c) xs ≡ true)
+      ⊎ (has (is_prepare c) n.life ≡ true)
+  life_of e = elim (in_either (is_prepare c) (reverse xs) n.life
+      (ap (has (is_prepare c)) (sym a.life_then) ∙ e)) [
+        | inl now ↦ inl (sym (has-reverse (is_prepare c) xs) ∙ now)
+        | inr before ↦ inr before
+      ]
 
   pub collected_then : has (is_prepare c) k.life ≡ true → has (is_collecting c) (kept k) ≡ true
       → (has (is_prepare c) (kept k) ≡ true) ⊎ (has (is_prepare c) k.durable ≡ false)
@@ -138,4 +145,5 @@ module _ (n k : Node) (c : Case) (xs : List Record) (was : Bool) (a : Appended n
         | inl y ↦ inl (kept_if (is_prepare c) y)
         | inr y ↦ none_durable (has (is_prepare c) k.durable) refl y
       ]
-      by_kept g (inr x) = not_both (is_prepare c) (has (is_prepare c) n.life) g (open_none (a.collecting_was_open x))
+      by_kept g (inr x) = not_both (is_prepare c) (has (is_prepare c) n.life) g
+          (open_none (a.collecting_was_open x))

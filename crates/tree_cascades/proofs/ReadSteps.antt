@@ -48,17 +48,20 @@ one_is q r b e = has-cons q r [] ∙ (ap (λ x. x || has q []) e ∙ (ap (λ x. 
 -- What the process keeps besides.
 pub record Keeps (me p : ProcessId) (tree : List TreeEntry) (net : List Envelope) (n : Node) : Type 0 where
   pub nested : Nested (logs_of n)
-  pub alike : n.failed ≡ false → (c : Case) → IsOpenAlike (record { me = me; role = Below p; tree = tree }) n c
+  pub alike : n.failed ≡ false → (c : Case) → IsOpenAlike
+      (record { me = me; role = Below p; tree = tree }) n c
   pub issues : Issues (record { me = me; role = Below p; tree = tree }) net n
 
 module _ (me p : ProcessId) (tree : List TreeEntry) (net : List Envelope) (n : Node)
-    (keeps : Keeps me p tree net n) (old : Reads (record { me = me; role = Below p; tree = tree }) net n) where
+    (keeps : Keeps me p tree net n) (old : Reads (record
+    { me = me; role = Below p; tree = tree }) net n) where
   abbrev place : Place
   place = record { me = me; role = Below p; tree = tree }
 
   -- An input.
 
-  module _ (h : Heard) (e : Effect) (r : reacts (record { me = me; role = Below p; tree = tree }) n h ≡ Does e)
+  module _ (h : Heard) (e : Effect) (r : reacts (record { me = me; role = Below p; tree = tree }) n h
+      ≡ Does e)
       (c : Case) where
     up : n.failed ≡ false
     up = (turn_of place n h e r).up
@@ -99,7 +102,8 @@ module _ (me p : ProcessId) (tree : List TreeEntry) (net : List Envelope) (n : N
 
     opened : live Then.phase ≡ true → (live m.phase ≡ true) ⊎ (sent (gives_case c) net ≡ true → ⊥)
     opened f = elim (input_is h.input) [
-      | inl join ↦ by_case join (same_case c (child_case join.parents.txn (next_ticket me (boot_of (kept n)) m))) refl
+      | inl join ↦ by_case join (same_case c (child_case join.parents.txn
+          (next_ticket me (boot_of (kept n)) m))) refl
       | inr row ↦ elim (falls me (boot_of (kept n)) c m h.input row) [
         | inl same ↦ inl (sym same ∙ f)
         | inr closed ↦ absurd (let k = sym f ∙ closed in cc)
@@ -152,10 +156,12 @@ module _ (me p : ProcessId) (tree : List TreeEntry) (net : List Envelope) (n : N
 
     -- behind a front of what was written
     pub promised_nothing : (xs : List Record) → (has (is_prepare c) xs ≡ true → has (is_prepare c) new ≡ true)
-        → (k : Node) → k.life ≡ reverse xs ++ n.life → said_read me c net ≡ true → has (is_prepare c) k.life ≡ false
+        → (k : Node) → k.life ≡ reverse xs ++ n.life → said_read me c net ≡ true → has (is_prepare c) k.life
+        ≡ false
     promised_nothing xs sub k life f =
         ap (has (is_prepare c)) life
-        ∙ in_none (is_prepare c) (reverse xs) n.life (has-reverse (is_prepare c) xs ∙ none (has (is_prepare c) xs) refl)
+        ∙ in_none (is_prepare c) (reverse xs) n.life
+        (has-reverse (is_prepare c) xs ∙ none (has (is_prepare c) xs) refl)
         (old.read_promised_nothing c f)
       where
         none : (b : Bool) → has (is_prepare c) xs ≡ b → has (is_prepare c) xs ≡ false
@@ -169,7 +175,8 @@ module _ (me p : ProcessId) (tree : List TreeEntry) (net : List Envelope) (n : N
         ap (has (is_prepare c)) life
         ∙ in_none (is_prepare c) (reverse new) n.life (has-reverse (is_prepare c) new ∙ o.1.1) (open_none o.0)
 
-    pub given_still : said_read me c (net ++ e.messages) ≡ true → sent (gives_case c) (net ++ e.messages) ≡ true
+    pub given_still : said_read me c (net ++ e.messages) ≡ true → sent (gives_case c) (net ++ e.messages)
+        ≡ true
     given_still f =
         sent-append (gives_case c) net e.messages ∙ right _ _
         (first_or me c net e.messages f (old.read_is_given c) (λ g. open_given c (read_open g).0))
@@ -184,11 +191,13 @@ module _ (me p : ProcessId) (tree : List TreeEntry) (net : List Envelope) (n : N
     phase_after : live (memory_of place (after n h e) c).phase ≡ live Then.phase
     phase_after =
         ap (λ (x : Memory). live x.phase)
-        (memory_of-heard place n h e c (boot_written n h e (turn_none place.role place n h e (turn_of place n h e r).turn)))
+        (memory_of-heard place n h e c (boot_written n h e
+        (turn_none place.role place n h e (turn_of place n h e r).turn)))
 
     recorded_given : has (is_prepare c) n.life ≡ true → sent (gives_case c) net ≡ true
     recorded_given f =
-        (keeps.issues.recorded_is_given c (has_other (is_prepare c) (is_record_of c) n.life (promise_of c) f)).1
+        (keeps.issues.recorded_is_given c (has_other (is_prepare c) (is_record_of c) n.life
+        (promise_of c) f)).1
 
     unforced_none : is_any_forced e.written ≡ false → has (is_prepare c) new ≡ false
     unforced_none f = by_words words
@@ -207,14 +216,17 @@ module _ (me p : ProcessId) (tree : List TreeEntry) (net : List Envelope) (n : N
         (λ (l : Logs). has (is_prepare c) l.durable ≡ true
         → (has (is_prepare c) (standing l) ≡ true) ⊎ (has (is_prepare c) n.durable ≡ true))
         (λ b f. elim (in_either (is_prepare c) new (kept n ++ n.durable) f) [
-          | inl now ↦ inl (in_first (is_prepare c) (kept n ++ new) [] (in_second (is_prepare c) (kept n) new now))
+          | inl now ↦ inl (in_first (is_prepare c) (kept n ++ new) []
+              (in_second (is_prepare c) (kept n) new now))
           | inr rest ↦ elim (in_either (is_prepare c) (kept n) n.durable rest) [
-            | inl before ↦ inl (in_first (is_prepare c) (kept n ++ new) [] (in_first (is_prepare c) (kept n) new before))
+            | inl before ↦ inl (in_first (is_prepare c) (kept n ++ new) []
+                (in_first (is_prepare c) (kept n) new before))
             | inr ever ↦ inr ever
           ]
         ]) (λ b f. inr f)
 
-    once_after : has (is_prepare c) (kept (after n h e)) ≡ true → has (is_prepare c) (after n h e).durable ≡ true
+    once_after : has (is_prepare c) (kept (after n h e)) ≡ true → has (is_prepare c) (after n h e).durable
+        ≡ true
         → has (is_prepare c) (after n h e).forced ≡ true
     once_after =
         either_logs n new (is_any_forced e.written)
@@ -227,7 +239,8 @@ module _ (me p : ProcessId) (tree : List TreeEntry) (net : List Envelope) (n : N
           | inr now ↦ not_both (is_prepare c) (has (is_prepare c) new) now (unforced_none b)
         ])
 
-    pub appended_after : Appended n (after n h e) c (entries_written e.written) (live (memory_of place n c).phase)
+    pub appended_after : Appended n (after n h e) c (entries_written e.written)
+        (live (memory_of place n c).phase)
     appended_after = record {
       kept_then = kept-after n h e;
       life_then = life_after;
@@ -236,7 +249,8 @@ module _ (me p : ProcessId) (tree : List TreeEntry) (net : List Envelope) (n : N
       collecting_was_open = collecting_open;
     }
 
-    open_promised : live (memory_of place (after n h e) c).phase ≡ true → has (is_prepare c) (after n h e).life ≡ false
+    open_promised : live (memory_of place (after n h e) c).phase ≡ true
+        → has (is_prepare c) (after n h e).life ≡ false
     open_promised f =
         let o = sym phase_after ∙ f in
         by_life (has (is_prepare c) (after n h e).life) refl o
@@ -253,7 +267,8 @@ module _ (me p : ProcessId) (tree : List TreeEntry) (net : List Envelope) (n : N
         by_life : (b : Bool) → has (is_prepare c) (after n h e).life ≡ b → live Then.phase ≡ true
             → has (is_prepare c) (after n h e).life ≡ false
         by_life false g o = g
-        by_life true g o = elim (life_of n (after n h e) c new (live m.phase) appended_after (old.collected_promise c)
+        by_life true g o = elim (life_of n (after n h e) c new (live m.phase) appended_after
+            (old.collected_promise c)
             open_none g) [
               | inl now ↦ absurd (let k = sym o ∙ closes now in cc)
               | inr before ↦ elim (opened o) [
@@ -262,13 +277,15 @@ module _ (me p : ProcessId) (tree : List TreeEntry) (net : List Envelope) (n : N
               ]
             ]
 
-    open_read : live (memory_of place (after n h e) c).phase ≡ true → said_read me c (net ++ e.messages) ≡ false
+    open_read : live (memory_of place (after n h e) c).phase ≡ true → said_read me c (net ++ e.messages)
+        ≡ false
     open_read f =
         let o = sym phase_after ∙ f in
         none_read me c net e.messages (by_net (said_read me c net) refl (opened o))
         (by_letters (said_read me c e.messages) refl o)
       where
-        by_net : (b : Bool) → said_read me c net ≡ b → (live m.phase ≡ true) ⊎ (sent (gives_case c) net ≡ true → ⊥)
+        by_net : (b : Bool) → said_read me c net ≡ b → (live m.phase ≡ true)
+            ⊎ (sent (gives_case c) net ≡ true → ⊥)
             → said_read me c net ≡ false
         by_net false g o = g
         by_net true g (inl was) = old.open_read_nothing up c was
@@ -280,7 +297,8 @@ module _ (me p : ProcessId) (tree : List TreeEntry) (net : List Envelope) (n : N
         by_letters true g o = absurd (let k = sym o ∙ (read_open g).1.0 in cc)
 
   -- what an input that is handled leaves
-  pub handled_reads : (h : Heard) (e : Effect) → reacts place n h ≡ Does e → Reads place (net ++ e.messages) (after n h e)
+  pub handled_reads : (h : Heard) (e : Effect) → reacts place n h ≡ Does e
+      → Reads place (net ++ e.messages) (after n h e)
   handled_reads h e r = record {
     read_promised_nothing = λ c f. first_or me c net e.messages f
         (promised_nothing h e r c (entries_written e.written) (λ x. x) (after n h e) (life_after h e r c))
@@ -290,5 +308,6 @@ module _ (me p : ProcessId) (tree : List TreeEntry) (net : List Envelope) (n : N
     open_promised_nothing = λ u c f. open_promised h e r c f;
     promise_is_once = λ c f g. once_after h e r c f g;
     collected_promise = λ c f g. collected_then n (after n h e) c (entries_written e.written)
-        (live (memory_of place n c).phase) (appended_after h e r c) (old.collected_promise c) (open_none h e r c) f g;
+        (live (memory_of place n c).phase) (appended_after h e r c) (old.collected_promise c)
+        (open_none h e r c) f g;
   }

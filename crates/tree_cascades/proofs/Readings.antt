@@ -67,7 +67,8 @@ module _ (root outcome above : Bool) (p : ParentHalf) (q : OwnHalf) (v : Wire) w
 
     pub reading-dropped_acknowledged : R (stands_so false q) (record v { ack = true })
         ≡ move.drops_and_acknowledges (R q v)
-    reading-dropped_acknowledged = rw (none_kept, none_ever, issued, no_read, dead-now) (simp (and-false, or-true))
+    reading-dropped_acknowledged = rw (none_kept, none_ever, issued, no_read, dead-now)
+        (simp (and-false, or-true))
 
     -- it aborts, with a record
     pub reading-aborted : (b : Bool) → R (stands_so false (aborts b q)) v ≡ move.drops (R q v)
@@ -76,7 +77,8 @@ module _ (root outcome above : Bool) (p : ParentHalf) (q : OwnHalf) (v : Wire) w
     pub reading-aborted_acknowledged : (b : Bool)
         → R (stands_so false (hardens (aborts b q))) (record v { ack = true })
         ≡ move.drops_and_acknowledges (move.hardens_child (R q v))
-    reading-aborted_acknowledged b = rw (none_kept, none_ever, issued, no_read, dead-now) (simp (and-false, or-true))
+    reading-aborted_acknowledged b = rw (none_kept, none_ever, issued, no_read, dead-now)
+        (simp (and-false, or-true))
 
     pub reading-no : (b : Bool) → R (stands_so false (aborts b q)) (record v { no = true })
         ≡ move.votes_no (R q v)
@@ -102,11 +104,11 @@ module _ (root outcome above : Bool) (p : ParentHalf) (q : OwnHalf) (v : Wire) w
     reading-commit_forced = rw (closed, kept) (simp (or_twice, and-false, dead-promised))
 
     pub reading-commit_plain : R (stands_so false (commits q)) v ≡ move.commits (R q v)
-    reading-commit_plain = rw (closed, kept) (simp (or_twice, and-false, dead-promised))
+    reading-commit_plain = rw (closed, kept) (simp (and-false, dead-promised))
 
     pub reading-abort_plain : R (stands_so false (aborts true q)) v ≡ move.rolls_back (R q v)
-    reading-abort_plain = rw (closed, kept) (simp (or_twice, and-false, dead-promised))
+    reading-abort_plain = rw (closed, kept) (simp (and-false))
 
     pub reading-abort_forced : R (stands_so false (hardens (aborts true q))) (record v { ack = true })
         ≡ move.rolls_back_forced (move.hardens_child (R q v))
-    reading-abort_forced = rw (closed, kept) (simp (or_twice, and-false, dead-promised))
+    reading-abort_forced = rw (closed, kept) (simp (and-false))

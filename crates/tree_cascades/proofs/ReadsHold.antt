@@ -37,8 +37,10 @@ and-both a b e f = grind arith
 resumed_unread : (c : Case) (me p : ProcessId) (d : Case) (v : CoordinatorView) (s : Standing)
     → sent (is_read_message c) (resumes_by (record { me = me; parent = Some p; own = d }) v s) ≡ false
 unfolding sent
-resumed_unread c me p d v Committing = each_unread c (record { me = me; parent = Some p; own = d }) CommittedOutcome v.owed
-resumed_unread c me p d v Aborting = each_unread c (record { me = me; parent = Some p; own = d }) AbortedOutcome v.owed
+resumed_unread c me p d v Committing = each_unread c
+    (record { me = me; parent = Some p; own = d }) CommittedOutcome v.owed
+resumed_unread c me p d v Aborting = each_unread c
+    (record { me = me; parent = Some p; own = d }) AbortedOutcome v.owed
 resumed_unread c me p d v Prepared = refl
 resumed_unread c me p d v Unknown = refl
 resumed_unread c me p d v Active = refl
@@ -53,12 +55,14 @@ resumes_unread : (c : Case) (me p : ProcessId) (rs : List Record) (cs : List Cas
 unfolding sent
 resumes_unread c me p rs [] = refl
 resumes_unread c me p rs (d ∷ cs) =
-    sent-append (is_read_message c) (coordinator_resumes me (Some p) rs d) (flat_map (coordinator_resumes me (Some p) rs) cs)
+    sent-append (is_read_message c) (coordinator_resumes me (Some p) rs d)
+    (flat_map (coordinator_resumes me (Some p) rs) cs)
     ∙ or-none _ _ (resumes_unread c me p rs cs)
     (resumed_unread c me p d (recorded_view rs d) (recorded_view rs d).standing)
 
 module _ (me p : ProcessId) (tree : List TreeEntry) (net : List Envelope) (n : Node)
-    (keeps : Keeps me p tree net n) (old : Reads (record { me = me; role = Below p; tree = tree }) net n) where
+    (keeps : Keeps me p tree net n) (old : Reads (record
+    { me = me; role = Below p; tree = tree }) net n) where
   abbrev place : Place
   place = record { me = me; role = Below p; tree = tree }
 
@@ -111,15 +115,18 @@ module _ (me p : ProcessId) (tree : List TreeEntry) (net : List Envelope) (n : N
           → (has (is_prepare c) (kept (fails_in n h e a f)) ≡ true) ⊎ (has (is_prepare c) n.durable ≡ true)
       from c (inl x) =
           let b = n.unforced ++ take a (entries_written e.written) in
-          inl (in_first (is_prepare c) (n.forced ++ take f b) (drop f b) (in_second (is_prepare c) n.forced (take f b) x))
+          inl (in_first (is_prepare c) (n.forced ++ take f b) (drop f b)
+          (in_second (is_prepare c) n.forced (take f b) x))
       from c (inr x) = inr x
 
       once : (c : Case)
           → (has (is_prepare c) (take f (n.unforced ++ take a (entries_written e.written))) ≡ true)
           ⊎ (has (is_prepare c) n.durable ≡ true)
-          → (has (is_prepare c) (kept n) ≡ true) ⊎ (has (is_prepare c) (take a (entries_written e.written)) ≡ true)
+          → (has (is_prepare c) (kept n) ≡ true) ⊎
+          (has (is_prepare c) (take a (entries_written e.written)) ≡ true)
           → has (is_prepare c) (fails_in n h e a f).forced ≡ true
-      once c (inl x) y = in_second (is_prepare c) n.forced (take f (n.unforced ++ take a (entries_written e.written))) x
+      once c (inl x) y = in_second (is_prepare c) n.forced
+          (take f (n.unforced ++ take a (entries_written e.written))) x
       once c (inr x) (inl y) =
           in_first (is_prepare c) n.forced (take f (n.unforced ++ take a (entries_written e.written)))
           (old.promise_is_once c y x)
@@ -152,7 +159,8 @@ module _ (me p : ProcessId) (tree : List TreeEntry) (net : List Envelope) (n : N
     none_first : (c : Case) (a : ℕ) → has (is_prepare c) (take a (coordinator_reopens (left_of n j))) ≡ false
     none_first c a = none_taken (is_prepare c) (λ i. refl) (λ d ts. refl) a left
 
-    none_collects : (c : Case) (a : ℕ) → has (is_collecting c) (take a (coordinator_reopens (left_of n j))) ≡ false
+    none_collects : (c : Case) (a : ℕ) → has (is_collecting c) (take a (coordinator_reopens (left_of n j)))
+        ≡ false
     none_collects c a = none_taken (is_collecting c) (λ i. refl) (λ d ts. refl) a left
 
     only_left : (q : Record → Bool) (ys : List Record) → has q ys ≡ false → has q (left_of n j ++ ys) ≡ true
@@ -162,7 +170,8 @@ module _ (me p : ProcessId) (tree : List TreeEntry) (net : List Envelope) (n : N
     -- a promise that is lost was never forced
     pub lost : (c : Case) → has (is_prepare c) n.life ≡ true → has (is_collecting c) (left_of n j) ≡ true
         → has (is_prepare c) (left_of n j) ≡ false → has (is_prepare c) n.durable ≡ false
-    lost c e f g = by_ever (has (is_prepare c) n.durable) refl (old.collected_promise c e (had (is_collecting c) f))
+    lost c e f g = by_ever (has (is_prepare c) n.durable) refl
+        (old.collected_promise c e (had (is_collecting c) f))
       where
         by_ever : (b : Bool) → has (is_prepare c) n.durable ≡ b
             → (has (is_prepare c) (kept n) ≡ true) ⊎ (has (is_prepare c) n.durable ≡ false)
@@ -180,12 +189,16 @@ module _ (me p : ProcessId) (tree : List TreeEntry) (net : List Envelope) (n : N
       | inr x ↦ x
     ]
 
-    life_none : (c : Case) (ys : List Record) → has (is_prepare c) ys ≡ false → has (is_prepare c) n.life ≡ false
+    life_none : (c : Case) (ys : List Record) → has (is_prepare c) ys ≡ false → has (is_prepare c) n.life
+        ≡ false
         → has (is_prepare c) (reverse ys ++ n.life) ≡ false
-    life_none c ys none e = in_none (is_prepare c) (reverse ys) n.life (has-reverse (is_prepare c) ys ∙ none) e
+    life_none c ys none e = in_none (is_prepare c) (reverse ys) n.life
+        (has-reverse (is_prepare c) ys ∙ none) e
 
-    never_open : {A : Type 0} (k : Node) → k.heard ≡ [] → (c : Case) → live (memory_of place k c).phase ≡ true → A
-    never_open k e c f = absurd (let x = sym (ap (λ (m : Memory). live m.phase) (memory_empty place k c e)) ∙ f in cc)
+    never_open : {A : Type 0} (k : Node) → k.heard ≡ [] → (c : Case) → live (memory_of place k c).phase
+        ≡ true → A
+    never_open k e c f = absurd (let x = sym (ap (λ (m : Memory). live m.phase) (memory_empty place k c e))
+        ∙ f in cc)
 
     -- by what is kept then
     by_promise : (c : Case) (k : Node) (b : Bool) → has (is_prepare c) (kept k) ≡ b
@@ -201,7 +214,8 @@ module _ (me p : ProcessId) (tree : List TreeEntry) (net : List Envelope) (n : N
         by_test true f = not_both q (has q (xs ++ ys)) (in_first q xs ys f) e
         by_test false f = f
 
-    pub reopened_reads : Reads place (net ++ resumes (Below p) me (left_of n j ++ coordinator_reopens (left_of n j)))
+    pub reopened_reads : Reads place (net ++ resumes (Below p) me
+        (left_of n j ++ coordinator_reopens (left_of n j)))
         (restarted place n j)
     reopened_reads =
         let k = restarted place n j in
@@ -225,7 +239,8 @@ module _ (me p : ProcessId) (tree : List TreeEntry) (net : List Envelope) (n : N
               (ap (has (is_collecting c)) (sym (append-nil rs)) ∙ f)) h)));
         }
       where
-        quiet : {A : Type 0} (c : Case) (rs : List Record) → said_read me c (resumes (Below p) me rs) ≡ true → A
+        quiet : {A : Type 0} (c : Case) (rs : List Record) → said_read me c (resumes (Below p) me rs) ≡ true
+            → A
         quiet c rs x = absurd (let y = sym (unread me c (resumes (Below p) me rs)
             (resumes_unread c me p rs (cases_in rs))) ∙ x in cc)
 
@@ -241,7 +256,8 @@ module _ (me p : ProcessId) (tree : List TreeEntry) (net : List Envelope) (n : N
           read_is_given = old.read_is_given;
           open_promised_nothing = λ up. absurd (cc);
           promise_is_once = λ c e g. once c (in_either (is_prepare c) (take f b) n.durable g)
-              (had (is_prepare c) (only_left (is_prepare c) xs (none_first c a) (ap (has (is_prepare c)) (sym kept_then) ∙ e)));
+              (had (is_prepare c) (only_left (is_prepare c) xs (none_first c a)
+              (ap (has (is_prepare c)) (sym kept_then) ∙ e)));
           collected_promise = λ c e g. by_promise c k (has (is_prepare c) (kept k)) refl
               (λ h. let l = first_none (is_prepare c) left xs (ap (has (is_prepare c)) (sym kept_then) ∙ h) in
               in_none (is_prepare c) (take f b) n.durable (not_taken c h)
@@ -251,24 +267,31 @@ module _ (me p : ProcessId) (tree : List TreeEntry) (net : List Envelope) (n : N
         }
       where
         once : (c : Case)
-            → (has (is_prepare c) (take f (take j n.unforced ++ take a (coordinator_reopens (left_of n j)))) ≡ true)
+            → (has (is_prepare c) (take f (take j n.unforced ++ take a (coordinator_reopens (left_of n j))))
+            ≡ true)
             ⊎ (has (is_prepare c) n.durable ≡ true)
-            → has (is_prepare c) (kept n) ≡ true → has (is_prepare c) (restart_fails place n j a f).forced ≡ true
+            → has (is_prepare c) (kept n) ≡ true → has (is_prepare c) (restart_fails place n j a f).forced
+            ≡ true
         once c (inl x) y = in_second (is_prepare c) n.forced
             (take f (take j n.unforced ++ take a (coordinator_reopens (left_of n j)))) x
         once c (inr x) y = in_first (is_prepare c) n.forced
-            (take f (take j n.unforced ++ take a (coordinator_reopens (left_of n j)))) (old.promise_is_once c y x)
+            (take f (take j n.unforced ++ take a (coordinator_reopens (left_of n j))))
+            (old.promise_is_once c y x)
 
         not_taken : (c : Case) → has (is_prepare c) (kept (restart_fails place n j a f)) ≡ false
-            → has (is_prepare c) (take f (take j n.unforced ++ take a (coordinator_reopens (left_of n j)))) ≡ false
+            → has (is_prepare c) (take f (take j n.unforced ++ take a (coordinator_reopens (left_of n j))))
+            ≡ false
         not_taken c h = by_test (has (is_prepare c)
             (take f (take j n.unforced ++ take a (coordinator_reopens (left_of n j))))) refl
           where
             by_test : (x : Bool)
-                → has (is_prepare c) (take f (take j n.unforced ++ take a (coordinator_reopens (left_of n j)))) ≡ x
-                → has (is_prepare c) (take f (take j n.unforced ++ take a (coordinator_reopens (left_of n j)))) ≡ false
+                → has (is_prepare c) (take f (take j n.unforced ++ take a
+                (coordinator_reopens (left_of n j)))) ≡ x
+                → has (is_prepare c) (take f (take j n.unforced ++ take a
+                (coordinator_reopens (left_of n j)))) ≡ false
             by_test false e = e
             by_test true e = not_both (is_prepare c) (has (is_prepare c) (kept (restart_fails place n j a f)))
-                (in_first (is_prepare c) (restart_fails place n j a f).forced (restart_fails place n j a f).unforced
+                (in_first (is_prepare c) (restart_fails place n j a f).forced
+                (restart_fails place n j a f).unforced
                 (in_second (is_prepare c) n.forced
                 (take f (take j n.unforced ++ take a (coordinator_reopens (left_of n j)))) e)) h

@@ -1,4 +1,5 @@
--- What a restart makes of a cascaded coordinator's half, and the readings: the log is cut to a front, and a case that was
+-- What a restart makes of a cascaded coordinator's half, and the readings: the log is cut to a front, and a
+-- case that was
 -- collecting votes is aborted.
 use Rattle.std.proofs.Common.{◌≡◌, ◌∙◌, inl, inr, ◌||◌, ◌&&◌, ◌+◌, ℕ, Bool, true, false, List, [], ◌∷◌, ◌++◌, take, drop, append_assoc, refl, sym, ap, subst, arith}
 use Rattle.std.specs.Prelude.{not, reverse}
@@ -54,7 +55,8 @@ follows_more q r (x ∷ xs) l e =
     step : (a b c d f g : Bool) → c ≡ d → f ≡ ((b && d) || g) → ((a && c) || f) ≡ (((a || b) && d) || g)
     step a b c d f g e h = grind arith
 
--- The process restarted, or its device failed in the restart: this front was left, that one is forced; perhaps an Abort
+-- The process restarted, or its device failed in the restart: this front was left, that one is forced;
+-- perhaps an Abort
 -- was appended, in a case that had promised or not.
 abbrev pub restarted_own : Bool → OwnFront → OwnFront → Bool → Bool → OwnHalf → OwnHalf
 restarted_own failed left forced aborted promised q = record q {
@@ -96,7 +98,8 @@ module _ (me p : ProcessId) (tree : List TreeEntry) (n : Node) (j : ℕ) (d : Ca
   with_nil q xs = has-append q xs [] ∙ (ap (λ b. has q xs || b) (has-nil q) ∙ or-false (has q xs))
 
   -- what stands then
-  all_kept : (q : Record → Bool) (ys : List Record) → has q ys ≡ false → has q (left_of n j ++ ys) ≡ has q (left_of n j)
+  all_kept : (q : Record → Bool) (ys : List Record) → has q ys ≡ false → has q (left_of n j ++ ys)
+      ≡ has q (left_of n j)
   all_kept q ys none = has-append q left ys ∙ (ap (λ b. has q left || b) none ∙ or-false (has q left))
 
   before_life : (q : Record → Bool) (ys : List Record) → has q ys ≡ false
@@ -115,7 +118,8 @@ module _ (me p : ProcessId) (tree : List TreeEntry) (n : Node) (j : ℕ) (d : Ca
   ever_then : has (is_prepare d) (coordinator_reopens (left_of n j) ++ (left_of n j ++ n.durable))
       ≡ (has (is_prepare d) (left_of n j) || has (is_prepare d) n.durable)
   ever_then = has-append (is_prepare d) new (left ++ n.durable)
-      ∙ (ap (λ b. b || has (is_prepare d) (left ++ n.durable)) no_promise ∙ has-append (is_prepare d) left n.durable)
+      ∙ (ap (λ b. b || has (is_prepare d) (left ++ n.durable)) no_promise
+      ∙ has-append (is_prepare d) left n.durable)
 
   pub half_restarts : (o : Bool) → own_half_at false (restarted place n j) d
       ≡ restarted_own false (front_of d (left_of n j))
@@ -158,7 +162,8 @@ module _ (me p : ProcessId) (tree : List TreeEntry) (n : Node) (j : ℕ) (d : Ca
     pub half_breaks : (o : Bool) → (has (is_prepare d) n.forced ≡ true → has (is_prepare d) n.durable ≡ true)
         → own_half_at false (restart_fails place n j a f) d
         ≡ restarted_own true (front_of d (left_of n j)) (front_of d (restart_fails place n j a f).forced)
-        (has (is_abort d) (take a (coordinator_reopens (left_of n j)))) (has (is_prepare d) n.life) (own_half_at o n d)
+        (has (is_abort d) (take a (coordinator_reopens (left_of n j)))) (has (is_prepare d) n.life)
+        (own_half_at o n d)
     half_breaks o old =
         rw (
           kept_broken,
@@ -168,8 +173,10 @@ module _ (me p : ProcessId) (tree : List TreeEntry) (n : Node) (j : ℕ) (d : Ca
           all_kept (is_commit d) (take a new) (no_commit_in a),
           has-append (is_abort d) left (take a new),
           has-append (is_prepare d) (take f behind) n.durable
-              ∙ (known (has (is_prepare d) n.forced) (has (is_prepare d) (take f behind)) (has (is_prepare d) n.durable) old
-              ∙ ap (λ b. b || has (is_prepare d) n.durable) (sym (has-append (is_prepare d) n.forced (take f behind)))),
+              ∙ (known (has (is_prepare d) n.forced) (has (is_prepare d) (take f behind))
+              (has (is_prepare d) n.durable) old
+              ∙ ap (λ b. b || has (is_prepare d) n.durable)
+              (sym (has-append (is_prepare d) n.forced (take f behind)))),
         ) refl
 
 -- The Abort of a restart.
@@ -179,7 +186,8 @@ module _ (d : Case) (rs : List Record) where
       → has (is_abort d) (restart_abort x v s) ≡ true → (recorded_view rs d).standing ≡ Collecting
   unfolding has
   one_aborted x v Collecting e f =
-      subst (λ (z : Case). (recorded_view rs z).standing ≡ Collecting) (same_of x d (last (same_case x d) f)) e
+      subst (λ (z : Case). (recorded_view rs z).standing ≡ Collecting)
+      (same_of x d (last (same_case x d) f)) e
     where
       last : (b : Bool) → (b || false) ≡ true → b ≡ true
       last b e = grind arith
@@ -193,16 +201,19 @@ module _ (d : Case) (rs : List Record) where
   aborted_by : (cs : List Case) → has (is_abort d) (flat_map (aborts_collecting rs) cs) ≡ true
       → (recorded_view rs d).standing ≡ Collecting
   aborted_by [] e = not_both (is_abort d) (has (is_abort d) []) e (has-nil (is_abort d))
-  aborted_by (x ∷ cs) e = elim (in_either (is_abort d) (aborts_collecting rs x) (flat_map (aborts_collecting rs) cs) e) [
-    | inl now ↦ one_aborted x (recorded_view rs x) (recorded_view rs x).standing refl now
-    | inr rest ↦ aborted_by cs rest
-  ]
+  aborted_by (x ∷ cs) e = elim (in_either (is_abort d) (aborts_collecting rs x)
+      (flat_map (aborts_collecting rs) cs) e) [
+        | inl now ↦ one_aborted x (recorded_view rs x) (recorded_view rs x).standing refl now
+        | inr rest ↦ aborted_by cs rest
+      ]
 
   -- it aborts a case that was collecting votes
-  pub aborted_collects : has (is_abort d) (coordinator_reopens rs) ≡ true → (recorded_view rs d).standing ≡ Collecting
+  pub aborted_collects : has (is_abort d) (coordinator_reopens rs) ≡ true → (recorded_view rs d).standing
+      ≡ Collecting
   aborted_collects e =
       aborted_by (cases_in rs)
-      (sym (has-cons (is_abort d) (Opened (boot_of rs + 1)) (flat_map (aborts_collecting rs) (cases_in rs))) ∙ e)
+      (sym (has-cons (is_abort d) (Opened (boot_of rs + 1)) (flat_map (aborts_collecting rs) (cases_in rs)))
+      ∙ e)
 
 -- Readings.
 
@@ -234,15 +245,18 @@ module _ (root outcome above : Bool) (h : ParentHalf) (q : OwnHalf) (v : Wire) (
   R x w = reading_from root false outcome above h (as_child x) w
 
   pub reading-restarts : R (restarted_own false left
-      (record { prepare = left.prepare; commit = left.commit; abort = left.abort || aborted }) aborted promised q)
+      (record { prepare = left.prepare; commit = left.commit; abort = left.abort || aborted }) aborted
+      promised q)
       (record v {
-        inquire = (left.prepare && not left.commit && not (left.abort && left.prepare) && not false) || v.inquire;
+        inquire = (left.prepare && not left.commit && not
+            (left.abort && left.prepare) && not false) || v.inquire;
       })
       ≡ crash.child_restarts (as_front left) (R q v)
   reading-restarts =
       rw (
         and-false v.issued,
-        refused-loses aborted promised q.obeyed_abort q.prepare_kept q.prepare_ever left.prepare left.prepare q.is_open
+        refused-loses aborted promised q.obeyed_abort q.prepare_kept q.prepare_ever left.prepare
+            left.prepare q.is_open
             v.issued v.read quiet sub once asked (λ e. e) lost,
         aborted_apart left.abort aborted left.prepare apart,
       )
@@ -253,7 +267,8 @@ module _ (root outcome above : Bool) (h : ParentHalf) (q : OwnHalf) (v : Wire) (
   reading-loses within =
       rw (
         and-false v.issued,
-        refused-loses aborted promised q.obeyed_abort q.prepare_kept q.prepare_ever left.prepare forced.prepare q.is_open
+        refused-loses aborted promised q.obeyed_abort q.prepare_kept q.prepare_ever left.prepare
+            forced.prepare q.is_open
             v.issued v.read quiet sub once asked within lost,
         aborted_apart left.abort aborted left.prepare apart,
       )

@@ -52,7 +52,8 @@ use Rattle.tree_cascades.proofs.RestartHalves.{IsLost, aborted_collects, half_br
 use Rattle.tree_cascades.proofs.Resumes.{in_doubt, resumed_said}
 use Rattle.tree_cascades.proofs.Turns.{opens}
 
-both_more : (a b c d : Bool) → (a ≡ true → c ≡ true) → (b ≡ true → d ≡ true) → (a && b) ≡ true → (c && d) ≡ true
+both_more : (a b c d : Bool) → (a ≡ true → c ≡ true) → (b ≡ true → d ≡ true) → (a && b) ≡ true → (c && d)
+    ≡ true
 both_more a b c d f g e = grind arith
 
 second : (a b : Bool) → (a && b) ≡ true → b ≡ true
@@ -65,7 +66,8 @@ said_by_owner : (tree : List TreeEntry) (d : Case) (net : List Envelope) → All
 unfolding sent
 said_by_owner tree d [] g e = e
 said_by_owner tree d (l ∷ ls) g e = elim (either (is_read_message d l.message) _ e) [
-  | inl now ↦ on_left (same_process l.from (process_of d) && is_read_message d l.message) (said_read (process_of d) d ls)
+  | inl now ↦ on_left (same_process l.from (process_of d) && is_read_message d l.message)
+      (said_read (process_of d) d ls)
       (by_message l.message refl now)
   | inr rest ↦ on_right (same_process l.from (process_of d) && is_read_message d l.message)
       (said_read (process_of d) d ls) (said_by_owner tree d ls g.1 rest)
@@ -88,7 +90,8 @@ said_by_owner tree d (l ∷ ls) g e = elim (either (is_read_message d l.message)
     by_message m f k = absurd (cc)
 
 -- JOINED of a free ticket named the pair's case
-gives_another : (c x : Case) (t : Ticket) → same_case x c ≡ false → (m : Message) → is_joined_message x t m ≡ true
+gives_another : (c x : Case) (t : Ticket) → same_case x c ≡ false → (m : Message) → is_joined_message x t m
+    ≡ true
     → gives_other c t m ≡ true
 gives_another c x t e (Joined d u) f =
     let b = both (same_case d x) (same_ticket u t) f in
@@ -153,10 +156,12 @@ module _ (c : Case) (t : Ticket) (p : ProcessId) (tree : List TreeEntry) (n : No
 
   -- The Abort that it appends.
 
-  collecting : has (is_abort d) (coordinator_reopens (left_of n j)) ≡ true → standing_at (left_of n j) d Idle ≡ Collecting
+  collecting : has (is_abort d) (coordinator_reopens (left_of n j)) ≡ true
+      → standing_at (left_of n j) d Idle ≡ Collecting
   collecting e = sym (recorded_stands d rs) ∙ aborted_collects d rs e
 
-  unpromised : has (is_abort d) (coordinator_reopens (left_of n j)) ≡ true → has (is_prepare d) (left_of n j) ≡ false
+  unpromised : has (is_abort d) (coordinator_reopens (left_of n j)) ≡ true
+      → has (is_prepare d) (left_of n j) ≡ false
   unpromised e = (collecting_undecided rs d Idle (collecting e)).no_prepare
 
   promise_of : (r : Record) → is_prepare d r ≡ true → is_record_of d r ≡ true
@@ -164,9 +169,11 @@ module _ (c : Case) (t : Ticket) (p : ProcessId) (tree : List TreeEntry) (n : No
 
   issued : has (is_prepare d) n.life ≡ true → v.issued ≡ true
   issued e =
-      let g = keeps.issues.recorded_is_given d (has_other (is_prepare d) (is_record_of d) n.life promise_of e) in
+      let g = keeps.issues.recorded_is_given d (has_other (is_prepare d)
+      (is_record_of d) n.life promise_of e) in
       let y = given net c.txn t g.1 in
-      subst (λ (x : Case). sent (is_joined_message x t) net ≡ true) (joined_to net c y.of t free y.joined) y.joined
+      subst (λ (x : Case). sent (is_joined_message x t) net ≡ true)
+      (joined_to net c y.of t free y.joined) y.joined
 
   not_read : has (is_prepare d) n.life ≡ true → v.read ≡ false
   not_read e = by_test v.read refl
@@ -255,7 +262,8 @@ module _ (c : Case) (t : Ticket) (p : ProcessId) (tree : List TreeEntry) (n : No
 
     pub restart_fits : (below : role_of tree t.child ≡ Below p) → (p ≡ t.child → ⊥) → IsPair tree c t
         → IsOpenAlike place (restarted place n j) d
-        → AllSentBy t.child (resumes (Below p) t.child all_then) → AllGo tree (resumes (Below p) t.child all_then)
+        → AllSentBy t.child (resumes (Below p) t.child all_then)
+        → AllGo tree (resumes (Below p) t.child all_then)
         → Fits pr r0 (R (own_half_at (opens place (restarted place n j) d) (restarted place n j) d)
         (wire c t (net ++ resumes (Below p) t.child all_then)))
     restart_fits below apart pair a sent_here goes =
@@ -265,17 +273,25 @@ module _ (c : Case) (t : Ticket) (p : ProcessId) (tree : List TreeEntry) (n : No
         let x = own_half_at (opens place k d) k d in
         let same : x ≡ own_half_at false k d = ap (λ y. own_half_at y k d) (closed k refl refl a) in
         let heard : wire c t (net ++ ls) ≡ record v {
-          inquire = (front.prepare && not front.commit && not (front.abort && front.prepare) && not false) || v.inquire;
+          inquire = (front.prepare && not front.commit && not
+              (front.abort && front.prepare) && not false) || v.inquire;
         } =
         wire_behind tree t.child p below apart c t pair refl net ls sent_here goes
         ∙ (ap (λ s. hears s v) (resumed_said c t t.child p all_then)
         ∙ ap (λ y. record v { inquire = y || v.inquire }) asks) in
-        subst (λ (z : OwnHalf). Fits pr r0 (R z (wire c t (net ++ ls)))) (sym (same ∙ half_restarts t.child p tree n j d o))
+        subst (λ (z : OwnHalf). Fits pr r0 (R z (wire c t (net ++ ls))))
+        (sym (same ∙ half_restarts t.child p tree n j d o))
         (subst (λ (w : Wire). Fits pr r0 (R (restarted_own false front
-        (record { prepare = front.prepare; commit = front.commit; abort = front.abort || has (is_abort d) new })
+        (record {
+          prepare = front.prepare;
+          commit = front.commit;
+          abort = front.abort || has
+              (is_abort d) new;
+        })
         (has (is_abort d) new) (has (is_prepare d) n.life) q) w)) (sym heard)
         (subst (λ (z : Reading). Fits pr r0 z)
-        (sym (reading-restarts root outcome above half q v front front (has (is_abort d) new) (has (is_prepare d) n.life)
+        (sym (reading-restarts root outcome above half q v front front (has (is_abort d) new)
+        (has (is_prepare d) n.life)
         said.quiet_open (had (is_prepare d)) (λ y z. holds (is_prepare d) (said.once y z)) said.asked
         (lost_so (has (is_abort d) new) (λ y. y)) unpromised))
         (fail.restarts pr (as_front front) r0 inv is_front)))
@@ -293,9 +309,11 @@ module _ (c : Case) (t : Ticket) (p : ProcessId) (tree : List TreeEntry) (n : No
         faults.fails_as d n v pr root outcome above half o inv k fit_then
         (λ x y. in_first x n.forced (take f (take j n.unforced ++ take a new)) y) s
         (ap (λ (z : OwnHalf). R z v) same
-        ∙ reading-loses root outcome above half q v front (front_of d k.forced) (has (is_abort d) (take a new))
+        ∙ reading-loses root outcome above half q v front (front_of d k.forced)
+        (has (is_abort d) (take a new))
         (has (is_prepare d) n.life) said.quiet_open (had (is_prepare d))
-        (λ y z. holds (is_prepare d) (said.once y z)) said.asked (lost_so (has (is_abort d) (take a new)) some)
+        (λ y z. holds (is_prepare d) (said.once y z)) said.asked
+        (lost_so (has (is_abort d) (take a new)) some)
         (λ y. unpromised (some y))
         (λ y. sym (ap (λ (z : OwnHalf). z.prepare_kept) same)
         ∙ in_first (is_prepare d) k.forced k.unforced y))

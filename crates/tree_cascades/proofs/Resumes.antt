@@ -1,4 +1,5 @@
--- What a restart of a cascaded coordinator says up: it asks for the outcome of just the cases that its log leaves in doubt.
+-- What a restart of a cascaded coordinator says up: it asks for the outcome of just the cases that its log
+-- leaves in doubt.
 use Rattle.std.proofs.Common.{◌≡◌, ◌∙◌, ◌⊎◌, inl, inr, ◌||◌, ◌&&◌, Bool, true, false, Some, List, [], ◌∷◌, refl, sym, ap, arith}
 use Rattle.std.specs.Prelude.{not}
 use Rattle.std.specs.List.{flat_map}
@@ -36,13 +37,15 @@ or-false : (a : Bool) → (a || false) ≡ a
 or-false a = grind arith
 
 -- a test that no letter of a restart passes
-module _ (q : Message → Bool) (no_commit : (x : Case) → q (Commit x) ≡ false) (no_abort : (x : Case) → q (Abort x) ≡ false)
+module _ (q : Message → Bool) (no_commit : (x : Case) → q (Commit x) ≡ false)
+    (no_abort : (x : Case) → q (Abort x) ≡ false)
     (no_inquiry : (x : Case) → q (Inquire x) ≡ false) (me p : ProcessId) (rs : List Record) where
   each_none : (s : Seat) (m : Case → Message) (ts : List Ticket) → ((x : Case) → q (m x) ≡ false)
       → sent q (each s m ts) ≡ false
   unfolding sent
   each_none s m [] f = refl
-  each_none s m (t ∷ ts) f = or-none (q (m (child_case s.own.txn t))) _ (f (child_case s.own.txn t)) (each_none s m ts f)
+  each_none s m (t ∷ ts) f = or-none (q (m (child_case s.own.txn t))) _ (f (child_case s.own.txn t))
+      (each_none s m ts f)
 
   one_none : (d : Case) (v : CoordinatorView) (s : Standing)
       → sent q (resumes_by (record { me = me; parent = Some p; own = d }) v s) ≡ false
@@ -65,24 +68,28 @@ module _ (q : Message → Bool) (no_commit : (x : Case) → q (Commit x) ≡ fal
 -- Inquiries.
 
 module _ (me p : ProcessId) (rs : List Record) (d : Case) where
-  each_unasked : (s : Seat) (m : Case → Message) (ts : List Ticket) → ((x : Case) → is_inquiry_message d (m x) ≡ false)
+  each_unasked : (s : Seat) (m : Case → Message) (ts : List Ticket)
+      → ((x : Case) → is_inquiry_message d (m x) ≡ false)
       → sent (is_inquiry_message d) (each s m ts) ≡ false
   unfolding sent
   each_unasked s m [] f = refl
   each_unasked s m (t ∷ ts) f =
-      or-none (is_inquiry_message d (m (child_case s.own.txn t))) _ (f (child_case s.own.txn t)) (each_unasked s m ts f)
+      or-none (is_inquiry_message d (m (child_case s.own.txn t))) _ (f (child_case s.own.txn t))
+      (each_unasked s m ts f)
 
   one_asks : (x : Case) (v : CoordinatorView) (s : Standing)
       → sent (is_inquiry_message d) (resumes_by (record { me = me; parent = Some p; own = x }) v s)
       ≡ (same_case x d && is_prepared_standing s)
   unfolding sent
   one_asks x v Committing =
-      each_unasked (record { me = me; parent = Some p; own = x }) Commit v.owed (λ y. refl) ∙ sym (and-false (same_case x d))
+      each_unasked (record { me = me; parent = Some p; own = x }) Commit v.owed (λ y. refl)
+      ∙ sym (and-false (same_case x d))
     where
       and-false : (a : Bool) → (a && false) ≡ false
       and-false a = grind arith
   one_asks x v Aborting =
-      each_unasked (record { me = me; parent = Some p; own = x }) Abort v.owed (λ y. refl) ∙ sym (and-false (same_case x d))
+      each_unasked (record { me = me; parent = Some p; own = x }) Abort v.owed (λ y. refl)
+      ∙ sym (and-false (same_case x d))
     where
       and-false : (a : Bool) → (a && false) ≡ false
       and-false a = grind arith
@@ -166,7 +173,8 @@ module _ (me p : ProcessId) (rs : List Record) (d : Case) where
   by_promise false e =
       let none : is_prepared_standing (recorded_view rs d).standing ≡ false =
       ap is_prepared_standing (recorded_stands d rs)
-      ∙ prepared_promised (has (is_end d) rs) (has (is_commit d) rs) (has (is_abort d) rs) (has (is_prepare d) rs)
+      ∙ prepared_promised (has (is_end d) rs) (has (is_commit d) rs) (has (is_abort d) rs)
+      (has (is_prepare d) rs)
       (has (is_collecting d) rs) (none_of (owing_by d rs)) (phase_standing d.txn.presumption Idle)
       (idle_unknown d.txn.presumption) e in
       ap (λ x. has_case (cases_in rs) d && x) none ∙ (and-false (has_case (cases_in rs) d) ∙ sym none)
@@ -244,7 +252,8 @@ pub in_doubt : (rs : List Record) (d : Case)
     → (has (is_end d) rs ≡ true → has (is_prepare d) rs ≡ true
     → (has (is_commit d) rs ≡ true) ⊎ (has (is_abort d) rs ≡ true))
     → is_prepared_standing (recorded_view rs d).standing
-    ≡ (has (is_prepare d) rs && not (has (is_commit d) rs) && not (has (is_abort d) rs && has (is_prepare d) rs) && not false)
+    ≡ (has (is_prepare d) rs && not (has (is_commit d) rs) && not
+    (has (is_abort d) rs && has (is_prepare d) rs) && not false)
 in_doubt rs d ends =
     ap is_prepared_standing (recorded_stands d rs)
     ∙ doubt_by (has (is_end d) rs) (has (is_commit d) rs) (has (is_abort d) rs) (has (is_prepare d) rs)

@@ -1,4 +1,5 @@
--- Which inputs of a cascaded coordinator say READ of a case, promise it, or collect its votes: it was open, and READ and
+-- Which inputs of a cascaded coordinator say READ of a case, promise it, or collect its votes: it was open,
+-- and READ and
 -- the promise close it.
 use Rattle.std.proofs.Common.{◌≡◌, ◌∙◌, inl, inr, Bool, true, false, Some, None, List, [], ◌∷◌, ◌++◌, map, refl, sym, ap, subst}
 use Rattle.tree_model.specs.declared.names.Case.{Case}
@@ -61,12 +62,14 @@ root_given y (l ∷ ls) e = elim (either (gives_case (root_case y) l.message) _ 
   where
     no_message : {A : Type 0} (m : Message) → gives_case (root_case y) m ≡ true → A
     no_message (Joined d u) f =
-        absurd (let g : Some u ≡ None = ap (λ (x : Case). x.ticket) (same_of (child_case d.txn u) (root_case y) f) in cc)
+        absurd (let g : Some u ≡ None = ap (λ (x : Case). x.ticket)
+        (same_of (child_case d.txn u) (root_case y) f) in cc)
     no_message m f = absurd (cc)
 
 module _ (c : Case) where
   -- letters down
-  pub each_unread : (s : Seat) (o : Outcome) (ts : List Ticket) → sent (is_read_message c) (each s (tells_outcome o) ts) ≡ false
+  pub each_unread : (s : Seat) (o : Outcome) (ts : List Ticket)
+      → sent (is_read_message c) (each s (tells_outcome o) ts) ≡ false
   unfolding sent
   each_unread s o [] = refl
   each_unread s CommittedOutcome (t ∷ ts) = each_unread s CommittedOutcome ts
@@ -85,7 +88,8 @@ module _ (c : Case) where
   letter_unread me q CommittedOutcome e = refl
   letter_unread me q AbortedOutcome e = refl
 
-  ack_unread : (me q : ProcessId) (x : Case) (o : Outcome) (ls : List Envelope) → sent (is_read_message c) ls ≡ false
+  ack_unread : (me q : ProcessId) (x : Case) (o : Outcome) (ls : List Envelope)
+      → sent (is_read_message c) ls ≡ false
       → sent (is_read_message c) (post me q (Ack x o) ∷ ls) ≡ false
   unfolding sent
   ack_unread me q x o ls e = e
@@ -98,9 +102,11 @@ module _ (c : Case) where
   acknowledged : (me p : ProcessId) (x : Case) (q : Presumption) (us : List Ticket)
       → (let s : Seat = record { me = me; parent = Some p; own = x } in
       sent (is_read_message c) (acknowledges_abort s q ++ each s Abort us) ≡ false)
-  acknowledged me p x PresumeAbort us = each_unread (record { me = me; parent = Some p; own = x }) AbortedOutcome us
+  acknowledged me p x PresumeAbort us = each_unread
+      (record { me = me; parent = Some p; own = x }) AbortedOutcome us
   acknowledged me p x PresumeCommit us =
-      ack_unread me p x AbortedOutcome _ (each_unread (record { me = me; parent = Some p; own = x }) AbortedOutcome us)
+      ack_unread me p x AbortedOutcome _ (each_unread
+      (record { me = me; parent = Some p; own = x }) AbortedOutcome us)
 
   heard_above : (me p : ProcessId) (x : Case) (why : Reason) (us : List Ticket)
       → (let s : Seat = record { me = me; parent = Some p; own = x } in
@@ -157,7 +163,8 @@ module _ (me p : ProcessId) (tree : List TreeEntry) (n : Node) (h : Heard) (net 
   unfolding has sent
   other_nobody x e = unread (Alone x) (rw e refl) refl refl
 
-  nobody : (x : Case) → IsToCommit (Some p) h x → (view x).standing ≡ Active → none_of (view x).accepted ≡ true
+  nobody : (x : Case) → IsToCommit (Some p) h x → (view x).standing ≡ Active → none_of (view x).accepted
+      ≡ true
       → Says (Alone x)
   nobody x i f g = elim (same_case_tells x c) [
     | inl s ↦ subst (λ (z : Case). IsToCommit (Some p) h z → (view z).standing ≡ Active
@@ -181,12 +188,14 @@ module _ (me p : ProcessId) (tree : List TreeEntry) (n : Node) (h : Heard) (net 
       reads_now (ap live (closings.phase_asked me p tree n h c (alike c) i.vote.stands))
       (closings.last_closes me p tree n h c (alike c) w u ys i) refl refl
 
-  other_read : (x : Case) (u : Ticket) (w : Vote) (q : Presumption) → same_case x c ≡ false → Says (ReadOnly x u w q)
+  other_read : (x : Case) (u : Ticket) (w : Vote) (q : Presumption) → same_case x c ≡ false
+      → Says (ReadOnly x u w q)
   unfolding has sent
   other_read x u w PresumeAbort e = unread (ReadOnly x u w PresumeAbort) (rw e refl) refl refl
   other_read x u w PresumeCommit e = unread (ReadOnly x u w PresumeCommit) (rw e refl) refl refl
 
-  reads : (x : Case) (u : Ticket) (w : Vote) (ys : List Ticket) (q : Presumption) → CountsLast place n h x u w ys
+  reads : (x : Case) (u : Ticket) (w : Vote) (ys : List Ticket) (q : Presumption)
+      → CountsLast place n h x u w ys
       → Says (ReadOnly x u w q)
   reads x u w ys q i = elim (same_case_tells x c) [
     | inl s ↦ subst (λ (z : Case). CountsLast place n h z u w ys → Says (ReadOnly z u w q)) (sym s.1)
@@ -199,7 +208,8 @@ module _ (me p : ProcessId) (tree : List TreeEntry) (n : Node) (h : Heard) (net 
   abbrev Promises : Case → Ticket → Vote → List Ticket → Effect
   Promises x u w ys = row_effect x (counting u w (cascaded_prepares (seat x) (voted (view x) u w) ys))
 
-  own_promise : (u : Ticket) (w : Vote) (ys : List Ticket) → CountsLast place n h c u w ys → Says (Promises c u w ys)
+  own_promise : (u : Ticket) (w : Vote) (ys : List Ticket) → CountsLast place n h c u w ys
+      → Says (Promises c u w ys)
   unfolding sent
   own_promise u w ys i =
       promises_now ys (ap live (closings.phase_asked me p tree n h c (alike c) i.vote.stands))
@@ -252,25 +262,30 @@ module _ (me p : ProcessId) (tree : List TreeEntry) (n : Node) (h : Heard) (net 
   row_words x r (invites q i e f g) = unread (row_effect x r) refl refl refl
   row_words x r (accepts u i e f) = unread (row_effect x r) refl refl refl
   row_words x r (sends_work q u op i e f g) = unread (row_effect x r) refl refl refl
-  row_words x r (gives_up why q i f g) = unread (row_effect x r) (acknowledged c me p x q (view x).accepted) refl refl
+  row_words x r (gives_up why q i f g) = unread (row_effect x r)
+      (acknowledged c me p x q (view x).accepted) refl refl
   row_words x r (counts_vote u w i e f) = unread (row_effect x r) refl refl refl
   row_words x r (commits u w ys q i e f g) = absurd (cc)
   row_words x r (hears_no u us PresumeAbort i e f) =
       unread (row_effect x r) (heard_above c me p x ByVote us) refl refl
   row_words x r (hears_no u us PresumeCommit i e f) =
       unread (row_effect x r) (heard_above c me p x ByVote us) refl refl
-  row_words x r (aborts why us PresumeAbort i f g l) = unread (row_effect x r) (heard_above c me p x why us) refl refl
-  row_words x r (aborts why us PresumeCommit i f g l) = unread (row_effect x r) (heard_above c me p x why us) refl refl
+  row_words x r (aborts why us PresumeAbort i f g l) = unread (row_effect x r)
+      (heard_above c me p x why us) refl refl
+  row_words x r (aborts why us PresumeCommit i f g l) = unread (row_effect x r)
+      (heard_above c me p x why us) refl refl
   row_words x r (passes_commit PresumeAbort i e f) =
       unread (row_effect x r)
-      (ack_unread c me p x CommittedOutcome (each (seat x) Commit (view x).promised) (each_unread c (seat x) CommittedOutcome (view x).promised)) refl refl
+      (ack_unread c me p x CommittedOutcome (each (seat x) Commit (view x).promised)
+      (each_unread c (seat x) CommittedOutcome (view x).promised)) refl refl
   row_words x r (passes_commit PresumeCommit i e f) =
       unread (row_effect x r) (each_unread c (seat x) CommittedOutcome (view x).promised) refl refl
   row_words x r (passes_abort PresumeAbort i e f) =
       unread (row_effect x r) (each_unread c (seat x) AbortedOutcome (view x).promised) refl refl
   row_words x r (passes_abort PresumeCommit i e f) =
       unread (row_effect x r)
-      (ack_unread c me p x AbortedOutcome (each (seat x) Abort (view x).promised) (each_unread c (seat x) AbortedOutcome (view x).promised)) refl refl
+      (ack_unread c me p x AbortedOutcome (each (seat x) Abort (view x).promised)
+      (each_unread c (seat x) AbortedOutcome (view x).promised)) refl refl
   row_words x r (repeats_yes j i e) = unread (row_effect x r) refl refl refl
   row_words x r (asks i e) = unread (row_effect x r) refl refl refl
   row_words x r (refuses j i e) = unread (row_effect x r) refl refl refl

@@ -45,16 +45,19 @@ module _ (turn : Turn) where
 
   -- One letter down, or JOIN.
 
-  letter_down : (o : Outcome) (x : ProcessId) (e : Case) → IsSilent c t (post t.child x (tells_outcome o e) ∷ [])
+  letter_down : (o : Outcome) (x : ProcessId) (e : Case)
+      → IsSilent c t (post t.child x (tells_outcome o e) ∷ [])
   letter_down CommittedOutcome x e = letters.said_first c t _ [] (letters.none_silent c t)
   letter_down AbortedOutcome x e = letters.said_first c t _ [] (letters.none_silent c t)
 
-  letter_work : (x : ProcessId) (e : Case) (k : ℕ) (op : Op) → IsSilent c t (post t.child x (Work e k op) ∷ [])
+  letter_work : (x : ProcessId) (e : Case) (k : ℕ) (op : Op)
+      → IsSilent c t (post t.child x (Work e k op) ∷ [])
   letter_work x e k op = letters.said_first c t _ [] (letters.none_silent c t)
 
   -- Rows of the pair's case.
 
-  own_row : (r : Row) → CaseTurn place (Some p) n h d r → Then turn (row_effect d r) → Fine turn (row_effect d r)
+  own_row : (r : Row) → CaseTurn place (Some p) n h d r → Then turn (row_effect d r)
+      → Fine turn (row_effect d r)
   own_row _ (rests i) k = quiet_turn turn _ k refl (letters.none_silent c t)
   own_row _ (invites x i e f g) k = quiet_turn turn _ k refl (letters.join_silent c t t.child x d)
   own_row _ (accepts u i e f) k = quiet_turn turn _ k refl (letters.none_silent c t)
@@ -164,15 +167,18 @@ module _ (turn : Turn) where
     other_row _ (aborts why us PresumeCommit i e f g) k =
         forced_aside turn _ k (AbortRecord x us) refl (λ y. refl) (aside_abort us) (heard_above why us)
     other_row _ (passes_commit PresumeAbort i e f) k =
-        forced_aside turn _ k (CommitRecord x (view x).promised) refl (λ y. refl) (aside_commit (view x).promised)
+        forced_aside turn _ k (CommitRecord x (view x).promised) refl (λ y. refl)
+        (aside_commit (view x).promised)
         (up_ack CommittedOutcome _ (letters.each_silent c t (seat x) CommittedOutcome (view x).promised))
     other_row _ (passes_commit PresumeCommit i e f) k =
         plain_aside turn _ k (CommitRecord x []) refl (λ y. refl) (aside_commit [])
         (letters.each_silent c t (seat x) CommittedOutcome (view x).promised)
     other_row _ (passes_abort PresumeAbort i e f) k =
-        plain_aside turn _ k (AbortRecord x []) refl (λ y. refl) (aside_abort []) (aborts_down (view x).promised)
+        plain_aside turn _ k (AbortRecord x []) refl (λ y. refl) (aside_abort [])
+        (aborts_down (view x).promised)
     other_row _ (passes_abort PresumeCommit i e f) k =
-        forced_aside turn _ k (AbortRecord x (view x).promised) refl (λ y. refl) (aside_abort (view x).promised)
+        forced_aside turn _ k (AbortRecord x (view x).promised) refl (λ y. refl)
+        (aside_abort (view x).promised)
         (up_ack AbortedOutcome _ (aborts_down (view x).promised))
     other_row _ (repeats_yes j i e) k = quiet_turn turn _ k refl up_yes
     other_row _ (asks i e) k = quiet_turn turn _ k refl up_inquire

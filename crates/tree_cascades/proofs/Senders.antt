@@ -35,7 +35,8 @@ all_sent_by : (s : Seat) (ls : List Envelope) → AllSent s ls → AllSentBy s.m
 all_sent_by s [] a = tt
 all_sent_by s (l ∷ ls) a = (sent_by s l a.0, all_sent_by s ls a.1)
 
-one_sent_by : (me : ProcessId) (l : Envelope) (ls : List Envelope) → ls ≡ l ∷ [] → l.from ≡ me → AllSentBy me ls
+one_sent_by : (me : ProcessId) (l : Envelope) (ls : List Envelope) → ls ≡ l ∷ [] → l.from ≡ me
+    → AllSentBy me ls
 one_sent_by me l ls e f = subst (AllSentBy me) (sym e) (f, tt)
 
 writes_sent : (place : Place) (parent : Option ProcessId) (n : Node) (i : Input) (ws : List Written)
@@ -68,7 +69,8 @@ leaf_sent place p n h e (obeys d o i a) = if_acknowledged place.me p d o (is_ack
 leaf_sent place p n h e (notes d o i a) = if_acknowledged place.me p d o (is_acknowledged d.txn.presumption o)
 leaf_sent place p n h e (acknowledges_told d o i a) =
     if_acknowledged place.me p d o (is_acknowledged d.txn.presumption o)
-leaf_sent place p n h e (acknowledges d o i a) = if_acknowledged place.me p d o (is_acknowledged d.txn.presumption o)
+leaf_sent place p n h e (acknowledges d o i a) = if_acknowledged place.me p d o
+    (is_acknowledged d.txn.presumption o)
 leaf_sent place p n h e (drops d i a) =
     if_acknowledged place.me p d AbortedOutcome (is_acknowledged d.txn.presumption AbortedOutcome)
 leaf_sent place p n h e (asks d i a) = (refl, tt)
@@ -83,7 +85,8 @@ turn_sent (AtLeaf p) place n h e t = leaf_sent place p n h e t
 
 -- A restart.
 
-both_sent : (me : ProcessId) (xs ys : List Envelope) → AllSentBy me xs → AllSentBy me ys → AllSentBy me (xs ++ ys)
+both_sent : (me : ProcessId) (xs ys : List Envelope) → AllSentBy me xs → AllSentBy me ys
+    → AllSentBy me (xs ++ ys)
 both_sent me [] ys a b = b
 both_sent me (x ∷ xs) ys a b = (a.0, both_sent me xs ys a.1 b)
 
@@ -102,7 +105,8 @@ resumed_sent me parent c v Active = tt
 resumed_sent me parent c v Collecting = tt
 resumed_sent me parent c v Heuristic = tt
 
-inquired_sent : (me p : ProcessId) (c : Case) (v : ManagerView) (s : Standing) → AllSentBy me (inquires_by me p c v s)
+inquired_sent : (me p : ProcessId) (c : Case) (v : ManagerView) (s : Standing)
+    → AllSentBy me (inquires_by me p c v s)
 inquired_sent me p c v Prepared = (refl, tt)
 inquired_sent me p c v Heuristic = untold v.told
   where

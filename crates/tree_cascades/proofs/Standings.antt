@@ -50,7 +50,8 @@ unknown_by false false true P K N s e = inr (inr (inl refl))
 unknown_by false false false true K N s e = absurd (cc)
 unknown_by false false false false K N s e = inr (inr (inr refl))
 
-committing_by : (E C A P K N : Bool) (s : Standing) → (s ≡ Committing → ⊥) → standing_by E C A P K N s ≡ Committing
+committing_by : (E C A P K N : Bool) (s : Standing) → (s ≡ Committing → ⊥) → standing_by E C A P K N s
+    ≡ Committing
     → C ≡ true
 committing_by true C A P K N s f e = absurd (cc)
 committing_by false true A P K N s f e = refl

@@ -62,7 +62,8 @@ module _ (p : ProcessId) (c : Case) (q : Record → Bool) (of : IsOf c q) (whole
   staying_has : (rs : List Record) → has q (staying (Below p) whole rs) ≡ (known && has q rs)
   staying_has [] = has-nil q ∙ sym (ap (λ y. known && y) (has-nil q) ∙ and-false known)
   staying_has (r ∷ rs) =
-      one_more r (staying (Below p) whole rs) rs (q r) (case_stays whole (record_case r)) refl refl (staying_has rs)
+      one_more r (staying (Below p) whole rs) rs (q r) (case_stays whole (record_case r)) refl refl
+      (staying_has rs)
 
   pub trimmed_has : ((k : ℕ) → q (Opened k) ≡ false)
       → has q (trimmed (Below p) whole) ≡ (is_known (recorded_view whole c).standing && has q whole)

@@ -124,7 +124,8 @@ module _ (me p : ProcessId) (tree : List TreeEntry) (n : Node) (d : Case) (v : W
     no_commit : q.commit_kept ≡ false
     no_abort : q.abort_kept ≡ false
 
-  open_none : (s : Standing) → (coordinator_view place n d).standing ≡ s → is_live (phase_by false s) ≡ true → Unpromised
+  open_none : (s : Standing) → (coordinator_view place n d).standing ≡ s → is_live (phase_by false s) ≡ true
+      → Unpromised
   open_none Active e f =
       let u = active_unrecorded rs d (memory_of place n d).phase (sym (viewed place n d) ∙ e) in
       record { no_prepare = u.no_prepare; no_commit = u.no_commit; no_abort = u.no_abort }
@@ -148,7 +149,8 @@ module _ (me p : ProcessId) (tree : List TreeEntry) (n : Node) (d : Case) (v : W
     | inr x ↦ inr (both_true (has (is_abort d) (kept n)) (has (is_prepare d) (kept n)) x e)
   ]
   decided e h (inr (inl f)) = inl f
-  decided e h (inr (inr (inl f))) = inr (both_true (has (is_abort d) (kept n)) (has (is_prepare d) (kept n)) f e)
+  decided e h (inr (inr (inl f))) = inr (both_true (has (is_abort d) (kept n))
+      (has (is_prepare d) (kept n)) f e)
   decided e h (inr (inr (inr f))) = absurd (let g = sym e ∙ f in cc)
 
   nothing_left : (x : Bool) → has (is_prepare d) (kept n) ≡ x → IsOver (has (is_end d) (kept n))
@@ -165,12 +167,14 @@ module _ (me p : ProcessId) (tree : List TreeEntry) (n : Node) (d : Case) (v : W
     ever : (q.prepare_kept || q.prepare_ever) ≡ q.prepare_ever
     ever =
         absorbed q.prepare_kept q.prepare_ever
-        (λ x. let c = moves.common_of pr r0 inv in (c.child_forced_promise (c.child_promise_is_forced x up)).1)
+        (λ x. let c = moves.common_of pr r0 inv in
+        (c.child_forced_promise (c.child_promise_is_forced x up)).1)
       where
         absorbed : (a b : Bool) → (a ≡ true → b ≡ true) → (a || b) ≡ b
         absorbed a b f = grind arith
 
-    over : K ≡ false → IsOver (has (is_end d) (kept n)) (has (is_commit d) (kept n)) (has (is_abort d) (kept n))
+    over : K ≡ false → IsOver (has (is_end d) (kept n)) (has (is_commit d) (kept n))
+        (has (is_abort d) (kept n))
         (has (is_prepare d) (kept n))
     over e =
         unknown_by (has (is_end d) rs) (has (is_commit d) rs) (has (is_abort d) rs) (has (is_prepare d) rs)
@@ -207,11 +211,13 @@ module _ (me p : ProcessId) (tree : List TreeEntry) (n : Node) (d : Case) (v : W
 
     old_log : AllFit [] (kept n) → Fits pr r0 (R (own_half_at false (record n { failed = true }) d))
     old_log fit =
-        faults.fails_quietly d n v pr root outcome above half (opens place n d) inv (record n { failed = true }) fit
+        faults.fails_quietly d n v pr root outcome above half (opens place n d) inv
+        (record n { failed = true }) fit
         (λ x e. e) up
         (own_breaks (opens place n d) n d (λ x. ((moves.common_of pr r0 inv).child_forced_promise x).1))
 
-    pub breaks_quietly : AllFit [] (kept n) → Fits pr r0 (R (own_half_at false (record n { failed = true }) d))
+    pub breaks_quietly : AllFit [] (kept n) → Fits pr r0
+        (R (own_half_at false (record n { failed = true }) d))
     breaks_quietly = old_log
 
     new_log : AllFit [] (kept (record (trims place n) { failed = true }))
@@ -225,7 +231,8 @@ module _ (me p : ProcessId) (tree : List TreeEntry) (n : Node) (d : Case) (v : W
         (faults.fails_quietly d (trims place n) v pr root outcome above half (opens place n d) then_inv
         (record (trims place n) { failed = true }) fit (λ x e. e) up
         (own_breaks (opens place n d) (trims place n) d
-        (λ x. ((moves.common_of pr (R (own_half_at (opens place n d) (trims place n) d)) then_inv).child_forced_promise
+        (λ x. ((moves.common_of pr (R (own_half_at (opens place n d)
+        (trims place n) d)) then_inv).child_forced_promise
         x).1)))
 
     pub trim_breaks : (a : ℕ) → AllFit [] (kept (trim_fails place n a))

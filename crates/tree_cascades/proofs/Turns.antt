@@ -50,9 +50,11 @@ module _ (pr : Presumption) (root outcome above : Bool) (half : ParentHalf) (q :
       ∙ readings.reading-dropped root outcome above half q v e i silent.no_prepared.0 silent.no_prepared.1
       silent.said_nothing.0))
       (moves.drops pr (R0 q) inv (record { is_open = rw (i, e) refl }))
-  may_fall o true false e i f = same (stands_so o q) (readings.reading-unissued root outcome above half q v o i)
+  may_fall o true false e i f = same (stands_so o q)
+      (readings.reading-unissued root outcome above half q v o i)
   may_fall o false b e i f =
-      same (stands_so o q) (ap (λ x. R0 (stands_so x q)) f ∙ readings.reading-closed root outcome above half q v e)
+      same (stands_so o q) (ap (λ x. R0 (stands_so x q)) f
+      ∙ readings.reading-closed root outcome above half q v e)
 
   pub falls_so : (o : Bool) → (o ≡ q.is_open) ⊎ (o ≡ false) → Fits pr (R0 q) (R0 (stands_so o q))
   falls_so o (inl e) = same (stands_so o q) (ap (λ b. R0 (stands_so b q)) e)
@@ -62,7 +64,8 @@ module _ (pr : Presumption) (root outcome above : Bool) (half : ParentHalf) (q :
 abbrev pub opens : Place → Node → Case → Bool
 opens place n d = is_live (phase_by n.failed (coordinator_view place n d).standing)
 
--- The pair's case and ticket, with the parent's half; the coordinator below its parent, what it was and heard, and the
+-- The pair's case and ticket, with the parent's half; the coordinator below its parent, what it was and
+-- heard, and the
 -- net behind it; and what is known of them.
 pub record Turn : Type 0 where
   pub c : Case
@@ -82,8 +85,10 @@ pub record Turn : Type 0 where
   pub order : CaseInOrder (child_case c.txn t) (kept n)
   pub end_decided : has (is_end (child_case c.txn t)) (kept n) ≡ true
       → has (is_prepare (child_case c.txn t)) (kept n) ≡ true
-      → (has (is_commit (child_case c.txn t)) (kept n) ≡ true) ⊎ (has (is_abort (child_case c.txn t)) (kept n) ≡ true)
-  pub asked : (memory_of (record { me = t.child; role = Below p; tree = tree }) n (child_case c.txn t)).phase ≡ Asked
+      → (has (is_commit (child_case c.txn t)) (kept n) ≡ true)
+      ⊎ (has (is_abort (child_case c.txn t)) (kept n) ≡ true)
+  pub asked : (memory_of (record { me = t.child; role = Below p; tree = tree }) n
+      (child_case c.txn t)).phase ≡ Asked
       → sent (is_prepare_message (child_case c.txn t)) net ≡ true
   pub stands : InputStands net t.child h.input
   pub row : IsRow h.input
@@ -128,7 +133,8 @@ module _ (turn : Turn) where
 
   -- it keeps the invariant
   abbrev pub Fine : Effect → Type 0
-  Fine e = Fits pr r0 (R (own_half_at (opens place (after n h e) d) (after n h e) d) (wire c t (net ++ e.messages)))
+  Fine e = Fits pr r0 (R (own_half_at (opens place (after n h e) d) (after n h e) d)
+      (wire c t (net ++ e.messages)))
 
   pub up_then : (e : Effect) → (after n h e).failed ≡ false
   up_then e =
@@ -171,7 +177,8 @@ module _ (turn : Turn) where
       (f (opens place (after n h e) d) (opens_then e k (memory_of-nothing place n h e d none)))
 
   -- A record was written and forced.
-  pub forced_fine : (e : Effect) → Then e → (r : Record) → e.written ≡ forced r → ((x : ℕ) → boot_after x r ≡ x)
+  pub forced_fine : (e : Effect) → Then e → (r : Record) → e.written ≡ forced r
+      → ((x : ℕ) → boot_after x r ≡ x)
       → (s : Said) → said_by c t e.messages ≡ s
       → ((o : Bool) → o ≡ live Remembered.phase
       → Fits pr r0 (R (stands_so o (hardens (wrote r (has (is_prepare d) n.life) d q))) (hears s v))) → Fine e
@@ -205,20 +212,23 @@ module _ (turn : Turn) where
 
   hardened_falls : (o : Bool) → o ≡ live Remembered.phase → Fits pr r0 (R (stands_so o (hardens q)) v)
   hardened_falls o f =
-      let same : R (hardens q) v ≡ move.hardens_child r0 = readings.reading-hardened root outcome above half q v in
+      let same : R (hardens q) v
+      ≡ move.hardens_child r0 = readings.reading-hardened root outcome above half q v in
       let inv' = subst (λ (z : Reading). InvariantOf pr z) (sym same) hard.invariant in
       let first = subst (λ (z : Reading). Fits pr r0 z) (sym same) hard in
       moves.onward pr r0 (R (hardens q) v) (R (stands_so o (hardens q)) v) first
       (falls_so pr root outcome above half (hardens q) v inv' o (fallen o f))
 
-  pub forced_aside : (e : Effect) → Then e → (r : Record) → e.written ≡ forced r → ((x : ℕ) → boot_after x r ≡ x)
+  pub forced_aside : (e : Effect) → Then e → (r : Record) → e.written ≡ forced r
+      → ((x : ℕ) → boot_after x r ≡ x)
       → IsAside d r → said_by c t e.messages ≡ nothing → Fine e
   forced_aside e k r one boots a b =
       forced_fine e k r one boots nothing b
       (λ o f. subst (λ (z : OwnHalf). Fits pr r0 (R (stands_so o (hardens z)) v))
       (sym (aside d r (has (is_prepare d) n.life) q a)) (hardened_falls o f))
 
-  pub plain_aside : (e : Effect) → Then e → (r : Record) → e.written ≡ plain r → ((x : ℕ) → boot_after x r ≡ x)
+  pub plain_aside : (e : Effect) → Then e → (r : Record) → e.written ≡ plain r
+      → ((x : ℕ) → boot_after x r ≡ x)
       → IsAside d r → said_by c t e.messages ≡ nothing → Fine e
   plain_aside e k r one boots a b =
       plain_fine e k r one boots nothing b

@@ -36,7 +36,8 @@ use Rattle.tree_cascades.proofs.Standings.{IsOver, aborting_facts, committing_fa
 use Rattle.tree_cascades.proofs.Turns.{Fine, R, Remembered, Then, Turn, d as own_case, fallen, forced_fine, hard, onward, place as place_in, plain_fine, q as half_in, r0, silent_fine, v as wire_in}
 use Rattle.tree_cascades.proofs.TurnsVotes.{abort_sent, prepare_sent}
 
-closed_at : (f : Bool) (s u : Standing) → s ≡ u → is_live (phase_by false u) ≡ false → is_live (phase_by f s) ≡ false
+closed_at : (f : Bool) (s u : Standing) → s ≡ u → is_live (phase_by false u) ≡ false
+    → is_live (phase_by f s) ≡ false
 closed_at true s u e g = refl
 closed_at false s u e g = ap (λ (x : Standing). is_live (phase_by false x)) e ∙ g
 
@@ -87,11 +88,13 @@ module _ (turn : Turn) where
 
   -- One word of a case that is closed.
   closed_says : (e : Effect) → Then turn e → e.written ≡ [] → q.is_open ≡ false → (s : Said)
-      → said_by c t e.messages ≡ s → (m : Reading) → R turn q (hears s v) ≡ m → Fits pr (r0 turn) m → Fine turn e
+      → said_by c t e.messages ≡ s → (m : Reading) → R turn q (hears s v) ≡ m → Fits pr (r0 turn) m
+      → Fine turn e
   closed_says e next none closed s said m same fits =
       silent_fine turn e next none s said
       (λ o f. subst (λ (z : Reading). Fits pr (r0 turn) z)
-      (sym (ap (λ x. R turn (stands_so x q) (hears s v)) (f ∙ (stays_closed closed ∙ sym closed)) ∙ same)) fits)
+      (sym (ap (λ x. R turn (stands_so x q) (hears s v)) (f ∙ (stays_closed closed ∙ sym closed))
+      ∙ same)) fits)
 
   -- Prepared.
 
@@ -115,7 +118,8 @@ module _ (turn : Turn) where
   repeats_yes_own j k i e next =
       closed_says (row_effect d (sends (up_letter seat (Yes d)) (coordinator_view place n d))) next refl
       (prepared_closed e) (record nothing { yes = true })
-      (letters.said_first c t (post t.child p (Yes d)) [] (letters.none_silent c t) ∙ rw (same_case-refl d) refl)
+      (letters.said_first c t (post t.child p (Yes d)) [] (letters.none_silent c t)
+      ∙ rw (same_case-refl d) refl)
       (move.repeats_yes (r0 turn)) refl
       (moves.repeats_yes pr (r0 turn) inv
       (record { asked = prepare_sent turn j k i; up = up; promised = (prepared_facts place n d e).promised }))
@@ -126,7 +130,8 @@ module _ (turn : Turn) where
   asks_own e next =
       closed_says (row_effect d (sends (up_letter seat (Inquire d)) (coordinator_view place n d))) next refl
       (prepared_closed e) (record nothing { inquire = true })
-      (letters.said_first c t (post t.child p (Inquire d)) [] (letters.none_silent c t) ∙ rw (same_case-refl d) refl)
+      (letters.said_first c t (post t.child p (Inquire d)) [] (letters.none_silent c t)
+      ∙ rw (same_case-refl d) refl)
       (move.asks (r0 turn)) refl
       (moves.asks pr (r0 turn) inv (record { up = up; in_doubt = doubt_at e }))
 
@@ -147,10 +152,13 @@ module _ (turn : Turn) where
       let closed = prepared_closed e in
       let doubt = doubt_at e in
       forced_fine turn (row_effect d (prepared_commit_by seat (coordinator_view place n d) PresumeAbort)) next
-      (CommitRecord d ts) refl (λ x. refl) (record nothing { ack = true }) (ack_said CommittedOutcome CommittedOutcome ts)
+      (CommitRecord d ts) refl (λ x. refl) (record nothing { ack = true })
+      (ack_said CommittedOutcome CommittedOutcome ts)
       (λ o g. subst (λ (z : Reading). Fits pr (r0 turn) z)
-      (sym (ap (λ (x : OwnHalf). R turn (stands_so o (hardens x)) (record v { ack = true })) (commits_record d ts b q)
-      ∙ (ap (λ x. R turn (stands_so x (hardens (commits q))) (record v { ack = true })) (g ∙ stays_closed closed)
+      (sym (ap (λ (x : OwnHalf). R turn (stands_so o (hardens x)) (record v { ack = true }))
+      (commits_record d ts b q)
+      ∙ (ap (λ x. R turn (stands_so x (hardens (commits q))) (record v { ack = true }))
+      (g ∙ stays_closed closed)
       ∙ readings.reading-commit_forced root outcome above half q v closed doubt.prepared)))
       (onward turn (move.commits_forced (move.hardens_child (r0 turn)))
       (moves.commits_forced pr (sym of ∙ f) (move.hardens_child (r0 turn)) (hard turn).invariant
@@ -200,11 +208,15 @@ module _ (turn : Turn) where
       let closed = prepared_closed e in
       let doubt = doubt_at e in
       forced_fine turn (row_effect d (prepared_abort_by seat (coordinator_view place n d) PresumeCommit)) next
-      (AbortRecord d ts) refl (λ x. refl) (record nothing { ack = true }) (ack_said AbortedOutcome AbortedOutcome ts)
+      (AbortRecord d ts) refl (λ x. refl) (record nothing { ack = true })
+      (ack_said AbortedOutcome AbortedOutcome ts)
       (λ o g. subst (λ (z : Reading). Fits pr (r0 turn) z)
-      (sym (ap (λ (x : OwnHalf). R turn (stands_so o (hardens x)) (record v { ack = true })) (aborts_record d ts b q)
-      ∙ (ap (λ x. R turn (stands_so o (hardens (aborts x q))) (record v { ack = true })) (promise_written doubt.prepared)
-      ∙ (ap (λ x. R turn (stands_so x (hardens (aborts true q))) (record v { ack = true })) (g ∙ stays_closed closed)
+      (sym (ap (λ (x : OwnHalf). R turn (stands_so o (hardens x)) (record v { ack = true }))
+      (aborts_record d ts b q)
+      ∙ (ap (λ x. R turn (stands_so o (hardens (aborts x q))) (record v { ack = true }))
+      (promise_written doubt.prepared)
+      ∙ (ap (λ x. R turn (stands_so x (hardens (aborts true q))) (record v { ack = true }))
+      (g ∙ stays_closed closed)
       ∙ readings.reading-abort_forced root outcome above half q v closed doubt.prepared))))
       (onward turn (move.rolls_back_forced (move.hardens_child (r0 turn)))
       (moves.rolls_back_forced pr (sym of ∙ f) (move.hardens_child (r0 turn)) (hard turn).invariant
@@ -230,7 +242,8 @@ module _ (turn : Turn) where
   nothing_left : (x : Bool) → has (is_prepare (own_case turn)) (kept n) ≡ x
       → IsOver (has (is_end (own_case turn)) (kept n)) (has (is_commit (own_case turn)) (kept n))
       (has (is_abort (own_case turn)) (kept n)) (has (is_prepare (own_case turn)) (kept n))
-      → ((r0 turn).prepared_kept ≡ false) ⊎ (((r0 turn).forgot_kept ≡ true) ⊎ (((r0 turn).heuristic_kept ≡ false)
+      → ((r0 turn).prepared_kept ≡ false) ⊎ (((r0 turn).forgot_kept ≡ true)
+      ⊎ (((r0 turn).heuristic_kept ≡ false)
       × (((r0 turn).learnt_commit_kept ≡ true) ⊎ ((r0 turn).learnt_abort_kept ≡ true))))
   nothing_left false e o = inl e
   nothing_left true e (inl f) = inr (inr (refl, decided e (end_decided f e)))
@@ -240,7 +253,8 @@ module _ (turn : Turn) where
 
   pub forgotten : q.is_open ≡ false
       → IsOver (has (is_end (own_case turn)) (kept n)) (has (is_commit (own_case turn)) (kept n))
-      (has (is_abort (own_case turn)) (kept n)) (has (is_prepare (own_case turn)) (kept n)) → IsForgotten (r0 turn)
+      (has (is_abort (own_case turn)) (kept n)) (has (is_prepare (own_case turn)) (kept n))
+      → IsForgotten (r0 turn)
   forgotten closed o = record {
     closed = rw closed (and-false v.issued);
     nothing = nothing_left (has (is_prepare d) (kept n)) refl o;
@@ -262,7 +276,8 @@ module _ (turn : Turn) where
       let over = refused_over (coordinator_view place n d).standing refl e in
       closed_says (row_effect d (sends (up_letter seat (No d)) (coordinator_view place n d))) next refl over.0
       (record nothing { no = true })
-      (letters.said_first c t (post t.child p (No d)) [] (letters.none_silent c t) ∙ rw (same_case-refl d) refl)
+      (letters.said_first c t (post t.child p (No d)) [] (letters.none_silent c t)
+      ∙ rw (same_case-refl d) refl)
       (move.refuses (r0 turn)) refl
       (moves.refuses pr (r0 turn) inv
       (record { asked = prepare_sent turn j k i; up = up; forgotten = over.1 }))
@@ -273,9 +288,11 @@ module _ (turn : Turn) where
       → Then turn (row_effect d (sends (up_letter seat (Ack d o)) (coordinator_view place n d)))
       → Fine turn (row_effect d (sends (up_letter seat (Ack d o)) (coordinator_view place n d)))
   acks o closed fits next =
-      closed_says (row_effect d (sends (up_letter seat (Ack d o)) (coordinator_view place n d))) next refl closed
+      closed_says (row_effect d (sends (up_letter seat (Ack d o))
+      (coordinator_view place n d))) next refl closed
       (record nothing { ack = true })
-      (letters.said_first c t (post t.child p (Ack d o)) [] (letters.none_silent c t) ∙ rw (same_case-refl d) refl)
+      (letters.said_first c t (post t.child p (Ack d o)) [] (letters.none_silent c t)
+      ∙ rw (same_case-refl d) refl)
       (move.acknowledges (r0 turn)) refl fits
 
   -- a case that commits does so under Presumed Abort, one that aborts under Presumed Commit
@@ -291,10 +308,12 @@ module _ (turn : Turn) where
   aborts_by PresumeCommit f e = refl
   aborts_by PresumeAbort f e =
       let g = aborting_facts place n d e in
-      absurd (let k = sym ((subst (λ (y : Presumption). NamesBy y d (kept n)) f order.names).1 g.0) ∙ g.1 in cc)
+      absurd (let k = sym ((subst (λ (y : Presumption). NamesBy y d (kept n)) f order.names).1 g.0)
+      ∙ g.1 in cc)
 
   acknowledges_by : (j : ℕ) (o : Outcome) → h.input ≡ MessageInput j (tells_outcome o d) → (x : Presumption)
-      → d.txn.presumption ≡ x → (s : Standing) → (coordinator_view place n d).standing ≡ s → Acknowledges o x s
+      → d.txn.presumption ≡ x → (s : Standing) → (coordinator_view place n d).standing ≡ s
+      → Acknowledges o x s
       → (q.is_open ≡ false) × Fits pr (r0 turn) (move.acknowledges (r0 turn))
   acknowledges_by j CommittedOutcome i _ f _ e commit_presumed_abort =
       let closed = closed_by Unknown e refl in (

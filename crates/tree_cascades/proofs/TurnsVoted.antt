@@ -1,4 +1,5 @@
--- The rows of the pair's case that end the collecting of votes, and ABORT before the promise, keep the pair's invariant.
+-- The rows of the pair's case that end the collecting of votes, and ABORT before the promise, keep the pair's
+-- invariant.
 use Rattle.std.proofs.Common.{◌≡◌, ◌∙◌, inl, ℕ, Bool, true, false, Some, List, [], ◌∷◌, ◌++◌, refl, sym, ap, subst}
 use Rattle.tree_model.specs.declared.names.Case.{Case}
 use Rattle.tree_model.specs.declared.names.Outcome.TheVariants.{Aborted as AbortedOutcome}
@@ -67,18 +68,23 @@ module _ (turn : Turn) where
 
   -- All read only.
 
-  pub reads_only_own : (u : Ticket) (w : Vote) (ys : List Ticket) (x : Presumption) → CountsLast place n h d u w ys
-      → Then turn (row_effect d (counting u w (record (collecting_read_only seat) { written = read_only_end seat x })))
-      → Fine turn (row_effect d (counting u w (record (collecting_read_only seat) { written = read_only_end seat x })))
+  pub reads_only_own : (u : Ticket) (w : Vote) (ys : List Ticket) (x : Presumption)
+      → CountsLast place n h d u w ys
+      → Then turn (row_effect d (counting u w (record (collecting_read_only seat)
+      { written = read_only_end seat x })))
+      → Fine turn (row_effect d (counting u w (record (collecting_read_only seat)
+      { written = read_only_end seat x })))
   reads_only_own u w ys PresumeAbort k next =
       silent_fine turn
-      (row_effect d (counting u w (record (collecting_read_only seat) { written = read_only_end seat PresumeAbort })))
+      (row_effect d (counting u w (record (collecting_read_only seat)
+      { written = read_only_end seat PresumeAbort })))
       next refl (said_read turn) (read_said turn)
       (λ o f. read_moves turn (asked_for k.vote.stands) (at_collecting turn k.vote.stands) o
       (f ∙ last_closes t.child p tree n h d alike w u ys k))
   reads_only_own u w ys PresumeCommit k next =
       plain_fine turn
-      (row_effect d (counting u w (record (collecting_read_only seat) { written = read_only_end seat PresumeCommit })))
+      (row_effect d (counting u w (record (collecting_read_only seat)
+      { written = read_only_end seat PresumeCommit })))
       next (EndRecord d) refl (λ x. refl) (said_read turn) (read_said turn)
       (λ o f. subst (λ (z : OwnHalf). Fits pr (r0 turn) (R turn (stands_so o z) (record v { read = true })))
       (sym (aside d (EndRecord d) b q (record { no_prepare = refl; no_commit = refl; no_abort = refl })))
@@ -98,12 +104,15 @@ module _ (turn : Turn) where
       (cascaded_prepares seat (voted (coordinator_view place n d) u w) ys)))
   promises_own u w ys k next =
       let stands = k.vote.stands in
-      let none = collecting_undecided (kept n) d (memory_of place n d).phase (sym (viewed place n d) ∙ stands) in
+      let none = collecting_undecided (kept n) d (memory_of place n d).phase
+      (sym (viewed place n d) ∙ stands) in
       let may = may_vote turn (asked_for stands) (at_collecting turn stands) in
-      forced_fine turn (row_effect d (counting u w (cascaded_prepares seat (voted (coordinator_view place n d) u w) ys)))
+      forced_fine turn (row_effect d (counting u w
+      (cascaded_prepares seat (voted (coordinator_view place n d) u w) ys)))
       next (PrepareRecord d ys) refl (λ x. refl) (record nothing { yes = true }) yes_said
       (λ o f. subst (λ (z : Reading). Fits pr (r0 turn) z)
-      (sym (ap (λ (x : OwnHalf). R turn (stands_so o (hardens x)) (record v { yes = true })) (promises_record d ys b q)
+      (sym (ap (λ (x : OwnHalf). R turn (stands_so o (hardens x)) (record v { yes = true }))
+      (promises_record d ys b q)
       ∙ (ap (λ x. R turn (stands_so x (hardens (promises q))) (record v { yes = true }))
       (f ∙ last_closes t.child p tree n h d alike w u ys k)
       ∙ readings.reading-yes root outcome above half q v (at_collecting turn stands) none.no_abort)))
@@ -140,7 +149,8 @@ module _ (turn : Turn) where
       (letters.each_silent c t seat AbortedOutcome us)
       ∙ rw (same_case-refl d) refl
 
-  ack_said : (us : List Ticket) → said_by c t (post t.child p (Ack (own_case turn) AbortedOutcome) ∷ each seat Abort us)
+  ack_said : (us : List Ticket) → said_by c t (post t.child p
+      (Ack (own_case turn) AbortedOutcome) ∷ each seat Abort us)
       ≡ record nothing { ack = true }
   ack_said us = letters.said_first c t (post t.child p (Ack d AbortedOutcome)) (each seat Abort us)
       (letters.each_silent c t seat AbortedOutcome us)
@@ -157,7 +167,8 @@ module _ (turn : Turn) where
       let is_open = at_collecting turn k.stands in
       abort_plain (row_effect d (counting u VoteNo
       (collecting_abort_by seat ByVote (voted (coordinator_view place n d) u VoteNo) us PresumeAbort)))
-      next [] refl (first_closes t.child p tree n h d alike u k) (record nothing { no = true }) (no_said us) (move.votes_no (r0 turn))
+      next [] refl (first_closes t.child p tree n h d alike u k) (record nothing { no = true })
+      (no_said us) (move.votes_no (r0 turn))
       (readings.reading-no root outcome above half q v is_open s.issued s.none_kept s.none_ever s.no_read b)
       (moves.votes_no pr (r0 turn) inv (may_vote turn (asked_for k.stands) is_open))
   hears_no_own u us PresumeCommit k next =
@@ -168,7 +179,8 @@ module _ (turn : Turn) where
       (collecting_abort_by seat ByVote (voted (coordinator_view place n d) u VoteNo) us PresumeCommit)))
       next us refl (first_closes t.child p tree n h d alike u k) (record nothing { no = true }) (no_said us)
       (move.votes_no (move.hardens_child (r0 turn)))
-      (readings.reading-no_forced root outcome above half q v is_open s.issued s.none_kept s.none_ever s.no_read b)
+      (readings.reading-no_forced root outcome above half q v is_open s.issued s.none_kept s.none_ever
+      s.no_read b)
       (onward turn (move.votes_no (move.hardens_child (r0 turn)))
       (moves.votes_no pr (move.hardens_child (r0 turn)) (hard turn).invariant
       (record { asked = may.asked; is_open = may.is_open })))
@@ -177,7 +189,8 @@ module _ (turn : Turn) where
 
   abort_heard : (j : ℕ) → h.input ≡ MessageInput j (Abort d) → live (Remembered turn).phase ≡ false
   abort_heard j i =
-      ap (λ (x : Input). live (cascaded_remembers t.child (boot_of (kept n)) d (memory_of place n d) x).phase) i
+      ap (λ (x : Input). live (cascaded_remembers t.child (boot_of (kept n)) d
+      (memory_of place n d) x).phase) i
       ∙ opens.abort_closes t.child (boot_of (kept n)) d (memory_of place n d) j
 
   pub silent_aborted : (j : ℕ) → h.input ≡ MessageInput j (Abort d) → q.is_open ≡ true → IsSilent turn
@@ -190,20 +203,25 @@ module _ (turn : Turn) where
   aborts_own j i us PresumeAbort f e next =
       let is_open = at_collecting turn e in
       let s = silent_aborted j i is_open in
-      abort_plain (row_effect d (collecting_abort_by seat ByAbort (coordinator_view place n d) us PresumeAbort))
+      abort_plain (row_effect d (collecting_abort_by seat ByAbort
+      (coordinator_view place n d) us PresumeAbort))
       next [] refl (abort_heard j i) nothing
       (ap (λ (y : Presumption). said_by c t (acknowledges_abort seat y ++ each seat Abort us)) f
       ∙ letters.each_silent c t seat AbortedOutcome us) (move.drops (r0 turn))
-      (readings.reading-aborted root outcome above half q v is_open s.issued s.none_kept s.none_ever s.no_read b)
+      (readings.reading-aborted root outcome above half q v is_open s.issued s.none_kept s.none_ever
+      s.no_read b)
       (moves.drops pr (r0 turn) inv (record { is_open = rw (s.issued, is_open) refl }))
   aborts_own j i us PresumeCommit f e next =
       let is_open = at_collecting turn e in
       let s = silent_aborted j i is_open in
-      abort_forced (row_effect d (collecting_abort_by seat ByAbort (coordinator_view place n d) us PresumeCommit))
+      abort_forced (row_effect d (collecting_abort_by seat ByAbort
+      (coordinator_view place n d) us PresumeCommit))
       next us refl (abort_heard j i) (record nothing { ack = true })
-      (ap (λ (y : Presumption). said_by c t (acknowledges_abort seat y ++ each seat Abort us)) f ∙ ack_said us)
+      (ap (λ (y : Presumption). said_by c t (acknowledges_abort seat y ++ each seat Abort us)) f
+      ∙ ack_said us)
       (move.drops_and_acknowledges (move.hardens_child (r0 turn)))
-      (readings.reading-aborted_acknowledged root outcome above half q v is_open s.issued s.none_kept s.none_ever s.no_read b)
+      (readings.reading-aborted_acknowledged root outcome above half q v is_open s.issued s.none_kept
+      s.none_ever s.no_read b)
       (onward turn (move.drops_and_acknowledges (move.hardens_child (r0 turn)))
       (moves.drops_and_acknowledges pr (sym of ∙ f) (move.hardens_child (r0 turn)) (hard turn).invariant
       (record { is_open = rw (s.issued, is_open) refl; aborted = abort_sent turn j i })))
@@ -223,7 +241,8 @@ module _ (turn : Turn) where
       (letters.each_silent c t seat AbortedOutcome (coordinator_view place n d).accepted)
       (λ o g. subst (λ (z : Reading). Fits pr (r0 turn) z)
       (sym (ap (λ x. R turn (stands_so x q) v) (g ∙ abort_heard j i)
-      ∙ readings.reading-dropped root outcome above half q v is_open s.issued s.none_kept s.none_ever s.no_read))
+      ∙ readings.reading-dropped root outcome above half q v is_open s.issued s.none_kept s.none_ever
+      s.no_read))
       (moves.drops pr (r0 turn) inv (record { is_open = rw (s.issued, is_open) refl })))
   gives_up_own j i PresumeCommit f e next =
       let is_open = open_at turn Active e (inl refl) in
@@ -232,6 +251,7 @@ module _ (turn : Turn) where
       (ack_said (coordinator_view place n d).accepted)
       (λ o g. subst (λ (z : Reading). Fits pr (r0 turn) z)
       (sym (ap (λ x. R turn (stands_so x q) (record v { ack = true })) (g ∙ abort_heard j i)
-      ∙ readings.reading-dropped_acknowledged root outcome above half q v is_open s.issued s.none_kept s.none_ever s.no_read))
+      ∙ readings.reading-dropped_acknowledged root outcome above half q v is_open s.issued s.none_kept
+      s.none_ever s.no_read))
       (moves.drops_and_acknowledges pr (sym of ∙ f) (r0 turn) inv
       (record { is_open = rw (s.issued, is_open) refl; aborted = abort_sent turn j i })))

@@ -1,4 +1,5 @@
--- The rows of the pair's case that vote, and those by which it aborts before its promise, keep the pair's invariant.
+-- The rows of the pair's case that vote, and those by which it aborts before its promise, keep the pair's
+-- invariant.
 use Rattle.std.proofs.Common.{◌≡◌, ◌∙◌, ◌⊎◌, inl, inr, ℕ, Bool, true, false, Some, None, [], ◌∷◌, refl, sym, ap, subst}
 use Rattle.tree_model.specs.declared.names.Case.{Case}
 use Rattle.tree_model.specs.declared.names.Outcome.TheVariants.{Aborted as AbortedOutcome}
@@ -35,7 +36,8 @@ live_at f s u up e (inl g) = rw (up, e, g) refl
 live_at f s u up e (inr g) = rw (up, e, g) refl
 
 -- The pair's case is none of a root.
-pub no_root : {A : Type 0} (c : Case) (t : Ticket) (x : Txn) → child_case c.txn t ≡ record { txn = x; ticket = None } → A
+pub no_root : {A : Type 0} (c : Case) (t : Ticket) (x : Txn) → child_case c.txn t
+    ≡ record { txn = x; ticket = None } → A
 no_root c t x e = absurd (let f : Some t ≡ None = ap (λ (y : Case). y.ticket) e in cc)
 
 module _ (turn : Turn) where
@@ -122,7 +124,8 @@ module _ (turn : Turn) where
 
   pub finds_nobody_own : (j k : ℕ) → h.input ≡ MessageInput j (Prepare d k)
       → (coordinator_view place n d).standing ≡ Active → none_of (coordinator_view place n d).accepted ≡ true
-      → Then turn (row_effect d (active_commit_alone seat)) → Fine turn (row_effect d (active_commit_alone seat))
+      → Then turn (row_effect d (active_commit_alone seat))
+      → Fine turn (row_effect d (active_commit_alone seat))
   finds_nobody_own j k i e none next =
       let closes = closings.nobody_closes t.child p tree n h d alike j k i e none in
       silent_fine turn (row_effect d (active_commit_alone seat)) next refl said_read read_said

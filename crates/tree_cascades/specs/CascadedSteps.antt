@@ -8,7 +8,8 @@ use Rattle.tree_model.specs.World.{IsRun, Made, Move, Stands, World, world_makes
 use Rattle.tree_nodes.specs.ProcessSteps.{ChildStep}
 use Rattle.tree_nodes.specs.WorldHolds.{AllGo}
 
--- In every run of a tree whose messages have gone to where they belong, each step of a cascaded coordinator keeps the
+-- In every run of a tree whose messages have gone to where they belong, each step of a cascaded coordinator
+-- keeps the
 -- pairs above it, if the messages of the step do so too.
 abbrev pub CascadedChildSteps : Type 0
 CascadedChildSteps = (tree : List TreeEntry) → IsTree tree → (es : List Made) (w : World) → IsRun tree es w
