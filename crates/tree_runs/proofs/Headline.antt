@@ -2,9 +2,7 @@
 use Rattle.std.proofs.Common.{◌≡◌, ◌∙◌, Bool, true, false, Option, Some, None, List, [], ◌∷◌, ◌++◌, refl, sym, ap, subst}
 use Rattle.tree_model.specs.declared.names.ProcessId.{ProcessId}
 use Rattle.tree_model.specs.declared.messages.Envelope.{Envelope}
-use Rattle.tree_model.specs.declared.events.Fault.{Fault}
 use Rattle.tree_model.specs.declared.events.Happening.{Happening}
-use Rattle.tree_model.specs.declared.events.Input.{Input}
 use Rattle.tree_model.specs.declared.events.Happening.TheVariants.{Input as Handles, Restart, Trim}
 use Rattle.tree_model.specs.declared.trees.TreeEntry.{TreeEntry}
 use Rattle.tree_model.specs.Nodes.{AtRoot, Below, Effect, Node, Role, place_of, role_of}
@@ -21,28 +19,20 @@ use Rattle.tree_cascades.proofs.ChildSteps.{cascaded_child_steps}
 use Rattle.tree_crashes.specs.CoordinatorCrashes.{IsCrash}
 use Rattle.tree_crashes.proofs.CoordinatorCrashes.{coordinator_crashes}
 use Rattle.tree_headline.specs.CoordinatorLaws.{CascadedKeeps, CascadedLaws, RootKeeps, RootLaws}
-use Rattle.tree_headline.proofs.Coordinators.{headline_of_runs}
-use Rattle.tree_parents.specs.ParentRows.{JoinedAreBorn, NoOwnParent}
-use Rattle.tree_parents.proofs.Steps.{coordinator_rows}
+use Rattle.tree_headline.specs.ProcessLaws.{ProcessLaws}
+use Rattle.tree_headline.proofs.Coordinators.{coordinators_keep, headline_of_runs}
+use Rattle.tree_headline.proofs.Headline.{runs_hold}
+use Rattle.tree_headline.proofs.Managers.{coordinators_are_enough}
+use Rattle.tree_parents.specs.ParentRows.{NoOwnParent}
+use Rattle.tree_parents.proofs.FaultLaws.{coordinator_inputs}
 use Rattle.tree_runs.proofs.BornHolds.{joined_are_born}
 use Rattle.tree_runs.proofs.LettersHold.{letters_hold}
-
--- what an input of a coordinator in which its device fails does to the pairs below it
-abbrev pub CoordinatorFaults : Type 0
-CoordinatorFaults = (tree : List TreeEntry) (es : List Made) (w : World) → NoOwnParent tree → IsRun tree es w
-    → WorldHolds tree w → JoinedAreBorn tree w
-    → (m : Move) (e : Effect) (w' : World) → IsCoordinator (role_of tree m.step.process)
-    → Stands w.net m.step.process m.step.happening → world_makes tree w m ≡ Some (e, w')
-    → (i : Input) → m.step.happening ≡ Handles i → (f : Fault) → m.step.fault ≡ Some f
-    → (let q = m.step.process in
-    Coordinates (place_of tree q) (w.net ++ e.messages) (w'.at q)
-    → ParentStep (place_of tree q) w.net e.messages (w.at q) (w'.at q))
 
 -- no process of a tree is its own parent
 no_own_parent : (tree : List TreeEntry) → IsTree tree → NoOwnParent tree
 no_own_parent tree is_tree q listed child = parent_elsewhere tree is_tree q q listed child refl
 
-module _ (coordinator_faults : CoordinatorFaults) (tree : List TreeEntry) (is_tree : IsTree tree) (es : List Made) (w : World) (run : IsRun tree es w)
+module _ (tree : List TreeEntry) (is_tree : IsTree tree) (es : List Made) (w : World) (run : IsRun tree es w)
     (h : WorldHolds tree w) (m : Move) (e : Effect) (w' : World)
     (stands : Stands w.net m.step.process m.step.happening) (made : world_makes tree w m ≡ Some (e, w'))
   where
@@ -65,18 +55,11 @@ module _ (coordinator_faults : CoordinatorFaults) (tree : List TreeEntry) (is_tr
         → ParentStep (place_of tree q) w.net e.messages (w.at q) (w'.at q)
     below i co = by_happening m.step.happening refl
       where
-        by_fault : (x : _) → m.step.happening ≡ Handles x → (o : Option Fault) → m.step.fault ≡ o
-            → ParentStep (place_of tree q) w.net e.messages (w.at q) (w'.at q)
-        by_fault x f None g =
-            coordinator_rows tree es w (no_own_parent tree is_tree) run h (joined_are_born tree es w run) m e w' i stands
-            made x f g co
-        by_fault x f (Some ft) g =
-            coordinator_faults tree es w (no_own_parent tree is_tree) run h (joined_are_born tree es w run) m e w' i stands
-            made x f ft g co
-
         by_happening : (x : Happening) → m.step.happening ≡ x
             → ParentStep (place_of tree q) w.net e.messages (w.at q) (w'.at q)
-        by_happening (Handles x) f = by_fault x f m.step.fault refl
+        by_happening (Handles x) f =
+            coordinator_inputs tree es w (no_own_parent tree is_tree) run h (joined_are_born tree es w run) m e w' i stands
+            made x f co
         by_happening (Restart k) f =
             coordinator_crashes tree is_tree es w run h m e w' i (subst IsCrash (sym f) tt) stands made
         by_happening Trim f =
@@ -110,15 +93,22 @@ module _ (coordinator_faults : CoordinatorFaults) (tree : List TreeEntry) (is_tr
           pairs_above = cascaded_child_steps tree is_tree es w run h.net m e w' p f stands made sends.go;
         }
 
-pub root_laws : CoordinatorFaults → (tree : List TreeEntry) → IsTree tree → RootLaws tree
-root_laws faults tree is_tree es w run h m e w' top stands made =
-    root_keeps faults tree is_tree es w run h m e w' stands made top
+pub root_laws : (tree : List TreeEntry) → IsTree tree → RootLaws tree
+root_laws tree is_tree es w run h m e w' top stands made =
+    root_keeps tree is_tree es w run h m e w' stands made top
 
-pub cascaded_laws : CoordinatorFaults → (tree : List TreeEntry) → IsTree tree → CascadedLaws tree
-cascaded_laws faults tree is_tree es w run h m e w' p below stands made =
-    cascaded_keeps faults tree is_tree es w run h m e w' stands made p below
+pub cascaded_laws : (tree : List TreeEntry) → IsTree tree → CascadedLaws tree
+cascaded_laws tree is_tree es w run h m e w' p below stands made =
+    cascaded_keeps tree is_tree es w run h m e w' stands made p below
 
-pub headline : CoordinatorFaults → (tree : List TreeEntry) → IsTree tree → (es : List Made) (w : World) → IsRun tree es w
+process_laws : (tree : List TreeEntry) → IsTree tree → ProcessLaws tree
+process_laws tree is_tree =
+    coordinators_are_enough tree (coordinators_keep tree (root_laws tree is_tree) (cascaded_laws tree is_tree))
+
+pub the_world_holds : (tree : List TreeEntry) → IsTree tree → (es : List Made) (w : World) → IsRun tree es w
+    → WorldHolds tree w
+the_world_holds tree is_tree = runs_hold tree is_tree (process_laws tree is_tree)
+
+pub headline : (tree : List TreeEntry) → IsTree tree → (es : List Made) (w : World) → IsRun tree es w
     → Headline tree es w
-headline faults tree is_tree =
-    headline_of_runs tree is_tree (root_laws faults tree is_tree) (cascaded_laws faults tree is_tree)
+headline tree is_tree = headline_of_runs tree is_tree (root_laws tree is_tree) (cascaded_laws tree is_tree)
