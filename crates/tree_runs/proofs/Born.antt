@@ -1,50 +1,35 @@
 -- In every run of a tree a case of which JOIN or JOINED was ever sent is known: the root began it, or its own ticket was
 -- given.
-use Rattle.std.proofs.Common.{◌≡◌, ◌≢◌, ◌∙◌, ◌⊎◌, inl, inr, ◌||◌, ℕ, zero, suc, Bool, true, false, Option, Some, None, List, [], ◌∷◌, ◌++◌, refl, sym, ap, subst, arith}
-use Rattle.std.specs.List.{flat_map, list_any}
+use Rattle.std.proofs.Common.{◌≡◌, ◌≢◌, ◌∙◌, inl, inr, Bool, true, false, Option, Some, None, List, refl, ap, subst}
 use Rattle.tree_model.specs.declared.names.Case.{Case}
 use Rattle.tree_model.specs.declared.names.ProcessId.{ProcessId}
 use Rattle.tree_model.specs.declared.names.Ticket.{Ticket}
 use Rattle.tree_model.specs.declared.names.Txn.{Txn}
-use Rattle.tree_model.specs.declared.messages.Envelope.{Envelope}
 use Rattle.tree_model.specs.declared.messages.Message.{Message}
-use Rattle.tree_model.specs.declared.messages.Message.TheVariants.{Join, Joined, Work, Prepare, Yes, No, Read, Commit, Abort, Ack, Inquire}
-use Rattle.tree_model.specs.declared.records.Record.{Record}
+use Rattle.tree_model.specs.declared.messages.Message.TheVariants.{Join}
 use Rattle.tree_model.specs.declared.standings.Standing.TheVariants.{Unknown}
-use Rattle.tree_model.specs.declared.events.Input.{Input}
-use Rattle.tree_model.specs.declared.events.Input.TheVariants.{Message as MessageInput}
 use Rattle.tree_model.specs.declared.trees.TreeEntry.{TreeEntry}
 use Rattle.tree_model.specs.Names.{child_case, process_of, root_case, same_case}
-use Rattle.tree_model.specs.NameLaws.{same_case-refl}
 use Rattle.tree_model.specs.Records.{has}
-use Rattle.tree_model.specs.Nodes.{AtLeaf, AtRoot, Below, Effect, Heard, Node, Place, Role, begun_first, kept, place_of, role_of}
+use Rattle.tree_model.specs.Nodes.{AtRoot, Node, Place, kept, role_of}
 use Rattle.tree_model.specs.Memory.{Phase, Idle, Open, Asked, Over, memory_of}
-use Rattle.tree_model.specs.Outcomes.{has_accepted, is_joined_message, sent}
-use Rattle.tree_model.specs.Restarts.{trim_fails}
+use Rattle.tree_model.specs.Outcomes.{has_accepted, sent}
 use Rattle.tree_model.specs.Standings.{case_of_child, coordinator_view}
 use Rattle.tree_model.specs.Views.{root_place}
-use Rattle.tree_model.specs.World.{InputStands, IsRun, IsSent, Made, Move, Stands, World, makes, opens, world_makes}
-use Rattle.tree_model.proofs.RunLaws.{makes_at}
-use Rattle.tree_readings.specs.ReadingOf.{gives_case, is_begun, is_born, is_root_ticket, parent_half}
-use Rattle.tree_turns.specs.Steps.{StepOf, TurnAt, heard_in, handled, failed_in, passed, failed_passing, reopened, failed_reopening, trimmed, failed_trimming}
-use Rattle.tree_turns.specs.Written.{AllSent, IsForCase, IsFromCase, Sends, Writes, down, upward, invites, for_act, for_child, for_parent, gives, presumes, writes_nothing}
-use Rattle.tree_turns.proofs.Steps.{step_of, turn_of}
+use Rattle.tree_model.specs.World.{IsRun, Made, World}
+use Rattle.tree_readings.specs.ReadingOf.{gives_case, is_begun}
 use Rattle.tree_nodes.specs.Lasts.{Nested, logs_of}
-use Rattle.tree_nodes.specs.WorldHolds.{AboutGiven, Coordinates, IsPair, RoleHolds, has_begun, is_about, is_naming, is_record_of}
-use Rattle.tree_nodes.proofs.Deliveries.{was_sent}
+use Rattle.tree_nodes.specs.WorldHolds.{Coordinates, RoleHolds, has_begun, is_naming, is_record_of}
 use Rattle.tree_nodes.proofs.Naming.{records_name}
 use Rattle.tree_nodes.proofs.OwnCases.{child_belongs}
-use Rattle.tree_nodes.proofs.PairOf.{given}
 use Rattle.tree_nodes.proofs.Remembering.{coordinator_place, role_below}
 use Rattle.tree_nodes.proofs.RootBegins.{all_begun, was_begun}
 use Rattle.tree_nodes.proofs.RootHistories.{among}
 use Rattle.tree_nodes.proofs.RootKnown.{known_by}
-use Rattle.tree_nodes.proofs.RootNumbered.{all_root_cases, at_root}
+use Rattle.tree_nodes.proofs.RootNumbered.{all_root_cases}
 use Rattle.tree_nodes.proofs.RootsHold.{nodes_hold}
-use Rattle.tree_nodes.proofs.Tests.{case_is, either, left, right}
-use Rattle.tree_headline.proofs.Grows.{sent_still, sent_then}
+use Rattle.tree_nodes.proofs.Tests.{either}
 use Rattle.tree_runs.proofs.LettersHold.{none_gives}
-use Rattle.tree_runs.proofs.NetsHold.{NetHolds, nets_hold}
 
 -- JOIN of the case
 abbrev pub is_join : Case → Message → Bool

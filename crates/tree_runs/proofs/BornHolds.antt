@@ -1,6 +1,6 @@
 -- Who sends JOIN, and who answers it: each is of a case that is known, over every run.
-use Rattle.std.proofs.Common.{◌≡◌, ◌≢◌, ◌∙◌, ◌⊎◌, inl, inr, ◌||◌, ◌&&◌, ◌+◌, ℕ, zero, suc, Bool, true, false, Option, Some, None, List, [], ◌∷◌, ◌++◌, if◌then◌else◌, refl, sym, ap, subst, arith}
-use Rattle.std.specs.List.{flat_map, list_any}
+use Rattle.std.proofs.Common.{◌≡◌, ◌∙◌, inl, inr, ◌||◌, ◌&&◌, ℕ, zero, suc, Bool, true, false, Option, Some, None, List, [], ◌∷◌, ◌++◌, if◌then◌else◌, refl, sym, ap, subst, arith}
+use Rattle.std.specs.List.{list_any}
 use Rattle.tree_model.specs.declared.names.Case.{Case}
 use Rattle.tree_model.specs.declared.names.Outcome.{Outcome}
 use Rattle.tree_model.specs.declared.names.Outcome.TheVariants.{Committed as CommittedOutcome, Aborted as AbortedOutcome}
@@ -12,18 +12,16 @@ use Rattle.tree_model.specs.declared.messages.Message.{Message}
 use Rattle.tree_model.specs.declared.messages.Message.TheVariants.{Join, Joined, Work, Prepare, Yes, No, Read, Commit, Abort, Ack, Inquire}
 use Rattle.tree_model.specs.declared.events.Happening.{Happening}
 use Rattle.tree_model.specs.declared.events.Input.{Input}
-use Rattle.tree_model.specs.declared.events.Input.TheVariants.{Message as MessageInput}
 use Rattle.tree_model.specs.declared.trees.TreeEntry.{TreeEntry}
 use Rattle.tree_model.specs.Names.{child_case, process_of, root_case, same_case, same_process, same_ticket, same_txn}
-use Rattle.tree_model.specs.NameLaws.{names, same_case-refl, same_process_tells}
-use Rattle.tree_model.specs.Nodes.{AtLeaf, AtRoot, Below, Effect, Heard, Node, Place, Role, after, begun_first, place_of, role_of}
+use Rattle.tree_model.specs.NameLaws.{same_case-refl, same_process_tells}
+use Rattle.tree_model.specs.Nodes.{AtLeaf, AtRoot, Below, Effect, Heard, Node, Place, Role, begun_first, place_of, role_of}
 use Rattle.tree_model.specs.Outcomes.{is_joined_message, sent}
 use Rattle.tree_model.specs.CoordinatorRows.{Seat, tells_outcome}
 use Rattle.tree_model.specs.ManagerRows.{acknowledgement, is_acknowledged}
 use Rattle.tree_model.specs.Reactions.{leaf_of, seat_of}
 use Rattle.tree_model.specs.Records.{cases_in}
 use Rattle.tree_model.specs.Restarts.{coordinator_reopens, left_of, reopens, restart_effect, trim_fails}
-use Rattle.tree_model.specs.Views.{root_place}
 use Rattle.tree_model.specs.World.{InputStands, IsRun, Made, Move, Stands, World, makes, opens, put_at, world_makes}
 use Rattle.tree_model.proofs.RunLaws.{makes_at}
 use Rattle.tree_readings.specs.ReadingOf.{gives_case, is_born, is_root_ticket, parent_half}
@@ -33,7 +31,7 @@ use Rattle.tree_turns.specs.LeafTurns.{Hears, LeafTurn}
 use Rattle.tree_turns.specs.Steps.{StepOf, TurnAt, heard_in, handled, failed_in, passed, failed_passing, reopened, failed_reopening, trimmed, failed_trimming}
 use Rattle.tree_turns.specs.Written.{AllSent, IsForCase, IsFromCase, Sends, Writes, down, upward, invites, for_act, for_child, for_parent, gives, presumes, writes_nothing}
 use Rattle.tree_turns.proofs.Steps.{step_of, turn_of}
-use Rattle.tree_nodes.specs.WorldHolds.{IsPair, IsParentRole, is_about}
+use Rattle.tree_nodes.specs.WorldHolds.{IsParentRole, is_about}
 use Rattle.tree_nodes.proofs.Deliveries.{was_sent}
 use Rattle.tree_nodes.proofs.Remembering.{coordinator_place, role_below}
 use Rattle.tree_nodes.proofs.RootBegins.{all_begun}

@@ -1,44 +1,26 @@
 -- Where a coordinator's letters go, and of which cases they are.
-use Rattle.std.proofs.Common.{◌≡◌, ◌≢◌, ◌∙◌, ◌⊎◌, inl, inr, ◌||◌, ◌&&◌, ◌-◌, ◌+◌, ℕ, zero, suc, Bool, true, false, Option, Some, None, List, [], ◌∷◌, ◌++◌, map, find, take, refl, sym, ap, subst, arith}
-use Rattle.std.specs.Prelude.{slice_get}
-use Rattle.std.specs.List.{flat_map, list_any}
+use Rattle.std.proofs.Common.{◌≡◌, inl, inr, ◌||◌, ℕ, Bool, true, List, [], ◌∷◌, ◌++◌, map, refl, sym, subst, arith}
 use Rattle.tree_model.specs.declared.names.Case.{Case}
 use Rattle.tree_model.specs.declared.names.Outcome.{Outcome}
 use Rattle.tree_model.specs.declared.names.Outcome.TheVariants.{Committed as CommittedOutcome, Aborted as AbortedOutcome}
-use Rattle.tree_model.specs.declared.names.Presumption.{Presumption}
-use Rattle.tree_model.specs.declared.names.Presumption.TheVariants.{PresumeAbort, PresumeCommit}
 use Rattle.tree_model.specs.declared.names.ProcessId.{ProcessId}
 use Rattle.tree_model.specs.declared.names.Ticket.{Ticket}
-use Rattle.tree_model.specs.declared.names.Txn.{Txn}
 use Rattle.tree_model.specs.declared.messages.Envelope.{Envelope}
 use Rattle.tree_model.specs.declared.messages.Message.{Message}
-use Rattle.tree_model.specs.declared.messages.Message.TheVariants.{Join, Joined, Work, Prepare, Yes, No, Read, Commit, Abort, Ack, Inquire}
-use Rattle.tree_model.specs.declared.records.Record.{Record}
-use Rattle.tree_model.specs.declared.standings.Standing.{Standing}
-use Rattle.tree_model.specs.declared.standings.Standing.TheVariants.{Unknown, Active, Collecting, Prepared, Committing, Aborting, Heuristic}
-use Rattle.tree_model.specs.declared.events.Input.{Input}
+use Rattle.tree_model.specs.declared.messages.Message.TheVariants.{Work, Prepare, Yes, No, Read, Commit, Abort, Ack, Inquire}
 use Rattle.tree_model.specs.declared.trees.TreeEntry.{TreeEntry}
-use Rattle.tree_model.specs.Names.{child_case, presumed, process_of, same_case, same_process, same_ticket}
-use Rattle.tree_model.specs.NameLaws.{same_case-refl, same_process_tells, same_ticket-refl}
-use Rattle.tree_model.specs.Records.{has, in_list, named_by, promised_by}
-use Rattle.tree_model.specs.Nodes.{Effect, Heard, Node, Place, Role, is_child, is_listed, kept, role_of}
-use Rattle.tree_model.specs.Memory.{Idle, Open, Asked, Phase, memory_of, ticket_of_child, undecided_of, yes_of}
-use Rattle.tree_model.specs.Outcomes.{has_accepted, is_joined_message, sent}
-use Rattle.tree_model.specs.Standings.{CoordinatorView, belongs, case_of_child, coordinator_standing, coordinator_view, own_cases, view_at}
-use Rattle.tree_model.specs.CoordinatorRows.{Reason, ByVote, ByAct, ByAbort, Row, Seat, abort_heard_above, acknowledges_abort, collecting_abort_by, each, post, prepared_abort_by, prepared_commit_by, prepares, root_commits, tells_outcome, to_child, up}
-use Rattle.tree_model.specs.Reactions.{row_effect, seat_of}
-use Rattle.tree_model.specs.World.{InputStands, IsSent}
+use Rattle.tree_model.specs.Names.{child_case, process_of, same_case, same_ticket}
+use Rattle.tree_model.specs.NameLaws.{same_ticket-refl}
+use Rattle.tree_model.specs.Records.{in_list}
+use Rattle.tree_model.specs.Nodes.{role_of}
+use Rattle.tree_model.specs.Outcomes.{is_joined_message, sent}
+use Rattle.tree_model.specs.CoordinatorRows.{Seat, each, post, tells_outcome}
 use Rattle.tree_readings.specs.ReadingOf.{gives_case}
-use Rattle.tree_turns.specs.LeafTurns.{Hears}
-use Rattle.tree_turns.specs.CoordinatorTurns.{IsToAbort, abort_act, abort_comes, HearsChild, HearsParent, CaseTurn, rests, invites, accepts, sends_work, finds_nobody, asks_for_votes, gives_up, counts_vote, reads_only, commits, promises, hears_no, aborts, passes_commit, passes_abort, repeats_yes, asks, refuses, acknowledges, waits_for_acks, ends, answers, CoordinatorTurn, does_nothing, of_case, begins, gives_again, gives_fresh, presumes}
-use Rattle.tree_nodes.specs.WorldHolds.{AboutGiven, AllGo, Coordinates, GoesBy, IsChildRole, IsParent, is_about, is_naming}
+use Rattle.tree_nodes.specs.WorldHolds.{AboutGiven, AllGo, GoesBy, IsChildRole, is_about}
 use Rattle.tree_nodes.proofs.GivenCases.{joined_gives, same_of, sent_other}
 use Rattle.tree_nodes.proofs.PairOf.{is_pair}
-use Rattle.tree_nodes.proofs.Remembering.{coordinator_place, role_below}
 use Rattle.tree_nodes.proofs.Tests.{either}
 use Rattle.tree_headline.proofs.Grows.{sent_still, sent_then}
-use Rattle.tree_headline.proofs.ManagerLetters.{goes_at}
-use Rattle.tree_nodes.proofs.Deliveries.{sent_at}
 
 module _ (tree : List TreeEntry) (me : ProcessId) (net : List Envelope) where
   -- a message goes where it belongs, and is of a case that was given

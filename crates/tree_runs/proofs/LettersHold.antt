@@ -1,5 +1,5 @@
 -- In every run what a coordinator sends goes to where the message belongs, and is of a case that was given.
-use Rattle.std.proofs.Common.{◌≡◌, ◌≢◌, ◌∙◌, ◌⊎◌, inl, inr, ℕ, Bool, true, false, Option, Some, None, List, [], ◌∷◌, ◌++◌, refl, sym, ap, subst}
+use Rattle.std.proofs.Common.{◌≡◌, ◌≢◌, ◌∙◌, inl, inr, ℕ, true, false, Option, Some, None, List, [], ◌∷◌, ◌++◌, sym, ap, subst}
 use Rattle.std.specs.List.{flat_map}
 use Rattle.tree_model.specs.declared.names.Case.{Case}
 use Rattle.tree_model.specs.declared.names.ProcessId.{ProcessId}
@@ -23,7 +23,6 @@ use Rattle.tree_turns.specs.CoordinatorTurns.{CoordinatorTurn}
 use Rattle.tree_turns.specs.Steps.{StepOf, heard_in, handled, failed_in, passed, failed_passing, reopened, failed_reopening, trimmed, failed_trimming}
 use Rattle.tree_turns.proofs.CoordinatorReactions.{CoordinatorTurnAt, coordinator_turn_of}
 use Rattle.tree_turns.proofs.Steps.{step_of, turn_of}
-use Rattle.tree_nodes.specs.CaseOrder.{IsCoordinator}
 use Rattle.tree_nodes.specs.Lasts.{Nested, logs_of}
 use Rattle.tree_nodes.specs.WorldHolds.{AboutGiven, AllGo, Coordinates, IsParent, IsParentRole, RoleHolds, WorldHolds, is_record_of}
 use Rattle.tree_nodes.proofs.PairOf.{given, is_pair}

@@ -1,5 +1,5 @@
 -- In every run of a tree each letter goes where it belongs, and each message about a case is of a case that was given.
-use Rattle.std.proofs.Common.{◌≡◌, ◌≢◌, ◌∙◌, ◌⊎◌, inl, inr, ℕ, Bool, true, false, Option, Some, None, List, [], ◌∷◌, ◌++◌, refl, sym, ap, subst}
+use Rattle.std.proofs.Common.{◌≡◌, true, Option, Some, None, List, [], ◌∷◌, ◌++◌, refl, sym, ap, subst}
 use Rattle.tree_model.specs.declared.names.Case.{Case}
 use Rattle.tree_model.specs.declared.names.ProcessId.{ProcessId}
 use Rattle.tree_model.specs.declared.messages.Envelope.{Envelope}
@@ -62,9 +62,10 @@ module _ (tree : List TreeEntry) (es : List Made) (w : World) (run : IsRun tree 
         let listed = makes_listed tree w m e w' made in
         let fits = managers.letters_fit tree q p f listed w.net h.go h.about_given (w.at q) node.lasts.nested
         (subst (λ r. RoleHolds r (at r) w.net (w.at q)) f node.role).1 m stands e (makes_at tree w m e w' made).node
-        (here (AtLeaf p) f) in
-        (managers.all_go tree q p f listed w.net e.messages fits,
-        managers.about_given tree q p f listed w.net e.messages fits h.about_given)
+        (here (AtLeaf p) f) in (
+          managers.all_go tree q p f listed w.net e.messages fits,
+          managers.about_given tree q p f listed w.net e.messages fits h.about_given,
+        )
 
     net_keeps : NetHolds tree (w.net ++ e.messages)
     net_keeps =

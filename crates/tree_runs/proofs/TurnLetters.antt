@@ -1,5 +1,5 @@
 -- Each letter that a coordinator's turn or restart sends goes where it belongs, and is of a case that was given.
-use Rattle.std.proofs.Common.{◌≡◌, ◌≢◌, ◌∙◌, ◌⊎◌, inl, inr, ◌||◌, ◌&&◌, ◌-◌, ◌+◌, ℕ, zero, suc, Bool, true, false, Option, Some, None, List, [], ◌∷◌, ◌++◌, map, find, if◌then◌else◌, take, refl, sym, ap, subst, arith}
+use Rattle.std.proofs.Common.{◌≡◌, ◌≢◌, ◌∙◌, ◌⊎◌, inl, inr, ◌||◌, ◌-◌, ◌+◌, ℕ, Bool, true, false, Option, Some, None, List, [], ◌∷◌, ◌++◌, map, find, if◌then◌else◌, take, refl, sym, ap, subst, arith}
 use Rattle.std.specs.List.{flat_map, list_any}
 use Rattle.tree_model.specs.declared.names.Case.{Case}
 use Rattle.tree_model.specs.declared.names.Kind.{Kind}
@@ -13,33 +13,31 @@ use Rattle.tree_model.specs.declared.names.Ticket.{Ticket}
 use Rattle.tree_model.specs.declared.names.Txn.{Txn}
 use Rattle.tree_model.specs.declared.messages.Envelope.{Envelope}
 use Rattle.tree_model.specs.declared.messages.Message.{Message}
-use Rattle.tree_model.specs.declared.messages.Message.TheVariants.{Join, Joined, Work, Prepare, Yes, No, Read, Commit, Abort, Ack, Inquire}
+use Rattle.tree_model.specs.declared.messages.Message.TheVariants.{Join, Joined, Prepare, Yes, No, Read, Commit, Abort, Ack, Inquire}
 use Rattle.tree_model.specs.declared.records.Record.{Record}
 use Rattle.tree_model.specs.declared.standings.Standing.{Standing}
 use Rattle.tree_model.specs.declared.standings.Standing.TheVariants.{Unknown, Active, Collecting, Prepared, Committing, Aborting, Heuristic}
-use Rattle.tree_model.specs.declared.standings.Vote.TheVariants.{No as VoteNo}
 use Rattle.tree_model.specs.declared.events.Input.{Input}
 use Rattle.tree_model.specs.declared.trees.TreeEntry.{TreeEntry}
 use Rattle.tree_model.specs.Names.{child_case, presumed, process_of, same_process, same_ticket}
 use Rattle.tree_model.specs.NameLaws.{same_case-refl, same_process_tells, same_ticket-refl}
-use Rattle.tree_model.specs.Records.{has, in_list, is_abort, is_collecting, is_commit, is_end, is_prepare, named_by, none_of, owing_by, promised_by}
-use Rattle.tree_model.specs.Nodes.{Effect, Heard, Node, Place, Role, AtRoot, Below, is_child, is_listed, is_parent, kept, role_by, role_of}
+use Rattle.tree_model.specs.Records.{has, in_list, is_abort, is_collecting, is_commit, is_end, is_prepare, none_of, owing_by, promised_by}
+use Rattle.tree_model.specs.Nodes.{Effect, Heard, Node, Place, AtRoot, is_child, is_listed, is_parent, kept, role_by, role_of}
 use Rattle.tree_model.specs.Memory.{Phase, Idle, Open, Asked, Over, fresh_memory, memory_of, ticket_of_child, undecided_of, works_of, yes_of}
-use Rattle.tree_model.specs.Outcomes.{has_accepted, is_joined_message, sent}
-use Rattle.tree_model.specs.Standings.{CoordinatorView, belongs, case_of_child, coordinator_standing, coordinator_view, decided_outcome, phase_standing, standing_by, still_owed, view_at}
-use Rattle.tree_model.specs.CoordinatorRows.{Reason, ByVote, ByAct, ByAbort, Row, Seat, abort_heard_above, acknowledges_abort, each, post, posted_up, tells_outcome, up}
+use Rattle.tree_model.specs.Outcomes.{has_accepted, sent}
+use Rattle.tree_model.specs.Standings.{case_of_child, coordinator_standing, coordinator_view, decided_outcome, phase_standing, standing_by, still_owed, view_at}
+use Rattle.tree_model.specs.CoordinatorRows.{Reason, ByVote, ByAct, ByAbort, Row, abort_heard_above, acknowledges_abort, each, post, posted_up, tells_outcome}
 use Rattle.tree_model.specs.Reactions.{seat_of}
 use Rattle.tree_model.specs.Restarts.{coordinator_reopens, coordinator_resumes, left_of, recorded_view, resumes_by}
 use Rattle.tree_model.specs.World.{InputStands, IsSent}
 use Rattle.tree_readings.specs.ReadingOf.{gives_case, is_decision_naming}
 use Rattle.tree_turns.specs.LeafTurns.{Hears}
-use Rattle.tree_turns.specs.CoordinatorTurns.{IsToAbort, abort_act, abort_comes, HearsChild, HearsParent, CaseTurn, rests, invites, accepts, sends_work, finds_nobody, asks_for_votes, gives_up, counts_vote, reads_only, commits, promises, hears_no, aborts, passes_commit, passes_abort, repeats_yes, asks, refuses, acknowledges, waits_for_acks, ends, answers, CoordinatorTurn, does_nothing, of_case, begins, gives_again, gives_fresh, presumes}
+use Rattle.tree_turns.specs.CoordinatorTurns.{CaseTurn, rests, invites, accepts, sends_work, finds_nobody, asks_for_votes, gives_up, counts_vote, reads_only, commits, promises, hears_no, aborts, passes_commit, passes_abort, repeats_yes, asks, refuses, acknowledges, waits_for_acks, ends, answers, CoordinatorTurn, does_nothing, of_case, begins, gives_again, gives_fresh, presumes}
 use Rattle.tree_turns.proofs.Operators.{reopens_none}
 use Rattle.tree_nodes.specs.Lasts.{Nested, logs_of}
 use Rattle.tree_nodes.specs.WorldHolds.{AboutGiven, AllGo, Coordinates, GoesBy, IsChildRole, IsParent, is_about, is_naming, is_record_of}
 use Rattle.tree_nodes.proofs.Cases.{viewed}
 use Rattle.tree_nodes.proofs.Deliveries.{sent_at}
-use Rattle.tree_nodes.proofs.GivenCases.{same_of}
 use Rattle.tree_nodes.proofs.Naming.{in_undecided, in_yesses, promises_name, records_name, reopens_name}
 use Rattle.tree_nodes.proofs.OwnCases.{child_belongs}
 use Rattle.tree_nodes.proofs.Remembering.{coordinator_place, role_below}
