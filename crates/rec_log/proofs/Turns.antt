@@ -1,5 +1,5 @@
 -- What the calls of a store make of the records.
-use Rattle.std.proofs.Common.{◌≡◌, ◌≤◌, ◌<◌, ◌-◌, ℕ, zero, suc, Bool, true, false, List, [], ◌∷◌, ◌++◌, length, take, drop, refl, sym, ap, subst, ◌∙◌, append-nil, arith, length-append}
+use Rattle.std.proofs.Common.{◌≡◌, ◌≤◌, ◌<◌, ◌+◌, ◌-◌, ℕ, zero, suc, Bool, true, false, List, [], ◌∷◌, ◌++◌, length, take, drop, refl, sym, ap, subst, ◌∙◌, append-nil, arith, length-append}
 use Rattle.std.proofs.lemmas.List.{take-append-le, drop-append-le, length-drop, take_all}
 use Rattle.std.proofs.Math.Seq.{drop-append_seam}
 use Rattle.tree_model.specs.declared.names.Kind.{Kind}
@@ -9,9 +9,9 @@ use Rattle.log_store.specs.declared.store.StoreError.TheVariants.{Memory, Device
 use Rattle.log_text.specs.Frames.{frame_text}
 use Rattle.log_text.specs.Payloads.{record_text}
 use Rattle.rec_log.specs.Texts.{is_whole, records_in, whole_size}
-use Rattle.rec_log.specs.Sights.{Appended, Breaks, Forced, IsLogText, IsRecord, LogState, body, front, kept_of, log_state, records_of}
+use Rattle.rec_log.specs.Sights.{Appended, Breaks, Forced, IsLogText, IsRecord, LogState, body, bytes_behind, front, kept_of, log_state, records_of, whole_within}
 use Rattle.rec_log.proofs.Frames.{front_of, front_of_frame, more_records, more_whole, one_record, one_whole}
-use Rattle.rec_log.proofs.Within.{whole_is_full}
+use Rattle.rec_log.proofs.Within.{left_records, whole_is_full}
 
 -- all the records that stand are those of the text
 pub records_stand : (p : Kind) (text : List ℕ) (forced : ℕ) → records_of (kept_of p text forced) ≡ records_in p 0 (body text)
@@ -93,12 +93,25 @@ pub append_breaks : (p : Kind) (text text' : List ℕ) (forced forced' failures 
 append_breaks p text text' forced forced' failures failures' room room' came l failed ok record_is is le e f cause =
     let n = front_of_frame p l came record_is in
     let same = front_same text text' (take came (record_text l)) forced forced' is.header_forced le e f in
+    let front_is = records_in p 0 (front text forced) in
+    let behind = bytes_behind p text forced in
+    let rest = drop (length front_is) (records_in p 0 (body text)) in
+    let all : records_in p 0 (body text') ≡ records_in p 0 (body text) ++ take n.0 (l ∷ []) =
+    text_came p text text' (take came (record_text l)) forced forced' failed ok is le e ∙ ap (λ t. records_in p 0 (body text) ++ t) n.1 in
+    let rest_is : drop (length (records_in p 0 (front text' forced'))) (records_in p 0 (body text')) ≡ rest ++ take n.0 (l ∷ []) =
+    ap (λ t. drop (length (records_in p 0 t)) (records_in p 0 (body text'))) same ∙ ap (drop (length front_is)) all
+    ∙ drop-append-le (length front_is) (records_in p 0 (body text)) (take n.0 (l ∷ [])) (short_front p text forced) in
+    let behind_is : bytes_behind p text' forced' ≡ behind = ap (λ t. length t - whole_size p 0 t) same in
     record {
       kind = refl;
       appended = n.0;
       stand = records_stand p text' forced' ∙ text_came p text text' (take came (record_text l)) forced forced' failed ok is le e
           ∙ ap (λ t. records_in p 0 (body text) ++ t) n.1 ∙ ap (λ t. t ++ take n.0 (l ∷ [])) (sym (records_stand p text forced));
       no_less = omega (arith, ap (λ t. length (records_in p 0 t)) same);
+      more = 0;
+      leaves = λ keep. ap (λ t. records_in p 0 t ++ whole_within (bytes_behind p text' forced' + keep) (drop (length (records_in p 0 (front text' forced'))) (records_in p 0 (body text')))) same
+          ∙ ap (λ t. front_is ++ whole_within (bytes_behind p text' forced' + keep) t) rest_is
+          ∙ ap (λ m. front_is ++ whole_within m (rest ++ take n.0 (l ∷ []))) (omega (arith, behind_is));
       failed = refl;
       cause = cause;
     }
@@ -145,13 +158,21 @@ front_grows p text n m h =
     omega (arith, ap length e.1, ap length f, length-append (records_in p 0 (take (n - 5) (front text m))) e.0)
 
 pub force_breaks : (p : Kind) (text text' : List ℕ) (forced forced' failures failures' room room' : ℕ) (failed : Bool)
-    → text' ≡ text → forced ≤ forced' → failures < failures'
+    → 5 ≤ forced → forced ≤ length text → forced' ≤ length text' → text' ≡ text → forced ≤ forced' → failures < failures'
     → Breaks (log_state p text forced failures room failed) (log_state p text' forced' failures' room' true) []
-force_breaks p text text' forced forced' failures failures' room room' failed e f cause = record {
+force_breaks p text text' forced forced' failures failures' room room' failed header within within' e f cause = record {
   kind = refl;
   appended = 0;
   stand = records_stand p text' forced' ∙ ap (λ t. records_in p 0 (body t)) e ∙ sym (records_stand p text forced) ∙ sym (append-nil (records_of (kept_of p text forced)));
   no_less = omega (arith, front_grows p text forced forced' f, ap (λ t. length (records_in p 0 (front t forced'))) e);
+  more = forced' - forced;
+  leaves = λ keep.
+      let sum : forced' + keep ≡ forced + (forced' - forced + keep) = omega (arith, f) in
+      sym (left_records p text' forced' keep failures' room' true (omega (arith, header, f)) within')
+      ∙ ap (λ t. records_in p 0 (body (take (forced' + keep) t))) e ∙ ap (λ n. records_in p 0 (body (take n text))) sum
+      ∙ left_records p text forced (forced' - forced + keep) failures room failed header within
+      ∙ ap (λ t. records_in p 0 (front text forced) ++ whole_within (bytes_behind p text forced + (forced' - forced + keep)) t)
+      (sym (append-nil (drop (length (records_in p 0 (front text forced))) (records_in p 0 (body text)))));
   failed = refl;
   cause = cause;
 }

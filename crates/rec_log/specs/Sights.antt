@@ -92,15 +92,6 @@ pub record Forced (old new : LogState) : Type 0 where
   pub failures : new.sight.failures ≡ old.sight.failures
   pub room : old.room ≤ new.room
 
--- the device failed: of these records a front was appended, and the forced front holds at least the old one
-pub record Breaks (old new : LogState) (ls : List LogRecord) : Type 0 where
-  pub kind : new.kind ≡ old.kind
-  pub appended : ℕ
-  pub stand : records_of new.sight.kept ≡ records_of old.sight.kept ++ take appended ls
-  pub no_less : length old.sight.kept.forced ≤ length new.sight.kept.forced
-  pub failed : new.sight.failed ≡ true
-  pub cause : old.sight.failures < new.sight.failures
-
 -- records that can all stand in such a log
 abbrev pub AreRecords : Kind → List LogRecord → Type 0
 AreRecords p [] = ⊤
@@ -127,6 +118,23 @@ whole_within n (l ∷ ls) = if nat_le (record_size l) n then l ∷ whole_within 
 -- stand whole within what is forced of them and these bytes
 abbrev pub left_by : LogSight → ℕ → List LogRecord
 left_by s keep = s.kept.forced ++ whole_within (s.behind + keep) s.kept.unforced
+
+-- the log with these records behind its own, not forced
+abbrev pub longer : LogSight → List LogRecord → LogSight
+longer s ls = record s { kept = record { forced = s.kept.forced; unforced = s.kept.unforced ++ ls } }
+
+-- the device failed: of these records a front was appended, and so many more bytes are forced, so a crash leaves what it
+-- would leave of the log with that front if it kept so many bytes more
+pub record Breaks (old new : LogState) (ls : List LogRecord) : Type 0 where
+  pub kind : new.kind ≡ old.kind
+  pub appended : ℕ
+  pub stand : records_of new.sight.kept ≡ records_of old.sight.kept ++ take appended ls
+  pub no_less : length old.sight.kept.forced ≤ length new.sight.kept.forced
+  pub more : ℕ
+  pub leaves : (keep : ℕ)
+      → left_by new.sight keep ≡ left_by (longer old.sight (take appended ls)) (more + keep)
+  pub failed : new.sight.failed ≡ true
+  pub cause : old.sight.failures < new.sight.failures
 
 -- the first so many bytes are whole frames of records, and behind them no whole frame of a record begins
 pub record Sounds (p : Kind) (bytes : List ℕ) (size : ℕ) : Type 0 where

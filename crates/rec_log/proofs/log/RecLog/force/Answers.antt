@@ -7,7 +7,8 @@ returns-in-Err-clause-err g c =
     let b = c.in-Err.ensures.err.1 in (
       refl,
       breaks_of _ _ _ _ c.self.view_is
-          (force_breaks _ _ _ _ _ _ _ (g.L.LogStore.room c.self.inside.store) (g.L.LogStore.room c.force.new.self) _ b.text b.no_less b.cause),
+          (force_breaks _ _ _ _ _ _ _ (g.L.LogStore.room c.self.inside.store) (g.L.LogStore.room c.force.new.self) _
+          c.self.invariant.header_forced (g.met.L.LogStore.front c.self.inside.store) (g.met.L.LogStore.front c.force.new.self) b.text b.no_less b.cause),
     )
 
 pub returns-clause-ok : goal.returns-clause-ok
