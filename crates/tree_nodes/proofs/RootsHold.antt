@@ -50,7 +50,7 @@ module _ (tree : List TreeEntry) where
   abbrev at : ProcessId → Role → Place
   at q r = record { me = q; role = r; tree = tree }
 
-  all_never : (es : List Made) (w : World) → IsRun tree es w → (q : ProcessId) → role_of tree q ≡ AtRoot
+  pub all_never : (es : List Made) (w : World) → IsRun tree es w → (q : ProcessId) → role_of tree q ≡ AtRoot
       → Never (coordinator_place q None tree) (w.at q)
   all_never _ _ opens q = λ e. opened_never q tree
   all_never _ _ (makes es w m e w' run stands step) q =

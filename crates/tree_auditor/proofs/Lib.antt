@@ -1,0 +1,5 @@
+pub mod RootCommits
+pub mod RootLines
+pub mod Naming
+pub mod Climb
+pub mod Audit
