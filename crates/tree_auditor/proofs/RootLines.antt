@@ -16,7 +16,7 @@ use Rattle.tree_nodes.specs.Lasts.{Coordinates, Nested, RoleLasts, logs_of}
 use Rattle.tree_nodes.specs.Marks.{is_branch_record}
 use Rattle.tree_nodes.proofs.ChildOf.{no_branch}
 use Rattle.tree_nodes.proofs.RootsHold.{all_never}
-use Rattle.tree_nodes.proofs.RootNever.{by_abort}
+use Rattle.tree_nodes.proofs.Ended.{by_abort}
 use Rattle.tree_nodes.proofs.Tests.{both, either, in_either, in_first, not_both}
 use Rattle.tree_nodes.proofs.Worlds.{all_last, has_other}
 use Rattle.tree_headline.proofs.Ends.{has_either}

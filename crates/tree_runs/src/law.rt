@@ -1,5 +1,6 @@
 //! The headline, and what leads to it.
 ghost use Rattle.std.specs.Prelude.{List};
+ghost use Rattle.tree_auditor.specs.Audits.{AllUp, AuditsAreTrue};
 ghost use Rattle.tree_headline.specs.CoordinatorLaws.{CascadedLaws, RootLaws};
 ghost use Rattle.tree_model.specs.Outcomes.{Headline};
 ghost use Rattle.tree_model.specs.Trees.{IsTree};
@@ -15,6 +16,13 @@ ghost use Rattle.tree_nodes.specs.WorldHolds.{AboutGiven, AllGo, WorldHolds};
 pub fn headline()
     ensures { (tree : List TreeEntry) (es : List Made) (w : World) → IsTree tree → IsRun tree es w
         → Headline tree es w }
+{}
+
+/// Behind every run of every tree in which no process is failed, the audit of the logs' kept records gives each case that
+/// it lists the outcome of its transaction, although roots have forgotten and trimmed.
+pub fn audits_are_true()
+    ensures { (tree : List TreeEntry) (es : List Made) (w : World) → IsTree tree → IsRun tree es w → AllUp tree w
+        → AuditsAreTrue tree w }
 {}
 
 /// The world's invariant holds behind every run of every tree.
