@@ -1,0 +1,5 @@
+pub mod Computing
+pub mod Trees
+pub mod PlayedRuns
+pub mod Breaking
+pub mod UnderAbort
