@@ -4,7 +4,7 @@ use Rattle.tree_model.specs.Nodes.{is_listed, place_of}
 use Rattle.tree_model.specs.Plays.{Play, Acts, Delivers, Settles, Restarts, Trims, Player, Played, Goes, Stops, first_player, played, plays_move, plays, plays_on, plays_all, delivers, sent_as, move_of, plain_answer, process_of_act}
 use Rattle.tree_model.specs.World.{node_makes, world_makes, IsSent, Stands, Move, Stepped, Refuses, Makes, IsRun, opens, makes}
 use Rattle.tree_model.specs.declared.events.Input.TheVariants.{Act as ActInput, Message as MessageInput}
-use Rattle.tree_model.specs.declared.events.Happening.TheVariants.{Input as Handles, Restart, Trim}
+use Rattle.tree_model.specs.declared.events.Happening.TheVariants.{Input as Handles}
 use Rattle.tree_model.specs.declared.events.StepError.TheVariants.{NoSuch}
 use Rattle.tree_model.specs.declared.messages.Envelope.{Envelope}
 use Rattle.tree_model.specs.declared.names.ProcessId.{ProcessId}

@@ -1,5 +1,5 @@
 -- The trees of the wrong steps, and their pairs.
-use Rattle.std.proofs.Common.{◌≡◌, refl}
+use Rattle.std.proofs.Common.{refl}
 use Rattle.tree_model.specs.declared.names.Presumption.{Presumption}
 use Rattle.tree_model.specs.Rows.{tree_a, tree_b}
 use Rattle.tree_model.specs.Trees.{IsTree}

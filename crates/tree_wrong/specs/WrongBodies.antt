@@ -1,12 +1,11 @@
 -- Wrong bodies, each close to a right one, and where each breaks the invariant: the events of the run, and the wrong
 -- step behind it, written out.
-use Rattle.std.specs.Prelude.{ℕ, true, false, Option, Some, None, List, [], ◌∷◌, ◌++◌, take, codes}
+use Rattle.std.specs.Prelude.{ℕ, true, false, Some, List, [], ◌∷◌, ◌++◌, take, codes}
 use Rattle.tree_model.specs.declared.names.Case.{Case}
 use Rattle.tree_model.specs.declared.names.Outcome.TheVariants.{Committed as CommittedOutcome, Aborted as AbortedOutcome}
 use Rattle.tree_model.specs.declared.names.Presumption.{Presumption}
 use Rattle.tree_model.specs.declared.names.Presumption.TheVariants.{PresumeAbort, PresumeCommit}
 use Rattle.tree_model.specs.declared.names.Ticket.{Ticket}
-use Rattle.tree_model.specs.declared.names.Txn.{Txn}
 use Rattle.tree_model.specs.declared.messages.Envelope.{Envelope}
 use Rattle.tree_model.specs.declared.messages.Message.{Message}
 use Rattle.tree_model.specs.declared.messages.Message.TheVariants.{Prepare, Yes, Read, Commit, Ack}
@@ -20,7 +19,7 @@ use Rattle.tree_model.specs.declared.records.Record.{Record}
 use Rattle.tree_model.specs.declared.records.Record.TheVariants.{Opened, Collecting, Commit as CommitRecord, End, Told as ToldRecord}
 use Rattle.tree_model.specs.declared.standings.Vote.TheVariants.{Yes as VoteYes}
 use Rattle.tree_model.specs.Names.{root_case, child_case}
-use Rattle.tree_model.specs.Nodes.{Node, Heard, ReadsOnly, Written, no_effect, after}
+use Rattle.tree_model.specs.Nodes.{Heard, ReadsOnly, Written, no_effect, after}
 use Rattle.tree_model.specs.Plays.{Play, Acts, Delivers}
 use Rattle.tree_model.specs.Rows.{process, txn, ticket, tree_a, tree_b}
 use Rattle.tree_wrong.specs.WrongSteps.{WrongStep}

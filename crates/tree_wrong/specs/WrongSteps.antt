@@ -1,12 +1,9 @@
 -- A wrong body, at work in a world that a run reaches: what its step makes of that world.
-use Rattle.std.specs.Prelude.{◌≡◌, List, [], ◌++◌}
+use Rattle.std.specs.Prelude.{◌≡◌, List, ◌++◌}
 use Rattle.tree_model.specs.declared.names.ProcessId.{ProcessId}
 use Rattle.tree_model.specs.declared.messages.Envelope.{Envelope}
-use Rattle.tree_model.specs.declared.messages.Message.{Message}
-use Rattle.tree_model.specs.declared.events.Act.{Act}
-use Rattle.tree_model.specs.declared.events.Input.TheVariants.{Act as ActInput, Message as MessageInput}
 use Rattle.tree_model.specs.declared.trees.TreeEntry.{TreeEntry}
-use Rattle.tree_model.specs.Nodes.{Node, Heard, ReadsOnly}
+use Rattle.tree_model.specs.Nodes.{Node}
 use Rattle.tree_model.specs.Plays.{Play, Player, Goes, plays_all}
 use Rattle.tree_model.specs.Rows.{process}
 use Rattle.tree_model.specs.Trees.{IsTree}
