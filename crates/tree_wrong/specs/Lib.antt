@@ -1,0 +1,2 @@
+pub mod WrongSteps
+pub mod WrongBodies
