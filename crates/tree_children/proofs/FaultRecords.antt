@@ -1,4 +1,5 @@
--- An input of a manager in which its device fails, as one of its pairs sees it; and what a record behind it is to the pair.
+-- An input of a manager in which its device fails, as one of its pairs sees it; and what a record behind it
+-- is to the pair.
 use Rattle.std.proofs.Common.{◌≡◌, ◌∙◌, ℕ, zero, suc, Bool, true, false, List, [], ◌∷◌, ◌++◌, take, refl, sym, ap, subst}
 use Rattle.std.specs.Prelude.{not}
 use Rattle.tree_model.specs.declared.names.Case.{Case}
@@ -48,7 +49,8 @@ use Rattle.tree_children.proofs.Opens.{closed_where_marked, open_where_active}
 use Rattle.tree_children.proofs.Doubts.{doubt, promised_so}
 use Rattle.tree_nodes.proofs.Deliveries.{was_sent}
 
--- The pair's case and ticket, with the parent's half; the manager below its parent, what it was and heard, and the net;
+-- The pair's case and ticket, with the parent's half; the manager below its parent, what it was and heard,
+-- and the net;
 -- and what is known of them.
 pub record Broken : Type 0 where
   pub c : Case
@@ -68,7 +70,8 @@ pub record Broken : Type 0 where
   pub above : Bool
   pub half : ParentHalf
   pub inv : InvariantOf pr (reading_from root true outcome above half
-      (child_half (record { me = t.child; role = AtLeaf p; tree = tree }) n (child_case c.txn t)) (wire c t net))
+      (child_half (record { me = t.child; role = AtLeaf p; tree = tree }) n (child_case c.txn t))
+      (wire c t net))
 
 module _ (turn : Broken) where
   open turn use {c, t, p, tree, n, h, net, up, nested, m, stands, pr, root, outcome, above, half, inv}

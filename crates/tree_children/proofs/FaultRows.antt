@@ -106,9 +106,11 @@ module _ (turn : Broken) where
   forgets_own e b one q =
       let r = Forgot (CaseBranch d) in
       let op : IsOpenBranch (mark_at n d) = by_operator (mark_at n d) q in
-      fails_own turn e r b one (record { no_abort = refl; no_prepare = refl }) (crash.fails_to_forget (r0 turn))
+      fails_own turn e r b one (record { no_abort = refl; no_prepare = refl })
+      (crash.fails_to_forget (r0 turn))
       (λ rs. halves.reading-fails_to_forget root outcome above half k v
-      (front_of d (r0 turn).heuristic_commits rs) d r (closed_where_marked place n d (is_marked (mark_at n d) q))
+      (front_of d (r0 turn).heuristic_commits rs) d r
+      (closed_where_marked place n d (is_marked (mark_at n d) q))
       (promised_so n nested m d op) refl refl refl refl refl (same_case-refl d) refl)
       (record {
         failed = refl;

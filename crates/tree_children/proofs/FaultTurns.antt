@@ -95,7 +95,8 @@ module _ (turn : Broken) where
   turn_fails _ (notes x o i a) = elim (same_case_tells x d) [
     | inl s ↦ subst (λ (z : Case). Hears h (tells_outcome o z) → mark_at n z ≡ Decided
         → Fails (Ends z o (Told (CaseBranch z) o))) (sym s.1)
-        (λ i' a'. (notes_own turn) (Ends d o (Told (CaseBranch d) o)) (is_acknowledged c.txn.presumption o) o i'
+        (λ i' a'. (notes_own turn) (Ends d o (Told (CaseBranch d) o))
+        (is_acknowledged c.txn.presumption o) o i'
         a' refl) i a
     | inr f ↦ fails_other turn (Ends x o (Told (CaseBranch x) o)) (Told (CaseBranch x) o)
         (is_acknowledged x.txn.presumption o) refl
@@ -108,7 +109,8 @@ module _ (turn : Broken) where
   turn_fails _ (decides x CommittedOutcome i a) = elim (same_case_tells x d) [
     | inl s ↦ subst (λ (z : Case). mark_at n z ≡ Promised → Fails (Decides z (HeurCommit (CaseBranch z))))
         (sym s.1)
-        (λ a'. (decides_own turn) (Decides d (HeurCommit (CaseBranch d))) true (HeurCommit (CaseBranch d)) true
+        (λ a'. (decides_own turn) (Decides d (HeurCommit (CaseBranch d))) true (HeurCommit (CaseBranch d))
+        true
         refl (record { no_abort = refl; no_prepare = refl }) a' refl refl refl (same_case-refl d)
         (same_case-refl d) refl refl) a
     | inr f ↦ fails_other turn (Decides x (HeurCommit (CaseBranch x))) (HeurCommit (CaseBranch x)) true refl
@@ -120,7 +122,8 @@ module _ (turn : Broken) where
         (λ a'. (decides_own turn) (Decides d (HeurRollback (CaseBranch d))) true (HeurRollback (CaseBranch d))
         false refl (record { no_abort = refl; no_prepare = refl }) a' refl refl refl (same_case-refl d)
         refl refl refl) a
-    | inr f ↦ fails_other turn (Decides x (HeurRollback (CaseBranch x))) (HeurRollback (CaseBranch x)) true refl
+    | inr f ↦ fails_other turn (Decides x (HeurRollback (CaseBranch x))) (HeurRollback (CaseBranch x))
+        true refl
         (record { no_abort = refl; no_prepare = refl }) f.0 refl
   ]
   turn_fails _ (forgets x i a) = elim (same_case_tells x d) [

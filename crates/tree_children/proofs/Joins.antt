@@ -49,7 +49,8 @@ some_ticket : (u v : Ticket) → Some u ≡ Some v → u ≡ v
 some_ticket u v e = cc
 
 -- JOIN that gives the branch its ticket opens it
-opens_now : (me : ProcessId) (boot : ℕ) (d x : Case) (m : Memory) (b : Bool) (o : Option Ticket) → b ≡ true → o ≡ None
+opens_now : (me : ProcessId) (boot : ℕ) (d x : Case) (m : Memory) (b : Bool) (o : Option Ticket) → b
+    ≡ true → o ≡ None
     → same_case d (child_case x.txn (next_ticket me boot m)) ≡ true
     → (if b then joins me boot d x m o else m).phase ≡ Open
 opens_now me boot d x m true None e f g = rw g refl
@@ -109,7 +110,8 @@ module _ (c : Case) (t : Ticket) (p : ProcessId) (tree : List TreeEntry) (n : No
     O = opens n.failed (manager_view place (after n h e) d)
 
     half_then : child_half place (after n h e) d ≡ stands_so O k
-    half_then = half_silent (manager_view place n d).standing (manager_view place (after n h e) d).standing n h e d silent
+    half_then = half_silent (manager_view place n d).standing
+        (manager_view place (after n h e) d).standing n h e d silent
 
     memory_then : memory_of place (after n h e) d
         ≡ manager_remembers t.child (boot_of (kept n)) d (memory_of place n d) h.data_answer h.input
@@ -118,16 +120,19 @@ module _ (c : Case) (t : Ticket) (p : ProcessId) (tree : List TreeEntry) (n : No
     mark_then : mark_of (CaseBranch d) (kept (after n h e)) ≡ mark_of (CaseBranch d) (kept n)
     mark_then = rw silent (mark_of-nil_behind (CaseBranch d) n.forced n.unforced)
 
-    seen : (x : Node) → manager_view place x d ≡ marked_branch (memory_of place x d) (mark_of (CaseBranch d) (kept x))
+    seen : (x : Node) → manager_view place x d
+        ≡ marked_branch (memory_of place x d) (mark_of (CaseBranch d) (kept x))
     seen x = viewed place x d
 
     -- a phase that stays leaves the branch as open as it was
-    still_open : (manager_remembers t.child (boot_of (kept n)) d (memory_of place n d) h.data_answer h.input).phase
+    still_open : (manager_remembers t.child (boot_of (kept n)) d (memory_of place n d) h.data_answer
+        h.input).phase
         ≡ (memory_of place n d).phase → O ≡ k.is_open
     still_open f =
         ap (opens n.failed) (seen (after n h e))
         ∙ (ap (λ (x : Mark). opens n.failed (marked_branch (memory_of place (after n h e) d) x)) mark_then
-        ∙ (alike n.failed (memory_of place n d) (memory_of place (after n h e) d) (mark_of (CaseBranch d) (kept n))
+        ∙ (alike n.failed (memory_of place n d) (memory_of place (after n h e) d)
+        (mark_of (CaseBranch d) (kept n))
         (ap (λ (m : Memory). m.phase) memory_then ∙ f)
         ∙ ap (opens n.failed) (sym (seen n))))
 
@@ -158,7 +163,8 @@ module _ (c : Case) (t : Ticket) (p : ProcessId) (tree : List TreeEntry) (n : No
 
       moves_so : (Then.phase ≡ (memory_of place n d).phase) ⊎ Woken
       moves_so =
-          subst (λ (y : Input). ((manager_remembers t.child (boot_of (kept n)) d (memory_of place n d) h.data_answer y).phase
+          subst (λ (y : Input). ((manager_remembers t.child (boot_of (kept n)) d (memory_of place n d)
+          h.data_answer y).phase
           ≡ (memory_of place n d).phase) ⊎ Woken) (sym i)
           (join_left t.child (boot_of (kept n)) d (memory_of place n d) h.data_answer j x)
 
@@ -210,8 +216,10 @@ module _ (c : Case) (t : Ticket) (p : ProcessId) (tree : List TreeEntry) (n : No
 
           by_names : (a b : Bool) → same_case x c ≡ a → same_ticket u t ≡ b
               → ((same_case x c && same_ticket u t) || v.issued) ≡ v.issued
-          by_names true true e f = rw (e, f) (sym (subst (λ (y : Case). sent (is_joined_message y t) net ≡ true) (same_of x c e)
-              (subst (λ (z : Ticket). sent (is_joined_message x z) net ≡ true) (ticket_is u t f) sent_before)))
+          by_names true true e f = rw (e, f)
+              (sym (subst (λ (y : Case). sent (is_joined_message y t) net ≡ true) (same_of x c e)
+              (subst (λ (z : Ticket). sent (is_joined_message x z) net ≡ true) (ticket_is u t f)
+              sent_before)))
           by_names true false e f = rw (e, f) refl
           by_names false b e f = rw e refl
 
@@ -246,27 +254,32 @@ module _ (c : Case) (t : Ticket) (p : ProcessId) (tree : List TreeEntry) (n : No
 
           stays_closed : same_case d (child_case x.txn next) ≡ false → Fine (said x new)
           stays_closed e = elim moves_so [
-            | inl same ↦ stays (said x new) (wire-joined x new refl ∙ ap (λ b. record v { issued = b }) (other e)) same
+            | inl same ↦ stays (said x new)
+                (wire-joined x new refl ∙ ap (λ b. record v { issued = b }) (other e)) same
             | inr w ↦ absurd (let z = sym e
                 ∙ (ap (λ (y : Case). same_case d (child_case y.txn next)) (parents_is w) ∙ w.is_next) in cc)
           ]
 
           -- the ticket is this one
           this : same_case d (child_case x.txn next) ≡ true → t ≡ new
-          this e = some_ticket t next (ap (λ (y : Case). y.ticket) (same_of d (child_case x.txn next) e)) ∙ sym next_same
+          this e = some_ticket t next (ap (λ (y : Case). y.ticket) (same_of d (child_case x.txn next) e))
+              ∙ sym next_same
 
           opened : same_case d (child_case x.txn next) ≡ true
               → (memory_of place (after n h (writes_and_sends [] (said x new))) d).phase ≡ Open
           opened e =
               ap (λ (m : Memory). m.phase) (memory_then (writes_and_sends [] (said x new)) refl)
-              ∙ (ap (λ (y : Input). (manager_remembers t.child (boot_of (kept n)) d (memory_of place n d) h.data_answer y).phase) i
+              ∙ (ap (λ (y : Input). (manager_remembers t.child (boot_of (kept n)) d (memory_of place n d)
+              h.data_answer y).phase) i
               ∙ opens_now t.child (boot_of (kept n)) d x (memory_of place n d) h.data_answer.starts
               (active_ticket (memory_of place n d).active x) starts
               (ap (λ (s : Self). active_ticket s.active x) (self_same place n d x) ∙ none) e)
 
-          is_open : same_case d (child_case x.txn next) ≡ true → O (writes_and_sends [] (said x new)) refl ≡ true
+          is_open : same_case d (child_case x.txn next) ≡ true → O (writes_and_sends [] (said x new)) refl
+              ≡ true
           is_open e =
-              open_where_active place (after n h (writes_and_sends [] (said x new))) d up (unmarked (opened e)) (opened e)
+              open_where_active place (after n h (writes_and_sends [] (said x new))) d up
+              (unmarked (opened e)) (opened e)
 
           not_issued : same_case d (child_case x.txn next) ≡ true → v.issued ≡ false
           not_issued e = by_test v.issued refl
@@ -318,7 +331,8 @@ module _ (c : Case) (t : Ticket) (p : ProcessId) (tree : List TreeEntry) (n : No
             (join_said place n h no_effect x j tt i up r (none_active w) w.starts)
       ]
       join_fits _ r (gives_again y u g a) unmarked =
-          subst (λ (z : Case). active_ticket (memory_of place n z).active z ≡ Some u → Fine (said z u)) (joined_is g)
+          subst (λ (z : Case). active_ticket (memory_of place n z).active z ≡ Some u → Fine (said z u))
+          (joined_is g)
           (again u) a
       join_fits _ r (gives_fresh y g a s) unmarked =
           subst (λ (z : Case). active_ticket (memory_of place n z).active z ≡ None

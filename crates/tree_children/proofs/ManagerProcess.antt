@@ -1,4 +1,5 @@
--- In every run, each step of a manager keeps the pairs above it, has none below it, and is of no pair of others.
+-- In every run, each step of a manager keeps the pairs above it, has none below it, and is of no pair of
+-- others.
 use Rattle.std.proofs.Common.{◌≡◌, ◌∙◌, inl, inr, ℕ, Bool, true, false, List, ◌++◌, take, refl, sym, ap, subst}
 use Rattle.tree_model.specs.declared.names.Case.{Case}
 use Rattle.tree_model.specs.declared.names.ProcessId.{ProcessId}
@@ -105,29 +106,34 @@ module _ (q p : ProcessId) (tree : List TreeEntry) (n : Node) (net : List Envelo
       → is_open (mark_of (CaseBranch d) (left_of n j ++ reopens (AtLeaf p) (left_of n j))) ≡ true
       → process_of d ≡ q
   left_own j d e =
-      elim (in_either (is_branch_record d) (left_of n j) (reopens (AtLeaf p) (left_of n j)) (open_record d _ e)) [
+      elim (in_either (is_branch_record d) (left_of n j) (reopens (AtLeaf p) (left_of n j))
+      (open_record d _ e)) [
         | inl left ↦ elim (in_either (is_branch_record d) n.forced (take j n.unforced) left) [
           | inl front ↦ recorded_own d (in_first (is_branch_record d) n.forced n.unforced front)
           | inr rest ↦ recorded_own d
-              (in_second (is_branch_record d) n.forced n.unforced (in_front (is_branch_record d) j n.unforced rest))
+              (in_second (is_branch_record d) n.forced n.unforced
+              (in_front (is_branch_record d) j n.unforced rest))
         ]
         | inr new ↦ opened_none d j new
       ]
 
   letters : (e : Effect) (k : Node) → StepOf place n m e k → AllOwnLetters q e.messages
   letters _ _ (handled i g hp np r) =
-      turn_letters q p tree n open_own (heard_in m i) net goes (subst (λ (x : Happening). Stands net q x) hp stands) g
+      turn_letters q p tree n open_own (heard_in m i) net goes
+      (subst (λ (x : Happening). Stands net q x) hp stands) g
       (turn_of place n (heard_in m i) g r).turn
   letters _ _ (failed_in i f g fl hp np r) = tt
   letters _ _ (passed i hp r) = tt
   letters _ _ (failed_passing i f fl hp r) = tt
-  letters _ _ (reopened j hp) = resumes_letters q p (left_of n j ++ reopens (AtLeaf p) (left_of n j)) (left_own j)
+  letters _ _ (reopened j hp) = resumes_letters q p (left_of n j ++ reopens (AtLeaf p) (left_of n j))
+      (left_own j)
   letters _ _ (failed_reopening j f fl hp) = tt
   letters _ _ (trimmed hp up) = tt
   letters _ _ (failed_trimming f fl hp up) = tt
 
   pub process_step : (e : Effect) (k : Node) → StepOf place n m e k
-      → ChildStep place net e.messages n k × (ParentStep place net e.messages n k × Elsewhere place e.messages)
+      → ChildStep place net e.messages n k
+      × (ParentStep place net e.messages n k × Elsewhere place e.messages)
   process_step e k s = (
     child_step e k s,
     (
@@ -153,6 +159,7 @@ manager_process tree es w run m e w' p leaf stands made =
     (all_issued tree es w run q (subst IsIssuer (sym leaf) tt)))
     (all_remembered tree es w run q p leaf) m stands e here.node s in
     subst (λ (k : Node). ChildStep (place_of tree q) w.net e.messages (w.at q) k
-    × (ParentStep (place_of tree q) w.net e.messages (w.at q) k × Elsewhere (place_of tree q) e.messages)) (sym there)
+    × (ParentStep (place_of tree q) w.net e.messages (w.at q) k × Elsewhere (place_of tree q) e.messages))
+    (sym there)
     (subst (λ (r : Role). ChildStep (at r) w.net e.messages (w.at q) here.node
     × (ParentStep (at r) w.net e.messages (w.at q) here.node × Elsewhere (at r) e.messages)) (sym leaf) done)

@@ -118,7 +118,8 @@ module _ (c : Case) (t : Ticket) (p : ProcessId) (tree : List TreeEntry) (n : No
       let here : InputStands net t.child i = subst (λ (x : Happening). Stands net t.child x) hp stands in
       let then = still_remembered t.child p tree net n last issued known m stands _ _ (handled i g hp np r) in
       elim (input_is i) [
-        | inl join ↦ join_fits c t p tree n h net apart issued turn.up c.txn.presumption root outcome above half inv
+        | inl join ↦ join_fits c t p tree n h net apart issued turn.up c.txn.presumption root outcome
+            above half inv
             join.number join.parents join.is g r turn.turn
             (then.open_is_unmarked (still_up n h g turn.up) (child_case c.txn t))
         | inr row ↦ turn_fits (record {
@@ -172,20 +173,25 @@ module _ (c : Case) (t : Ticket) (p : ProcessId) (tree : List TreeEntry) (n : No
   step_fits inv m stands _ _ (reopened k hp) =
       restart_fits c t p tree n net last k c.txn.presumption root outcome above half inv
   step_fits inv m stands _ _ (failed_reopening k f fl hp) =
-      silent (restart_fails place n k f.appended f.forced) (restart_breaks c t p tree n (wire c t net) c.txn.presumption root outcome above half
+      silent (restart_fails place n k f.appended f.forced)
+      (restart_breaks c t p tree n (wire c t net) c.txn.presumption root outcome above half
       (heard_in m (ActInput (Ask (child_case c.txn t)))) last k inv f.appended f.forced
       (lasts place n last m _ _ (failed_reopening k f fl hp)))
   step_fits inv m stands _ _ (trimmed hp up) =
-      silent (trims place n) (trim_fits c t p tree n (wire c t net) last up c.txn.presumption root outcome above half inv
+      silent (trims place n) (trim_fits c t p tree n (wire c t net) last up c.txn.presumption root outcome
+      above half inv
       (known.open_is_unmarked up (child_case c.txn t)))
   step_fits inv m stands _ _ (failed_trimming f fl hp up) =
-      silent (trim_fails place n f.appended) (trim_breaks c t p tree n (wire c t net) last up c.txn.presumption root outcome above half inv f.appended)
+      silent (trim_fails place n f.appended)
+      (trim_breaks c t p tree n (wire c t net) last up c.txn.presumption root outcome above half inv
+      f.appended)
 
 pub manager_steps : ManagerSteps
 manager_steps tree es w run c t p pair above m e w' here stands made inv =
     let place : (r : Role) → Place = λ r. record { me = t.child; role = r; tree = tree } in
     step_at tree w c t p pair above m e w' here made
-    (λ i k s. step_fits c t p tree (w.at t.child) w.net (manager_lasts tree es w run c t p pair) (nets_go tree es w run)
+    (λ i k s. step_fits c t p tree (w.at t.child) w.net (manager_lasts tree es w run c t p pair)
+    (nets_go tree es w run)
     (subst (λ (r : Role). Issued (place r) w.net (w.at t.child)) pair.leaf
     (all_issued tree es w run t.child (subst IsIssuer (sym pair.leaf) tt)))
     (all_remembered tree es w run t.child p pair.leaf)

@@ -75,7 +75,8 @@ row_left me boot d m a (ActInput b) r = inl refl
 row_left me boot d m a (MessageInput j x) r = message_left me boot d m a j x (no_join x r)
 
 -- a branch that does not take work is closed, whatever its last record says
-pub closed_unless_open : (f : Bool) (m : Memory) (k : Mark) → (m.phase ≡ Open → ⊥) → opens f (marked_branch m k) ≡ false
+pub closed_unless_open : (f : Bool) (m : Memory) (k : Mark) → (m.phase ≡ Open → ⊥)
+    → opens f (marked_branch m k) ≡ false
 closed_unless_open true m k e = refl
 closed_unless_open false m Promised e = refl
 closed_unless_open false m Decided e = refl

@@ -48,7 +48,8 @@ AllOwnLetters me (l ∷ ls) = IsOwnMessage me l.message × AllOwnLetters me ls
 
 -- Such letters are of no pair of others.
 
-module _ (me : ProcessId) (c : Case) (t : Ticket) (parent : process_of c ≡ me → ⊥) (child : t.child ≡ me → ⊥) where
+module _ (me : ProcessId) (c : Case) (t : Ticket) (parent : process_of c ≡ me → ⊥)
+    (child : t.child ≡ me → ⊥) where
   same_of : (d e : Case) → same_case d e ≡ true → d ≡ e
   same_of d e f = elim (same_case_tells d e) [ inl k ↦ k.1 | inr g ↦ absurd (let k = g.0 in cc) ]
 
@@ -119,32 +120,45 @@ module _ (me : ProcessId) (c : Case) (t : Ticket) (parent : process_of c ≡ me 
     quiet_letters = rw (
       quiet_by (is_joined_message c t) (λ d u e. and-false _ _ (not_ticket u e)) (λ d e. refl) (λ d e. refl)
           (λ d e. refl) (λ d o e. refl) (λ d e. refl),
-      quiet_by (gives_case c) (λ d u e. not_parents (child_case d.txn u) e) (λ d e. refl) (λ d e. refl) (λ d e. refl)
+      quiet_by (gives_case c) (λ d u e. not_parents (child_case d.txn u) e) (λ d e. refl) (λ d e. refl)
+          (λ d e. refl)
           (λ d o e. refl) (λ d e. refl),
-      quiet_by (is_read_message c) (λ d u e. refl) (λ d e. refl) (λ d e. refl) not_parents (λ d o e. refl) (λ d e. refl),
-      quiet_by (is_prepare_message d') (λ d u e. refl) (λ d e. refl) (λ d e. refl) (λ d e. refl) (λ d o e. refl)
+      quiet_by (is_read_message c) (λ d u e. refl) (λ d e. refl) (λ d e. refl) not_parents (λ d o e. refl)
           (λ d e. refl),
-      quiet_by (is_yes_message d') (λ d u e. refl) not_childs (λ d e. refl) (λ d e. refl) (λ d o e. refl) (λ d e. refl),
-      quiet_by (is_no_message d') (λ d u e. refl) (λ d e. refl) not_childs (λ d e. refl) (λ d o e. refl) (λ d e. refl),
-      quiet_by (is_read_message d') (λ d u e. refl) (λ d e. refl) (λ d e. refl) not_childs (λ d o e. refl) (λ d e. refl),
-      quiet_by (is_outcome_message CommittedOutcome d') (λ d u e. refl) (λ d e. refl) (λ d e. refl) (λ d e. refl)
-          (λ d o e. refl) (λ d e. refl),
-      quiet_by (is_outcome_message AbortedOutcome d') (λ d u e. refl) (λ d e. refl) (λ d e. refl) (λ d e. refl)
-          (λ d o e. refl) (λ d e. refl),
-      quiet_by (is_ack_message d') (λ d u e. refl) (λ d e. refl) (λ d e. refl) (λ d e. refl) (λ d o e. not_childs d e)
+      quiet_by (is_prepare_message d') (λ d u e. refl) (λ d e. refl) (λ d e. refl) (λ d e. refl)
+          (λ d o e. refl)
           (λ d e. refl),
-      quiet_by (is_inquiry_message d') (λ d u e. refl) (λ d e. refl) (λ d e. refl) (λ d e. refl) (λ d o e. refl) not_childs,
+      quiet_by (is_yes_message d') (λ d u e. refl) not_childs (λ d e. refl) (λ d e. refl) (λ d o e. refl)
+          (λ d e. refl),
+      quiet_by (is_no_message d') (λ d u e. refl) (λ d e. refl) not_childs (λ d e. refl) (λ d o e. refl)
+          (λ d e. refl),
+      quiet_by (is_read_message d') (λ d u e. refl) (λ d e. refl) (λ d e. refl) not_childs (λ d o e. refl)
+          (λ d e. refl),
+      quiet_by (is_outcome_message CommittedOutcome d') (λ d u e. refl) (λ d e. refl) (λ d e. refl)
+          (λ d e. refl)
+          (λ d o e. refl) (λ d e. refl),
+      quiet_by (is_outcome_message AbortedOutcome d') (λ d u e. refl) (λ d e. refl) (λ d e. refl)
+          (λ d e. refl)
+          (λ d o e. refl) (λ d e. refl),
+      quiet_by (is_ack_message d') (λ d u e. refl) (λ d e. refl) (λ d e. refl) (λ d e. refl)
+          (λ d o e. not_childs d e)
+          (λ d e. refl),
+      quiet_by (is_inquiry_message d') (λ d u e. refl) (λ d e. refl) (λ d e. refl) (λ d e. refl)
+          (λ d o e. refl) not_childs,
     ) refl
 
 -- A manager's letters are its own.
 
-module _ (me p : ProcessId) (tree : List TreeEntry) (n : Node) (known : (d : Case) → is_open (mark_at n d) ≡ true
+module _ (me p : ProcessId) (tree : List TreeEntry) (n : Node)
+    (known : (d : Case) → is_open (mark_at n d) ≡ true
     → process_of d ≡ me) where
   abbrev place : Place
   place = record { me = me; role = AtLeaf p; tree = tree }
 
-  module _ (h : Heard) (net : List Envelope) (goes : AllGoToOwners net) (stands : InputStands net me h.input) where
-    own_case : (d : Case) (m : Message) → Hears h m → (GoesToOwner me m → is_own_case me d ≡ true) → process_of d ≡ me
+  module _ (h : Heard) (net : List Envelope) (goes : AllGoToOwners net)
+      (stands : InputStands net me h.input) where
+    own_case : (d : Case) (m : Message) → Hears h m → (GoesToOwner me m → is_own_case me d ≡ true)
+        → process_of d ≡ me
     own_case d m i f = own_process me d.txn d.ticket (f (delivered net me h.input i.0 m goes stands i.1))
 
     told_own : (d : Case) (o : Outcome) → Hears h (tells_outcome o d) → process_of d ≡ me
@@ -187,13 +201,15 @@ module _ (me p : ProcessId) (tree : List TreeEntry) (n : Node) (known : (d : Cas
 
 -- A restart asks about branches that are open in what is left.
 
-module _ (me p : ProcessId) (rs : List Record) (known : (d : Case) → is_open (mark_of (CaseBranch d) rs) ≡ true
+module _ (me p : ProcessId) (rs : List Record)
+    (known : (d : Case) → is_open (mark_of (CaseBranch d) rs) ≡ true
     → process_of d ≡ me) where
   own_both : (xs ys : List Envelope) → AllOwnLetters me xs → AllOwnLetters me ys → AllOwnLetters me (xs ++ ys)
   own_both [] ys a b = b
   own_both (x ∷ xs) ys a b = (a.0, own_both xs ys a.1 b)
 
-  untold_own : (d : Case) (o : Option Outcome) → process_of d ≡ me → AllOwnLetters me (untold_inquiry me p d o)
+  untold_own : (d : Case) (o : Option Outcome) → process_of d ≡ me
+      → AllOwnLetters me (untold_inquiry me p d o)
   untold_own d None e = (e, tt)
   untold_own d (Some o) e = tt
 
@@ -211,7 +227,8 @@ module _ (me p : ProcessId) (rs : List Record) (known : (d : Case) → is_open (
 
   flat_own : (cs : List Case) → AllOwnLetters me (flat_map (manager_resumes me p rs) cs)
   flat_own [] = tt
-  flat_own (d ∷ cs) = own_both (manager_resumes me p rs d) (flat_map (manager_resumes me p rs) cs) (resumed_own d) (flat_own cs)
+  flat_own (d ∷ cs) = own_both (manager_resumes me p rs d) (flat_map (manager_resumes me p rs) cs)
+      (resumed_own d) (flat_own cs)
 
   pub resumes_letters : AllOwnLetters me (flat_map (manager_resumes me p rs) (cases_in rs))
   resumes_letters = flat_own (cases_in rs)

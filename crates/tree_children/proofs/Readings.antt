@@ -148,7 +148,8 @@ pub reading-yes : (root outcome above : Bool) (p : ParentHalf) (k : ChildHalf) (
 reading-yes root outcome above p k v d r o a b c e f g h =
     rw (o, a, b, c, e, f, g, h) (simp (or_twice, and-false, dead-live, dead-promised))
 
-pub reading-issued : (root outcome above : Bool) (p : ParentHalf) (k : ChildHalf) (v : Wire) → v.issued ≡ false
+pub reading-issued : (root outcome above : Bool) (p : ParentHalf) (k : ChildHalf) (v : Wire) → v.issued
+    ≡ false
     → reading_from root true outcome above p (stands_so true k) (record v { issued = true })
     ≡ move.issues (reading_from root true outcome above p k v)
 reading-issued root outcome above p k v e = rw e (simp (dead-unissued, dead-live))

@@ -117,10 +117,12 @@ module _ (c : Case) (t : Ticket) (p : ProcessId) (tree : List TreeEntry) (n : No
     half_left : (a f : ℕ) (o : Bool) → child_half place (left a f) d
         ≡ failed_half (front_of d o (left a f).forced) (lost front (child_half place n d))
     half_left zero f o =
-        half_fails Unknown (manager_view place (left zero f) d).standing broken h e f d old_promise old_decision
+        half_fails Unknown (manager_view place (left zero f) d).standing broken h e f d old_promise
+        old_decision
         old_forgot
     half_left (suc a) f o =
-        half_fails_behind Unknown (manager_view place (left (suc a) f) d).standing broken h e a f d o opens true
+        half_fails_behind Unknown (manager_view place (left (suc a) f) d).standing broken h e a f d o
+        opens true
         refl (record { no_abort = refl; no_prepare = refl }) old_promise old_decision old_forgot
 
     fronts : crash.IsChildFront front r0

@@ -1,4 +1,5 @@
--- What a crash leaves of a manager's log is a front of it that holds the forced one; so a restart is a move of its pairs.
+-- What a crash leaves of a manager's log is a front of it that holds the forced one; so a restart is a move
+-- of its pairs.
 use Rattle.std.proofs.Common.{◌≡◌, ◌∙◌, ◌||◌, ◌&&◌, ◌⊎◌, inl, inr, ℕ, Bool, ◌+◌, true, false, List, [], ◌∷◌, ◌++◌, take, drop, append_assoc, refl, sym, ap, subst, arith}
 use Rattle.std.proofs.lemmas.List.{take-append-drop}
 use Rattle.tree_model.specs.declared.names.Case.{Case}
@@ -208,7 +209,8 @@ module _ (c : Case) (t : Ticket) (p : ProcessId) (tree : List TreeEntry) (n : No
   same_parts : (x y : ChildHalf) (v w : Wire) → x ≡ y → v ≡ w
       → reading_from root true outcome above half x v ≡ reading_from root true outcome above half y w
   same_parts x y v w e f =
-      ap (λ z. reading_from root true outcome above half z v) e ∙ ap (λ z. reading_from root true outcome above half y z) f
+      ap (λ z. reading_from root true outcome above half z v) e
+      ∙ ap (λ z. reading_from root true outcome above half y z) f
 
   pub restart_fits : InvariantOf pr before
       → Fits pr before (reading_from root true outcome above half (child_half place (restarted place n k) d')

@@ -29,7 +29,28 @@ use Rattle.tree_children.proofs.TurnsAcknowledged.{acks_unknown, acks_told, drop
 use Rattle.tree_children.proofs.TurnsOthers.{forced_other, written_other, acks_other}
 
 module _ (turn : Turn) where
-  open turn use {c, t, p, tree, n, h, net, up, nested, m, stands, row, own, pr, of, root, outcome, above, half, inv}
+  open turn use {
+    c,
+    t,
+    p,
+    tree,
+    n,
+    h,
+    net,
+    up,
+    nested,
+    m,
+    stands,
+    row,
+    own,
+    pr,
+    of,
+    root,
+    outcome,
+    above,
+    half,
+    inv,
+  }
 
   abbrev d : Case
   d = branch turn
@@ -69,7 +90,8 @@ module _ (turn : Turn) where
 
   own_acks : (o : Outcome) → Fine turn [] (Acked turn o)
       → Ok (writes_and_sends [] (acknowledgement (leaf_of place p d) o))
-  own_acks o f = subst (λ (x : Presumption). (Fine turn) [] (if is_acknowledged x o then (ack turn) o else [])) (sym of)
+  own_acks o f = subst (λ (x : Presumption). (Fine turn) []
+      (if is_acknowledged x o then (ack turn) o else [])) (sym of)
       f
 
   open_marked : (x : Mark) → IsOpenBranch x → IsMarked x
@@ -120,7 +142,8 @@ module _ (turn : Turn) where
         (written_as (leaf_of place p z) CommittedOutcome (Committed (CaseBranch z)))
         (acknowledgement (leaf_of place p z) CommittedOutcome))) (sym s.1) (own_obeys CommittedOutcome) i
         a
-    | inr f ↦ written_other turn (Committed (CaseBranch x)) (record { no_abort = refl; no_prepare = refl }) f.0
+    | inr f ↦ written_other turn (Committed (CaseBranch x))
+        (record { no_abort = refl; no_prepare = refl }) f.0
         refl (λ b. refl) x
         CommittedOutcome f.0 (is_acknowledged x.txn.presumption CommittedOutcome)
   ]
@@ -162,13 +185,15 @@ module _ (turn : Turn) where
   turn_fits _ (asks x i a) = elim (same_case_tells x d) [
     | inl s ↦ subst (λ (z : Case). Waits (mark_at n z) → Fine turn [] (post t.child p (Inquire z) ∷ []))
         (sym s.1) (λ a'. (asks_own turn) a') a
-    | inr f ↦ nothing_said turn (post t.child p (Inquire x) ∷ []) (wires.other-inquire c t t.child p net x f.0)
+    | inr f ↦ nothing_said turn (post t.child p (Inquire x) ∷ [])
+        (wires.other-inquire c t t.child p net x f.0)
   ]
   turn_fits _ (decides x CommittedOutcome i a) = elim (same_case_tells x d) [
     | inl s ↦ subst (λ (z : Case). mark_at n z ≡ Promised → Fine turn (forced (HeurCommit (CaseBranch z))) [])
         (sym s.1)
         (λ a'. (decides_own turn) CommittedOutcome a') a
-    | inr f ↦ forced_other turn (HeurCommit (CaseBranch x)) (record { no_abort = refl; no_prepare = refl }) f.0
+    | inr f ↦ forced_other turn (HeurCommit (CaseBranch x))
+        (record { no_abort = refl; no_prepare = refl }) f.0
         refl (λ b. refl) []
         (wires.wire-none c t t.child p net)
   ]

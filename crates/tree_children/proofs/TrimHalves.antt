@@ -1,4 +1,5 @@
--- What a trim leaves of a manager's half of a pair: of an open branch all that stood, forced; of one that is over no
+-- What a trim leaves of a manager's half of a pair: of an open branch all that stood, forced; of one that
+-- is over no
 -- record.
 use Rattle.std.proofs.Common.{◌≡◌, ◌∙◌, ◌||◌, ◌&&◌, inl, inr, ℕ, Bool, true, false, List, [], ◌∷◌, ◌++◌, refl, sym, ap, arith}
 use Rattle.std.specs.Prelude.{reverse}
@@ -84,7 +85,8 @@ pub record Says (d : Case) (new : List Record) (says : (Record → Bool) → Boo
   pub forgot : has (is_forgot d) new ≡ says (is_forgot d)
 
 says_by : (d : Case) (new : List Record) (says : (Record → Bool) → Bool)
-    → ((q : Record → Bool) → ((k : ℕ) → q (Opened k) ≡ false) → Finds d q → has q new ≡ says q) → Says d new says
+    → ((q : Record → Bool) → ((k : ℕ) → q (Opened k) ≡ false) → Finds d q → has q new ≡ says q)
+    → Says d new says
 says_by d new says f = record {
   promise = f (is_promise d) (λ k. refl) (finds_promise d);
   commit = f (is_learnt_commit d) (λ k. refl) (finds_commit d);
@@ -182,7 +184,8 @@ module _ (p : ProcessId) (d : Case) (rs : List Record) (order : in_order_from d 
           by_left : (b : Bool) → has is_coordinators new ≡ b → has is_coordinators new ≡ false
           by_left true e = elim (trim_left is_coordinators (λ k. refl) (AtLeaf p) rs e) [
             | inl stood ↦ not_both is_coordinators (has is_coordinators rs) stood none
-            | inr written ↦ not_both is_coordinators (has is_coordinators (data_records (AtLeaf p) rs)) written
+            | inr written ↦ not_both is_coordinators (has is_coordinators (data_records (AtLeaf p) rs))
+                written
                 (data_is_other is_coordinators (λ k v. refl) (λ k. refl) (AtLeaf p) rs)
           ]
           by_left false e = e
@@ -233,7 +236,8 @@ module _ (me p : ProcessId) (tree : List TreeEntry) (n : Node) (d : Case) (s s' 
   life_follows : follows (is_abort d) (is_prepare d) (reverse of_data ++ n.life)
       ≡ follows (is_abort d) (is_prepare d) n.life
   life_follows = follows-none (is_abort d) (is_prepare d) (reverse of_data) n.life
-      (has-reverse (is_abort d) of_data ∙ data_is_other (is_abort d) (λ k v. refl) (λ k. refl) (AtLeaf p) (kept n))
+      (has-reverse (is_abort d) of_data
+      ∙ data_is_other (is_abort d) (λ k v. refl) (λ k. refl) (AtLeaf p) (kept n))
 
   pub half_keeps : Says d left_log (λ q. has q (kept n))
       → child_half_at s' (trims place n) d

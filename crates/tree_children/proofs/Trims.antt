@@ -211,14 +211,16 @@ module _ (c : Case) (t : Ticket) (p : ProcessId) (tree : List TreeEntry) (n : No
     abbrev then : Node
     then = trims place n
 
-    stays_as : (b : Bool) → k.is_open ≡ b → opens n.failed (manager_view place then d) ≡ b → Fits pr r0 (R (child_half place then d))
+    stays_as : (b : Bool) → k.is_open ≡ b → opens n.failed (manager_view place then d) ≡ b
+        → Fits pr r0 (R (child_half place then d))
     stays_as b e f =
         let s = (manager_view place then d).standing in
         elim (trimmed_half s) [
           | inl same ↦ subst (λ (z : ChildHalf). Fits pr r0 (R z))
               (sym (same ∙ ap (λ (o : Bool). stands_so o (hardens k)) (f ∙ sym e))) hardened
           | inr gone ↦ subst (λ (z : ChildHalf). Fits pr r0 (R z))
-              (sym (gone.1 ∙ ap (λ (o : Bool). stands_so o (cleared k)) (f ∙ (sym e ∙ over_is_closed gone.0)))) (clears gone.0)
+              (sym (gone.1 ∙ ap (λ (o : Bool). stands_so o (cleared k))
+              (f ∙ (sym e ∙ over_is_closed gone.0)))) (clears gone.0)
         ]
 
     seen : (x : Node) → manager_view place x d ≡ marked_branch (memory_of place x d) (mark_at x d)
@@ -237,12 +239,14 @@ module _ (c : Case) (t : Ticket) (p : ProcessId) (tree : List TreeEntry) (n : No
     trim_fits unmarked = elim (is_phase_open (memory_of place n d).phase) [
       | inl e ↦ stays_as k.is_open refl
           (ap (opens n.failed) (seen then)
-          ∙ (ap (λ (x : Mark). opens n.failed (marked_branch (memory_of place then d) x)) (unmarked_then (unmarked e))
+          ∙ (ap (λ (x : Mark). opens n.failed (marked_branch (memory_of place then d) x))
+          (unmarked_then (unmarked e))
           ∙ (ap (λ (m : Memory). opens n.failed (marked_branch m Unmarked)) same_memory
           ∙ (ap (λ (x : Mark). opens n.failed (marked_branch (memory_of place n d) x)) (sym (unmarked e))
           ∙ ap (opens n.failed) (sym (seen n))))))
       | inr other ↦ stays_as false
-          (ap (opens n.failed) (seen n) ∙ closed_unless_open n.failed (memory_of place n d) (mark_at n d) other)
+          (ap (opens n.failed) (seen n)
+          ∙ closed_unless_open n.failed (memory_of place n d) (mark_at n d) other)
           (ap (opens n.failed) (seen then)
           ∙ closed_unless_open n.failed (memory_of place then d) (mark_at then d)
           (λ e. other (ap (λ (m : Memory). m.phase) (sym same_memory) ∙ e)))

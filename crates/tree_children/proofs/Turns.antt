@@ -24,7 +24,8 @@ use Rattle.tree_nodes.specs.WorldHolds.{InvariantOf}
 use Rattle.tree_children.proofs.Moves.{Fits}
 use Rattle.tree_children.proofs.Opens.{IsRow, opens}
 
--- The pair's case and ticket, with the parent's half; the manager below its parent, what it was and heard, and the net
+-- The pair's case and ticket, with the parent's half; the manager below its parent, what it was and heard,
+-- and the net
 -- behind it; and what is known of them.
 pub record Turn : Type 0 where
   pub c : Case
@@ -47,7 +48,8 @@ pub record Turn : Type 0 where
   pub above : Bool
   pub half : ParentHalf
   pub inv : InvariantOf pr (reading_from root true outcome above half
-      (child_half (record { me = t.child; role = AtLeaf p; tree = tree }) n (child_case c.txn t)) (wire c t net))
+      (child_half (record { me = t.child; role = AtLeaf p; tree = tree }) n (child_case c.txn t))
+      (wire c t net))
 
 module _ (turn : Turn) where
   open turn use {c, t, p, tree, n, h, net, root, outcome, above, half, pr}

@@ -30,7 +30,28 @@ use Rattle.tree_children.proofs.TurnsQuiet.{quiet, nothing_said, closed_says, fo
 use Rattle.tree_children.proofs.TurnsWritten.{commit_sent, abort_sent}
 
 module _ (turn : Turn) where
-  open turn use {c, t, p, tree, n, h, net, up, nested, m, stands, row, own, pr, of, root, outcome, above, half, inv}
+  open turn use {
+    c,
+    t,
+    p,
+    tree,
+    n,
+    h,
+    net,
+    up,
+    nested,
+    m,
+    stands,
+    row,
+    own,
+    pr,
+    of,
+    root,
+    outcome,
+    above,
+    half,
+    inv,
+  }
 
   abbrev d : Case
   d = branch turn
@@ -47,7 +68,8 @@ module _ (turn : Turn) where
   -- An outcome finds nothing to do but to acknowledge.
 
   acks_commit : (j : ℕ) → h.input ≡ MessageInput j (Commit d) → k.is_open ≡ false
-      → IsForgotten (r0 turn) ⊎ ((r0 turn).learnt_commit_kept ≡ true) → Fine turn [] (Acked turn CommittedOutcome)
+      → IsForgotten (r0 turn) ⊎ ((r0 turn).learnt_commit_kept ≡ true)
+      → Fine turn [] (Acked turn CommittedOutcome)
   acks_commit j i closed known = by_presumption pr refl
     where
       by_presumption : (q : Presumption) → q ≡ pr
@@ -55,7 +77,8 @@ module _ (turn : Turn) where
       by_presumption PresumeAbort f =
           subst (λ (x : Presumption). (Fine turn) []
           (if is_acknowledged x CommittedOutcome then (ack turn) CommittedOutcome else [])) f
-          (closed_says turn (ack turn CommittedOutcome) (record v { ack = true }) (move.acknowledges (r0 turn)) closed
+          (closed_says turn (ack turn CommittedOutcome) (record v { ack = true })
+          (move.acknowledges (r0 turn)) closed
           (wires.wire-ack c t t.child p net CommittedOutcome) refl
           (moves.acknowledges_commit pr (sym f) (r0 turn) inv
           (record { up = up; told = commit_sent turn j i; known = known })))
@@ -65,7 +88,8 @@ module _ (turn : Turn) where
           (nothing_said turn [] (wires.wire-none c t t.child p net))
 
   acks_abort : (j : ℕ) → h.input ≡ MessageInput j (Abort d) → k.is_open ≡ false
-      → IsForgotten (r0 turn) ⊎ ((r0 turn).learnt_abort_kept ≡ true) → Fine turn [] (Acked turn AbortedOutcome)
+      → IsForgotten (r0 turn) ⊎ ((r0 turn).learnt_abort_kept ≡ true)
+      → Fine turn [] (Acked turn AbortedOutcome)
   acks_abort j i closed known = by_presumption pr refl
     where
       by_presumption : (q : Presumption) → q ≡ pr
@@ -73,7 +97,8 @@ module _ (turn : Turn) where
       by_presumption PresumeCommit f =
           subst (λ (x : Presumption). (Fine turn) []
           (if is_acknowledged x AbortedOutcome then (ack turn) AbortedOutcome else [])) f
-          (closed_says turn (ack turn AbortedOutcome) (record v { ack = true }) (move.acknowledges (r0 turn)) closed
+          (closed_says turn (ack turn AbortedOutcome) (record v { ack = true })
+          (move.acknowledges (r0 turn)) closed
           (wires.wire-ack c t t.child p net AbortedOutcome) refl
           (moves.acknowledges_abort pr (sym f) (r0 turn) inv
           (record { up = up; told = abort_sent turn j i; known = known })))

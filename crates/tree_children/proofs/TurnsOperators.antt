@@ -28,7 +28,28 @@ use Rattle.tree_children.proofs.TurnsQuiet.{closed_says}
 use Rattle.tree_children.proofs.TurnsWritten.{forced_own, hard, onward, in_doubt}
 
 module _ (turn : Turn) where
-  open turn use {c, t, p, tree, n, h, net, up, nested, m, stands, row, own, pr, of, root, outcome, above, half, inv}
+  open turn use {
+    c,
+    t,
+    p,
+    tree,
+    n,
+    h,
+    net,
+    up,
+    nested,
+    m,
+    stands,
+    row,
+    own,
+    pr,
+    of,
+    root,
+    outcome,
+    above,
+    half,
+    inv,
+  }
 
   abbrev d : Case
   d = branch turn
@@ -119,7 +140,8 @@ module _ (turn : Turn) where
 
       by_outcome : (u : Outcome) → Fine turn (forced (decides_record (leaf_of place p d) u)) []
       by_outcome CommittedOutcome =
-          forced_own turn (HeurCommit (CaseBranch d)) [] v (move.decides_alone true (move.hardens_child (r0 turn)))
+          forced_own turn (HeurCommit (CaseBranch d)) [] v
+          (move.decides_alone true (move.hardens_child (r0 turn)))
           (record { no_abort = refl; no_prepare = refl }) (same_case-refl d)
           (wires.wire-none c t t.child p net)
           (readings.reading-decided root outcome above half k v d (HeurCommit (CaseBranch d)) closed
@@ -128,7 +150,8 @@ module _ (turn : Turn) where
           (onward turn (move.decides_alone true (move.hardens_child (r0 turn)))
           (moves.decides_alone pr true (move.hardens_child (r0 turn)) (hard turn).invariant may))
       by_outcome AbortedOutcome =
-          forced_own turn (HeurRollback (CaseBranch d)) [] v (move.decides_alone false (move.hardens_child (r0 turn)))
+          forced_own turn (HeurRollback (CaseBranch d)) [] v
+          (move.decides_alone false (move.hardens_child (r0 turn)))
           (record { no_abort = refl; no_prepare = refl }) (same_case-refl d)
           (wires.wire-none c t t.child p net)
           (readings.reading-decided root outcome above half k v d (HeurRollback (CaseBranch d)) closed

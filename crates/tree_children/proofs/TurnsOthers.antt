@@ -32,7 +32,28 @@ use Rattle.tree_children.proofs.TurnsQuiet.{nothing_said, falls_so}
 use Rattle.tree_children.proofs.TurnsWritten.{hard}
 
 module _ (turn : Turn) where
-  open turn use {c, t, p, tree, n, h, net, up, nested, m, stands, row, own, pr, of, root, outcome, above, half, inv}
+  open turn use {
+    c,
+    t,
+    p,
+    tree,
+    n,
+    h,
+    net,
+    up,
+    nested,
+    m,
+    stands,
+    row,
+    own,
+    pr,
+    of,
+    root,
+    outcome,
+    above,
+    half,
+    inv,
+  }
 
   abbrev d : Case
   d = branch turn
@@ -52,7 +73,8 @@ module _ (turn : Turn) where
       (none : is_coordinators r ≡ false)
       (boots : (x : ℕ) → boot_after x r ≡ x) where
     forced_falls : (ls : List Envelope)
-        → (O turn (writes_and_sends (forced r) ls) ≡ k.is_open) ⊎ (O turn (writes_and_sends (forced r) ls) ≡ false)
+        → (O turn (writes_and_sends (forced r) ls) ≡ k.is_open)
+        ⊎ (O turn (writes_and_sends (forced r) ls) ≡ false)
     forced_falls ls =
         let e = writes_and_sends (forced r) ls in
         fall t.child p tree n h e d (memory_of-forced place n h e d r refl boots) row
@@ -60,7 +82,8 @@ module _ (turn : Turn) where
         other)
 
     plain_falls : (ls : List Envelope)
-        → (O turn (writes_and_sends (plain r) ls) ≡ k.is_open) ⊎ (O turn (writes_and_sends (plain r) ls) ≡ false)
+        → (O turn (writes_and_sends (plain r) ls) ≡ k.is_open)
+        ⊎ (O turn (writes_and_sends (plain r) ls) ≡ false)
     plain_falls ls =
         let e = writes_and_sends (plain r) ls in
         fall t.child p tree n h e d (memory_of-plain place n h e d r refl boots) row
@@ -70,7 +93,8 @@ module _ (turn : Turn) where
     pub forced_other : (ls : List Envelope) → wire c t (net ++ ls) ≡ v → Fine turn (forced r) ls
     forced_other ls e =
         let x = writes_and_sends (forced r) ls in
-        let same : R turn (hardens k) v ≡ move.hardens_child (r0 turn) = readings.reading-hardened root outcome above
+        let same : R turn (hardens k) v
+        ≡ move.hardens_child (r0 turn) = readings.reading-hardened root outcome above
         half k v in
         let inv' = subst (λ (z : Reading). InvariantOf pr z) (sym same) (hard turn).invariant in
         let first = subst (λ (z : Reading). Fits pr (r0 turn) z) (sym same) (hard turn) in

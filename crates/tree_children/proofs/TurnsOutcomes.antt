@@ -24,7 +24,28 @@ use Rattle.tree_children.proofs.Turns.{Turn, d as branch, place as place_in, k a
 use Rattle.tree_children.proofs.TurnsWritten.{TellsCommit, TellsAbort, commit_forced, commit_plain, abort_plain, abort_forced}
 
 module _ (turn : Turn) where
-  open turn use {c, t, p, tree, n, h, net, up, nested, m, stands, row, own, pr, of, root, outcome, above, half, inv}
+  open turn use {
+    c,
+    t,
+    p,
+    tree,
+    n,
+    h,
+    net,
+    up,
+    nested,
+    m,
+    stands,
+    row,
+    own,
+    pr,
+    of,
+    root,
+    outcome,
+    above,
+    half,
+    inv,
+  }
 
   abbrev d : Case
   d = branch turn
@@ -86,7 +107,11 @@ module _ (turn : Turn) where
       }
 
       by_both : (q : Presumption) → q ≡ pr → (u : Outcome) → h.input ≡ MessageInput j (tells_outcome u d)
-          → Fine turn (record { entry = ends_record (leaf_of place p d) u; is_forced = is_acknowledged pr u } ∷
+          → Fine turn (record {
+            entry = ends_record (leaf_of place p d) u;
+            is_forced = is_acknowledged pr
+                u;
+          } ∷
           [])
           (if is_acknowledged pr u then (ack turn) u else [])
       by_both PresumeAbort f CommittedOutcome g =

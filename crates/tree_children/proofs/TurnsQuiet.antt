@@ -1,4 +1,5 @@
--- An input of a manager that writes nothing keeps the invariant of its pairs: votes but YES, and repeated ones.
+-- An input of a manager that writes nothing keeps the invariant of its pairs: votes but YES, and repeated
+-- ones.
 use Rattle.std.proofs.Common.{◌≡◌, ◌∙◌, ◌&&◌, ◌⊎◌, inl, inr, ℕ, Bool, true, false, List, [], ◌∷◌, ◌++◌, refl, sym, ap, subst}
 use Rattle.tree_model.specs.declared.names.Case.{Case}
 use Rattle.tree_model.specs.declared.names.Presumption.{Presumption}
@@ -58,7 +59,28 @@ module _ (pr : Presumption) (root outcome above : Bool) (half : ParentHalf) (k :
   falls_so o (inr f) = may_fall o k.is_open v.issued refl refl f
 
 module _ (turn : Turn) where
-  open turn use {c, t, p, tree, n, h, net, up, nested, m, stands, row, own, pr, of, root, outcome, above, half, inv}
+  open turn use {
+    c,
+    t,
+    p,
+    tree,
+    n,
+    h,
+    net,
+    up,
+    nested,
+    m,
+    stands,
+    row,
+    own,
+    pr,
+    of,
+    root,
+    outcome,
+    above,
+    half,
+    inv,
+  }
 
   abbrev d : Case
   d = branch turn
@@ -111,7 +133,8 @@ module _ (turn : Turn) where
       → Fits pr (r0 turn) s → Fine turn [] ls
   closed_says ls w s e f g x =
       quiet ls w false f (stays_closed ls e)
-      (subst (λ (z : Reading). Fits pr (r0 turn) z) (sym (ap (λ b. (R turn) (stands_so b k) w) (sym e) ∙ g)) x)
+      (subst (λ (z : Reading). Fits pr (r0 turn) z)
+      (sym (ap (λ b. (R turn) (stands_so b k) w) (sym e) ∙ g)) x)
 
   pub yes_again : (x j : ℕ) → h.input ≡ MessageInput j (Prepare d x) → IsOpenBranch (mark_at n d)
       → IsMarked (mark_at n d)
@@ -148,7 +171,8 @@ module _ (turn : Turn) where
   pub active_open : IsActive place n d → k.is_open ≡ true
   active_open a = open_where_active place n d up a.unmarked a.is_open
 
-  pub may_vote : (x j : ℕ) → h.input ≡ MessageInput j (Prepare d x) → IsActive place n d → move.MayVote (r0 turn)
+  pub may_vote : (x j : ℕ) → h.input ≡ MessageInput j (Prepare d x) → IsActive place n d
+      → move.MayVote (r0 turn)
   may_vote x j i a =
       let asked = prepared_sent j x i in
       record {

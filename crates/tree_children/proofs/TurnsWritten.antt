@@ -37,7 +37,28 @@ use Rattle.tree_children.proofs.Turns.{Turn, d as branch, place as place_in, k a
 use Rattle.tree_children.proofs.TurnsQuiet.{active_open, may_vote}
 
 module _ (turn : Turn) where
-  open turn use {c, t, p, tree, n, h, net, up, nested, m, stands, row, own, pr, of, root, outcome, above, half, inv}
+  open turn use {
+    c,
+    t,
+    p,
+    tree,
+    n,
+    h,
+    net,
+    up,
+    nested,
+    m,
+    stands,
+    row,
+    own,
+    pr,
+    of,
+    root,
+    outcome,
+    above,
+    half,
+    inv,
+  }
 
   abbrev d : Case
   d = branch turn
@@ -69,14 +90,16 @@ module _ (turn : Turn) where
       subst (λ (z : ChildHalf). Fits pr (r0 turn) (R turn z (wire c t (net ++ ls))))
       (sym (half_forced (manager_view place n d).standing (manager_view place (after n h x) d).standing n
       h x d r refl b))
-      (subst (λ (y : Bool). Fits pr (r0 turn) (R turn (stands_so y (hardens (Wrote r))) (wire c t (net ++ ls))))
+      (subst (λ (y : Bool). Fits pr (r0 turn)
+      (R turn (stands_so y (hardens (Wrote r))) (wire c t (net ++ ls))))
       (sym closed)
       (subst (λ (z : Wire). Fits pr (r0 turn) (R turn (stands_so false (hardens (Wrote r))) z)) (sym e)
       (subst (λ (z : Reading). Fits pr (r0 turn) z) (sym f) g)))
 
   plain_own : (r : Record) (ls : List Envelope) (w : Wire) (s : Reading) → IsBranchs d r
       → is_branch_record d r ≡ true
-      → wire c t (net ++ ls) ≡ w → R turn (stands_so false (Wrote r)) w ≡ s → Fits pr (r0 turn) s → Fine turn (plain r) ls
+      → wire c t (net ++ ls) ≡ w → R turn (stands_so false (Wrote r)) w ≡ s → Fits pr (r0 turn) s
+      → Fine turn (plain r) ls
   plain_own r ls w s b mine e f g =
       let x = writes_and_sends (plain r) ls in
       let closed : (O turn) x ≡ false =
@@ -86,7 +109,8 @@ module _ (turn : Turn) where
       subst (λ (z : ChildHalf). Fits pr (r0 turn) (R turn z (wire c t (net ++ ls))))
       (sym (half_plain (manager_view place n d).standing (manager_view place (after n h x) d).standing n h
       x d r refl b))
-      (subst (λ (y : Bool). Fits pr (r0 turn) (R turn (stands_so y (Wrote r)) (wire c t (net ++ ls)))) (sym closed)
+      (subst (λ (y : Bool). Fits pr (r0 turn) (R turn (stands_so y (Wrote r)) (wire c t (net ++ ls))))
+      (sym closed)
       (subst (λ (z : Wire). Fits pr (r0 turn) (R turn (stands_so false (Wrote r)) z)) (sym e)
       (subst (λ (z : Reading). Fits pr (r0 turn) z) (sym f) g)))
 

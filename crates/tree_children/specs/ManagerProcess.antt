@@ -6,11 +6,13 @@ use Rattle.tree_model.specs.Nodes.{AtLeaf, Effect, place_of, role_of}
 use Rattle.tree_model.specs.World.{IsRun, Made, Move, Stands, World, world_makes}
 use Rattle.tree_nodes.specs.ProcessSteps.{ChildStep, Elsewhere, ParentStep}
 
--- In every run, each step of a manager keeps the pairs above it, has none below it, and is of no pair of others.
+-- In every run, each step of a manager keeps the pairs above it, has none below it, and is of no pair of
+-- others.
 abbrev pub ManagerProcess : Type 0
 ManagerProcess = (tree : List TreeEntry) (es : List Made) (w : World) → IsRun tree es w
     → (m : Move) (e : Effect) (w' : World) (p : ProcessId) → role_of tree m.step.process ≡ AtLeaf p
     → Stands w.net m.step.process m.step.happening → world_makes tree w m ≡ Some (e, w')
     → (let q = m.step.process in
     ChildStep (place_of tree q) w.net e.messages (w.at q) (w'.at q)
-    × (ParentStep (place_of tree q) w.net e.messages (w.at q) (w'.at q) × Elsewhere (place_of tree q) e.messages))
+    × (ParentStep (place_of tree q) w.net e.messages (w.at q) (w'.at q)
+    × Elsewhere (place_of tree q) e.messages))

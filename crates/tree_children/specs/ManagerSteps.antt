@@ -11,8 +11,10 @@ use Rattle.tree_readings.specs.ReadingOf.{reading_of}
 use Rattle.tree_readings.specs.Steps.{IsLeafPair}
 use Rattle.tree_nodes.specs.WorldHolds.{InvariantOf}
 
--- In every run, each step of a manager, whatever it is and wherever its device fails in it, keeps the invariant of each
--- pair of the manager, and what was true of the pair for ever, whatever the parent's process and the pair above say.
+-- In every run, each step of a manager, whatever it is and wherever its device fails in it, keeps the
+-- invariant of each
+-- pair of the manager, and what was true of the pair for ever, whatever the parent's process and the pair
+-- above say.
 abbrev pub ManagerSteps : Type 0
 ManagerSteps = (tree : List TreeEntry) (es : List Made) (w : World) → IsRun tree es w
     → (c : Case) (t : Ticket) (p : ProcessId) → IsLeafPair tree c t p → (above : Bool)

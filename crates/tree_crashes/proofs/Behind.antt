@@ -27,14 +27,16 @@ use Rattle.tree_crashes.proofs.Reopened.{collects_alone, is_alone}
 
 -- Histories.
 
--- of records newly appended, none of which passes the second test, those that pass the first stand behind what passed it
+-- of records newly appended, none of which passes the second test, those that pass the first stand behind
+-- what passed it
 -- before
 follows-new : (q p : Record → Bool) (xs ys : List Record) → has p xs ≡ false
     → follows q p (xs ++ ys) ≡ ((has q xs && has p ys) || follows q p ys)
 unfolding has
 follows-new q p [] ys e = refl
 follows-new q p (x ∷ xs) ys e =
-    step (q x) (p x) (has p xs) (has p (xs ++ ys)) (has p ys) (has q xs) (follows q p (xs ++ ys)) (follows q p ys) e
+    step (q x) (p x) (has p xs) (has p (xs ++ ys)) (has p ys) (has q xs) (follows q p (xs ++ ys))
+    (follows q p ys) e
     (none_first xs ys) (follows-new q p xs ys)
   where
     none_first : (l m : List Record) → has p l ≡ false → has p (l ++ m) ≡ has p m
@@ -76,7 +78,8 @@ abandoned_so : (r : Reading) → PresumedCommit r → r.parent_is_root ≡ false
     → r.read_up ≡ false → (is_live r.phase || (r.own_prepare_kept || r.refused)) ≡ true
 abandoned_so r h root e f = grind (arith, root, e, f, h.collected_is_decided, h.common.cascaded_commit_obeys)
 
-module _ (pr : Presumption) (root manager outcome above : Bool) (k : ChildHalf) (v : Wire) (c : Case) (t : Ticket)
+module _ (pr : Presumption) (root manager outcome above : Bool) (k : ChildHalf) (v : Wire) (c : Case)
+    (t : Ticket)
     (n n' : Node) (j : ℕ) (new : List Record) (s s' : Standing) (m : Memory) (fit : AllFit [] (kept n))
     (now : Crashed c t n n' j new) (closed : phase_by n'.failed s' ≡ Closed)
     (life_so : n'.life ≡ reverse new ++ n.life)
@@ -165,7 +168,8 @@ module _ (pr : Presumption) (root manager outcome above : Bool) (k : ChildHalf) 
         → refused_by false outcome p' v ≡ refused_lost false outcome front p v
     refused_below below quiet =
         rw (obeyed, l.own_prepare_kept, l.own_prepare_ever, closed)
-        (refused-below p.obeyed_abort p.own_prepare_kept p.own_prepare_ever (is_live p.phase) v.given v.read_up
+        (refused-below p.obeyed_abort p.own_prepare_kept p.own_prepare_ever (is_live p.phase) v.given
+        v.read_up
         front.own_prepare forced.own_prepare (has (is_abort c) new) (has (is_prepare c) n.life) live
         fronts.had_own_prepare promise_within says.once asked none_promised abandoned)
       where

@@ -54,9 +54,11 @@ reads_not tree w h me co voted c read = by_test (has (is_prepare c) (w.at me).li
         let pair = is_pair tree w.net c t h.net joined.1 in
         let common = common_of c.txn.presumption (pair_reading tree w c t)
         (h.pairs c t pair (is_free w.net w.net c t (λ d f. f) h.joined_once joined.1)) in
-        let here = λ (P : Node → Type 0) (p : P (w.at me)). subst (λ (x : ProcessId). P (w.at x)) (sym joined.0) p in
+        let here = λ (P : Node → Type 0) (p : P (w.at me)). subst (λ (x : ProcessId). P (w.at x))
+        (sym joined.0) p in
         let first = common.read_has_reads read (here (λ n. has_accepted n c t ≡ true) accepted) in
-        ends (sym first ∙ (common.yes_was_sent (here (λ n. has_heard_vote n c t (is_vote VoteYes) ≡ true) yes')).1)
+        ends (sym first ∙ (common.yes_was_sent
+        (here (λ n. has_heard_vote n c t (is_vote VoteYes) ≡ true) yes')).1)
 
     by_test : (b : Bool) → has (is_prepare c) (w.at me).life ≡ b → has (is_prepare c) (w.at me).life ≡ false
     by_test true e = let v = voted c e in contradicts v.ticket v.heard
@@ -126,7 +128,8 @@ module _ (tree : List TreeEntry) (is_tree : IsTree tree) (es : List Made) (w : W
 
     of_role : (r : Role) → role_of tree q ≡ r → RoleHolds r (place_of tree q) w.net n
     of_role r f =
-        subst (λ (x : Role). RoleHolds x (place_of tree q) w.net n) f (h.nodes q (makes_listed tree w m e w' made)).role
+        subst (λ (x : Role). RoleHolds x (place_of tree q) w.net n) f
+        (h.nodes q (makes_listed tree w m e w' made)).role
 
     abbrev at : Role → Place
     at r = record { me = q; role = r; tree = tree }
@@ -139,7 +142,8 @@ module _ (tree : List TreeEntry) (is_tree : IsTree tree) (es : List Made) (w : W
         subst (λ k. NodeFacts (at AtRoot) (w.net ++ e.messages) k) there
         (subst (λ r. NodeFacts (at r) (w.net ++ e.messages) (w'.at q)) top (facts' i)) in
         let own = (of_role AtRoot top).1.own_records in
-        let begun = λ (x : Txn). subst (λ k. has_begun (root_place q tree) k x ≡ has_begun (root_place q tree) n x) there
+        let begun = λ (x : Txn). subst
+        (λ k. has_begun (root_place q tree) k x ≡ has_begun (root_place q tree) n x) there
         (begun_stay q tree n (w'.at q) (all_root_cases tree es w run q top) (all_begun tree es w run q top)
         (all_root_cases tree es' w' run' q top) (all_begun tree es' w' run' q top)
         (ap (λ (k : Node). k.begun) there ∙ begins_nothing (place_of tree q) n m e node crash step) x) in

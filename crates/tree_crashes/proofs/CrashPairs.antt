@@ -1,4 +1,5 @@
--- A restart or a trim of a coordinator keeps each pair below it: from what is known of its process and of the net.
+-- A restart or a trim of a coordinator keeps each pair below it: from what is known of its process and of
+-- the net.
 use Rattle.std.proofs.Common.{◌≡◌, ◌∙◌, Bool, true, false, Option, Some, None, List, [], ◌++◌, refl, sym, ap, subst, arith}
 use Rattle.std.proofs.lemmas.List.{append-nil}
 use Rattle.tree_model.specs.declared.names.Case.{Case}
@@ -138,7 +139,8 @@ module _ (x c : Case) (t : Ticket) (other : same_case x c ≡ false) where
   gives_it (Ack d o) e = absurd (cc)
   gives_it (Inquire d) e = absurd (cc)
 
-  gives_there : (net : List Envelope) → sent (is_joined_message x t) net ≡ true → sent (gives_other c t) net ≡ true
+  gives_there : (net : List Envelope) → sent (is_joined_message x t) net ≡ true
+      → sent (gives_other c t) net ≡ true
   gives_there net e = sent_other (is_joined_message x t) (gives_other c t) net gives_it e
 
 -- a ticket that no other case was given is that of this case
@@ -170,7 +172,8 @@ module _ (place : Place) (net : List Envelope) (n : Node) (coordinates : Coordin
 
 -- The steps.
 
-begun_half : (me : ProcessId) (tree : List TreeEntry) (n : Node) (c : Case) (t : Ticket) (s : Standing) (x : Txn)
+begun_half : (me : ProcessId) (tree : List TreeEntry) (n : Node) (c : Case) (t : Ticket) (s : Standing)
+    (x : Txn)
     → c ≡ root_case x
     → (parent_half_at s (memory_of (root_place me tree) n c) n c t).begun ≡ has_begun (root_place me tree) n x
 begun_half me tree n c t s x e =
@@ -183,7 +186,8 @@ pub record NodeFacts (place : Place) (net : List Envelope) (n : Node) : Type 0 w
   pub nested : Nested (logs_of n)
   pub fit : AllFit [] (kept n)
 
-module _ (place : Place) (net ls : List Envelope) (n k : Node) (now : NodeFacts place net n) (c : Case) (t : Ticket)
+module _ (place : Place) (net ls : List Envelope) (n k : Node) (now : NodeFacts place net n) (c : Case)
+    (t : Ticket)
     (free : IsFree (net ++ ls) c t)
   where
     -- a trim leaves the case as open as it was
@@ -211,7 +215,8 @@ module _ (me : ProcessId) (tree : List TreeEntry) (n : Node) (net : List Envelop
 
     no_ticket : (c : Case) (t : Ticket) → IsPair tree c t → process_of c ≡ me → c.ticket ≡ None
     no_ticket c t pair same =
-        by_ticket c.ticket (subst (λ r. IsParentRole r c.ticket) (ap (role_of tree) same ∙ at_top) pair.parent.role)
+        by_ticket c.ticket (subst (λ r. IsParentRole r c.ticket) (ap (role_of tree) same ∙ at_top)
+        pair.parent.role)
       where
         by_ticket : (o : Option Ticket) → IsParentRole AtRoot o → o ≡ None
         by_ticket None e = refl
@@ -260,7 +265,8 @@ module _ (me : ProcessId) (tree : List TreeEntry) (n : Node) (net : List Envelop
           let k = restarted root n j in
           let rs = left_of n j ++ reopens AtRoot (left_of n j) in
           steps.root_reopens me tree n j c t now.nested now.fit manager above kh net (none_here c.txn t)
-          (λ x f. names_own root (net ++ (restart_effect root n j).messages) k then.coordinates then.nested c t free x
+          (λ x f. names_own root (net ++ (restart_effect root n j).messages) k then.coordinates
+          then.nested c t free x
           (ap (has (is_decision_naming x t)) (append-nil rs) ∙ f))
           (same_begun k (coordinator_view root n c).standing (coordinator_view root k c).standing
           (forgetful root k c refl) begun) inv
@@ -268,7 +274,8 @@ module _ (me : ProcessId) (tree : List TreeEntry) (n : Node) (net : List Envelop
           let k = restart_fails root n j f.appended f.forced in
           subst (λ ls. Fits c.txn.presumption (seen net n) (seen ls k)) (sym (append-nil net))
           (steps.root_breaks me tree n j c t now.nested now.fit manager above kh net (none_here c.txn t)
-          f.appended f.forced then.fit (same_begun k (coordinator_view root n c).standing (coordinator_view root k c).standing
+          f.appended f.forced then.fit (same_begun k (coordinator_view root n c).standing
+          (coordinator_view root k c).standing
           (forgetful root k c refl) begun) inv)
       follows_root _ _ (trimmed hp up) then begun free inv =
           subst (λ ls. Fits c.txn.presumption (seen net n) (seen ls (trims root n))) (sym (append-nil net))
@@ -293,9 +300,11 @@ module _ (me : ProcessId) (tree : List TreeEntry) (n : Node) (net : List Envelop
       follows = λ c t pair same free manager outcome above kh abv inv.
           let top = no_ticket c t pair same in
           subst (λ b. InvariantOf c.txn.presumption
-          (reading_from b manager (has (is_commit c) n.durable) above (parent_half root n c t) kh (wire c t net))
+          (reading_from b manager (has (is_commit c) n.durable) above (parent_half root n c t) kh
+          (wire c t net))
           → Fits c.txn.presumption
-          (reading_from b manager (has (is_commit c) n.durable) above (parent_half root n c t) kh (wire c t net))
+          (reading_from b manager (has (is_commit c) n.durable) above (parent_half root n c t) kh
+          (wire c t net))
           (reading_from b manager (has (is_commit c) k.durable) above (parent_half root k c t) kh
           (wire c t (net ++ e.messages)))) (sym (ap is_root_ticket top))
           (follows_root c t top manager above kh e k s then (begun c.txn) free) inv;
@@ -315,9 +324,11 @@ module _ (me p : ProcessId) (tree : List TreeEntry) (n : Node) (net : List Envel
     not_handled : {A : Type 0} → (i : _) → m.step.happening ≡ Handles i → A
     not_handled i e = absurd (subst IsCrash e crash)
 
-    has_ticket : (c : Case) (t : Ticket) → IsPair tree c t → process_of c ≡ me → is_root_ticket c.ticket ≡ false
+    has_ticket : (c : Case) (t : Ticket) → IsPair tree c t → process_of c ≡ me → is_root_ticket c.ticket
+        ≡ false
     has_ticket c t pair same =
-        by_ticket c.ticket (subst (λ r. IsParentRole r c.ticket) (ap (role_of tree) same ∙ at_below) pair.parent.role)
+        by_ticket c.ticket (subst (λ r. IsParentRole r c.ticket) (ap (role_of tree) same ∙ at_below)
+        pair.parent.role)
       where
         by_ticket : (o : Option Ticket) → IsParentRole (Below p) o → is_root_ticket o ≡ false
         by_ticket None e = absurd e
@@ -326,7 +337,8 @@ module _ (me p : ProcessId) (tree : List TreeEntry) (n : Node) (net : List Envel
     promised_here : (d : Case) (r : Record) → is_prepare d r ≡ true → is_record_of d r ≡ true
     promised_here d r e = grind arith
 
-    none_of_child : (x : Txn) (t : Ticket) → (t.child ≡ me → ⊥) → has (is_prepare (child_case x t)) (kept n) ≡ false
+    none_of_child : (x : Txn) (t : Ticket) → (t.child ≡ me → ⊥)
+        → has (is_prepare (child_case x t)) (kept n) ≡ false
     none_of_child x t other = by_test (has (is_prepare (child_case x t)) (kept n)) refl
       where
         by_test : (b : Bool) → has (is_prepare (child_case x t)) (kept n) ≡ b
@@ -338,11 +350,13 @@ module _ (me p : ProcessId) (tree : List TreeEntry) (n : Node) (net : List Envel
             (promised_here (child_case x t)) e))))
         by_test false e = e
 
-    module _ (c : Case) (t : Ticket) (other : t.child ≡ me → ⊥) (manager outcome above : Bool) (kh : ChildHalf) where
+    module _ (c : Case) (t : Ticket) (other : t.child ≡ me → ⊥) (manager outcome above : Bool)
+        (kh : ChildHalf) where
       abbrev seen_so : List Envelope → Node → reading.Reading
       seen_so ls x = reading_from false manager outcome above (parent_half place x c t) kh (wire c t ls)
 
-      pub follows_below : (e : Effect) (k : Node) → StepOf place n m e k → NodeFacts place (net ++ e.messages) k
+      pub follows_below : (e : Effect) (k : Node) → StepOf place n m e k
+          → NodeFacts place (net ++ e.messages) k
           → IsFree (net ++ e.messages) c t
           → InvariantOf c.txn.presumption (seen_so net n)
           → Fits c.txn.presumption (seen_so net n) (seen_so (net ++ e.messages) k)
@@ -351,7 +365,8 @@ module _ (me p : ProcessId) (tree : List TreeEntry) (n : Node) (net : List Envel
           let rs = left_of n j ++ reopens (Below p) (left_of n j) in
           steps.below_reopens me tree n j c t now.nested now.fit manager above kh net p outcome
           (none_of_child c.txn t other) (quiet c)
-          (λ x f. names_own place (net ++ (restart_effect place n j).messages) k then.coordinates then.nested c t free x
+          (λ x f. names_own place (net ++ (restart_effect place n j).messages) k then.coordinates
+          then.nested c t free x
           (ap (has (is_decision_naming x t)) (append-nil rs) ∙ f)) inv
       follows_below _ _ (failed_reopening j f fl hp) then free inv =
           let k = restart_fails place n j f.appended f.forced in
@@ -359,21 +374,25 @@ module _ (me p : ProcessId) (tree : List TreeEntry) (n : Node) (net : List Envel
           (steps.below_breaks me tree n j c t now.nested now.fit manager above kh net p outcome
           (none_of_child c.txn t other) (quiet c) f.appended f.forced then.fit inv)
       follows_below _ _ (trimmed hp up) then free inv =
-          subst (λ ls. Fits c.txn.presumption (seen_so net n) (seen_so ls (trims place n))) (sym (append-nil net))
-          (steps.below_trims me tree n c t manager above kh (wire c t net) (now.coordinates.names c) up p outcome
+          subst (λ ls. Fits c.txn.presumption (seen_so net n) (seen_so ls (trims place n)))
+          (sym (append-nil net))
+          (steps.below_trims me tree n c t manager above kh (wire c t net) (now.coordinates.names c) up p
+          outcome
           (as_open place net [] n (trims place n) now c t free (trims place n) then.coordinates up refl
           (trims_memory place n c)) inv)
       follows_below _ _ (failed_trimming f fl hp up) then free inv =
           subst (λ ls. Fits c.txn.presumption (seen_so net n) (seen_so ls (trim_fails place n f.appended)))
           (sym (append-nil net))
-          (steps.below_trim_breaks me tree n c t manager above kh (wire c t net) (now.coordinates.names c) up p outcome
+          (steps.below_trim_breaks me tree n c t manager above kh (wire c t net) (now.coordinates.names c)
+          up p outcome
           f.appended inv)
       follows_below _ _ (handled i g hp np r) then free inv = not_handled i hp
       follows_below _ _ (failed_in i f g fl hp np r) then free inv = not_handled i hp
       follows_below _ _ (passed i hp r) then free inv = not_handled i hp
       follows_below _ _ (failed_passing i f fl hp r) then free inv = not_handled i hp
 
-    pub cascaded_crashes : (e : Effect) (k : Node) → StepOf place n m e k → NodeFacts place (net ++ e.messages) k
+    pub cascaded_crashes : (e : Effect) (k : Node) → StepOf place n m e k
+        → NodeFacts place (net ++ e.messages) k
         → ParentStep place net e.messages n k
     cascaded_crashes e k s then = record {
       follows = λ c t pair same free manager outcome above kh abv inv.

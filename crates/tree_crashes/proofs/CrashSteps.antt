@@ -30,7 +30,8 @@ use Rattle.tree_crashes.proofs.Trims as trimming
 use Rattle.tree_crashes.proofs.Trimmed.{trims_alike}
 
 -- a process that failed remembers the same
-same_memory : (place : Place) (n : Node) (c : Case) → memory_of place (record n { failed = true }) c ≡ memory_of place n c
+same_memory : (place : Place) (n : Node) (c : Case) → memory_of place (record n { failed = true }) c
+    ≡ memory_of place n c
 unfolding memory_of
 same_memory place n c = refl
 
@@ -103,18 +104,22 @@ module _ (me : ProcessId) (tree : List TreeEntry) (n : Node) (j : ℕ) (c : Case
             let alone = crashes.aborts_alone root n j c t nested refl in
             let aborts = λ (e : has (is_abort c) root_new ≡ true). sym alone ∙ e in
             subst (λ (z : Reading). Fits c.txn.presumption r0 z)
-            (sym (ap (λ b. reading_from true manager b above (parent_half_at s' (memory_of root n' c) n' c t) k
+            (sym (ap (λ b. reading_from true manager b above
+            (parent_half_at s' (memory_of root n' c) n' c t) k
             (wire c t (net ++ (restart_effect root n j).messages)))
             (now.ever_so (is_commit c) (λ x ts. refl) (λ b. refl))
-            ∙ (ap (λ x. reading_from true manager (has (is_commit c) n'.forced || o) above (parent_half_at s' x n' c t) k
+            ∙ (ap (λ x. reading_from true manager (has (is_commit c) n'.forced || o) above
+            (parent_half_at s' x n' c t) k
             (wire c t (net ++ (restart_effect root n j).messages))) (crashes.forgetful root n' c refl)
             ∙ ap (λ x. reading_from true manager (has (is_commit c) n'.forced || o) above
             (parent_half_at s' fresh_memory n' c t) k x)
             (wire_resumed me None (left ++ root_new) c t own net
             (none_left none root_new (now.none_new (is_prepare d) (λ x ts. refl) (λ b. refl)))))))
-            (restarts.reopens_fits true manager o above k v c t n n' j root_new s s' m fit now closed refl aborts
+            (restarts.reopens_fits true manager o above k v c t n n' j root_new s s' m fit now closed refl
+            aborts
             (ap (λ b. b) begun)
-            (behind.refused_root c.txn.presumption true manager o above k v c t n n' j root_new s s' m fit now closed
+            (behind.refused_root c.txn.presumption true manager o above k v c t n n' j root_new s s' m fit
+            now closed
             refl aborts inv refl begun)
             c.txn.presumption refl (left ++ root_new) (λ q. ap (has q) (sym (append-nil (left ++ root_new))))
             (λ q. ap (has q) (sym (append-nil (left ++ root_new)))) alone inv)
@@ -132,7 +137,8 @@ module _ (me : ProcessId) (tree : List TreeEntry) (n : Node) (j : ℕ) (c : Case
               → Fits c.txn.presumption r0
               (reading_from true manager (has (is_commit c) (restart_fails root n j a f).durable) above
               (parent_half_at (coordinator_view root (restart_fails root n j a f) c).standing
-              (memory_of root (restart_fails root n j a f) c) (restart_fails root n j a f) c t) k (wire c t net))
+              (memory_of root (restart_fails root n j a f) c) (restart_fails root n j a f) c t) k
+              (wire c t net))
           root_breaks fit' begun inv =
               let s' = (coordinator_view root broken c).standing in
               let m = memory_of root n c in
@@ -142,13 +148,16 @@ module _ (me : ProcessId) (tree : List TreeEntry) (n : Node) (j : ℕ) (c : Case
               let aborts = λ (e : has (is_abort c) (take a root_new) ≡ true).
               sym (crashes.aborts_alone root n j c t nested refl) ∙ in_front (is_abort c) a root_new e in
               subst (λ (z : Reading). Fits c.txn.presumption r0 z)
-              (sym (ap (λ b. reading_from true manager b above (parent_half_at s' (memory_of root broken c) broken c t) k v)
+              (sym (ap (λ b. reading_from true manager b above
+              (parent_half_at s' (memory_of root broken c) broken c t) k v)
               (now.ever_so (is_commit c) (λ x ts. refl) (λ b. refl))
               ∙ ap (λ x. reading_from true manager (has (is_commit c) broken.forced || o) above
               (parent_half_at s' x broken c t) k v) (crashes.forgetful root broken c refl)))
-              (restarts.breaks_fits true manager o above k v c t n broken j (take a root_new) s s' m fit now refl refl aborts
+              (restarts.breaks_fits true manager o above k v c t n broken j (take a root_new) s s' m fit
+              now refl refl aborts
               begun
-              (behind.refused_root c.txn.presumption true manager o above k v c t n broken j (take a root_new) s s' m fit now
+              (behind.refused_root c.txn.presumption true manager o above k v c t n broken j
+              (take a root_new) s s' m fit now
               refl refl aborts inv refl begun)
               c.txn.presumption refl fit'
               (λ q e. in_first q n.forced (take f (take j n.unforced ++ take a root_new)) e) inv)
@@ -168,7 +177,8 @@ module _ (me : ProcessId) (tree : List TreeEntry) (n : Node) (j : ℕ) (c : Case
         sb = (coordinator_view below n c).standing
 
         abbrev rb : Reading
-        rb = reading_from false manager outcome above (parent_half_at sb (memory_of below n c) n c t) k (wire c t net)
+        rb = reading_from false manager outcome above (parent_half_at sb (memory_of below n c) n c t) k
+            (wire c t net)
 
         pub below_reopens : ((x : Case) → has (is_decision_naming x t) (left ++ new) ≡ true → x ≡ c)
             → InvariantOf c.txn.presumption rb
@@ -192,8 +202,10 @@ module _ (me : ProcessId) (tree : List TreeEntry) (n : Node) (j : ℕ) (c : Case
             ∙ ap (λ x. reading_from false manager outcome above (parent_half_at s' fresh_memory n' c t) k x)
             (wire_resumed me (Some p) (left ++ new) c t own net
             (none_left none new (now.none_new (is_prepare d) (λ x ts. refl) (λ b. refl))))))
-            (restarts.reopens_fits false manager outcome above k v c t n n' j new sb s' m fit now closed refl aborts refl
-            (behind.refused_below c.txn.presumption false manager outcome above k v c t n n' j new sb s' m fit now closed
+            (restarts.reopens_fits false manager outcome above k v c t n n' j new sb s' m fit now closed
+            refl aborts refl
+            (behind.refused_below c.txn.presumption false manager outcome above k v c t n n' j new sb s' m
+            fit now closed
             refl aborts inv refl quiet)
             c.txn.presumption refl (left ++ new) (λ q. ap (has q) (sym (append-nil (left ++ new))))
             (λ q. ap (has q) (sym (append-nil (left ++ new)))) alone inv)
@@ -206,7 +218,8 @@ module _ (me : ProcessId) (tree : List TreeEntry) (n : Node) (j : ℕ) (c : Case
               → Fits c.txn.presumption rb
               (reading_from false manager outcome above
               (parent_half_at (coordinator_view below (restart_fails below n j a f) c).standing
-              (memory_of below (restart_fails below n j a f) c) (restart_fails below n j a f) c t) k (wire c t net))
+              (memory_of below (restart_fails below n j a f) c) (restart_fails below n j a f) c t) k
+              (wire c t net))
           below_breaks fit' inv =
               let s' = (coordinator_view below down c).standing in
               let m = memory_of below n c in
@@ -217,9 +230,11 @@ module _ (me : ProcessId) (tree : List TreeEntry) (n : Node) (j : ℕ) (c : Case
               subst (λ (z : Reading). Fits c.txn.presumption rb z)
               (sym (ap (λ x. reading_from false manager outcome above (parent_half_at s' x down c t) k v)
               (crashes.forgetful below down c refl)))
-              (restarts.breaks_fits false manager outcome above k v c t n down j (take a new) sb s' m fit now refl refl
+              (restarts.breaks_fits false manager outcome above k v c t n down j (take a new) sb s' m fit
+              now refl refl
               aborts refl
-              (behind.refused_below c.txn.presumption false manager outcome above k v c t n down j (take a new) sb s' m fit
+              (behind.refused_below c.txn.presumption false manager outcome above k v c t n down j
+              (take a new) sb s' m fit
               now refl refl aborts inv refl quiet)
               c.txn.presumption refl fit'
               (λ q e. in_first q n.forced (take f (take j n.unforced ++ take a new)) e) inv)
@@ -261,7 +276,8 @@ module _ (me : ProcessId) (tree : List TreeEntry) (n : Node) (c : Case) (t : Tic
         ≡ phase_by n.failed (coordinator_view top n c).standing
         → InvariantOf c.txn.presumption at_top
         → Fits c.txn.presumption at_top
-        (reading_from true manager (has (is_commit c) (trims top n).durable) above (half_at top (trims top n)) k v)
+        (reading_from true manager (has (is_commit c) (trims top n).durable) above
+        (half_at top (trims top n)) k v)
     root_trims same inv =
         subst (λ (x : Memory). Fits c.txn.presumption at_top
         (reading_from true manager (has (is_commit c) (trims top n).durable) above
@@ -270,17 +286,20 @@ module _ (me : ProcessId) (tree : List TreeEntry) (n : Node) (c : Case) (t : Tic
 
     pub root_trim_breaks : (a : ℕ) → InvariantOf c.txn.presumption at_top
         → Fits c.txn.presumption at_top
-        (reading_from true manager (has (is_commit c) (trim_fails top n a).durable) above (half_at top (trim_fails top n a))
+        (reading_from true manager (has (is_commit c) (trim_fails top n a).durable) above
+        (half_at top (trim_fails top n a))
         k v)
     unfolding memory_of
     root_trim_breaks zero inv =
-        trimming.root_falls c.txn.presumption manager (has (is_commit c) n.durable) above (half_at top n) k v inv up
+        trimming.root_falls c.txn.presumption manager (has (is_commit c) n.durable) above (half_at top n)
+        k v inv up
     root_trim_breaks (suc a) inv =
         let s = (coordinator_view top n c).standing in
         let first = root_left s refl inv in
         subst (λ (x : Memory). Fits c.txn.presumption at_top
         (reading_from true manager (has (is_commit c) (trims top n).durable) above
-        (parent_half_at (coordinator_view top (trim_fails top n (suc a)) c).standing x (trim_fails top n (suc a)) c t) k v))
+        (parent_half_at (coordinator_view top (trim_fails top n (suc a)) c).standing x
+        (trim_fails top n (suc a)) c t) k v))
         (sym (same_memory top (trims top n) c ∙ trims_memory top n c))
         (onward c.txn.presumption at_top _ _ first
         (trimming.root_falls c.txn.presumption manager (has (is_commit c) (trims top n).durable) above
@@ -296,10 +315,12 @@ module _ (me : ProcessId) (tree : List TreeEntry) (n : Node) (c : Case) (t : Tic
       alike : trimmed (Below p) (kept n) ≡ trimmed AtRoot (kept n)
       alike = trims_alike (Below p) tt (kept n)
 
-      below_left : (s' : Standing) → phase_by n.failed s' ≡ phase_by n.failed (coordinator_view place n c).standing
+      below_left : (s' : Standing) → phase_by n.failed s'
+          ≡ phase_by n.failed (coordinator_view place n c).standing
           → InvariantOf c.txn.presumption at_below
           → Fits c.txn.presumption at_below
-          (reading_from false manager outcome above (parent_half_at s' (memory_of place n c) (trims place n) c t) k v)
+          (reading_from false manager outcome above
+          (parent_half_at s' (memory_of place n c) (trims place n) c t) k v)
       below_left s' same inv =
           trimming.below_trims c.txn.presumption manager outcome above k v place n c t
           (coordinator_view place n c).standing s' (memory_of place n c) alike refl same names up inv
@@ -307,15 +328,18 @@ module _ (me : ProcessId) (tree : List TreeEntry) (n : Node) (c : Case) (t : Tic
       pub below_trims : phase_by n.failed (coordinator_view place (trims place n) c).standing
           ≡ phase_by n.failed (coordinator_view place n c).standing
           → InvariantOf c.txn.presumption at_below
-          → Fits c.txn.presumption at_below (reading_from false manager outcome above (half_at place (trims place n)) k v)
+          → Fits c.txn.presumption at_below
+          (reading_from false manager outcome above (half_at place (trims place n)) k v)
       below_trims same inv =
           subst (λ (x : Memory). Fits c.txn.presumption at_below
           (reading_from false manager outcome above
           (parent_half_at (coordinator_view place (trims place n) c).standing x (trims place n) c t) k v))
-          (sym (trims_memory place n c)) (below_left (coordinator_view place (trims place n) c).standing same inv)
+          (sym (trims_memory place n c))
+          (below_left (coordinator_view place (trims place n) c).standing same inv)
 
       pub below_trim_breaks : (a : ℕ) → InvariantOf c.txn.presumption at_below
-          → Fits c.txn.presumption at_below (reading_from false manager outcome above (half_at place (trim_fails place n a)) k v)
+          → Fits c.txn.presumption at_below
+          (reading_from false manager outcome above (half_at place (trim_fails place n a)) k v)
       unfolding memory_of
       below_trim_breaks zero inv =
           trimming.below_falls c.txn.presumption manager outcome above (half_at place n) k v inv up
@@ -324,7 +348,8 @@ module _ (me : ProcessId) (tree : List TreeEntry) (n : Node) (c : Case) (t : Tic
           let first = below_left s refl inv in
           subst (λ (x : Memory). Fits c.txn.presumption at_below
           (reading_from false manager outcome above
-          (parent_half_at (coordinator_view place (trim_fails place n (suc a)) c).standing x (trim_fails place n (suc a))
+          (parent_half_at (coordinator_view place (trim_fails place n (suc a)) c).standing x
+          (trim_fails place n (suc a))
           c t) k v))
           (sym (same_memory place (trims place n) c ∙ trims_memory place n c))
           (onward c.txn.presumption at_below _ _ first

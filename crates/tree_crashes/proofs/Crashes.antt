@@ -1,4 +1,5 @@
--- A coordinator behind its restart, and behind one in which its device failed: what is left of its log, and what was
+-- A coordinator behind its restart, and behind one in which its device failed: what is left of its log, and
+-- what was
 -- appended to it.
 use Rattle.std.proofs.Common.{◌≡◌, ◌∙◌, ◌||◌, ◌&&◌, ℕ, Bool, true, false, List, [], ◌++◌, take, refl, sym, ap, subst, arith}
 use Rattle.std.proofs.lemmas.List.{append-nil}
@@ -94,7 +95,8 @@ module _ (place : Place) (n : Node) (k : ℕ) (c : Case) (t : Ticket) (nested : 
     pub closed : phase_by false (coordinator_view place (restarted place n k) c).standing ≡ Closed
     closed = closed_so (coordinator_view place then c).standing not_active not_collecting
       where
-        stands : (coordinator_view place then c).standing ≡ standing_at (left ++ coordinator_reopens left) c Idle
+        stands : (coordinator_view place then c).standing
+            ≡ standing_at (left ++ coordinator_reopens left) c Idle
         stands =
             viewed place then c
             ∙ (ap (λ m. coordinator_standing (kept then) c m) (forgetful place then c refl)
@@ -132,7 +134,8 @@ module _ (place : Place) (n : Node) (k : ℕ) (c : Case) (t : Ticket) (nested : 
         names_new =
             names_by_aborts c left t (has (is_collecting_naming c t) left) part
             (names-take c left t (has (is_collecting_naming c t) left) a new
-            (subst (λ (l : List Record). AllName c left t (has (is_collecting_naming c t) left) l) (sym reopens_so)
+            (subst (λ (l : List Record). AllName c left t (has (is_collecting_naming c t) left) l)
+            (sym reopens_so)
             (aborts_name_collected c left t)));
         accepted_so = refl;
         voted_so = refl;

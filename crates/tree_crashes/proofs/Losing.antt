@@ -1,4 +1,5 @@
--- The parent's half of a pair behind a crash: what is left of the log, what was appended for the case, and the reading.
+-- The parent's half of a pair behind a crash: what is left of the log, what was appended for the case, and
+-- the reading.
 use Rattle.std.proofs.Common.{◌≡◌, ◌∙◌, ◌||◌, ◌&&◌, Bool, true, false, refl, arith}
 use Rattle.std.specs.Prelude.{not}
 use Rattle.tree_pairs.specs.Reading.{Reading, Closed, is_live}
@@ -6,7 +7,8 @@ use Rattle.tree_pairs.specs.ParentCrash as crash
 use Rattle.tree_pairs.specs.ParentCrash.{ParentFront, IsParentFront}
 use Rattle.tree_readings.specs.ReadingOf.{ParentHalf, ChildHalf, Wire, reading_from, is_born, is_dead, is_refused}
 
--- a parent's half behind a crash that left this front, whether an Abort of the case was appended, and what is forced then
+-- a parent's half behind a crash that left this front, whether an Abort of the case was appended, and what
+-- is forced then
 pub record Lost (front forced : ParentFront) (aborted : Bool) (p p' : ParentHalf) : Type 0 where
   pub phase : p'.phase ≡ Closed
   pub accepted : p'.accepted ≡ false
@@ -40,7 +42,8 @@ refused_by root outcome p v =
 -- what a crash makes of it
 abbrev pub refused_lost : Bool → Bool → ParentFront → ParentHalf → Wire → Bool
 refused_lost root outcome front p v =
-    is_live p.phase || (root && p.commit_kept && not front.commit) || (p.own_prepare_kept && not front.own_prepare)
+    is_live p.phase || (root && p.commit_kept && not front.commit) ||
+    (p.own_prepare_kept && not front.own_prepare)
     || refused_by root outcome p v
 
 module _ (root manager outcome above : Bool) (p p' : ParentHalf) (k : ChildHalf) (v : Wire)
@@ -119,7 +122,8 @@ module _ (root manager outcome above : Bool) (p p' : ParentHalf) (k : ChildHalf)
       l.commit_forced,
     ) refl
 
-module _ (root manager outcome above : Bool) (p p' : ParentHalf) (k : ChildHalf) (v : Wire) (front : ParentFront) where
+module _ (root manager outcome above : Bool) (p p' : ParentHalf) (k : ChildHalf) (v : Wire)
+    (front : ParentFront) where
   abbrev old : Reading
   old = reading_from root manager outcome above p k v
 

@@ -1,4 +1,5 @@
--- The parent's half of a pair behind a coordinator's crash, by what is left of the log and what was appended to it.
+-- The parent's half of a pair behind a coordinator's crash, by what is left of the log and what was
+-- appended to it.
 use Rattle.std.proofs.Common.{◌≡◌, ◌∙◌, ◌||◌, ◌&&◌, ℕ, Bool, false, List, [], ◌++◌, take, drop, append_assoc, refl, sym, ap, subst, arith}
 use Rattle.std.specs.List.{list_any}
 use Rattle.std.proofs.lemmas.List.{take-append-drop}
@@ -31,7 +32,8 @@ or-none a b e = grind arith
 or-turned : (a b : Bool) → (a || b) ≡ (b || a)
 or-turned a b = grind arith
 
-owes-both : (x y ab named fc co : Bool) → x ≡ co → y ≡ (ab && named) → named ≡ fc → (x || y) ≡ ((ab && fc) || co)
+owes-both : (x y ab named fc co : Bool) → x ≡ co → y ≡ (ab && named) → named ≡ fc → (x || y)
+    ≡ ((ab && fc) || co)
 owes-both x y ab named fc co e f g = grind arith
 
 -- what is known of the process behind the crash, in which these records were appended
@@ -85,7 +87,8 @@ module _ (c : Case) (t : Ticket) (n n' : Node) (k : ℕ) (new : List Record) (s 
         ≡ ((has (is_commit c) left || has (is_abort c) left) && has (is_decision_naming c t) (kept n))
     decided =
         owes_in_front c left rest fits t
-        ∙ ap (λ l. (has (is_commit c) left || has (is_abort c) left) && has (is_decision_naming c t) l) (whole n k)
+        ∙ ap (λ l. (has (is_commit c) left || has (is_abort c) left) && has (is_decision_naming c t) l)
+        (whole n k)
 
     none_acked : has_acked (fresh_memory.acks) (acknowledged c.txn.presumption) t ≡ false
     unfolding has_acked
@@ -114,7 +117,8 @@ module _ (c : Case) (t : Ticket) (n n' : Node) (k : ℕ) (new : List Record) (s 
       collects = alone (is_collecting_naming c t) (λ d ts. refl) (λ b. refl) ∙ collected;
       names = alone (is_prepare_naming c t) (λ d ts. refl) (λ b. refl) ∙ promised;
       owed = now.kept_so (is_decision_naming c t)
-          ∙ owes-both (has (is_decision_naming c t) left) (has (is_decision_naming c t) new) (has (is_abort c) new)
+          ∙ owes-both (has (is_decision_naming c t) left) (has (is_decision_naming c t) new)
+          (has (is_abort c) new)
           (has (is_collecting_naming c t) left)
           (has (is_collecting c) left && has (is_collecting_naming c t) (kept n))
           ((has (is_commit c) left || has (is_abort c) left) && has (is_decision_naming c t) (kept n))

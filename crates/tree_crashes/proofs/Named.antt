@@ -18,7 +18,8 @@ listed-append : (xs ys : List Ticket) (t : Ticket) → in_list (xs ++ ys) t ≡ 
 unfolding in_list
 listed-append xs ys t = list_any-append _ xs ys
 
-listed-if : (b : Bool) (ts : List Ticket) (t : Ticket) → in_list (if b then ts else []) t ≡ (b && in_list ts t)
+listed-if : (b : Bool) (ts : List Ticket) (t : Ticket) → in_list (if b then ts else []) t
+    ≡ (b && in_list ts t)
 unfolding in_list
 listed-if true ts t = refl
 listed-if false ts t = refl

@@ -1,4 +1,5 @@
--- Behind each promise of a coordinator's case stands a YES that it counted: over every run. So a case that said READ never
+-- Behind each promise of a coordinator's case stands a YES that it counted: over every run. So a case that
+-- said READ never
 -- promised.
 use Rattle.std.proofs.Common.{◌≡◌, ◌∙◌, ◌||◌, ◌&&◌, inl, inr, ℕ, zero, suc, Bool, true, false, Option, Some, None, List, [], ◌∷◌, ◌++◌, take, refl, sym, ap, subst, arith}
 use Rattle.std.specs.Prelude.{reverse}
@@ -44,7 +45,8 @@ use Rattle.tree_crashes.proofs.Trimmed.{no_data}
 -- a YES of a ticket was counted in the case
 pub record VotedYes (c : Case) (votes : List (Case × (Ticket × Vote))) : Type 0 where
   pub ticket : Ticket
-  pub heard : list_any (λ a. same_case a.0 c && (same_ticket a.1.0 ticket && is_vote VoteYes a.1.1)) votes ≡ true
+  pub heard : list_any (λ a. same_case a.0 c && (same_ticket a.1.0 ticket && is_vote VoteYes a.1.1)) votes
+      ≡ true
 
 more_votes : (c : Case) (us vs : List (Case × (Ticket × Vote))) → VotedYes c vs → VotedYes c (us ++ vs)
 more_votes c us vs v = record { ticket = v.ticket; heard = list_any-append _ us vs ∙ right _ _ v.heard }
@@ -85,7 +87,8 @@ module _ (place : Place) (net : _) (n : Node) (coordinates : Coordinates place n
     collecting_votes c e =
         ap (λ (s : Standing). (view_at s (kept n) c (memory_of place n c)).votes) (sym (viewed place n c) ∙ e)
 
-    last_vote : (c : Case) (t : Ticket) (w : Vote) (ys : List Ticket) → Consents w → CountsLast place n h c t w ys
+    last_vote : (c : Case) (t : Ticket) (w : Vote) (ys : List Ticket) → Consents w
+        → CountsLast place n h c t w ys
         → none_of ys ≡ false
         → VotedYes c ((c, (t, w)) ∷ n.voted)
     last_vote c t _ ys votes_yes i e =
@@ -165,7 +168,8 @@ module _ (place : Place) (n : Node) (i : IsCoordinator place.role) (old : Promis
     → has (is_prepare c) (entries_written e.written) ≡ true → VotedYes c (e.counts ++ n.voted))
   where
     -- what was appended, or stood in the life list before
-    by_life : (k : Node) (new : List Record) (counts : List (Case × (Ticket × Vote))) → k.life ≡ reverse new ++ n.life
+    by_life : (k : Node) (new : List Record) (counts : List (Case × (Ticket × Vote))) → k.life
+        ≡ reverse new ++ n.life
         → k.voted ≡ counts ++ n.voted
         → ((c : Case) → has (is_prepare c) new ≡ true → VotedYes c (counts ++ n.voted)) → PromisedVoted k
     by_life k new counts life voted now c e =
@@ -184,10 +188,12 @@ module _ (place : Place) (n : Node) (i : IsCoordinator place.role) (old : Promis
 
     voted_last : (m : Move) (e : Effect) (k : Node) → StepOf place n m e k → PromisedVoted k
     voted_last m _ _ (handled j g hp np r) =
-        by_life (after n (heard_in m j) g) (entries_written g.written) g.counts (after_life n (heard_in m j) g) refl
+        by_life (after n (heard_in m j) g) (entries_written g.written) g.counts
+        (after_life n (heard_in m j) g) refl
         (turns (heard_in m j) g r (turn_of place n (heard_in m j) g r).up)
     voted_last m _ _ (failed_in j f g fl hp np r) =
-        by_life (fails_in n (heard_in m j) g f.appended f.forced) (take f.appended (entries_written g.written)) g.counts
+        by_life (fails_in n (heard_in m j) g f.appended f.forced)
+        (take f.appended (entries_written g.written)) g.counts
         refl refl
         (λ c e. turns (heard_in m j) g r (turn_of place n (heard_in m j) g r).up c
         (in_front (is_prepare c) f.appended (entries_written g.written) e))
@@ -199,7 +205,8 @@ module _ (place : Place) (n : Node) (i : IsCoordinator place.role) (old : Promis
         (none_reopened (n.forced ++ take j n.unforced) c))
     voted_last m _ _ (failed_reopening j f fl hp) =
         let rs = n.forced ++ take j n.unforced in
-        by_life (restart_fails place n j f.appended f.forced) (take f.appended (reopens place.role rs)) [] refl refl
+        by_life (restart_fails place n j f.appended f.forced) (take f.appended (reopens place.role rs)) []
+        refl refl
         (λ c. none (take f.appended (reopens place.role rs)) c
         (front_none (is_prepare c) f.appended (reopens place.role rs) (none_reopened rs c)))
     voted_last m _ _ (trimmed hp up) =
@@ -210,7 +217,8 @@ module _ (place : Place) (n : Node) (i : IsCoordinator place.role) (old : Promis
         by_part : (a : ℕ) → PromisedVoted (trim_fails place n a)
         by_part zero = old
         by_part (suc a) =
-            by_life (trim_fails place n (suc a)) [] [] (ap (λ l. reverse l ++ n.life) (no_data place.role i (kept n)))
+            by_life (trim_fails place n (suc a)) [] []
+            (ap (λ l. reverse l ++ n.life) (no_data place.role i (kept n)))
             refl (λ c. none [] c (has-nil (is_prepare c)))
 
 -- Runs.
@@ -227,7 +235,8 @@ promises_voted tree _ _ (makes es w m e w' run stands step) q i =
     subst (λ (x : World). P q (x.at q)) (sym at.world)
     (put P p q at.node w.at
     (λ j. voted_last (place_of tree p) (w.at p) j (promises_voted tree es w run p j)
-    (λ h g r up. voted_at (role_of tree p) j (place_of tree p) w.net (w.at p) (coordinators_hold tree es w run p j) up h g
+    (λ h g r up. voted_at (role_of tree p) j (place_of tree p) w.net (w.at p)
+    (coordinators_hold tree es w run p j) up h g
     (coordinator_turn_of (place_of tree p) (w.at p) h g r))
     m e at.node s)
     (promises_voted tree es w run q)) i

@@ -1,4 +1,5 @@
--- What a coordinator's restart appends for one case: an Abort where the case collects votes behind its record and nothing
+-- What a coordinator's restart appends for one case: an Abort where the case collects votes behind its
+-- record and nothing
 -- else is known of it, which names whom that record names.
 use Rattle.std.proofs.Common.{◌≡◌, ◌∙◌, ◌||◌, ◌&&◌, ℕ, zero, suc, ◌+◌, Bool, true, false, List, [], ◌∷◌, ◌++◌, take, refl, sym, ap, subst, arith}
 use Rattle.std.specs.Prelude.{not}
@@ -54,7 +55,8 @@ own_alone c q f own (d ∷ cs) =
         of_first (has q (f d)) (has_case cs c) (has q (f c)) (has q (flat_map f cs))
         (ap (λ x. has q (f x)) (case_is d c e)) k
     by_test k false e =
-        of_rest (has q (f d)) (has_case cs c) (has q (f c)) (has q (flat_map f cs)) (others (has q (f d)) refl) k
+        of_rest (has q (f d)) (has_case cs c) (has q (f c)) (has q (flat_map f cs))
+        (others (has q (f d)) refl) k
       where
         not_own : d ≡ c → same_case d c ≡ true
         not_own g = ap (λ x. same_case x c) g ∙ same_case-refl c
@@ -84,7 +86,8 @@ module _ (c : Case) (rs : List Record) where
   aborts_own d v Aborting e = not_both (is_abort c) (has (is_abort c) []) e (has-nil (is_abort c))
   aborts_own d v Heuristic e = not_both (is_abort c) (has (is_abort c) []) e (has-nil (is_abort c))
 
-  aborts_so : (v : CoordinatorView) (s : Standing) → s ≡ Collecting → has (is_abort c) (restart_abort c v s) ≡ true
+  aborts_so : (v : CoordinatorView) (s : Standing) → s ≡ Collecting
+      → has (is_abort c) (restart_abort c v s) ≡ true
   aborts_so v s e = subst (λ (x : Standing). has (is_abort c) (restart_abort c v x) ≡ true) (sym e)
       (found_one c v.named ∙ same_case-refl c)
 
@@ -107,7 +110,13 @@ module _ (c : Case) (rs : List Record) where
       let u = is_alone (has (is_collecting c) rs) (has (is_prepare c) rs) (has (is_commit c) rs)
       (has (is_abort c) rs) (has (is_end c) rs) e in
       stands_collecting c rs Idle
-      (record { no_end = u.no_end; no_commit = u.no_commit; no_abort = u.no_abort; no_prepare = u.no_prepare })
+      (record {
+        no_end = u.no_end;
+        no_commit = u.no_commit;
+        no_abort = u.no_abort;
+        no_prepare =
+            u.no_prepare;
+      })
       u.collects
 
   so_stands : standing_at rs c Idle ≡ Collecting → collects_alone c rs ≡ true
@@ -163,7 +172,8 @@ module _ (c : Case) (rs : List Record) where
     unfolding has
     names_by_aborts b [] f = refl
     names_by_aborts b (x ∷ xs) f =
-        one_step (is_decision_naming c t x) (has (is_decision_naming c t) xs) (is_abort c x) (has (is_abort c) xs) b
+        one_step (is_decision_naming c t x) (has (is_decision_naming c t) xs) (is_abort c x)
+        (has (is_abort c) xs) b
         f.0 (names_by_aborts b xs f.1)
 
     abbrev named : Bool
@@ -187,7 +197,8 @@ module _ (c : Case) (rs : List Record) where
         (has (is_abort c) xs) (has (is_naming c t) xs) (has (is_collecting_naming c t) xs) (no_promise x)
         (no_decision x) p m a (collecting_names xs)
       where
-        first_alone : (k n d p m a ps ms others z y : Bool) → (n ≡ true → p ≡ true) → (d ≡ true → (m || a) ≡ true)
+        first_alone : (k n d p m a ps ms others z y : Bool) → (n ≡ true → p ≡ true)
+            → (d ≡ true → (m || a) ≡ true)
             → (p || ps) ≡ false → (m || ms) ≡ false → (a || others) ≡ false
             → (ps ≡ false → ms ≡ false → others ≡ false → z ≡ y) → (((k || n) || d) || z) ≡ (k || y)
         first_alone k n d p m a ps ms others z y f g h i j l = grind arith
@@ -211,7 +222,8 @@ module _ (c : Case) (rs : List Record) where
             let u = collecting_undecided rs c Idle
             (subst (λ (x : Case). standing_at rs x Idle ≡ Collecting) (case_is d c g) at) in
             of_case (same_case d c) (in_list v.named t)
-            (ap (λ ts. in_list ts t) (view_names rs d v e f ∙ ap (λ (x : Case). named_by x rs) (case_is d c g))
+            (ap (λ ts. in_list ts t) (view_names rs d v e f
+            ∙ ap (λ (x : Case). named_by x rs) (case_is d c g))
             ∙ (named-by c t rs ∙ collecting_names rs u.no_prepare u.no_commit u.no_abort))
     one_names d v Unknown e f = tt
     one_names d v Active e f = tt

@@ -31,7 +31,8 @@ use Rattle.tree_crashes.proofs.Resumed.{commit_again, abort_again}
 
 -- What goes out again, as the reading has it.
 
-none_aborted : (fc fa fe ab co owed ak ck a owes : Bool) → ab ≡ false → owes ≡ ((ab && co) || ((fc || fa) && owed))
+none_aborted : (fc fa fe ab co owed ak ck a owes : Bool) → ab ≡ false → owes
+    ≡ ((ab && co) || ((fc || fa) && owed))
     → a ≡ (ab || fa) → (owed ≡ true → ck ≡ true) → (ck ≡ true → ak ≡ false) → (fa ≡ true → ak ≡ true)
     → (not fc && (a && (not fe && owes))) ≡ false
 none_aborted fc fa fe ab co owed ak ck a owes e f g h i j = grind arith
@@ -52,7 +53,8 @@ aborts_again : (fc fa fe u co owed ak ck a owes before : Bool) → owes ≡ ((u 
     ≡ (((u && co) || ((fa && not fe) && ((fc || fa) && owed))) || before)
 aborts_again fc fa fe u co owed ak ck a owes before e f g h i j = grind arith
 
-undecided_alone : (u fc fa fe fp fk : Bool) → u ≡ ((((fk && not fp) && not fc) && not fa) && not fe) → u ≡ true
+undecided_alone : (u fc fa fe fp fk : Bool) → u ≡ ((((fk && not fp) && not fc) && not fa) && not fe) → u
+    ≡ true
     → (fc ≡ false) × ((fe ≡ false) × (fa ≡ false))
 undecided_alone u fc fa fe fp fk e f = grind arith
 
@@ -61,7 +63,8 @@ owed_alone fc fa co owed e f = grind arith
 
 -- forced to the end: what is forced is what is left
 forced_left : (front forced : ParentFront) (b : Bool) (p p' : ParentHalf) → Lost front forced b p p'
-    → forced.collecting ≡ front.collecting → forced.own_prepare ≡ front.own_prepare → forced.commit ≡ front.commit
+    → forced.collecting ≡ front.collecting → forced.own_prepare ≡ front.own_prepare → forced.commit
+    ≡ front.commit
     → Lost front front b p p'
 forced_left front forced b p p' l e f g = record {
   phase = l.phase;
@@ -132,7 +135,8 @@ module _ (root manager outcome above : Bool) (k : ChildHalf) (v : Wire) (c : Cas
           where
             fronts : IsParentFront front r0
             fronts =
-                behind.fronts pr root manager outcome above k v c t n n' j new s s' m fit now closed life_so alone inv
+                behind.fronts pr root manager outcome above k v c t n n' j new s s' m fit now closed
+                life_so alone inv
 
             lost_first : Fits pr r0 (crash.parent_loses front r0)
             lost_first = moves.loses pr front r0 inv fronts
@@ -167,10 +171,12 @@ module _ (root manager outcome above : Bool) (k : ChildHalf) (v : Wire) (c : Cas
                 (moves.hardens_failed pr forced r1 lost_first.invariant
                 (record {
                   failed = refl;
-                  front_of = front_then r1 (ap (λ b. b || front.abort) (sym e)) refl refl refl refl refl refl refl;
+                  front_of = front_then r1 (ap (λ b. b || front.abort) (sym e)) refl refl refl refl refl
+                      refl refl;
                 })))
 
-            aborted : ab ≡ true → pr ≡ PresumeCommit → Fits pr r0 (reading_from root manager outcome' above p' k v)
+            aborted : ab ≡ true → pr ≡ PresumeCommit
+                → Fits pr r0 (reading_from root manager outcome' above p' k v)
             aborted e q =
                 let a = is_alone c left (has (is_collecting c) left) (has (is_prepare c) left)
                 (has (is_commit c) left) (has (is_abort c) left) (has (is_end c) left) (alone e) in
@@ -178,23 +184,29 @@ module _ (root manager outcome above : Bool) (k : ChildHalf) (v : Wire) (c : Cas
                 let r2 = crash.fails_to_abort_at_restart r1 in
                 let second : Fits pr r1 r2 =
                 subst (λ x. InvariantOf x r1 → Fits x r1 r2) (sym q)
-                (λ h. crash_commit.fails_to_abort_at_restart r1 h (record { failed = refl; undecided = alone e }))
+                (λ h. crash_commit.fails_to_abort_at_restart r1 h
+                (record { failed = refl; undecided = alone e }))
                 lost_first.invariant in
                 subst (λ (z : Reading). Fits pr r0 z)
                 (sym (reading_broken_aborting root manager outcome above p p' k v front forced
                 (subst (λ b. Lost front forced b p p') e l) failed
                 (l.owed
-                ∙ (ap (λ b. (b && (front.collecting && p.collects)) || ((front.commit || front.abort) && p.owed)) e
-                ∙ owed_alone front.commit front.abort (front.collecting && p.collects) p.owed a.no_commit a.no_abort))
+                ∙ (ap (λ b. (b && (front.collecting && p.collects)) ||
+                ((front.commit || front.abort) && p.owed)) e
+                ∙ owed_alone front.commit front.abort (front.collecting && p.collects) p.owed a.no_commit
+                a.no_abort))
                 born refused))
-                (onward pr r0 r2 (crash.hardens_failed_parent forced r2) (onward pr r0 r1 r2 lost_first second)
+                (onward pr r0 r2 (crash.hardens_failed_parent forced r2)
+                (onward pr r0 r1 r2 lost_first second)
                 (moves.hardens_failed pr forced r2 second.invariant
                 (record {
                   failed = refl;
-                  front_of = front_then r2 (ap (λ b. b || front.abort) (sym e)) refl refl refl refl refl refl refl;
+                  front_of = front_then r2 (ap (λ b. b || front.abort) (sym e)) refl refl refl refl refl
+                      refl refl;
                 })))
 
-            never : ab ≡ true → pr ≡ PresumeAbort → Fits pr r0 (reading_from root manager outcome' above p' k v)
+            never : ab ≡ true → pr ≡ PresumeAbort
+                → Fits pr r0 (reading_from root manager outcome' above p' k v)
             never e q =
                 absurd (ends (sym (fronts.had_collecting
                 (is_alone c left (has (is_collecting c) left) (has (is_prepare c) left)
@@ -235,12 +247,14 @@ module _ (root manager outcome above : Bool) (k : ChildHalf) (v : Wire) (c : Cas
 
             fronts' : IsParentFront front r0
             fronts' =
-                behind.fronts pr root manager outcome above k v c t n n' j new s s' m fit now closed life_so alone inv
+                behind.fronts pr root manager outcome above k v c t n n' j new s s' m fit now closed
+                life_so alone inv
 
             whole : (b : Bool) → ab ≡ b → Lost front front b p p'
             whole b e =
                 forced_left front forced b p p' (subst (λ x. Lost front forced x p p') e l)
-                (forced_so (is_collecting c) ∙ l.collecting_kept) (forced_so (is_prepare c) ∙ l.own_prepare_kept)
+                (forced_so (is_collecting c) ∙ l.collecting_kept)
+                (forced_so (is_prepare c) ∙ l.own_prepare_kept)
                 (forced_so (is_commit c) ∙ l.commit_kept)
 
             commit_so : forced.commit ≡ front.commit
@@ -253,7 +267,8 @@ module _ (root manager outcome above : Bool) (k : ChildHalf) (v : Wire) (c : Cas
             outcome_so = ap (λ b. (root && b) || outcome) commit_so
 
             refused_then : refused_by root then p' v ≡ refused_lost root outcome front p v
-            refused_then = subst (λ b. refused_by root b p' v ≡ refused_lost root outcome front p v) outcome_so refused
+            refused_then = subst (λ b. refused_by root b p' v ≡ refused_lost root outcome front p v)
+                outcome_so refused
 
             owes : has (is_decision_naming c t) rs
                 ≡ ((ab && (front.collecting && p.collects)) || ((front.commit || front.abort) && p.owed))
@@ -267,11 +282,13 @@ module _ (root manager outcome above : Bool) (k : ChildHalf) (v : Wire) (c : Cas
                 ap (λ b. b && (not (has (is_end c) rs) && Owes)) (all (is_commit c) ∙ l.commit_kept)
                 ∙ ap (λ b. front.commit && (not b && Owes)) (all (is_end c) ∙ l.end_kept)
 
-            aborted_so : aborted_again ≡ (not front.commit && (has (is_abort c) rs && (not front.end && Owes)))
+            aborted_so : aborted_again ≡ (not front.commit &&
+                (has (is_abort c) rs && (not front.end && Owes)))
             aborted_so =
                 ap (λ b. not b && (has (is_abort c) rs && (not (has (is_end c) rs) && Owes)))
                 (all (is_commit c) ∙ l.commit_kept)
-                ∙ ap (λ b. not front.commit && (has (is_abort c) rs && (not b && Owes))) (all (is_end c) ∙ l.end_kept)
+                ∙ ap (λ b. not front.commit && (has (is_abort c) rs && (not b && Owes)))
+                (all (is_end c) ∙ l.end_kept)
 
             abort_rs : has (is_abort c) rs ≡ (ab || front.abort)
             abort_rs = all (is_abort c) ∙ l.abort_kept
@@ -291,18 +308,24 @@ module _ (root manager outcome above : Bool) (k : ChildHalf) (v : Wire) (c : Cas
                 let none : ab ≡ false = none_alone h ab refl in
                 let commits : again
                 ≡ ((front.commit && not front.end) && ((front.commit || front.abort) && p.owed)) =
-                again_so ∙ commits_again front.commit front.abort front.end ab (front.collecting && p.collects) p.owed Owes
+                again_so ∙ commits_again front.commit front.abort front.end ab
+                (front.collecting && p.collects) p.owed Owes
                 none owes in
                 let aborts_not : aborted_again ≡ false =
                 aborted_so
                 ∙ none_aborted front.commit front.abort front.end ab (front.collecting && p.collects) p.owed
-                p.abort_kept p.commit_kept (has (is_abort c) rs) Owes none owes abort_rs h.owed_stands not_both
+                p.abort_kept p.commit_kept (has (is_abort c) rs) Owes none owes abort_rs h.owed_stands
+                not_both
                 fronts'.had_abort in
                 subst (λ (z : Reading). Fits pr r0 z)
                 (sym (ap (λ b. R b v') outcome_so
-                ∙ (ap (λ b. R then (record v { commit = b || v.commit; abort = aborted_again || v.abort })) commits
                 ∙ (ap (λ b. R then (record v {
-                  commit = ((front.commit && not front.end) && ((front.commit || front.abort) && p.owed)) || v.commit;
+                  commit = b || v.commit;
+                  abort = aborted_again || v.abort;
+                })) commits
+                ∙ (ap (λ b. R then (record v {
+                  commit = ((front.commit && not front.end) && ((front.commit || front.abort) && p.owed))
+                      || v.commit;
                   abort = b || v.abort;
                 })) aborts_not
                 ∙ reading_reopened_naming root manager outcome above p p' k v front (whole false none) up
@@ -314,11 +337,13 @@ module _ (root manager outcome above : Bool) (k : ChildHalf) (v : Wire) (c : Cas
                 none_alone h true e =
                     ends (sym (fronts'.had_collecting
                     (is_alone c left (has (is_collecting c) left) (has (is_prepare c) left)
-                    (has (is_commit c) left) (has (is_abort c) left) (has (is_end c) left) (alone e)).collects)
+                    (has (is_commit c) left) (has (is_abort c) left) (has (is_end c) left)
+                    (alone e)).collects)
                     ∙ h.never_collects)
                 none_alone h false e = e
 
-                both_false : (a b d : Bool) → (a ≡ true → d ≡ true) → (b ≡ true → d ≡ true) → d ≡ false → a ≡ b
+                both_false : (a b d : Bool) → (a ≡ true → d ≡ true) → (b ≡ true → d ≡ true) → d ≡ false
+                    → a ≡ b
                 both_false a b d f g e = grind arith
 
                 never_forced : PresumedAbort r0 → front.collecting ≡ p.collecting_forced
@@ -331,24 +356,33 @@ module _ (root manager outcome above : Bool) (k : ChildHalf) (v : Wire) (c : Cas
                 let h = subst (λ x. InvariantOf x r0) q inv in
                 let u : Bool = left_undecided root manager outcome above p p' k v front in
                 let is_u : ab ≡ u = aborts in
-                let decided = λ (e : u ≡ true). undecided_alone u front.commit front.abort front.end front.own_prepare
+                let decided = λ (e : u ≡ true). undecided_alone u front.commit front.abort front.end
+                front.own_prepare
                 front.collecting refl e in
                 let owes_u = owes
-                ∙ ap (λ b. (b && (front.collecting && p.collects)) || ((front.commit || front.abort) && p.owed)) is_u in
+                ∙ ap (λ b. (b && (front.collecting && p.collects)) ||
+                ((front.commit || front.abort) && p.owed)) is_u in
                 let commits_not : again ≡ false =
                 again_so
-                ∙ none_committed front.commit front.abort front.end u (front.collecting && p.collects) p.owed p.abort_kept
+                ∙ none_committed front.commit front.abort front.end u (front.collecting && p.collects)
+                p.owed p.abort_kept
                 p.commit_kept Owes owes_u (λ e. (decided e).0) h.owed_stands not_both fronts'.had_commit in
                 let aborts_so =
                 ap (λ b. b || v.abort) aborted_so
-                ∙ aborts_again front.commit front.abort front.end u (front.collecting && p.collects) p.owed p.abort_kept
-                p.commit_kept (has (is_abort c) rs) Owes v.abort owes_u (abort_rs ∙ ap (λ b. b || front.abort) is_u)
+                ∙ aborts_again front.commit front.abort front.end u (front.collecting && p.collects)
+                p.owed p.abort_kept
+                p.commit_kept (has (is_abort c) rs) Owes v.abort owes_u
+                (abort_rs ∙ ap (λ b. b || front.abort) is_u)
                 (λ e. ((decided e).0, (decided e).1.0)) fronts'.had_abort not_both fronts'.had_commit in
                 subst (λ (z : Reading). Fits pr r0 z)
                 (sym (ap (λ b. R b v') outcome_so
-                ∙ (ap (λ b. R then (record v { commit = b || v.commit; abort = aborted_again || v.abort })) commits_not
+                ∙ (ap (λ b. R then (record v {
+                  commit = b || v.commit;
+                  abort = aborted_again || v.abort;
+                })) commits_not
                 ∙ (ap (λ b. R then (record v { abort = b })) aborts_so
-                ∙ reading_reopened root manager outcome above p p' k v front (whole u is_u) up born refused_then))))
+                ∙ reading_reopened root manager outcome above p p' k v front (whole u is_u) up born
+                refused_then))))
                 (subst (λ x. InvariantOf x r0 → Fits x r0 (crash.parent_restarts front r0)) (sym q)
                 (λ i. crash_commit.parent_restarts front r0 i fronts') inv)
 

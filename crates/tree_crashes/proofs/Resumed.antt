@@ -1,4 +1,5 @@
--- What a coordinator's restart sends, as a pair below it sees it: the decision again, where the ticket owes an
+-- What a coordinator's restart sends, as a pair below it sees it: the decision again, where the ticket owes
+-- an
 -- acknowledgement.
 use Rattle.std.proofs.Common.{◌≡◌, ◌∙◌, ◌||◌, ◌&&◌, ◌⊎◌, inl, inr, Bool, true, false, Option, Some, None, List, [], ◌∷◌, ◌++◌, refl, sym, ap, arith}
 use Rattle.std.specs.Prelude.{not}
@@ -137,7 +138,8 @@ own_part c q f own (d ∷ cs) =
         of_first (sent q (f d)) (has_case cs c) (sent q (f c)) (sent q (flat_map f cs))
         (ap (λ x. sent q (f x)) (case_is d c e)) k
     by_test k false e =
-        of_rest (sent q (f d)) (has_case cs c) (sent q (f c)) (sent q (flat_map f cs)) (others (sent q (f d)) refl) k
+        of_rest (sent q (f d)) (has_case cs c) (sent q (f c)) (sent q (flat_map f cs))
+        (others (sent q (f d)) refl) k
       where
         not_own : d ≡ c → same_case d c ≡ true
         not_own g = ap (λ x. same_case x c) g ∙ same_case-refl c
@@ -205,7 +207,8 @@ module _ (me : ProcessId) (parent : Option ProcessId) (rs : List Record) (c : Ca
 
   -- no inquiry is of the ticket's case, which promised nothing here
   asks_not : has (is_prepare d) rs ≡ false → (own : Case) → sent (is_inquiry_message d) (resumed own) ≡ false
-  asks_not none own = by_standing (recorded_view rs own) (recorded_view rs own).standing (sym (recorded_stands own rs))
+  asks_not none own = by_standing (recorded_view rs own) (recorded_view rs own).standing
+      (sym (recorded_stands own rs))
     where
       promised : standing_by (has (is_end own) rs) (has (is_commit own) rs) (has (is_abort own) rs)
           (has (is_prepare own) rs) (has (is_collecting own) rs) (none_of (owing_by own rs))
@@ -225,7 +228,8 @@ module _ (me : ProcessId) (parent : Option ProcessId) (rs : List Record) (c : Ca
           (phase_standing own.txn.presumption Idle) ≡ s
           → sent (is_inquiry_message d) (resumes_by (seat own) v s) ≡ false
       by_standing v Prepared e =
-          none_up (is_inquiry_message d) (seat own) own (other (same_case own d) refl (promised e)) parent refl
+          none_up (is_inquiry_message d) (seat own) own (other (same_case own d) refl (promised e)) parent
+          refl
       by_standing v Committing e = sent-each_none (seat own) Commit v.owed (is_inquiry_message d) (λ x. refl)
       by_standing v Aborting e = sent-each_none (seat own) Abort v.owed (is_inquiry_message d) (λ x. refl)
       by_standing v Unknown e = none-sent (is_inquiry_message d)
@@ -239,7 +243,8 @@ module _ (me : ProcessId) (parent : Option ProcessId) (rs : List Record) (c : Ca
 
   -- The decision again.
 
-  same_child_ticket : (own : Case) (u : Ticket) → same_case (child_case own.txn u) d ≡ true → same_ticket u t ≡ true
+  same_child_ticket : (own : Case) (u : Ticket) → same_case (child_case own.txn u) d ≡ true
+      → same_ticket u t ≡ true
   same_child_ticket own u e = grind (arith, names)
 
   told_listed : (own : Case) (us : List Ticket)
@@ -408,7 +413,8 @@ module _ (me : ProcessId) (parent : Option ProcessId) (rs : List Record) (c : Ca
             let f = split_three _ _ _ e in
             both_hold _ _ (recorded_case c rs (has_other (is_commit c) (is_record_of c) rs of_commit f.first))
             (commit_listed (recorded_view rs c).standing
-            (stands_as Committing (rw (was_not (has (is_end c) rs) f.second, f.first, some_owed f.third) refl)) refl f.third)
+            (stands_as Committing (rw (was_not (has (is_end c) rs) f.second, f.first, some_owed f.third)
+            refl)) refl f.third)
 
     abort_here : sent aborts (flat_map resumed (cases_in rs)) ≡ abort_again rs c t
     abort_here =
@@ -425,7 +431,8 @@ module _ (me : ProcessId) (parent : Option ProcessId) (rs : List Record) (c : Ca
 
         back : abort_again rs c t ≡ true → (has_case (cases_in rs) c && sent aborts (resumed c)) ≡ true
         back e =
-            let f = split_three (has (is_abort c) rs) (not (has (is_end c) rs)) (has (is_decision_naming c t) rs)
+            let f = split_three (has (is_abort c) rs) (not (has (is_end c) rs))
+            (has (is_decision_naming c t) rs)
             (second_holds (not (has (is_commit c) rs)) _ e) in
             both_hold _ _ (recorded_case c rs (has_other (is_abort c) (is_record_of c) rs of_abort f.first))
             (abort_listed (recorded_view rs c).standing

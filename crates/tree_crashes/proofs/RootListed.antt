@@ -13,7 +13,8 @@ use Rattle.tree_nodes.proofs.RootHistories.{among}
 use Rattle.tree_nodes.proofs.RootTraces.{BegunSo}
 use Rattle.tree_crashes.proofs.Reopened.{exactly}
 
-listed : (me : ProcessId) (tree : List TreeEntry) (n : Node) → RootCases (root_place me tree) n → BegunSo me tree n
+listed : (me : ProcessId) (tree : List TreeEntry) (n : Node) → RootCases (root_place me tree) n
+    → BegunSo me tree n
     → (x : Txn) → has_begun (root_place me tree) n x ≡ among x n.begun
 listed me tree n cases h x =
     exactly (has_begun (root_place me tree) n x) (among x n.begun)

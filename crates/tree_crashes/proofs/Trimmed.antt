@@ -31,7 +31,8 @@ stays_alike p whole (r ∷ rs) = by_test (case_stays whole (record_case r)) (sta
     by_test true e = ap (λ l. r ∷ l) e
     by_test false e = e
 
-pub trims_alike : (role : Role) → IsCoordinator role → (rs : List Record) → trimmed role rs ≡ trimmed AtRoot rs
+pub trims_alike : (role : Role) → IsCoordinator role → (rs : List Record) → trimmed role rs
+    ≡ trimmed AtRoot rs
 unfolding trimmed
 trims_alike AtRoot i rs = refl
 trims_alike (Below p) i rs = ap (λ l. (Opened (boot_of rs) ∷ l) ++ []) (stays_alike p rs rs)
@@ -107,12 +108,14 @@ module _ (c : Case) (t : Ticket) (rs : List Record) where
       owes = still (is_decision_naming c t) (λ k. refl) none.owes;
     }
 
-  -- What a case that the records leave unknown has: it ended, or a decision names nobody, or there is nothing.
+  -- What a case that the records leave unknown has: it ended, or a decision names nobody, or there is
+  -- nothing.
 
   pub data Forgets : Type 0 where
     ended : has (is_end c) rs ≡ true → Forgets
     committed : has (is_commit c) rs ≡ true → none_of (owing_by c rs) ≡ true → Forgets
-    aborted : has (is_abort c) rs ≡ true → has (is_commit c) rs ≡ false → none_of (owing_by c rs) ≡ true → Forgets
+    aborted : has (is_abort c) rs ≡ true → has (is_commit c) rs ≡ false → none_of (owing_by c rs) ≡ true
+        → Forgets
     nothing : has (is_commit c) rs ≡ false → has (is_abort c) rs ≡ false → has (is_prepare c) rs ≡ false
         → has (is_collecting c) rs ≡ false → Forgets
 
@@ -132,5 +135,6 @@ module _ (c : Case) (t : Ticket) (rs : List Record) where
   pub forgets : is_known (recorded_view rs c).standing ≡ false → Forgets
   forgets e =
       forgets_by c.txn.presumption (has (is_end c) rs) (has (is_commit c) rs) (has (is_abort c) rs)
-      (has (is_prepare c) rs) (has (is_collecting c) rs) (none_of (owing_by c rs)) refl refl refl refl refl refl
+      (has (is_prepare c) rs) (has (is_collecting c) rs) (none_of (owing_by c rs)) refl refl refl refl
+      refl refl
       (ap is_known (sym (recorded_stands c rs)) ∙ e)

@@ -126,7 +126,8 @@ module _ (pr : Presumption) (manager outcome above : Bool) (p : ParentHalf) (k :
   live_root r root h e = grind (arith, root, e, h.unborn, h.undecided)
 
   live_below : (r : Reading) → Common r → is_live r.phase ≡ true
-      → (r.born ≡ true) × ((r.read_up ≡ false) × ((r.own_prepare_kept ≡ false) × (r.own_prepare_ever ≡ false)))
+      → (r.born ≡ true) × ((r.read_up ≡ false)
+      × ((r.own_prepare_kept ≡ false) × (r.own_prepare_ever ≡ false)))
   live_below r h e = grind (arith, e, h.unborn, h.undecided)
 
   pub root_falls : InvariantOf pr root_reading → p.failed ≡ false
@@ -142,16 +143,19 @@ module _ (pr : Presumption) (manager outcome above : Bool) (p : ParentHalf) (k :
       → Fits pr below_reading (reading_from false manager outcome above (fallen p) k v)
   below_falls inv up =
       subst (λ (z : Reading). Fits pr below_reading z)
-      (rw (sym (falls-below p.obeyed_abort (p.own_prepare_kept || p.own_prepare_ever) (is_live p.phase) v.given v.read_up
+      (rw (sym (falls-below p.obeyed_abort (p.own_prepare_kept || p.own_prepare_ever) (is_live p.phase)
+      v.given v.read_up
       (λ e. let f = live_below below_reading (common_of pr below_reading inv) e in
       (f.0, (f.1.0, neither-so p.own_prepare_kept p.own_prepare_ever f.1.1.0 f.1.1.1))))) refl)
       (moves.fails pr below_reading inv up)
 
 -- The trim.
 
-module _ (pr : Presumption) (manager outcome above : Bool) (k : ChildHalf) (v : Wire) (place : Place) (n : Node)
+module _ (pr : Presumption) (manager outcome above : Bool) (k : ChildHalf) (v : Wire) (place : Place)
+    (n : Node)
     (c : Case) (t : Ticket) (s s' : Standing) (m : Memory)
-    (log : trimmed place.role (kept n) ≡ trimmed AtRoot (kept n)) (pairs : data_records place.role (kept n) ≡ [])
+    (log : trimmed place.role (kept n) ≡ trimmed AtRoot (kept n))
+    (pairs : data_records place.role (kept n) ≡ [])
     (same : phase_by n.failed s' ≡ phase_by n.failed s)
     (names : NamesBy pr c (kept n)) (up : n.failed ≡ false)
   where
@@ -186,7 +190,8 @@ module _ (pr : Presumption) (manager outcome above : Bool) (k : ChildHalf) (v : 
     may_trim root PresumeAbort e closed (ended f) = record { up = up; closed = closed; nothing = inl f }
     may_trim root PresumeAbort e closed (committed f g) =
         ends (sym g ∙ (subst (λ x. NamesBy x c (kept n)) e names).0 f)
-    may_trim root PresumeAbort e closed (aborted f g h) = record { up = up; closed = closed; nothing = inr (inl f) }
+    may_trim root PresumeAbort e closed (aborted f g h) = record
+        { up = up; closed = closed; nothing = inr (inl f) }
     may_trim root PresumeAbort e closed (nothing f g h i) =
         record { up = up; closed = closed; nothing = inr (inr (f, h)) }
     may_trim root PresumeCommit e closed (ended f) = record { up = up; closed = closed; nothing = inl f }
@@ -217,7 +222,8 @@ module _ (pr : Presumption) (manager outcome above : Bool) (k : ChildHalf) (v : 
         end = (common.undecided e).no_end;
         collects = unless (is_collecting_naming c t) (is_collecting c) (λ x y. grind arith) i;
         names_it = unless (is_prepare_naming c t) (is_prepare c) (λ x y. grind arith) h;
-        owes = unless (is_decision_naming c t) (λ x. is_commit c x || is_abort c x) (λ x y. grind arith) (both f g);
+        owes = unless (is_decision_naming c t) (λ x. is_commit c x || is_abort c x) (λ x y. grind arith)
+            (both f g);
       }
         where
           both : has (is_commit c) (kept n) ≡ false → has (is_abort c) (kept n) ≡ false
@@ -226,7 +232,8 @@ module _ (pr : Presumption) (manager outcome above : Bool) (k : ChildHalf) (v : 
 
       -- either all of the case's records stay, or none does and the case is unknown
       pub trimmed_so : Stays c t (kept n)
-          ⊎ (Gone c t (trimmed AtRoot (kept n)) × moves.MayTrim pr (reading_from root manager outcome above p k v))
+          ⊎ (Gone c t (trimmed AtRoot (kept n))
+          × moves.MayTrim pr (reading_from root manager outcome above p k v))
       trimmed_so = by_known (is_known (recorded_view (kept n) c).standing) refl
         where
           by_live : (b : Bool) → is_live p.phase ≡ b → is_known (recorded_view (kept n) c).standing ≡ false
@@ -268,10 +275,12 @@ module _ (pr : Presumption) (manager outcome above : Bool) (k : ChildHalf) (v : 
       where
         forced_commit : p.commit_kept ≡ true → outcome ≡ true
         forced_commit e =
-            let h = common_of pr at_root inv in h.root_commit_is_the_outcome refl (h.root_commit_is_forced refl e up)
+            let h = common_of pr at_root inv in h.root_commit_is_the_outcome refl
+            (h.root_commit_is_forced refl e up)
 
     pub below_trims : InvariantOf pr (reading_from false manager outcome above p k v)
-        → Fits pr (reading_from false manager outcome above p k v) (reading_from false manager outcome above p' k v)
+        → Fits pr (reading_from false manager outcome above p k v)
+        (reading_from false manager outcome above p' k v)
     below_trims inv = elim (trimmed_so false inv) [
       | inl g ↦ subst (λ (z : Reading). Fits pr below z)
           (sym (ap (λ (x : ParentHalf). reading_from false manager outcome above x k v)

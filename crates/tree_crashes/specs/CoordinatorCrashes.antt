@@ -16,7 +16,8 @@ IsCrash (Restart k) = Unit {0}
 IsCrash Trim = Unit {0}
 IsCrash (Handles i) = ⊥
 
--- In every run of a tree each restart and each trim of each coordinator keeps the pairs below it, wherever the world's
+-- In every run of a tree each restart and each trim of each coordinator keeps the pairs below it, wherever
+-- the world's
 -- invariant holds before.
 abbrev pub CoordinatorCrashes : Type 0
 CoordinatorCrashes = (tree : List TreeEntry) → IsTree tree → (es : List Made) (w : World) → IsRun tree es w

@@ -91,7 +91,8 @@ abort_about d m e = grind arith
 
 module _ (tree : List TreeEntry) (is_tree : IsTree tree) (w : World) (h : WorldHolds tree w) where
   abbrev Said : Case → Type 0
-  Said c = FromAbove w.net c (coordinator_view (place_of tree (process_of c)) (w.at (process_of c)) c).standing
+  Said c = FromAbove w.net c (coordinator_view (place_of tree (process_of c)) (w.at (process_of c))
+      c).standing
       (is_commit_outcome w c.txn) (takes_part tree w c)
 
   -- of a case whose ticket JOINED gave to this one
@@ -130,7 +131,8 @@ module _ (tree : List TreeEntry) (is_tree : IsTree tree) (w : World) (h : WorldH
       given_says x u t next (h.about_given d (sent_other q (is_about d) w.net f e)) in
       record {
         asked_takes_part = λ e. (by (is_prepare_message d) (prepare_about d) e).asked_takes_part e;
-        commit_is_true = λ e s. (by (is_outcome_message CommittedOutcome d) (commit_about d) e).commit_is_true e s;
+        commit_is_true = λ e s. (by (is_outcome_message CommittedOutcome d) (commit_about d)
+            e).commit_is_true e s;
         abort_is_true = λ e s. (by (is_outcome_message AbortedOutcome d) (abort_about d) e).abort_is_true e s;
       }
 
@@ -141,7 +143,8 @@ module _ (tree : List TreeEntry) (is_tree : IsTree tree) (w : World) (h : WorldH
   above c t pair = by_role (role_of tree (process_of c)) c.ticket refl pair.parent.role
     where
       by_role : (role : Role) (o : Option Ticket) → c.ticket ≡ o → IsParentRole role c.ticket
-          → Above role w.net c (coordinator_view (place_of tree (process_of c)) (w.at (process_of c)) c).standing
+          → Above role w.net c (coordinator_view (place_of tree (process_of c)) (w.at (process_of c))
+          c).standing
           (is_commit_outcome w c.txn) (takes_part tree w c)
       by_role AtRoot o f r = tt
       by_role (AtLeaf p) o f r = tt

@@ -46,7 +46,8 @@ begins_in (AtLeaf p) place net n f h = absurd (cc)
 module _ (tree : List TreeEntry) (is_tree : IsTree tree) (w : World) (h : WorldHolds tree w) where
   -- Agreement of the root.
 
-  never : (x : Txn) → Begins (place_of tree x.root) (w.at x.root) → root_ends (w.at x.root) x AbortedOutcome ≡ true
+  never : (x : Txn) → Begins (place_of tree x.root) (w.at x.root)
+      → root_ends (w.at x.root) x AbortedOutcome ≡ true
       → NeverCommits (place_of tree x.root) (w.at x.root) x
   never x b e = elim (either _ _ e) [
     | inl now ↦ elim (either _ _ now) [
@@ -63,7 +64,8 @@ module _ (tree : List TreeEntry) (is_tree : IsTree tree) (w : World) (h : WorldH
   root_agrees x AbortedOutcome f e = by_listed (is_listed tree x.root) refl
     where
       opened_ends : {A : Type 0} (n : Node) → n ≡ opened_node → root_ends n x AbortedOutcome ≡ true → A
-      opened_ends n same e = absurd (let y = subst (λ (k : Node). root_ends k x AbortedOutcome ≡ true) same e in cc)
+      opened_ends n same e = absurd
+          (let y = subst (λ (k : Node). root_ends k x AbortedOutcome ≡ true) same e in cc)
 
       by_listed : (b : Bool) → is_listed tree x.root ≡ b → Tells w x AbortedOutcome
       by_listed true l = says_abort w x
@@ -76,7 +78,8 @@ module _ (tree : List TreeEntry) (is_tree : IsTree tree) (w : World) (h : WorldH
   given_by_record : (x : Txn) (t : Ticket) → is_listed tree t.child ≡ true → IsIssuer (role_of tree t.child)
       → has (is_record_of (child_case x t)) (w.at t.child).life ≡ true
       → sent (gives_case (child_case x t)) w.net ≡ true
-  given_by_record x t l i e = ((issues_in (role_of tree t.child) (place_of tree t.child) w.net (w.at t.child) i
+  given_by_record x t l i e = ((issues_in (role_of tree t.child) (place_of tree t.child) w.net
+      (w.at t.child) i
       (h.nodes t.child l).role).recorded_is_given (child_case x t) e).1
 
   -- who ends a transaction was given a case of it
@@ -87,7 +90,8 @@ module _ (tree : List TreeEntry) (is_tree : IsTree tree) (w : World) (h : WorldH
 
   joined_by_part : (x : Txn) (t : Ticket) → TakesPart w x t → Joined x t
   joined_by_part x t e =
-      let j = part_joined tree w (standing_world tree w h) x t e in record { of = j.0; same = j.1.0; joined = j.1.1 }
+      let j = part_joined tree w (standing_world tree w h) x t e in record
+      { of = j.0; same = j.1.0; joined = j.1.1 }
 
   joined_by_record : (q : Record → Bool) (x : Txn) (t : Ticket) → IsIssuer (role_of tree t.child)
       → ((r : Record) → q r ≡ true → is_record_of (child_case x t) r ≡ true) → has q opened_node.life ≡ false
@@ -124,7 +128,8 @@ module _ (tree : List TreeEntry) (is_tree : IsTree tree) (w : World) (h : WorldH
       (follows_second _ _ (w.at t.child).life e)
   ends_joined x t (AtLeaf p) f o (inr e) = joined_by_part x t e.1.takes_part
 
-  others_agree : (x : Txn) (t : Ticket) (o : Outcome) → EndsIn (role_of tree t.child) tree w x t o → Tells w x o
+  others_agree : (x : Txn) (t : Ticket) (o : Outcome) → EndsIn (role_of tree t.child) tree w x t o
+      → Tells w x o
   others_agree x t o e =
       let j = ends_joined x t (role_of tree t.child) refl o e in
       subst (λ (z : Txn). EndsIn (role_of tree t.child) tree w z t o → Tells w z o) j.same

@@ -55,7 +55,8 @@ module _ (tree : List TreeEntry) (es : List Made) (w : World) (run : IsRun tree 
 
   -- what is proved of every process already
   node_by_role : RoleHolds (role_of tree m.step.process) (place_of tree m.step.process) (w.net ++ e.messages)
-      (w'.at m.step.process) → NodeHolds (place_of tree m.step.process) (w.net ++ e.messages) (w'.at m.step.process)
+      (w'.at m.step.process) → NodeHolds (place_of tree m.step.process) (w.net ++ e.messages)
+      (w'.at m.step.process)
   node_by_role h = record {
     lasts = all_last tree (record { move = m; effect = e } ∷ es) w' run_then q;
     boots = boots_of (w'.at q) (all_booted tree (record { move = m; effect = e } ∷ es) w' run_then q);
@@ -67,13 +68,15 @@ module _ (tree : List TreeEntry) (es : List Made) (w : World) (run : IsRun tree 
   sent : IsCoordinator (role_of tree m.step.process) → AllFrom m.step.process e.messages
   sent is =
       let at = makes_at tree w m e w' made in
-      step_from (place_of tree q) (w.at q) m is e at.node (step_of (place_of tree q) (w.at q) m e at.node at.made)
+      step_from (place_of tree q) (w.at q) m is e at.node
+      (step_of (place_of tree q) (w.at q) m e at.node at.made)
 
   by_role : (r : Role) → role_of tree m.step.process ≡ r
       → RoleHolds r (place_of tree m.step.process) (w.net ++ e.messages) (w'.at m.step.process)
       → RoleHolds (role_of tree m.step.process) (place_of tree m.step.process) (w.net ++ e.messages) (w'.at
       m.step.process)
-  by_role r f h = subst (λ (x : Role). RoleHolds x (place_of tree q) (w.net ++ e.messages) (w'.at q)) (sym f) h
+  by_role r f h = subst (λ (x : Role). RoleHolds x (place_of tree q) (w.net ++ e.messages) (w'.at q))
+      (sym f) h
 
   root_keeps : role_of tree m.step.process ≡ AtRoot
       → RootKeeps (place_of tree m.step.process) w.net e.messages (w.at m.step.process) (w'.at m.step.process)
@@ -85,11 +88,13 @@ module _ (tree : List TreeEntry) (es : List Made) (w : World) (run : IsRun tree 
     about_given = h.sends.about_given;
     pairs_below = h.pairs_below;
     pairs_above = no_pair_above (place_of tree q) w.net e.messages (w.at q) (w'.at q) top;
-    pairs_elsewhere = elsewhere (place_of tree q) e.messages (sent (subst IsCoordinator (sym top) tt)) h.sends.go;
+    pairs_elsewhere = elsewhere (place_of tree q) e.messages (sent (subst IsCoordinator (sym top) tt))
+        h.sends.go;
   }
 
   cascaded_keeps : (p : ProcessId) → role_of tree m.step.process ≡ Below p
-      → CascadedKeeps (place_of tree m.step.process) w.net e.messages (w.at m.step.process) (w'.at m.step.process)
+      → CascadedKeeps (place_of tree m.step.process) w.net e.messages (w.at m.step.process)
+      (w'.at m.step.process)
       → StepKeeps (place_of tree m.step.process) w.net e.messages (w.at m.step.process) (w'.at m.step.process)
   cascaded_keeps p below h =
       let numbers : Numbers (place_of tree q) (w.net ++ e.messages) (w'.at q) =
@@ -106,20 +111,24 @@ module _ (tree : List TreeEntry) (es : List Made) (w : World) (run : IsRun tree 
         about_given = h.sends.about_given;
         pairs_below = h.pairs_below;
         pairs_above = h.pairs_above;
-        pairs_elsewhere = elsewhere (place_of tree q) e.messages (sent (subst IsCoordinator (sym below) tt)) h.sends.go;
+        pairs_elsewhere = elsewhere (place_of tree q) e.messages
+            (sent (subst IsCoordinator (sym below) tt)) h.sends.go;
       }
 
 pub coordinators_keep : (tree : List TreeEntry) → RootLaws tree → CascadedLaws tree → CoordinatorLaws tree
-coordinators_keep tree roots cascaded es w run h m e w' is stands made = keep (role_of tree m.step.process) refl is
+coordinators_keep tree roots cascaded es w run h m e w' is stands made = keep
+    (role_of tree m.step.process) refl is
   where
     keep : (r : Role) → role_of tree m.step.process ≡ r → IsCoordinator (role_of tree m.step.process)
-        → StepKeeps (place_of tree m.step.process) w.net e.messages (w.at m.step.process) (w'.at m.step.process)
+        → StepKeeps (place_of tree m.step.process) w.net e.messages (w.at m.step.process)
+        (w'.at m.step.process)
     keep AtRoot f i = root_keeps tree es w run m e w' stands made f (roots es w run h m e w' f stands made)
     keep (Below p) f i = cascaded_keeps tree es w run m e w' stands made p f (cascaded es w run h m e w' p f
         stands made)
     keep (AtLeaf p) f i = absurd (subst IsCoordinator f i)
 
-pub headline_of_runs : (tree : List TreeEntry) → IsTree tree → RootLaws tree → CascadedLaws tree → (es : List Made)
+pub headline_of_runs : (tree : List TreeEntry) → IsTree tree → RootLaws tree → CascadedLaws tree
+    → (es : List Made)
     (w : World) → IsRun tree es w → Headline tree es w
 headline_of_runs tree is_tree roots cascaded = headline_from_coordinators tree is_tree (coordinators_keep
     tree roots cascaded)

@@ -34,7 +34,8 @@ use Rattle.tree_headline.proofs.Steps.{onward_holds}
 
 -- A case in doubt, as its pair has it.
 
-promised_by : (d : Case) (r : Record) → has_promised d r ≡ true → (is_promise d r ≡ true) ⊎ (is_heuristic d r ≡ true)
+promised_by : (d : Case) (r : Record) → has_promised d r ≡ true → (is_promise d r ≡ true)
+    ⊎ (is_heuristic d r ≡ true)
 promised_by d r e = grind arith
 
 commit_concludes : (d : Case) (r : Record) → is_learnt_commit d r ≡ true → has_concluded d r ≡ true
@@ -49,7 +50,8 @@ own_abort_concludes d r e = grind arith
 forgot_concludes : (d : Case) (r : Record) → is_forgot d r ≡ true → has_concluded d r ≡ true
 forgot_concludes d r e = grind arith
 
-none_of_them : (q r : Record → Bool) (xs : List Record) → ((x : Record) → q x ≡ true → r x ≡ true) → has r xs ≡ false
+none_of_them : (q r : Record → Bool) (xs : List Record) → ((x : Record) → q x ≡ true → r x ≡ true)
+    → has r xs ≡ false
     → has q xs ≡ false
 none_of_them q r xs f e = by_test (has q xs) refl
   where
@@ -84,16 +86,19 @@ module _ (tree : List TreeEntry) (w : World) (h : WorldHolds tree w) (c : Case) 
               | inl promised ↦ promised
               | inr decided ↦ (k.heuristic_stands_behind decided).0
             ];
-        no_commit = none_of_them (is_learnt_commit d) (has_concluded d) rs (commit_concludes d) doubt.not_concluded;
+        no_commit = none_of_them (is_learnt_commit d) (has_concluded d) rs (commit_concludes d)
+            doubt.not_concluded;
         no_abort = neither_so (has (is_learnt_abort d) rs) (has (is_abort d) rs) (has (is_prepare d) rs)
             (none_of_them (is_learnt_abort d) (has_concluded d) rs (abort_concludes d) doubt.not_concluded)
             (none_of_them (is_abort d) (has_concluded d) rs (own_abort_concludes d) doubt.not_concluded);
-        not_forgotten = none_of_them (is_forgot d) (has_concluded d) rs (forgot_concludes d) doubt.not_concluded;
+        not_forgotten = none_of_them (is_forgot d) (has_concluded d) rs (forgot_concludes d)
+            doubt.not_concluded;
       }
 
   answers : (later : World) → WorldHolds tree later → sent (is_joined_message c t) later.net ≡ true
       → Later (pair_reading tree w c t) (pair_reading tree later c t) → (o : Outcome)
-      → sent (is_outcome_message o (child_case c.txn t)) w.net ≡ true → InDoubt (w.at t.child) (child_case c.txn t)
+      → sent (is_outcome_message o (child_case c.txn t)) w.net ≡ true
+      → InDoubt (w.at t.child) (child_case c.txn t)
       → Tells later c.txn o
   answers later h' joined' f CommittedOutcome e doubt =
       says_commit later c.txn ((pair_answers c.txn.presumption).commit_is_true r (pair_reading tree later c t)

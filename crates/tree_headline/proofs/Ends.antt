@@ -73,7 +73,8 @@ committed_so d r e = grind arith
 rolled_back_so : (d : Case) (r : Record) → is_rolled_back d r ≡ true → is_learnt_abort d r ≡ true
 rolled_back_so d r e = grind arith
 
-promise_by : (d : Case) (r : Record) → is_promise d r ≡ true → (is_prepared d r ≡ true) ⊎ (is_coordinators r ≡ true)
+promise_by : (d : Case) (r : Record) → is_promise d r ≡ true → (is_prepared d r ≡ true)
+    ⊎ (is_coordinators r ≡ true)
 promise_by d r e = grind arith
 
 -- A branch that is active no longer.
@@ -100,7 +101,8 @@ unfolding manager_view
 closed_branch place n d e = not_live n.failed (memory_of place n d) (mark_of (CaseBranch d) (kept n)) e
 
 closed_in : (role : Role) (place : Place) (n : Node) (d : Case) (p : ProcessId) → role ≡ AtLeaf p
-    → (manager_view place n d).standing ≢ Active → is_live (phase_by n.failed (standing_in role place n d)) ≡ false
+    → (manager_view place n d).standing ≢ Active
+    → is_live (phase_by n.failed (standing_in role place n d)) ≡ false
 closed_in (AtLeaf q) place n d p f e = closed_branch place n d e
 closed_in AtRoot place n d p f e = absurd (cc)
 closed_in (Below q) place n d p f e = absurd (cc)
@@ -132,7 +134,8 @@ dead_so : (a b c d : Bool) → a ≡ false → b ≡ false → c ≡ true → d 
 unfolding is_dead
 dead_so a b c d e f g h = rw (e, f, g, h) refl
 
-no_promise : (n : Node) (d : Case) → Nested (logs_of n) → Manages (logs_of n) → has (is_prepared d) n.life ≡ false
+no_promise : (n : Node) (d : Case) → Nested (logs_of n) → Manages (logs_of n) → has (is_prepared d) n.life
+    ≡ false
     → (has (is_promise d) (kept n) || has (is_promise d) n.durable) ≡ false
 no_promise n d h m none = by_test _ refl
   where
@@ -169,7 +172,8 @@ module _ (tree : List TreeEntry) (is_tree : IsTree tree) (w : World) (h : WorldH
     listed = (joined_pair tree w h c t joined).0.listed
 
     issues : IsIssuer (role_of tree t.child) → Issues (place_of tree t.child) w.net n
-    issues i = issues_in (role_of tree t.child) (place_of tree t.child) w.net n i (h.nodes t.child listed).role
+    issues i = issues_in (role_of tree t.child) (place_of tree t.child) w.net n i
+        (h.nodes t.child listed).role
 
     commits : has (is_committing d) n.life ≡ true → Tells w c.txn CommittedOutcome
     commits e = says_commit w c.txn (common.child_commit_is_the_outcome e)
@@ -195,7 +199,8 @@ module _ (tree : List TreeEntry) (is_tree : IsTree tree) (w : World) (h : WorldH
         let dead = dead_so (has (is_promise d) (kept n) || has (is_promise d) n.durable) _ (sent
         (is_joined_message c t) w.net)
         (sent (is_read_message d) w.net)
-        (no_promise n d lasts.nested (manages_in (role_of tree t.child) n p leaf lasts.by_role) e.never_promised)
+        (no_promise n d lasts.nested (manages_in (role_of tree t.child) n p leaf lasts.by_role)
+        e.never_promised)
         (closed_in (role_of tree t.child) (place_of tree t.child) n d p leaf e.is_active_no_longer) joined
         e.never_read in
         says_abort w c.txn (refused_child r common (right _ _ dead) takes_part_in.0 takes_part_in.1)
@@ -206,9 +211,11 @@ module _ (tree : List TreeEntry) (is_tree : IsTree tree) (w : World) (h : WorldH
     ends (Below p) f CommittedOutcome e =
         commits (has_other (is_commit d) (is_committing d) n.life (commits_so d) (follows_first _ _ n.life e))
     ends (Below p) f AbortedOutcome e = refuses (subst IsIssuer (sym f) tt)
-        (has_other (is_prepare d) (is_promise d) n.life (promise_of d) (follows_second _ _ n.life e)) (right _ _ e)
+        (has_other (is_prepare d) (is_promise d) n.life (promise_of d) (follows_second _ _ n.life e))
+        (right _ _ e)
     ends (AtLeaf p) f CommittedOutcome (inl e) =
-        commits (has_other (is_committed d) (is_committing d) n.life (committed_so d) (follows_first _ _ n.life e))
+        commits (has_other (is_committed d) (is_committing d) n.life (committed_so d)
+        (follows_first _ _ n.life e))
     ends (AtLeaf p) f AbortedOutcome (inl e) = refuses (subst IsIssuer (sym f) tt)
         (has_other (is_prepared d) (is_promise d) n.life (promise_prepared d) (follows_second _ _ n.life e))
         (left _ _ (has_other (is_rolled_back d) (is_learnt_abort d) n.life (rolled_back_so d) (follows_first

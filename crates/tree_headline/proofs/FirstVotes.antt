@@ -55,14 +55,16 @@ module _ (c : Case) (t : Ticket) where
       by_test true false u s e = absurd (cc)
       by_test false y u s e = absurd (cc)
 
-      by_rest : (o : Option Vote) → first_vote vs c t ≡ o → (first_vote vs c t ≡ Some v → heard_such vs c t v ≡ true)
+      by_rest : (o : Option Vote) → first_vote vs c t ≡ o
+          → (first_vote vs c t ≡ Some v → heard_such vs c t v ≡ true)
           → vote_in a c t (first_vote vs c t) ≡ Some v → heard_such (a ∷ vs) c t v ≡ true
       by_rest (Some u) f g e = right _ _ (g (f ∙ (sym (ap (vote_in a c t) f) ∙ e)))
       by_rest None f g e = by_test (same_case a.0 c) (same_ticket a.1.0 t) a.1.1 (heard_such vs c t v) (sym
           (ap (vote_in a c t) f) ∙ e)
 
   pub first_consents : (vs : List (Case × (Ticket × Vote)))
-      → (heard_such vs c t VoteYes ≡ true) ⊎ (heard_such vs c t VoteRead ≡ true) → heard_such vs c t VoteNo ≡ false
+      → (heard_such vs c t VoteYes ≡ true) ⊎ (heard_such vs c t VoteRead ≡ true)
+      → heard_such vs c t VoteNo ≡ false
       → consents (first_vote vs c t) ≡ true
   first_consents vs e none = by_first (first_vote vs c t) refl
     where

@@ -40,7 +40,8 @@ free_before net ls c t e = second_false _ _ (sym (sent-append (gives_other c t) 
     second_false : (a b : Bool) → (a || b) ≡ false → b ≡ false
     second_false a b e = grind arith
 
-pub go_on : (tree : List TreeEntry) (net ls : List Envelope) → AllGo tree net → AllGo tree ls → AllGo tree (net ++ ls)
+pub go_on : (tree : List TreeEntry) (net ls : List Envelope) → AllGo tree net → AllGo tree ls
+    → AllGo tree (net ++ ls)
 go_on tree [] ls g h = h
 go_on tree (l ∷ net) ls g h = (g.0, go_on tree net ls g.1 h)
 
@@ -53,7 +54,8 @@ pub record SentHere (tree : List TreeEntry) (q : ProcessId) (test : Message → 
   pub goes : GoesBy tree letter letter.message
   pub passes : test letter.message ≡ true
 
-pub some_letter : (tree : List TreeEntry) (q : ProcessId) (test : Message → Bool) (ls : List Envelope) → AllFrom q ls
+pub some_letter : (tree : List TreeEntry) (q : ProcessId) (test : Message → Bool) (ls : List Envelope)
+    → AllFrom q ls
     → AllGo tree ls → sent test ls ≡ true → SentHere tree q test
 unfolding sent
 some_letter tree q test [] f g e = absurd (cc)
@@ -220,7 +222,8 @@ module _ (place : Place) (m : Move) (q : Record → Bool) where
       by_front (suc j) = in_second q (trimmed_log place.role (kept n)) n.durable e
 
 module _ (place : Place) (m : Move) (c : Case) (t : Ticket) where
-  accepts_more : (new old : List (Case × Ticket)) → list_any (λ a. same_case a.0 c && same_ticket a.1 t) old ≡ true
+  accepts_more : (new old : List (Case × Ticket))
+      → list_any (λ a. same_case a.0 c && same_ticket a.1 t) old ≡ true
       → list_any (λ a. same_case a.0 c && same_ticket a.1 t) (new ++ old) ≡ true
   accepts_more new old e = list_any-append (λ a. same_case a.0 c && same_ticket a.1 t) new old ∙ right _ _ e
 

@@ -92,7 +92,8 @@ module _ (tree : List TreeEntry) (is_tree : IsTree tree) (w : World) (h : WorldH
   -- the reading behind the process's own half of the step
   abbrev pub half_reading : Case → Ticket → Reading
   half_reading c t =
-      reading_so tree stepped (outcome_by c.ticket (is_commit_outcome stepped c.txn) (is_commit_outcome w c.txn))
+      reading_so tree stepped (outcome_by c.ticket (is_commit_outcome stepped c.txn)
+      (is_commit_outcome w c.txn))
       (takes_part tree w c) c t
 
   abbrev Moves : Case → Ticket → Reading → Reading → Type 0
@@ -103,7 +104,8 @@ module _ (tree : List TreeEntry) (is_tree : IsTree tree) (w : World) (h : WorldH
       subst (λ (x : Reading). Moves c t x b') e (subst (λ (x : Reading). Moves c t a x) f m)
 
   keeps_at : (p : ProcessId) → p ≡ q → StepKeeps (place_of tree p) w.net ls (w.at p) (at p)
-  keeps_at p same = subst (λ (x : ProcessId). StepKeeps (place_of tree x) w.net ls (w.at x) (at x)) (sym same) keeps
+  keeps_at p same = subst (λ (x : ProcessId). StepKeeps (place_of tree x) w.net ls (w.at x) (at x))
+      (sym same) keeps
 
   outcome_elsewhere : (x : Txn) → (x.root ≡ q → ⊥) → is_commit_outcome stepped x ≡ is_commit_outcome w x
   unfolding is_commit_outcome
@@ -157,8 +159,10 @@ module _ (tree : List TreeEntry) (is_tree : IsTree tree) (w : World) (h : WorldH
         let seen' : outcome_in role (at (process_of c)) c old_outcome ≡ new_outcome =
         outcome_seen tree stepped c old_outcome pair.parent.role in
         let child : at t.child ≡ down_node = others t.child (λ e. apart (e ∙ sym same)) in
-        let old : seen_below (place_of tree (process_of c)) w.net up_node c t leaf old_outcome part (down down_node)
-        ≡ pair_reading tree w c t = ap (λ (o : Bool). reading_from root leaf o part (up up_node) (down down_node)
+        let old : seen_below (place_of tree (process_of c)) w.net up_node c t leaf old_outcome part
+        (down down_node)
+        ≡ pair_reading tree w c t = ap
+        (λ (o : Bool). reading_from root leaf o part (up up_node) (down down_node)
         (wire c t w.net)) seen in
         let new : seen_below (place_of tree (process_of c)) (w.net ++ ls) (at (process_of c)) c t leaf
         old_outcome part
@@ -179,15 +183,18 @@ module _ (tree : List TreeEntry) (is_tree : IsTree tree) (w : World) (h : WorldH
         by_ticket None f =
             ap (λ (o : Option Ticket). outcome_by o (is_commit_outcome stepped x) old_outcome) f
             ∙ outcome_elsewhere x (λ e. other (ap process_of (case_parts c x None refl f) ∙ e))
-        by_ticket (Some u) f = ap (λ (o : Option Ticket). outcome_by o (is_commit_outcome stepped x) old_outcome) f
+        by_ticket (Some u) f = ap (λ (o : Option Ticket). outcome_by o (is_commit_outcome stepped x)
+            old_outcome) f
 
     -- the child's process makes it
     at_child : t.child ≡ q → Moves c t (pair_reading tree w c t) (half_reading c t)
     at_child same =
         let other : process_of c ≡ q → ⊥ = λ e. apart (same ∙ sym e) in
-        let new : seen_above (place_of tree t.child) (w.net ++ ls) (at t.child) c t old_outcome part (up up_node)
+        let new : seen_above (place_of tree t.child) (w.net ++ ls) (at t.child) c t old_outcome part
+        (up up_node)
         ≡ half_reading c t =
-        ap (λ (o : Bool). reading_from root leaf o part (up up_node) (down (at t.child)) (wire c t (w.net ++ ls)))
+        ap (λ (o : Bool). reading_from root leaf o part (up up_node) (down (at t.child))
+        (wire c t (w.net ++ ls)))
         (sym (outcome_stays other))
         ∙ ap (λ (n : Node). reading_from root leaf new_outcome part (up n) (down (at t.child)) (wire c t
         (w.net ++ ls)))
@@ -196,15 +203,18 @@ module _ (tree : List TreeEntry) (is_tree : IsTree tree) (w : World) (h : WorldH
         ((keeps_at t.child same).pairs_above.follows c t pair refl free old_outcome part (up up_node) before)
 
     -- another process makes it
-    at_neither : (process_of c ≡ q → ⊥) → (t.child ≡ q → ⊥) → Moves c t (pair_reading tree w c t) (half_reading c t)
+    at_neither : (process_of c ≡ q → ⊥) → (t.child ≡ q → ⊥)
+        → Moves c t (pair_reading tree w c t) (half_reading c t)
     at_neither parent child =
         let quiet : wire c t (w.net ++ ls) ≡ wire c t w.net = or_none (wire c t w.net) ls c t w.net
         (keeps.pairs_elsewhere.quiet c t pair parent child) in
         let same : pair_reading tree w c t ≡ half_reading c t =
         ap (λ (o : Bool). reading_from root leaf o part (up up_node) (down down_node) (wire c t w.net))
         (sym (outcome_stays parent))
-        ∙ (ap (λ (v : Wire). reading_from root leaf new_outcome part (up up_node) (down down_node) v) (sym quiet)
-        ∙ (ap (λ (n : Node). reading_from root leaf new_outcome part (up n) (down down_node) (wire c t (w.net ++ ls)))
+        ∙ (ap (λ (v : Wire). reading_from root leaf new_outcome part (up up_node) (down down_node) v)
+        (sym quiet)
+        ∙ (ap (λ (n : Node). reading_from root leaf new_outcome part (up n) (down down_node)
+        (wire c t (w.net ++ ls)))
         (sym (others (process_of c) parent))
         ∙ ap (λ (n : Node). reading_from root leaf new_outcome part (up (at (process_of c))) (down n)
         (wire c t (w.net ++ ls))) (sym (others t.child child)))) in

@@ -158,7 +158,8 @@ module _ (tree : List TreeEntry) (me p : ProcessId) (leaf : role_of tree me
         by_test false f = absurd (let x = sym (ap is_open (unmarked_so d rs f)) ∙ e in cc)
 
     module _ (h : Heard) (stands : InputStands net me h.input) where
-      heard_goes : (m : Message) → Hears h m → (l : Envelope) × ((l.to ≡ me) × ((l.message ≡ m) × GoesBy tree l m))
+      heard_goes : (m : Message) → Hears h m → (l : Envelope)
+          × ((l.to ≡ me) × ((l.message ≡ m) × GoesBy tree l m))
       heard_goes m i =
           let s : IsSent net me i.0 m = subst (λ (x : Input). InputStands net me x) i.1 stands in (
             record { from = s.sender; to = me; message = m },
@@ -172,7 +173,8 @@ module _ (tree : List TreeEntry) (me p : ProcessId) (leaf : role_of tree me
             ),
           )
 
-      heard_given : (m : Message) → Hears h m → (d : Case) → is_about d m ≡ true → sent (gives_case d) net ≡ true
+      heard_given : (m : Message) → Hears h m → (d : Case) → is_about d m ≡ true → sent (gives_case d) net
+          ≡ true
       heard_given m i d e =
           let s : IsSent net me i.0 m = subst (λ (x : Input). InputStands net me x) i.1 stands in
           given d (sent_at (is_about d) net (i.0 - 1) _ s.stands e)
@@ -184,7 +186,8 @@ module _ (tree : List TreeEntry) (me p : ProcessId) (leaf : role_of tree me
 
       told : (d : Case) (o : Outcome) → Hears h (tells_outcome o d) → Own d
       told d CommittedOutcome i =
-          let g = heard_goes (Commit d) i in (g.1.1.1.0 ∙ g.1.0, heard_given (Commit d) i d (same_case-refl d))
+          let g = heard_goes (Commit d) i in
+          (g.1.1.1.0 ∙ g.1.0, heard_given (Commit d) i d (same_case-refl d))
       told d AbortedOutcome i =
           let g = heard_goes (Abort d) i in (g.1.1.1.0 ∙ g.1.0, heard_given (Abort d) i d (same_case-refl d))
 
@@ -228,32 +231,33 @@ module _ (tree : List TreeEntry) (me p : ProcessId) (leaf : role_of tree me
       turn_fits _ (forgets d i k) = tt
 
     -- A restart asks about branches that are open in what is left.
-    module _ (rs : List Record) (known : (d : Case) → is_open (mark_of (CaseBranch d) rs) ≡ true → Own d) where
-      fit_both : (xs ys : List Envelope) → AllFit xs → AllFit ys → AllFit (xs ++ ys)
-      fit_both [] ys a b = b
-      fit_both (x ∷ xs) ys a b = (a.0, fit_both xs ys a.1 b)
+    module _ (rs : List Record) (known : (d : Case) → is_open (mark_of (CaseBranch d) rs) ≡ true → Own d)
+      where
+        fit_both : (xs ys : List Envelope) → AllFit xs → AllFit ys → AllFit (xs ++ ys)
+        fit_both [] ys a b = b
+        fit_both (x ∷ xs) ys a b = (a.0, fit_both xs ys a.1 b)
 
-      untold_fits : (d : Case) (o : Option Outcome) → Own d → AllFit (untold_inquiry me p d o)
-      untold_fits d None e = ((refl, (refl, e)), tt)
-      untold_fits d (Some o) e = tt
+        untold_fits : (d : Case) (o : Option Outcome) → Own d → AllFit (untold_inquiry me p d o)
+        untold_fits d None e = ((refl, (refl, e)), tt)
+        untold_fits d (Some o) e = tt
 
-      by_mark : (d : Case) (x : Mark) → mark_of (CaseBranch d) rs ≡ x
-          → (let v = marked_branch fresh_memory x in AllFit (inquires_by me p d v v.standing))
-      by_mark d Unmarked e = tt
-      by_mark d Finished e = tt
-      by_mark d Promised e = ((refl, (refl, known d (ap is_open e))), tt)
-      by_mark d Decided e = ((refl, (refl, known d (ap is_open e))), tt)
-      by_mark d (ToldOf o) e = tt
+        by_mark : (d : Case) (x : Mark) → mark_of (CaseBranch d) rs ≡ x
+            → (let v = marked_branch fresh_memory x in AllFit (inquires_by me p d v v.standing))
+        by_mark d Unmarked e = tt
+        by_mark d Finished e = tt
+        by_mark d Promised e = ((refl, (refl, known d (ap is_open e))), tt)
+        by_mark d Decided e = ((refl, (refl, known d (ap is_open e))), tt)
+        by_mark d (ToldOf o) e = tt
 
-      resumed_fits : (d : Case) → AllFit (manager_resumes me p rs d)
-      unfolding recorded_branch
-      resumed_fits d = by_mark d (mark_of (CaseBranch d) rs) refl
+        resumed_fits : (d : Case) → AllFit (manager_resumes me p rs d)
+        unfolding recorded_branch
+        resumed_fits d = by_mark d (mark_of (CaseBranch d) rs) refl
 
-      resumes_fit : (cs : List Case) → AllFit (flat_map (manager_resumes me p rs) cs)
-      resumes_fit [] = tt
-      resumes_fit (d ∷ cs) =
-          fit_both (manager_resumes me p rs d) (flat_map (manager_resumes me p rs) cs) (resumed_fits d)
-          (resumes_fit cs)
+        resumes_fit : (cs : List Case) → AllFit (flat_map (manager_resumes me p rs) cs)
+        resumes_fit [] = tt
+        resumes_fit (d ∷ cs) =
+            fit_both (manager_resumes me p rs d) (flat_map (manager_resumes me p rs) cs) (resumed_fits d)
+            (resumes_fit cs)
 
     reopened_none : {A : Type 0} (d : Case) (j : ℕ)
         → has (is_branch_record d) (reopens (AtLeaf p) (left_of n j)) ≡ true → A
@@ -268,12 +272,14 @@ module _ (tree : List TreeEntry) (me p : ProcessId) (leaf : role_of tree me
           | inl left ↦ elim (in_either (is_branch_record d) n.forced (take j n.unforced) left) [
             | inl front ↦ recorded d (in_first (is_branch_record d) n.forced n.unforced front)
             | inr rest ↦ recorded d
-                (in_second (is_branch_record d) n.forced n.unforced (in_front (is_branch_record d) j n.unforced rest))
+                (in_second (is_branch_record d) n.forced n.unforced
+                (in_front (is_branch_record d) j n.unforced rest))
           ]
           | inr new ↦ reopened_none d j new
         ]
 
-    pub letters_fit : (m : Move) → Stands net me m.step.happening → (e : Effect) (k : Node) → StepOf place n m e k
+    pub letters_fit : (m : Move) → Stands net me m.step.happening → (e : Effect) (k : Node)
+        → StepOf place n m e k
         → AllFit e.messages
     letters_fit m stands _ _ (handled i g hp np r) =
         turn_fits (heard_in m i) (subst (λ (x : Happening). Stands net me x) hp stands) g (turn_of place n

@@ -31,7 +31,8 @@ manager_keeps tree es w run h m e w' p leaf stands made =
     let left_net : w'.net ≡ w.net ++ e.messages = ap (λ (x : World). x.net) at.world in
     let place : Role → Place = λ r. record { me = q; role = r; tree = tree } in
     let node = h.nodes q listed in
-    let issues : Issues (place (AtLeaf p)) w.net (w.at q) = subst (λ (r : Role). Issues (place r) w.net (w.at q)) leaf
+    let issues : Issues (place (AtLeaf p)) w.net (w.at q) = subst
+    (λ (r : Role). Issues (place r) w.net (w.at q)) leaf
     (issues_in (role_of tree q) (place_of tree q) w.net (w.at q) (subst IsIssuer (sym leaf) tt) node.role) in
     let s = subst (λ (r : Role). StepOf (place r) (w.at q) m e at.node) leaf
     (step_of (place_of tree q) (w.at q) m e at.node at.made) in
@@ -40,7 +41,8 @@ manager_keeps tree es w run h m e w' p leaf stands made =
     let pairs = manager_process tree es w run m e w' p leaf stands made in
     record {
       holds = subst (λ (net : List Envelope). NodeHolds (place_of tree q) net (w'.at q)) left_net
-          (managers_hold tree (record { move = m; effect = e } ∷ es) w' (makes es w m e w' run stands made) q p leaf);
+          (managers_hold tree (record { move = m; effect = e } ∷ es) w'
+          (makes es w m e w' run stands made) q p leaf);
       sent_here = from_here tree q p leaf listed w.net e.messages fit;
       go = all_go tree q p leaf listed w.net e.messages fit;
       about_given = about_given tree q p leaf listed w.net e.messages fit h.about_given;
@@ -56,8 +58,10 @@ coordinators_are_enough tree laws es w run h m e w' stands made =
     by_role : (role : Role) → role_of tree m.step.process ≡ role
         → (IsCoordinator (role_of tree m.step.process) → Stands w.net m.step.process m.step.happening
         → world_makes tree w m ≡ Some (e, w')
-        → StepKeeps (place_of tree m.step.process) w.net e.messages (w.at m.step.process) (w'.at m.step.process))
-        → StepKeeps (place_of tree m.step.process) w.net e.messages (w.at m.step.process) (w'.at m.step.process)
+        → StepKeeps (place_of tree m.step.process) w.net e.messages (w.at m.step.process)
+        (w'.at m.step.process))
+        → StepKeeps (place_of tree m.step.process) w.net e.messages (w.at m.step.process)
+        (w'.at m.step.process)
     by_role AtRoot f law = law (subst IsCoordinator (sym f) tt) stands made
     by_role (Below p) f law = law (subst IsCoordinator (sym f) tt) stands made
     by_role (AtLeaf p) f law = manager_keeps tree es w run h m e w' p f stands made

@@ -138,15 +138,19 @@ opened_holds place = record {
 -- One pair.
 
 opened_up : (place : Place) (c : Case) (t : Ticket)
-    → parent_half place opened_node c t ≡ parent_half_at Unknown (memory_of place opened_node c) opened_node c t
+    → parent_half place opened_node c t
+    ≡ parent_half_at Unknown (memory_of place opened_node c) opened_node c t
 opened_up place c t = ap (λ (s : Standing). parent_half_at s (memory_of place opened_node c) opened_node c t)
     (opened_standing place.role place c)
 
-opened_down : (place : Place) (d : Case) → child_half place opened_node d ≡ child_half_at Unknown opened_node d
-opened_down place d = ap (λ (s : Standing). child_half_at s opened_node d) (opened_standing place.role place d)
+opened_down : (place : Place) (d : Case) → child_half place opened_node d
+    ≡ child_half_at Unknown opened_node d
+opened_down place d = ap (λ (s : Standing). child_half_at s opened_node d)
+    (opened_standing place.role place d)
 
 read_so : (root leaf part : Bool) (place : Place) (c : Case) (t : Ticket) → (root ≡ false → part ≡ false)
-    → reading_from root leaf false part (parent_half_at Unknown (memory_of place opened_node c) opened_node c t)
+    → reading_from root leaf false part
+    (parent_half_at Unknown (memory_of place opened_node c) opened_node c t)
     (child_half_at Unknown opened_node (child_case c.txn t)) (wire c t []) ≡ opened root leaf
 unfolding has memory_of in_list sent is_dead has_acked
 read_so true leaf part place c t f = refl
@@ -171,7 +175,8 @@ opened_reading tree c t =
     (wire c t []))
     (opened_up (place_of tree (process_of c)) c t)
     ∙ (ap (λ (k : ChildHalf). reading_from (is_root_ticket c.ticket) (is_leaf (role_of tree t.child)) false
-    (takes_part tree opened_world c) (parent_half_at Unknown (memory_of (place_of tree (process_of c)) opened_node c)
+    (takes_part tree opened_world c)
+    (parent_half_at Unknown (memory_of (place_of tree (process_of c)) opened_node c)
     opened_node c t) k (wire c t [])) (opened_down (place_of tree t.child) (child_case c.txn t))
     ∙ read_so (is_root_ticket c.ticket) (is_leaf (role_of tree t.child)) (takes_part tree opened_world c)
     (place_of tree (process_of c)) c t (opened_part tree c))

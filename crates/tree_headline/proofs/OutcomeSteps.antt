@@ -77,7 +77,8 @@ module _ (tree : List TreeEntry) (is_tree : IsTree tree) (w : World) (h : WorldH
   -- the case of a ticket that consented has consented
   case_consents : (c : Case) (u t : Ticket) → sent (is_joined_message c u) (w.net ++ ls) ≡ true
       → IsPair tree (child_case c.txn u) t → Agrees c u
-      → ((behind_parts (child_case c.txn u) t).refused ≡ false) × Consents (behind_parts (child_case c.txn u) t)
+      → ((behind_parts (child_case c.txn u) t).refused ≡ false)
+      × Consents (behind_parts (child_case c.txn u) t)
   case_consents c u t joined next f =
       let b = below_with tree is_tree later_world (then tree is_tree w h q at ls s) false c u t
       (joined_then tree is_tree w h q at ls s c u joined).0 joined next in (
@@ -130,9 +131,11 @@ module _ (tree : List TreeEntry) (is_tree : IsTree tree) (w : World) (h : WorldH
       → is_commit_outcome later_world x ≡ true → takes_part tree later_world (child_case x u) ≡ true
       → ((behind_parts (child_case x u) t).refused ≡ false) × Consents (behind_parts (child_case x u) t)
   participant_consents x u t pair committed part =
-      let f = all_agree x committed u (told tree later_world (then tree is_tree w h q at ls s) is_tree x u part) in
+      let f = all_agree x committed u
+      (told tree later_world (then tree is_tree w h q at ls s) is_tree x u part) in
       subst (λ (y : Txn). IsPair tree (child_case y u) t
-      → ((behind_parts (child_case y u) t).refused ≡ false) × Consents (behind_parts (child_case y u) t)) f.same
+      → ((behind_parts (child_case y u) t).refused ≡ false) × Consents (behind_parts (child_case y u) t))
+      f.same
       (λ next. case_consents f.of u t f.joined next f.agrees) pair
 
   outcome_moves : (c : Case) (t : Ticket) → IsPair tree c t → IsFree (w.net ++ ls) c t
@@ -162,7 +165,8 @@ module _ (tree : List TreeEntry) (is_tree : IsTree tree) (w : World) (h : WorldH
   pub pair_follows : (c : Case) (t : Ticket) → IsPair tree c t → IsFree (w.net ++ ls) c t
       → Follows (InvariantOf c.txn.presumption) (pair_reading tree w c t) (pair_reading tree later_world c t)
   pair_follows c t pair free =
-      onward c.txn.presumption (pair_reading tree w c t) (behind_parts c t) (pair_reading tree later_world c t)
+      onward c.txn.presumption (pair_reading tree w c t) (behind_parts c t)
+      (pair_reading tree later_world c t)
       (two_stages c t pair free) (outcome_moves c t pair free)
 
   -- Behind the step the world's invariant holds, and what was true of a pair for ever still is.

@@ -41,7 +41,8 @@ joined_pair tree w h c t e =
 
 pub gives : (net : List Envelope) (c : Case) (t : Ticket) → sent (is_joined_message c t) net ≡ true
     → sent (gives_case (child_case c.txn t)) net ≡ true
-gives net c t e = sent_other (is_joined_message c t) (gives_case (child_case c.txn t)) net (joined_gives c t) e
+gives net c t e = sent_other (is_joined_message c t) (gives_case (child_case c.txn t)) net
+    (joined_gives c t) e
 
 -- A cascaded coordinator.
 
@@ -50,7 +51,8 @@ cascaded_leaf (Below p) u h = refl
 cascaded_leaf AtRoot u h = absurd (h)
 cascaded_leaf (AtLeaf p) u h = absurd (h)
 
-cascaded_lasts : (role : Role) (n : Node) (u : Ticket) → IsParentRole role (Some u) → RoleLasts role (logs_of n)
+cascaded_lasts : (role : Role) (n : Node) (u : Ticket) → IsParentRole role (Some u)
+    → RoleLasts role (logs_of n)
     → NoManagersRecord (logs_of n)
 cascaded_lasts (Below p) n u h l = l
 cascaded_lasts AtRoot n u h l = absurd (h)
@@ -66,9 +68,11 @@ begun_at (Below p) place net n r h x t e = absurd (r)
 begun_at (AtLeaf p) place net n r h x t e = absurd (r)
 
 module _ (tree : List TreeEntry) (is_tree : IsTree tree) (w : World) (h : Standing tree w) where
-  pub begun : (x : Txn) (t : Ticket) → IsPair tree (root_case x) t → has_accepted (w.at x.root) (root_case x) t ≡ true
+  pub begun : (x : Txn) (t : Ticket) → IsPair tree (root_case x) t
+      → has_accepted (w.at x.root) (root_case x) t ≡ true
       → has_begun (place_of tree x.root) (w.at x.root) x ≡ true
-  begun x t pair e = begun_at (role_of tree x.root) (place_of tree x.root) w.net (w.at x.root) pair.parent.role
+  begun x t pair e = begun_at (role_of tree x.root) (place_of tree x.root) w.net (w.at x.root)
+      pair.parent.role
       (h.nodes x.root pair.parent.listed).role x t e
 
   abbrev up_half : Case → Ticket → ParentHalf
@@ -78,7 +82,8 @@ module _ (tree : List TreeEntry) (is_tree : IsTree tree) (w : World) (h : Standi
   pub takes : (c : Case) (u : Ticket) → IsPair tree c u → sent (is_joined_message c u) w.net ≡ true
       → takes_part tree w (child_case c.txn u) ≡ (has_accepted (w.at (process_of c)) c u
       && is_participant (is_root_ticket c.ticket)
-      (is_born (is_root_ticket c.ticket) (up_half c u).begun (sent (gives_case c) w.net)) (takes_part tree w c))
+      (is_born (is_root_ticket c.ticket) (up_half c u).begun (sent (gives_case c) w.net))
+      (takes_part tree w c))
   takes c u pair e = by_ticket c.ticket c refl pair e
     where
       only_begun : (a b p : Bool) → p ≡ true → (a ≡ true → b ≡ true) → (a && p) ≡ (a && b)
@@ -88,21 +93,25 @@ module _ (tree : List TreeEntry) (is_tree : IsTree tree) (w : World) (h : Standi
           → sent (is_joined_message c u) w.net ≡ true
           → takes_part tree w (child_case c.txn u) ≡ (has_accepted (w.at (process_of c)) c u
           && is_participant (is_root_ticket c.ticket)
-          (is_born (is_root_ticket c.ticket) (up_half c u).begun (sent (gives_case c) w.net)) (takes_part tree w c))
+          (is_born (is_root_ticket c.ticket) (up_half c u).begun (sent (gives_case c) w.net))
+          (takes_part tree w c))
       by_ticket None c f pair e =
           subst (λ (d : Case). IsPair tree d u → sent (is_joined_message d u) w.net ≡ true
           → takes_part tree w (child_case d.txn u) ≡ (has_accepted (w.at (process_of d)) d u
           && is_participant (is_root_ticket d.ticket)
-          (is_born (is_root_ticket d.ticket) (up_half d u).begun (sent (gives_case d) w.net)) (takes_part tree w d)))
+          (is_born (is_root_ticket d.ticket) (up_half d u).begun (sent (gives_case d) w.net))
+          (takes_part tree w d)))
           (sym (case_parts c c.txn None refl f))
           (λ pair' e'. part_of tree w h is_tree (root_case c.txn) u e'
-          ∙ only_begun (has_accepted (w.at c.txn.root) (root_case c.txn) u) _ (takes_part tree w (root_case c.txn))
+          ∙ only_begun (has_accepted (w.at c.txn.root) (root_case c.txn) u) _
+          (takes_part tree w (root_case c.txn))
           (at_top tree w h is_tree c.txn) (begun c.txn u pair'))
           pair e
       by_ticket (Some v) c f pair e = part_of tree w h is_tree c u e ∙ rw f refl
 
   -- the two pairs speak of one case
-  pub below_with : (o : Bool) (c : Case) (u t : Ticket) → IsPair tree c u → sent (is_joined_message c u) w.net ≡ true
+  pub below_with : (o : Bool) (c : Case) (u t : Ticket) → IsPair tree c u
+      → sent (is_joined_message c u) w.net ≡ true
       → IsPair tree (child_case c.txn u) t
       → IsBelow (reading_with tree w o c u) (reading_with tree w o (child_case c.txn u) t)
   below_with o c u t pair e next =
@@ -116,7 +125,8 @@ module _ (tree : List TreeEntry) (is_tree : IsTree tree) (w : World) (h : Standi
       let v0 = wire c u w.net in
       let v = wire d t w.net in
       let lower = reading_with tree w o d t in
-      subst (λ (b : Bool). IsBelow (reading_from (is_root_ticket c.ticket) b o (takes_part tree w c) (up_half c u)
+      subst (λ (b : Bool). IsBelow (reading_from (is_root_ticket c.ticket) b o (takes_part tree w c)
+      (up_half c u)
       (child_half place n d) v0) lower) (sym (cascaded_leaf (role_of tree u.child) u next.parent.role))
       (subst (λ (x : ChildHalf). IsBelow (reading_from (is_root_ticket c.ticket) false o (takes_part tree w
       c) (up_half c u)
@@ -129,4 +139,5 @@ module _ (tree : List TreeEntry) (is_tree : IsTree tree) (w : World) (h : Standi
 pub below : (tree : List TreeEntry) (w : World) → IsTree tree → WorldHolds tree w → (c : Case) (u t : Ticket)
     → IsPair tree c u → sent (is_joined_message c u) w.net ≡ true → IsPair tree (child_case c.txn u) t
     → IsBelow (pair_reading tree w c u) (pair_reading tree w (child_case c.txn u) t)
-below tree w is_tree h c u t = below_with tree is_tree w (standing_world tree w h) (is_commit_outcome w c.txn) c u t
+below tree w is_tree h c u t = below_with tree is_tree w (standing_world tree w h)
+    (is_commit_outcome w c.txn) c u t

@@ -71,7 +71,8 @@ module _ (tree : List TreeEntry) (is_tree : IsTree tree) (w : World) (h : WorldH
   -- Who took part still does.
   part_still : (x : Txn) (t : Ticket) → TakesPart w x t → TakesPart later_world x t
   part_still x _ (at_root t a) = at_root t (s.accepts_still x.root (root_case x) t a)
-  part_still x _ (below u t up a) = below u t (part_still x u up) (s.accepts_still u.child (child_case x u) t a)
+  part_still x _ (below u t up a) = below u t (part_still x u up)
+      (s.accepts_still u.child (child_case x u) t a)
 
   takes_part_still : (c : Case) → takes_part tree w c ≡ true → takes_part tree later_world c ≡ true
   takes_part_still c e = by_ticket c.ticket refl
@@ -86,8 +87,11 @@ module _ (tree : List TreeEntry) (is_tree : IsTree tree) (w : World) (h : WorldH
 
   pub joined_then : (c : Case) (t : Ticket) → sent (is_joined_message c t) (w.net ++ ls) ≡ true
       → IsPair tree c t × IsFree (w.net ++ ls) c t
-  joined_then c t e =
-      (is_pair tree (w.net ++ ls) c t then.net e, is_free (w.net ++ ls) (w.net ++ ls) c t (λ d f. f) s.joined_once e)
+  joined_then c t e = (
+    is_pair tree (w.net ++ ls) c t then.net e,
+    is_free (w.net ++ ls) (w.net ++ ls) c t (λ d f. f)
+        s.joined_once e,
+  )
 
   abbrev pub halfway : Case → Ticket → Reading
   halfway c t = half_reading tree is_tree w h q at ls s.others s.keeps c t
@@ -126,7 +130,8 @@ module _ (tree : List TreeEntry) (is_tree : IsTree tree) (w : World) (h : WorldH
     silent : (test : Message → Bool) → sent test w.net ≡ false → (sent test ls ≡ true → t.child ≡ q)
         → sent test (w.net ++ ls) ≡ false
     silent test e own = not_true (sent test (w.net ++ ls)) (λ f. elim (sent_then test w.net ls f) [
-      | inl new ↦ parent_elsewhere tree is_tree t.child (process_of c) pair.listed pair.child (own new ∙ sym here)
+      | inl new ↦ parent_elsewhere tree is_tree t.child (process_of c) pair.listed pair.child
+          (own new ∙ sym here)
       | inr old ↦ let y = sym e ∙ old in cc
     ])
 
@@ -158,7 +163,8 @@ module _ (tree : List TreeEntry) (is_tree : IsTree tree) (w : World) (h : WorldH
         by_ticket : (o : Option Ticket) → outcome_by o (is_commit_outcome later_world c.txn)
             (is_commit_outcome w c.txn) ≡ false
             → is_commit_outcome w c.txn ≡ false
-        by_ticket None e = not_true (is_commit_outcome w c.txn) (λ f. let y = sym e ∙ s.commits_still c.txn f in cc)
+        by_ticket None e = not_true (is_commit_outcome w c.txn)
+            (λ f. let y = sym e ∙ s.commits_still c.txn f in cc)
         by_ticket (Some u) e = e
 
   -- So is the transaction of each case that takes part anew.
@@ -177,7 +183,8 @@ module _ (tree : List TreeEntry) (is_tree : IsTree tree) (w : World) (h : WorldH
       by_part false f g = g f
       by_part true f g = was_undecided (child_case x u) t a
           (not_true (has_accepted (w.at u.child) (child_case x u) t)
-          (λ k. let y = sym e ∙ tells tree w now is_tree x t (below u t (told tree w now is_tree x u f) k) in cc)) f
+          (λ k. let y = sym e ∙ tells tree w now is_tree x t (below u t (told tree w now is_tree x u f) k)
+          in cc)) f
 
   -- the reading behind both stages
   abbrev pub parted : Case → Ticket → Reading
@@ -195,14 +202,16 @@ module _ (tree : List TreeEntry) (is_tree : IsTree tree) (w : World) (h : WorldH
       (child_half (place_of tree t.child) (at t.child) (child_case c.txn t)) (wire c t (w.net ++ ls))
       (halves c t pair free).invariant (takes_part_still c) (by_ticket c.ticket refl)
     where
-      by_ticket : (o : Option Ticket) → c.ticket ≡ o → is_root_ticket c.ticket ≡ false → takes_part tree w c ≡ false
+      by_ticket : (o : Option Ticket) → c.ticket ≡ o → is_root_ticket c.ticket ≡ false
+          → takes_part tree w c ≡ false
           → takes_part tree later_world c ≡ true
           → (outcome_by c.ticket (is_commit_outcome later_world c.txn) (is_commit_outcome w c.txn) ≡ false)
           × (sent (gives_case c) (w.net ++ ls) ≡ true)
       by_ticket None f root old new = absurd (let y = sym (ap is_root_ticket f) ∙ root in cc)
       by_ticket (Some u) f root old new =
           let same = case_parts c c.txn (Some u) refl f in
-          let part = told tree later_world then is_tree c.txn u (sym (ap (takes_part tree later_world) same) ∙ new) in
+          let part = told tree later_world then is_tree c.txn u
+          (sym (ap (takes_part tree later_world) same) ∙ new) in
           let j = part_joined tree later_world then c.txn u part in (
             ap (λ (o : Option Ticket). outcome_by o (is_commit_outcome later_world c.txn) (is_commit_outcome
                 w c.txn)) f

@@ -75,21 +75,24 @@ accepted_one up n x t e =
     let f = one n.accepted e in
     record { of = f.0; same = f.1.0; accepted = f.1.1.0; passes = f.1.1.1 }
   where
-    one : (xs : List (Case × Ticket)) → list_any (λ a. (same_txn a.0.txn x && same_ticket a.1 t) && up a.0) xs ≡ true
+    one : (xs : List (Case × Ticket))
+        → list_any (λ a. (same_txn a.0.txn x && same_ticket a.1 t) && up a.0) xs ≡ true
         → (c : Case) × ((c.txn ≡ x) × ((list_any (λ a. same_case a.0 c && same_ticket a.1 t) xs
         ≡ true) × (up c ≡ true)))
     one [] e = absurd (cc)
-    one (a ∷ xs) e = elim (either _ (list_any (λ a. (same_txn a.0.txn x && same_ticket a.1 t) && up a.0) xs) e) [
-      | inl now ↦
-          let f = both (same_txn a.0.txn x && same_ticket a.1 t) (up a.0) now in
-          let g = both (same_txn a.0.txn x) (same_ticket a.1 t) f.0 in
-          (a.0, (txn_is a.0.txn x g.0, (left _ _ (and _ _ (same_case-refl a.0) g.1), f.1)))
-      | inr rest ↦
-          let f = one xs rest in
-          (f.0, (f.1.0, (right _ _ f.1.1.0, f.1.1.1)))
-    ]
+    one (a ∷ xs) e = elim (either _
+        (list_any (λ a. (same_txn a.0.txn x && same_ticket a.1 t) && up a.0) xs) e) [
+          | inl now ↦
+              let f = both (same_txn a.0.txn x && same_ticket a.1 t) (up a.0) now in
+              let g = both (same_txn a.0.txn x) (same_ticket a.1 t) f.0 in
+              (a.0, (txn_is a.0.txn x g.0, (left _ _ (and _ _ (same_case-refl a.0) g.1), f.1)))
+          | inr rest ↦
+              let f = one xs rest in
+              (f.0, (f.1.0, (right _ _ f.1.1.0, f.1.1.1)))
+        ]
 
-pub one_accepted : (up : Case → Bool) (n : Node) (c : Case) (t : Ticket) → has_accepted n c t ≡ true → up c ≡ true
+pub one_accepted : (up : Case → Bool) (n : Node) (c : Case) (t : Ticket) → has_accepted n c t ≡ true
+    → up c ≡ true
     → accepted_by up n c.txn t ≡ true
 one_accepted up n c t e f = one n.accepted e
   where
@@ -98,7 +101,8 @@ one_accepted up n c t e f = one n.accepted e
     now_so d u e =
         let g = both (same_case d c) (same_ticket u t) e in
         let same : d ≡ c = elim (same_case_tells d c) [ inl t ↦ t.1 | inr g ↦ absurd (let k = g.0 in cc) ] in
-        and _ _ (and _ _ (subst (λ (y : Case). same_txn y.txn c.txn ≡ true) (sym same) (same_txn-refl c.txn)) g.1)
+        and _ _ (and _ _ (subst (λ (y : Case). same_txn y.txn c.txn ≡ true) (sym same)
+        (same_txn-refl c.txn)) g.1)
         (ap up same ∙ f)
 
     one : (xs : List (Case × Ticket)) → list_any (λ a. same_case a.0 c && same_ticket a.1 t) xs ≡ true
@@ -135,13 +139,15 @@ module _ (tree : List TreeEntry) (w : World) (h : Standing tree w) where
       → has_accepted (w.at (process_of c)) c t ≡ true
       → ((u : Ticket) → c ≡ child_case x u → TakesPart w x u) → TakesPart w x t
   by_owner None c x t f g e up =
-      at_root t (subst (λ (d : Case). has_accepted (w.at (process_of d)) d t ≡ true) (case_parts c x None f g) e)
+      at_root t (subst (λ (d : Case). has_accepted (w.at (process_of d)) d t ≡ true)
+      (case_parts c x None f g) e)
   by_owner (Some u) c x t f g e up =
       let same = case_parts c x (Some u) f g in
       below u t (up u same) (subst (λ (d : Case). has_accepted (w.at (process_of d)) d t ≡ true) same e)
 
   -- a case that passes the climb takes part
-  pub told_within : (k : ℕ) (x : Txn) (t : Ticket) → part_within k tree w (child_case x t) ≡ true → TakesPart w x t
+  pub told_within : (k : ℕ) (x : Txn) (t : Ticket) → part_within k tree w (child_case x t) ≡ true
+      → TakesPart w x t
   told_within zero x t e = absurd (cc)
   told_within (suc k) x t e =
       let p = parent_in (role_of tree t.child) t.child in
@@ -173,7 +179,8 @@ module _ (tree : List TreeEntry) (w : World) (h : Standing tree w) where
   pub part_joined : (x : Txn) (t : Ticket) → TakesPart w x t → (c : Case) × ((c.txn
       ≡ x) × (sent (is_joined_message c t) w.net ≡ true))
   part_joined x _ (at_root t a) = (root_case x, (refl, (accepts tree w h x.root (root_case x) t a).1))
-  part_joined x _ (below u t up a) = (child_case x u, (refl, (accepts tree w h u.child (child_case x u) t a).1))
+  part_joined x _ (below u t up a) =
+      (child_case x u, (refl, (accepts tree w h u.child (child_case x u) t a).1))
 
   module _ (is_tree : IsTree tree) where
     pub tells : (x : Txn) (t : Ticket) → TakesPart w x t → takes_part tree w (child_case x t) ≡ true
@@ -191,11 +198,13 @@ module _ (tree : List TreeEntry) (w : World) (h : Standing tree w) where
     at_top x = root_part tree w (length tree) x
 
     -- a case with a ticket takes part if a case that takes part accepted the ticket
-    accepted_in : (c : Case) (t : Ticket) → has_accepted (w.at (process_of c)) c t ≡ true → takes_part tree w c ≡ true
+    accepted_in : (c : Case) (t : Ticket) → has_accepted (w.at (process_of c)) c t ≡ true
+        → takes_part tree w c ≡ true
         → TakesPart w c.txn t
     accepted_in c t a up = by_ticket c.ticket c refl a up
       where
-        by_ticket : (o : Option Ticket) (c : Case) → c.ticket ≡ o → has_accepted (w.at (process_of c)) c t ≡ true
+        by_ticket : (o : Option Ticket) (c : Case) → c.ticket ≡ o → has_accepted (w.at (process_of c)) c t
+            ≡ true
             → takes_part tree w c ≡ true → TakesPart w c.txn t
         by_ticket None c f a up =
             at_root t (subst (λ (d : Case). has_accepted (w.at (process_of d)) d t
@@ -208,25 +217,32 @@ module _ (tree : List TreeEntry) (w : World) (h : Standing tree w) where
     given_by_one : (c d : Case) (t : Ticket) → sent (is_joined_message c t) w.net ≡ true
         → sent (is_joined_message d t) w.net ≡ true → d ≡ c
     given_by_one c d t e f =
-        elim (same_case_tells d c) [ inl t ↦ t.1 | inr g ↦ absurd (let k = sym g.0 ∙ h.joined_once d c t f e in cc) ]
+        elim (same_case_tells d c) [
+          | inl t ↦ t.1
+          | inr g ↦ absurd
+              (let k = sym g.0 ∙ h.joined_once d c t f e in cc)
+        ]
 
     accepted_by_it : (c : Case) (t : Ticket) → sent (is_joined_message c t) w.net ≡ true → TakesPart w c.txn t
         → (has_accepted (w.at (process_of c)) c t && takes_part tree w c) ≡ true
     accepted_by_it c t e part = by_part c.txn t part e refl
       where
-        by_part : (x : Txn) (t : Ticket) → TakesPart w x t → sent (is_joined_message c t) w.net ≡ true → c.txn ≡ x
+        by_part : (x : Txn) (t : Ticket) → TakesPart w x t → sent (is_joined_message c t) w.net ≡ true
+            → c.txn ≡ x
             → (has_accepted (w.at (process_of c)) c t && takes_part tree w c) ≡ true
         by_part x _ (at_root t a) e f =
             let same = given_by_one c (root_case x) t e (accepts tree w h x.root (root_case x) t a).1 in
             subst (λ (d : Case). (has_accepted (w.at (process_of d)) d t && takes_part tree w d) ≡ true) same
             (and _ _ a (at_top x))
         by_part x _ (below u t up a) e f =
-            let same = given_by_one c (child_case x u) t e (accepts tree w h u.child (child_case x u) t a).1 in
+            let same = given_by_one c (child_case x u) t e
+            (accepts tree w h u.child (child_case x u) t a).1 in
             subst (λ (d : Case). (has_accepted (w.at (process_of d)) d t && takes_part tree w d) ≡ true) same
             (and _ _ a (tells x u up))
 
     pub part_of : (c : Case) (t : Ticket) → sent (is_joined_message c t) w.net ≡ true
-        → takes_part tree w (child_case c.txn t) ≡ (has_accepted (w.at (process_of c)) c t && takes_part tree w c)
+        → takes_part tree w (child_case c.txn t)
+        ≡ (has_accepted (w.at (process_of c)) c t && takes_part tree w c)
     part_of c t e = same_test _ _ (λ f. accepted_by_it c t e (told c.txn t f))
         (λ f. let g = both _ _ f in tells c.txn t (accepted_in c t g.0 g.1))
       where
@@ -239,4 +255,5 @@ module _ (tree : List TreeEntry) (w : World) (h : Standing tree w) where
 pub parts : (tree : List TreeEntry) (w : World) → IsTree tree → WorldHolds tree w → (x : Txn) (t : Ticket)
     → TellsPart tree w x t
 parts tree w is_tree h x t =
-    let s = standing_world tree w h in record { told = told tree w s is_tree x t; tells = tells tree w s is_tree x t }
+    let s = standing_world tree w h in record
+    { told = told tree w s is_tree x t; tells = tells tree w s is_tree x t }

@@ -25,17 +25,21 @@ one_parent (Below q) p r f g = sym f ∙ g
 one_parent (AtLeaf q) p r f g = sym f ∙ g
 one_parent AtRoot p r f g = absurd (f)
 
-module _ (tree : List TreeEntry) (me : ProcessId) (ls : List Envelope) (here : AllFrom me ls) (go : AllGo tree ls)
-    (c : Case) (t : Ticket) (pair : IsPair tree c t) (parent : process_of c ≡ me → ⊥) (child : t.child ≡ me → ⊥) where
+module _ (tree : List TreeEntry) (me : ProcessId) (ls : List Envelope) (here : AllFrom me ls)
+    (go : AllGo tree ls)
+    (c : Case) (t : Ticket) (pair : IsPair tree c t) (parent : process_of c ≡ me → ⊥)
+    (child : t.child ≡ me → ⊥) where
   abbrev d : Case
   d = child_case c.txn t
 
   -- up it sends of its own cases
-  own_up : (l : Envelope) (e x : Case) → l.from ≡ me → GoesUp tree l e → same_case e x ≡ true → process_of x ≡ me
+  own_up : (l : Envelope) (e x : Case) → l.from ≡ me → GoesUp tree l e → same_case e x ≡ true
+      → process_of x ≡ me
   own_up l e x f g s = ap process_of (sym (same_of e x s)) ∙ (g.0 ∙ f)
 
   -- and down to its children
-  own_down : (l : Envelope) (e : Case) → l.from ≡ me → GoesDown tree l e → same_case e (child_case c.txn t) ≡ true
+  own_down : (l : Envelope) (e : Case) → l.from ≡ me → GoesDown tree l e
+      → same_case e (child_case c.txn t) ≡ true
       → process_of c ≡ me
   own_down l e f g s =
       let at : t.child ≡ l.to = ap process_of (sym (same_of e (child_case c.txn t) s)) ∙ g.0 in
@@ -65,13 +69,16 @@ module _ (tree : List TreeEntry) (me : ProcessId) (ls : List Envelope) (here : A
     inquire = is_inquiry_message (child_case c.txn t) m;
   }
 
-  up_none : (l : Envelope) (e : Case) → l.from ≡ me → GoesUp tree l e → same_case e (child_case c.txn t) ≡ false
-  up_none l e f g = not_true (same_case e (child_case c.txn t)) (λ s. child (own_up l e (child_case c.txn t) f g s))
+  up_none : (l : Envelope) (e : Case) → l.from ≡ me → GoesUp tree l e → same_case e (child_case c.txn t)
+      ≡ false
+  up_none l e f g = not_true (same_case e (child_case c.txn t))
+      (λ s. child (own_up l e (child_case c.txn t) f g s))
 
   parent_none : (l : Envelope) (e : Case) → l.from ≡ me → GoesUp tree l e → same_case e c ≡ false
   parent_none l e f g = not_true (same_case e c) (λ s. parent (own_up l e c f g s))
 
-  down_none : (l : Envelope) (e : Case) → l.from ≡ me → GoesDown tree l e → same_case e (child_case c.txn t) ≡ false
+  down_none : (l : Envelope) (e : Case) → l.from ≡ me → GoesDown tree l e
+      → same_case e (child_case c.txn t) ≡ false
   down_none l e f g = not_true (same_case e (child_case c.txn t)) (λ s. parent (own_down l e f g s))
 
   ticket_none : (e : Case) (u : Ticket) → u.child ≡ me → (same_case e c && same_ticket u t) ≡ false
@@ -116,7 +123,8 @@ module _ (tree : List TreeEntry) (me : ProcessId) (ls : List Envelope) (here : A
     none_by (is_inquiry_message (child_case c.txn t)) (λ v. v.inquire) (λ m. refl) refl,
   ) refl
 
-pub elsewhere : (place : Place) (ls : List Envelope) → AllFrom place.me ls → AllGo place.tree ls → Elsewhere place ls
+pub elsewhere : (place : Place) (ls : List Envelope) → AllFrom place.me ls → AllGo place.tree ls
+    → Elsewhere place ls
 elsewhere place ls here go = record {
   quiet = λ c t pair parent child. letters_quiet place.tree place.me ls here go c t pair parent child;
 }

@@ -37,7 +37,8 @@ none_from me ls e = subst (AllFrom me) (sym e) tt
 one_from : (me : ProcessId) (l : Envelope) (ls : List Envelope) → ls ≡ l ∷ [] → l.from ≡ me → AllFrom me ls
 one_from me l ls e f = subst (AllFrom me) (sym e) (f, tt)
 
-writes_from : (place : Place) (parent : Option ProcessId) (n : Node) (i : Input) (ws : List Written) (ls : List Envelope)
+writes_from : (place : Place) (parent : Option ProcessId) (n : Node) (i : Input) (ws : List Written)
+    (ls : List Envelope)
     → Writes place parent n i ws ls → AllFrom place.me ls
 writes_from place parent n i ws ls (writes_nothing e f) = none_from place.me ls f
 writes_from place parent n i ws ls (for_act a c e k o s) = all_from _ ls s
@@ -83,7 +84,8 @@ flat_from me parent rs [] = tt
 flat_from me parent rs (c ∷ cs) = both_from me (coordinator_resumes me parent rs c) _
     (resumed_from me parent c (recorded_view rs c) (recorded_view rs c).standing) (flat_from me parent rs cs)
 
-resumes_from : (role : Role) (me : ProcessId) (rs : List Record) → IsCoordinator role → AllFrom me (resumes role me rs)
+resumes_from : (role : Role) (me : ProcessId) (rs : List Record) → IsCoordinator role
+    → AllFrom me (resumes role me rs)
 resumes_from AtRoot me rs i = flat_from me None rs (cases_in rs)
 resumes_from (Below p) me rs i = flat_from me (Some p) rs (cases_in rs)
 resumes_from (AtLeaf p) me rs i = absurd (i)

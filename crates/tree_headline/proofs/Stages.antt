@@ -29,29 +29,36 @@ pub onward : (p : Presumption) (r s t : Reading) → Follows (InvariantOf p) r s
 onward p r s t f g = record { invariant = g.invariant; later = later-later r s t f.later g.later }
 
 -- Another case may take part now, if it was given and its transaction is undecided.
-pub part_stage : (p : Presumption) (root leaf o old new : Bool) (up : ParentHalf) (down : ChildHalf) (v : Wire)
+pub part_stage : (p : Presumption) (root leaf o old new : Bool) (up : ParentHalf) (down : ChildHalf)
+    (v : Wire)
     → InvariantOf p (reading_from root leaf o old up down v) → (old ≡ true → new ≡ true)
     → (root ≡ false → old ≡ false → new ≡ true → (o ≡ false) × (v.given ≡ true))
-    → Follows (InvariantOf p) (reading_from root leaf o old up down v) (reading_from root leaf o new up down v)
+    → Follows (InvariantOf p) (reading_from root leaf o old up down v)
+    (reading_from root leaf o new up down v)
 part_stage p true leaf o old new up down v h grows may = stays p (reading_from true leaf o old up down v) h
-part_stage p false leaf o true true up down v h grows may = stays p (reading_from false leaf o true up down v) h
+part_stage p false leaf o true true up down v h grows may = stays p
+    (reading_from false leaf o true up down v) h
 part_stage p false leaf o true false up down v h grows may = absurd (let x = grows refl in cc)
-part_stage p false leaf o false false up down v h grows may = stays p (reading_from false leaf o false up down v) h
+part_stage p false leaf o false false up down v h grows may = stays p
+    (reading_from false leaf o false up down v) h
 part_stage p false leaf o false true up down v h grows may =
     let m = may refl refl refl in
     keeps_taking_part p (reading_from false leaf o false up down v) h
     (record { cascaded = refl; known = m.1; undecided_above = m.0 })
 
 -- Its transaction may be committed now, if the case has consented.
-pub outcome_stage : (p : Presumption) (leaf old new part : Bool) (up : ParentHalf) (down : ChildHalf) (v : Wire)
+pub outcome_stage : (p : Presumption) (leaf old new part : Bool) (up : ParentHalf) (down : ChildHalf)
+    (v : Wire)
     → InvariantOf p (reading_from false leaf old part up down v) → (old ≡ true → new ≡ true)
     → (new ≡ true → part ≡ true → ((reading_from false leaf old part up down v).refused ≡ false)
     × Consents (reading_from false leaf old part up down v))
     → Follows (InvariantOf p) (reading_from false leaf old part up down v) (reading_from false leaf new part
     up down v)
-outcome_stage p leaf true true part up down v h grows may = stays p (reading_from false leaf true part up down v) h
+outcome_stage p leaf true true part up down v h grows may = stays p
+    (reading_from false leaf true part up down v) h
 outcome_stage p leaf true false part up down v h grows may = absurd (let x = grows refl in cc)
-outcome_stage p leaf false false part up down v h grows may = stays p (reading_from false leaf false part up down v) h
+outcome_stage p leaf false false part up down v h grows may = stays p
+    (reading_from false leaf false part up down v) h
 outcome_stage p leaf false true part up down v h grows may =
     keeps_committing p (reading_from false leaf false part up down v) h (record {
       cascaded = refl;

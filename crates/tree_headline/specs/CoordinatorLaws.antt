@@ -26,7 +26,8 @@ pub record GivesCases (place : Place) (net : List Envelope) (n : Node) : Type 0 
       → (process_of d ≡ place.me) × (sent (gives_case d) net ≡ true)
   pub remembered_is_given : n.failed ≡ false → (d : Case) → (memory_of place n d).phase ≢ Idle
       → (process_of d ≡ place.me) × (sent (gives_case d) net ≡ true)
-  pub promised_was_asked : (d : Case) → has (is_promise d) n.life ≡ true → sent (is_prepare_message d) net ≡ true
+  pub promised_was_asked : (d : Case) → has (is_promise d) n.life ≡ true → sent (is_prepare_message d) net
+      ≡ true
 
 -- What one step of the root keeps.
 pub record RootKeeps (place : Place) (net ls : List Envelope) (n n' : Node) : Type 0 where
@@ -57,4 +58,5 @@ abbrev pub CascadedLaws : List TreeEntry → Type 0
 CascadedLaws tree = (es : List Made) (w : World) → IsRun tree es w → WorldHolds tree w
     → (m : Move) (e : Effect) (w' : World) (p : ProcessId) → role_of tree m.step.process ≡ Below p
     → Stands w.net m.step.process m.step.happening → world_makes tree w m ≡ Some (e, w')
-    → CascadedKeeps (place_of tree m.step.process) w.net e.messages (w.at m.step.process) (w'.at m.step.process)
+    → CascadedKeeps (place_of tree m.step.process) w.net e.messages (w.at m.step.process)
+    (w'.at m.step.process)

@@ -53,7 +53,27 @@ not_obeyed false x true d e f = absurd (cc)
 not_obeyed false x false d e f = refl
 
 module _ (turn : Turn) where
-  open turn use {place, parent, seat, n, h, net, c, t, manager, above, k, up, inv, holds, self, apart, by_role, joined_is_born, rooted}
+  open turn use {
+    place,
+    parent,
+    seat,
+    n,
+    h,
+    net,
+    c,
+    t,
+    manager,
+    above,
+    k,
+    up,
+    inv,
+    holds,
+    self,
+    apart,
+    by_role,
+    joined_is_born,
+    rooted,
+  }
 
   abbrev m : Memory
   m = remembered turn
@@ -77,11 +97,15 @@ module _ (turn : Turn) where
       → wire c t (net ++ e.messages) ≡ v0 → Fine turn e
   only_sends e none d later says w =
       fine_silent turn e later m.phase p0.accepted p0.acked says v0 w none
-      (subst (λ (x : ParentHalf). Fits_in turn (seen turn (told_outcome turn) (stands_so false m.phase p0.accepted p0.acked (begun_after m.phase (after n h e) c) x) v0))
+      (subst (λ (x : ParentHalf). Fits_in turn
+      (seen turn (told_outcome turn)
+      (stands_so false m.phase p0.accepted p0.acked (begun_after m.phase (after n h e) c) x) v0))
       (sym (did_nothing turn e p0 d))
-      (subst (λ (y : Bool). Fits_in turn (seen turn (told_outcome turn) (stands_so false m.phase p0.accepted p0.acked y p0) v0))
+      (subst (λ (y : Bool). Fits_in turn
+      (seen turn (told_outcome turn) (stands_so false m.phase p0.accepted p0.acked y p0) v0))
       (sym (begun_silent turn e none d))
-      (subst (λ (y : ParentHalf). Fits_in turn (seen turn (told_outcome turn) y v0)) (sym (shown turn p0.acked))
+      (subst (λ (y : ParentHalf). Fits_in turn (seen turn (told_outcome turn) y v0))
+      (sym (shown turn p0.acked))
       (unmoved c.txn.presumption (reading turn) inv))))
 
   -- An unborn case has nothing.
@@ -98,13 +122,15 @@ module _ (turn : Turn) where
 
       by_acked : (b : Bool) → p0.acked ≡ b → p0.acked ≡ false
       by_acked false f = f
-      by_acked true f = clash (reading turn).born (joined_is_born (common.ack_means (common.ack_was_sent f)).issued) e
+      by_acked true f = clash (reading turn).born
+          (joined_is_born (common.ack_means (common.ack_was_sent f)).issued) e
 
   -- The ticket that answers JOIN.
 
   issues : (p : ProcessId) → parent ≡ Some p → Issues place net n
   issues p s =
-      below_is place.role parent seat (λ r. RoleHolds r place net n → Issues place net n) p s (λ x. x.1.1) by_role
+      below_is place.role parent seat (λ r. RoleHolds r place net n → Issues place net n) p s (λ x. x.1.1)
+      by_role
 
   not_childs_ticket : (u : Ticket) → u.child ≡ place.me → same_ticket u t ≡ false
   not_childs_ticket u e = elim (same_ticket_tells u t) [
@@ -125,13 +151,22 @@ module _ (turn : Turn) where
 
   nothing_done : (p : ProcessId) (d : Case) (u : Ticket) → DoesNothing turn (answer p d u)
   nothing_done p d u =
-      record { accepts = refl; yes_votes = refl; no_votes = refl; read_votes = refl; committed = refl; aborted = refl; told = refl }
+      record {
+        accepts = refl;
+        yes_votes = refl;
+        no_votes = refl;
+        read_votes = refl;
+        committed = refl;
+        aborted = refl;
+        told = refl;
+      }
 
   pub again_says : (p : ProcessId) (d : Case) (u : Ticket) → parent ≡ Some p → Hears h (Join d)
       → active_ticket (memory_of place n d).active d ≡ Some u → Says turn m.phase p0.accepted p0.acked
   again_says p d u s i e =
       let here : active_ticket m.active d ≡ Some u = ap (λ as'. active_ticket as' d) (self d c).active ∙ e in
-      stays turn m (by_input.join_comes turn d i.0 p s i.1 ∙ ap (λ o. joins place.me boot c d m o) here) (itself turn)
+      stays turn m (by_input.join_comes turn d i.0 p s i.1 ∙ ap (λ o. joins place.me boot c d m o) here)
+      (itself turn)
 
   pub gives_again : (p : ProcessId) (d : Case) (u : Ticket) → parent ≡ Some p → Hears h (Join d)
       → active_ticket (memory_of place n d).active d ≡ Some u → IsOpenAlike place (after n h (answer p d u)) c
@@ -189,7 +224,8 @@ module _ (turn : Turn) where
     fresh_now b f =
         by_input.join_comes turn d i.0 p s i.1
         ∙ (ap (λ o. joins place.me boot c d m o) (ap (λ as'. active_ticket as' d) (self d c).active ∙ e)
-        ∙ (ap (λ (u : Ticket). if same_case c (child_case d.txn u) then opens_case (gives m d u) else gives m d u)
+        ∙ (ap (λ (u : Ticket). if same_case c (child_case d.txn u) then opens_case (gives m d u) else
+        gives m d u)
         (ap next_by (self d c).given)
         ∙ ap (λ b. is_as b d) f))
 
@@ -208,7 +244,8 @@ module _ (turn : Turn) where
         let has = unborn_half (fresh_unborn f) in
         record {
           phase = ap (λ (y : Memory). y.phase) (fresh_now true f);
-          accepted_so = ap (λ (y : Memory). in_list y.accepted t) (fresh_now true f) ∙ (in_list-none t ∙ sym has.0);
+          accepted_so = ap (λ (y : Memory). in_list y.accepted t) (fresh_now true f)
+              ∙ (in_list-none t ∙ sym has.0);
           acked_so = ap (λ (y : Memory). acked_of y c t) (fresh_now true f) ∙ (no_acks _ t ∙ sym has.1);
         }
 
@@ -220,26 +257,33 @@ module _ (turn : Turn) where
 
     sent_wire : (b : Bool) → IsFresh d b
         → wire c t (net ++ post place.me p (Joined d (fresh d)) ∷ []) ≡ record v0 { given = b || v0.given }
-    sent_wire b f = wires.wire-joined c t net place.me p d (fresh d) b (not_childs_ticket (fresh d) refl) (reversed b f)
+    sent_wire b f = wires.wire-joined c t net place.me p d (fresh d) b (not_childs_ticket (fresh d) refl)
+        (reversed b f)
 
     by_fresh : IsOpenAlike place (after n h (answer p d (fresh d))) c → (b : Bool) → IsFresh d b
         → Fine turn (answer p d (fresh d))
     by_fresh later false f =
-        only_sends (answer p d (fresh d)) refl (nothing_done p d (fresh d)) later (fresh_elsewhere f) (sent_wire false f)
+        only_sends (answer p d (fresh d)) refl (nothing_done p d (fresh d)) later (fresh_elsewhere f)
+        (sent_wire false f)
     by_fresh later true f =
         let b = is_below turn p s in
         let none = not_given p s d f in
         let unborn = fresh_unborn f in
         let u = (own.common turn).unborn unborn in
         let w : Wire = record v0 { given = true } in
-        fine_silent turn (answer p d (fresh d)) later Open p0.accepted p0.acked (fresh_says f) w (sent_wire true f) refl
+        fine_silent turn (answer p d (fresh d)) later Open p0.accepted p0.acked (fresh_says f) w
+        (sent_wire true f) refl
         (read_as turn _ _
-        (subst (λ y. readings.R manager above k c t y (told_outcome turn) (stands_so false Open p0.accepted p0.acked true p0) w
+        (subst (λ y. readings.R manager above k c t y (told_outcome turn)
+        (stands_so false Open p0.accepted p0.acked true p0) w
         ≡ below.is_born (readings.R manager above k c t y (told_outcome turn) p0 v0)) (sym b)
-        (readings.reading-born manager above k c t (told_outcome turn) p0 v0 none (not_obeyed root _ p0.obeyed_abort _ b u.not_refused)))
-        (moves.is_born c.txn.presumption (reading turn) inv (record { cascaded = b; fresh = unborn; up = up })))
+        (readings.reading-born manager above k c t (told_outcome turn) p0 v0 none
+        (not_obeyed root _ p0.obeyed_abort _ b u.not_refused)))
+        (moves.is_born c.txn.presumption (reading turn) inv
+        (record { cascaded = b; fresh = unborn; up = up })))
 
-    pub gives_fresh : IsOpenAlike place (after n h (answer p d (fresh d))) c → Fine turn (answer p d (fresh d))
+    pub gives_fresh : IsOpenAlike place (after n h (answer p d (fresh d))) c
+        → Fine turn (answer p d (fresh d))
     gives_fresh later = by_fresh later (same_case c (child_case d.txn (fresh d))) refl
 
   -- The root begins.
@@ -249,7 +293,15 @@ module _ (turn : Turn) where
 
   begins_nothing : (q : Presumption) → DoesNothing turn (begin_effect (begun_txn q))
   begins_nothing q =
-      record { accepts = refl; yes_votes = refl; no_votes = refl; read_votes = refl; committed = refl; aborted = refl; told = refl }
+      record {
+        accepts = refl;
+        yes_votes = refl;
+        no_votes = refl;
+        read_votes = refl;
+        committed = refl;
+        aborted = refl;
+        told = refl;
+      }
 
   abbrev opened_as : (b : Bool) → Memory
   opened_as b = if b then opens_case (record m { begun = m.begun + 1 }) else record m { begun = m.begun + 1 }
@@ -258,7 +310,8 @@ module _ (turn : Turn) where
   txn_by q x = record { root = place.me; boot = boot; sequence = x + 1; presumption = q }
 
   root_begins : parent ≡ None → Begins place n
-  root_begins s = top_is place.role parent seat (λ r. RoleHolds r place net n → Begins place n) s (λ x. x.1) by_role
+  root_begins s = top_is place.role parent seat (λ r. RoleHolds r place net n → Begins place n) s
+      (λ x. x.1) by_role
 
   -- the transaction that begins is the case's
   abbrev pub IsNew : Presumption → Bool → Type 0
@@ -268,13 +321,15 @@ module _ (turn : Turn) where
     begin_now : (b : Bool) → IsNew q b → then_remembered turn ≡ opened_as b
     begin_now b f =
         by_input.begin_act turn q s i
-        ∙ (ap (λ x. if same_case (root_case (txn_by q x)) c then opens_case (record m { begun = m.begun + 1 }) else record m { begun = m.begun + 1 })
+        ∙ (ap (λ x. if same_case (root_case (txn_by q x)) c then opens_case
+        (record m { begun = m.begun + 1 }) else record m { begun = m.begun + 1 })
         (self (some_case place) c).begun
         ∙ ap opened_as f)
 
     pub begin_elsewhere : IsNew q false → Says turn m.phase p0.accepted p0.acked
     begin_elsewhere f =
-        stays turn (opened_as false) (begin_now false f) (record { phase = refl; accepted = refl; acks = refl })
+        stays turn (opened_as false) (begin_now false f)
+        (record { phase = refl; accepted = refl; acks = refl })
 
     pub at_the_root : root ≡ true
     at_the_root = own.seat_is turn (λ s' e. e) (λ p s' e. absurd (let z = sym s ∙ s' in cc))
@@ -293,7 +348,8 @@ module _ (turn : Turn) where
         by_begun true g =
             not_again boot (memory_of place n (some_case place)).begun (begun_txn q).sequence refl
             (((root_begins s).begun_once up (begun_txn q)
-            (subst (λ (x : Case). (remembered_half (memory_of place n x) n x t).begun ≡ true) (sym is_it) g)).1)
+            (subst (λ (x : Case). (remembered_half (memory_of place n x) n x t).begun ≡ true) (sym is_it)
+            g)).1)
 
     pub begin_unborn : IsNew q true → (reading turn).born ≡ false
     begin_unborn f = rw (at_the_root) (not_begun f)
@@ -303,25 +359,31 @@ module _ (turn : Turn) where
         let has = unborn_half (begin_unborn f) in
         record {
           phase = ap (λ (y : Memory). y.phase) (begin_now true f);
-          accepted_so = ap (λ (y : Memory). in_list y.accepted t) (begin_now true f) ∙ (in_list-none t ∙ sym has.0);
+          accepted_so = ap (λ (y : Memory). in_list y.accepted t) (begin_now true f)
+              ∙ (in_list-none t ∙ sym has.0);
           acked_so = ap (λ (y : Memory). acked_of y c t) (begin_now true f) ∙ (no_acks _ t ∙ sym has.1);
         }
 
     pub begin_fits : IsNew q true → Fits_in turn (at_top.begins (reading turn))
     begin_fits f =
-        moves.begins c.txn.presumption (reading turn) inv (record { root = at_the_root; fresh = begin_unborn f; up = up })
+        moves.begins c.txn.presumption (reading turn) inv
+        (record { root = at_the_root; fresh = begin_unborn f; up = up })
 
     by_new : IsOpenAlike place (after n h (begin_effect (begun_txn q))) c → (b : Bool) → IsNew q b
         → Fine turn (begin_effect (begun_txn q))
     by_new later false f =
-        only_sends (begin_effect (begun_txn q)) refl (begins_nothing q) later (begin_elsewhere f) (wires.wire-nothing c t net)
+        only_sends (begin_effect (begun_txn q)) refl (begins_nothing q) later (begin_elsewhere f)
+        (wires.wire-nothing c t net)
     by_new later true f =
-        fine_silent turn (begin_effect (begun_txn q)) later Open p0.accepted p0.acked (begin_says f) v0 (wires.wire-nothing c t net) refl
+        fine_silent turn (begin_effect (begun_txn q)) later Open p0.accepted p0.acked (begin_says f) v0
+        (wires.wire-nothing c t net) refl
         (read_as turn _ _
-        (subst (λ y. readings.R manager above k c t y (told_outcome turn) (stands_so false Open p0.accepted p0.acked true p0) v0
+        (subst (λ y. readings.R manager above k c t y (told_outcome turn)
+        (stands_so false Open p0.accepted p0.acked true p0) v0
         ≡ at_top.begins (readings.R manager above k c t y (told_outcome turn) p0 v0)) (sym at_the_root)
         (readings.reading-begins manager above k c t (told_outcome turn) p0 v0 (not_begun f)))
         (begin_fits f))
 
-    pub begins : IsOpenAlike place (after n h (begin_effect (begun_txn q))) c → Fine turn (begin_effect (begun_txn q))
+    pub begins : IsOpenAlike place (after n h (begin_effect (begun_txn q))) c
+        → Fine turn (begin_effect (begun_txn q))
     begins later = by_new later (same_case (root_case (begun_txn q)) c) refl

@@ -39,13 +39,16 @@ pub other_accepts : (c d : Case) (t : Ticket) (us : List Ticket) → same_case d
 other_accepts c d t [] e = refl
 other_accepts c d t (u ∷ us) e = rw e (other_accepts c d t us e)
 
-pub other_counts : (c d : Case) (t : Ticket) (f : Vote → Bool) (vs : List (Ticket × Vote)) → same_case d c ≡ false
-    → list_any (λ (a : Case × (Ticket × Vote)). same_case a.0 c && (same_ticket a.1.0 t && f a.1.1)) (map (λ v. (d, v)) vs) ≡ false
+pub other_counts : (c d : Case) (t : Ticket) (f : Vote → Bool) (vs : List (Ticket × Vote)) → same_case d c
+    ≡ false
+    → list_any (λ (a : Case × (Ticket × Vote)). same_case a.0 c && (same_ticket a.1.0 t && f a.1.1))
+    (map (λ v. (d, v)) vs) ≡ false
 other_counts c d t f [] e = refl
 other_counts c d t f (v ∷ vs) e = rw e (other_counts c d t f vs e)
 
 -- a part of a list has no more
-in_part : (f : Ticket → Bool) (ts : List Ticket) (t : Ticket) → in_list ts t ≡ false → in_list (filter f ts) t ≡ false
+in_part : (f : Ticket → Bool) (ts : List Ticket) (t : Ticket) → in_list ts t ≡ false
+    → in_list (filter f ts) t ≡ false
 unfolding in_list
 in_part f [] t e = refl
 in_part f (u ∷ us) t e = by_test (f u) (in_part f us t (second _ _ e)) (first _ _ e)
@@ -83,7 +86,8 @@ module _ (turn : Turn) (d : Case) (other : same_case d turn.c ≡ false) where
   -- Whose case it is.
 
   pub unticketed_apart : parent ≡ None → d.ticket ≡ None → same_txn d.txn c.txn ≡ false
-  unticketed_apart s e = both_none (d.ticket) (c.ticket) e (at_top place.role parent seat s c.ticket rooted) other
+  unticketed_apart s e = both_none (d.ticket) (c.ticket) e
+      (at_top place.role parent seat s c.ticket rooted) other
     where
       at_top : (r : Role) (o : Option ProcessId) → IsSeat r o → o ≡ None → (u : Option Ticket)
           → is_root_ticket u ≡ is_top r → u ≡ None
@@ -91,7 +95,8 @@ module _ (turn : Turn) (d : Case) (other : same_case d turn.c ≡ false) where
       at_top _ _ top f (Some u) g = absurd (cc)
       at_top _ _ (under p) f u g = absurd (cc)
 
-      both_none : (a b : Option Ticket) → a ≡ None → b ≡ None → same_case (record { txn = d.txn; ticket = a }) (record { txn = c.txn; ticket = b }) ≡ false
+      both_none : (a b : Option Ticket) → a ≡ None → b ≡ None
+          → same_case (record { txn = d.txn; ticket = a }) (record { txn = c.txn; ticket = b }) ≡ false
           → same_txn d.txn c.txn ≡ false
       both_none None None f g k = both_cases k
         where
@@ -115,8 +120,10 @@ module _ (turn : Turn) (d : Case) (other : same_case d turn.c ≡ false) where
   not_remembered : in_list (memory_of place n d).accepted t ≡ false
   not_remembered = unless_accepted _ (holds.remembered_accepted d t)
 
-  pub active_apart : (coordinator_view place n d).standing ≡ Active → in_list (coordinator_view place n d).accepted t ≡ false
-  active_apart e = ap (λ (v : CoordinatorView). in_list v.accepted t) (view_so place n d Active e) ∙ not_remembered
+  pub active_apart : (coordinator_view place n d).standing ≡ Active
+      → in_list (coordinator_view place n d).accepted t ≡ false
+  active_apart e = ap (λ (v : CoordinatorView). in_list v.accepted t) (view_so place n d Active e)
+      ∙ not_remembered
 
   pub collecting_apart : (coordinator_view place n d).standing ≡ Collecting
       → in_list (coordinator_view place n d).accepted t ≡ false
@@ -161,7 +168,8 @@ module _ (turn : Turn) (d : Case) (other : same_case d turn.c ≡ false) where
     one_plain : (r : Record) → ws ≡ plain r → Unrelated turn r → WroteElsewhere ws
     one_forced : (r : Record) → ws ≡ forced r → Unrelated turn r → WroteElsewhere ws
 
-  told_nothing : (o : Option Conclusion) → ToldElsewhere o → is_told_so (is_told_of_txn c.txn) (told_of d.txn o) ≡ false
+  told_nothing : (o : Option Conclusion) → ToldElsewhere o
+      → is_told_so (is_told_of_txn c.txn) (told_of d.txn o) ≡ false
   told_nothing None e = refl
   told_nothing (Some a) (inl e) = absurd (cc)
   told_nothing (Some a) (inr e) = e

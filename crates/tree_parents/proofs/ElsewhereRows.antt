@@ -70,7 +70,8 @@ module _ (turn : Turn) (d : Case) where
 
   issues : (p : ProcessId) → parent ≡ Some p → Issues place net n
   issues p s =
-      below_is place.role parent seat (λ r. RoleHolds r place net n → Issues place net n) p s (λ x. x.1.1) by_role
+      below_is place.role parent seat (λ r. RoleHolds r place net n → Issues place net n) p s (λ x. x.1.1)
+      by_role
 
   own_remembered : (ph : Phase) → (memory_of place n d).phase ≡ ph → (ph ≡ Idle → ⊥)
       → (p : ProcessId) → parent ≡ Some p → process_of d ≡ place.me
@@ -86,7 +87,8 @@ module _ (turn : Turn) (d : Case) where
 
   promise_kept : (coordinator_view place n d).standing ≡ Prepared → has (is_prepare d) (kept n) ≡ true
   promise_kept e =
-      prepared_by _ _ _ _ _ _ _ (λ f. never d.txn.presumption (memory_of place n d).phase f) (sym (viewed place n d) ∙ e)
+      prepared_by _ _ _ _ _ _ _ (λ f. never d.txn.presumption (memory_of place n d).phase f)
+      (sym (viewed place n d) ∙ e)
     where
       never : (q : Presumption) (ph : Phase) → phase_standing q ph ≡ Prepared → ⊥
       never PresumeAbort Idle f = cc
@@ -112,7 +114,8 @@ module _ (turn : Turn) (d : Case) where
   own_given : is_own_case place.me d ≡ true → process_of d ≡ place.me
   own_given e = own_process place.me d.txn d.ticket e
 
-  pub own_told : (m : Message) (j : ℕ) → h.input ≡ MessageInput j m → (GoesToOwner place.me m → is_own_case place.me d ≡ true)
+  pub own_told : (m : Message) (j : ℕ) → h.input ≡ MessageInput j m
+      → (GoesToOwner place.me m → is_own_case place.me d ≡ true)
       → process_of d ≡ place.me
   own_told m j i f = own_given (f (delivered net place.me h.input j m goes stands i))
 
@@ -124,7 +127,8 @@ module _ (turn : Turn) (d : Case) where
   root_found : (x : Txn) (u : Ticket) → parent ≡ None → case_of_child place n x u ≡ Some d → d.ticket ≡ None
   root_found x u s e =
       top_is place.role parent seat
-      (λ r. find (λ y. belongs (memory_of place n y) (kept n) y u) (own_cases r place n x) ≡ Some d → d.ticket ≡ None)
+      (λ r. find (λ y. belongs (memory_of place n y) (kept n) y u) (own_cases r place n x) ≡ Some d
+      → d.ticket ≡ None)
       s (λ f. by_test (belongs (memory_of place n (root_case x)) (kept n) (root_case x) u) f) e
     where
       by_test : (b : Bool) → (if b then Some (root_case x) else None) ≡ Some d → d.ticket ≡ None
@@ -211,7 +215,8 @@ module _ (turn : Turn) (d : Case) where
         → Quiet (prepares (seat_of place parent d) (coordinator_view place n d))
     each_prepare e =
         let v = coordinator_view place n d in
-        wires.wire-prepares c t [] (seat_of place parent d) v v.accepted false (none_of_them v.accepted e) ∙ nothing_sent
+        wires.wire-prepares c t [] (seat_of place parent d) v v.accepted false (none_of_them v.accepted e)
+        ∙ nothing_sent
 
     one_behind : (xs ys : List Envelope) → Quiet xs → Quiet ys → Quiet (xs ++ ys)
     one_behind xs ys e f = silent_before c t [] xs ys e ∙ f
@@ -229,11 +234,13 @@ module _ (turn : Turn) (d : Case) where
         → Quiet (to_child (seat_of place parent d) (tells_outcome o) u ∷ [])
     answer CommittedOutcome x u found =
         wires.wire-commit c t [] place.me u.child d.txn u false
-        (same_children d.txn c.txn u t ∙ rw (other_child x u found) (elsewhere.and-false (same_txn d.txn c.txn)))
+        (same_children d.txn c.txn u t
+        ∙ rw (other_child x u found) (elsewhere.and-false (same_txn d.txn c.txn)))
         ∙ nothing_sent
     answer AbortedOutcome x u found =
         wires.wire-abort c t [] place.me u.child d.txn u false
-        (same_children d.txn c.txn u t ∙ rw (other_child x u found) (elsewhere.and-false (same_txn d.txn c.txn)))
+        (same_children d.txn c.txn u t
+        ∙ rw (other_child x u found) (elsewhere.and-false (same_txn d.txn c.txn)))
         ∙ nothing_sent
 
     -- Memory.
@@ -248,7 +255,8 @@ module _ (turn : Turn) (d : Case) where
     rest_to_abort _ (turns.abort_act x e i) =
         rested.rest_abort_act turn x i (subst (λ (y : Case). same_case y c ≡ false) e other)
     rest_to_abort _ (turns.abort_comes p e i) =
-        rested.rest_abort turn d i.0 p e i.1 (λ f g. clash (same_case d c) f other) (λ f g. clash (same_case d c) f other)
+        rested.rest_abort turn d i.0 p e i.1 (λ f g. clash (same_case d c) f other)
+        (λ f g. clash (same_case d c) f other)
 
     rest_vote : (u : Ticket) (w : Vote) → HearsChild place n h d u (vote_message w) → Rests turn
     rest_vote u w i =
@@ -263,7 +271,8 @@ module _ (turn : Turn) (d : Case) where
 
     rest_prepare : (k : ℕ) → HearsParent parent h (Prepare d k) → Rests turn
     rest_prepare k i =
-        rested.rest_prepare turn d i.hears.0 k i.from i.is_parent i.hears.1 (λ f g. clash (same_case d c) f other)
+        rested.rest_prepare turn d i.hears.0 k i.from i.is_parent i.hears.1
+        (λ f g. clash (same_case d c) f other)
 
     rest_commit : HearsParent parent h (Commit d) → Rests turn
     rest_commit i = rested.rest_same turn (by_input.commit_comes turn d i.hears.0 i.hears.1)
@@ -303,7 +312,8 @@ module _ (turn : Turn) (d : Case) where
       pub alike : IsOpenAlike place (after n h (row_effect d row)) c
 
     aborts_by : (why : Reason) (v : CoordinatorView) (us : List Ticket) (p : Presumption)
-        → (row : Row) → row ≡ collecting_abort_by (seat_of place parent d) why v us p → After row → Rests turn → Own
+        → (row : Row) → row ≡ collecting_abort_by (seat_of place parent d) why v us p → After row
+        → Rests turn → Own
         → (parent ≡ None → d.ticket ≡ None) → in_list us t ≡ false → Fine turn (row_effect d row)
     aborts_by why v us PresumeAbort row e later rests own top f =
         elsewhere.row_fine turn d other row later.alike rests
@@ -314,9 +324,11 @@ module _ (turn : Turn) (d : Case) where
         elsewhere.row_fine turn d other row later.alike rests
         (ap (λ (x : Row). wire c t x.messages) e ∙ one_behind _ _ (up_heard why own) (each_abort us f))
         (subst (λ (x : Row). Told x.told) (sym e) (told_elsewhere _ top))
-        (one_forced (AbortRecord d us) (ap (λ (x : Row). x.written) e) (elsewhere.other_abort turn d other us))
+        (one_forced (AbortRecord d us) (ap (λ (x : Row). x.written) e)
+        (elsewhere.other_abort turn d other us))
 
-    root_of : (u : Ticket) (says : Case → Message) → HearsChild place n h d u says → parent ≡ None → d.ticket ≡ None
+    root_of : (u : Ticket) (says : Case → Message) → HearsChild place n h d u says → parent ≡ None
+        → d.ticket ≡ None
     root_of u says i s = root_found i.txn u s i.belongs
 
     row_fine : (row : Row) → After row → Rests turn → Quiet row.messages → Told row.told
@@ -324,16 +336,19 @@ module _ (turn : Turn) (d : Case) where
         → Fine turn (row_effect d row)
     row_fine row later rests q told w = elsewhere.row_fine turn d other row later.alike rests q told w
 
-    asks_by : (v : CoordinatorView) (p : Presumption) → v ≡ coordinator_view place n d → After (active_commit_with (seat_of place parent d) v p)
+    asks_by : (v : CoordinatorView) (p : Presumption) → v ≡ coordinator_view place n d
+        → After (active_commit_with (seat_of place parent d) v p)
         → Rests turn → in_list (coordinator_view place n d).accepted t ≡ false
         → Fine turn (row_effect d (active_commit_with (seat_of place parent d) v p))
     asks_by v PresumeAbort e later rests f =
         row_fine (active_commit_with (seat_of place parent d) v PresumeAbort) later rests
-        (ap (λ (x : CoordinatorView). wire c t (prepares (seat_of place parent d) x)) e ∙ each_prepare f) (inl refl)
+        (ap (λ (x : CoordinatorView). wire c t (prepares (seat_of place parent d) x)) e ∙ each_prepare f)
+        (inl refl)
         (none_written refl)
     asks_by v PresumeCommit e later rests f =
         row_fine (active_commit_with (seat_of place parent d) v PresumeCommit) later rests
-        (ap (λ (x : CoordinatorView). wire c t (prepares (seat_of place parent d) x)) e ∙ each_prepare f) (inl refl)
+        (ap (λ (x : CoordinatorView). wire c t (prepares (seat_of place parent d) x)) e ∙ each_prepare f)
+        (inl refl)
         (one_forced (CollectingRecord d v.accepted) refl (elsewhere.other_collecting turn d other v.accepted))
 
     reads_by : (p : Presumption) → WroteElsewhere turn d other (read_only_end (seat_of place parent d) p)
@@ -345,28 +360,35 @@ module _ (turn : Turn) (d : Case) where
         → Rests turn → in_list ys t ≡ false → same_txn d.txn c.txn ≡ false
         → Fine turn (row_effect d (record (root_commits (seat_of place parent d) v ys p) { counts = w ∷ [] }))
     commits_by w v ys PresumeAbort later rests f x =
-        row_fine (record (root_commits (seat_of place parent d) v ys PresumeAbort) { counts = w ∷ [] }) later rests
+        row_fine (record (root_commits (seat_of place parent d) v ys PresumeAbort) { counts = w ∷ [] })
+        later rests
         (each_commit ys f) (inr x)
         (one_forced (CommitRecord d ys) refl (elsewhere.other_commit turn d other ys))
     commits_by w v ys PresumeCommit later rests f x =
-        row_fine (record (root_commits (seat_of place parent d) v ys PresumeCommit) { counts = w ∷ [] }) later rests
+        row_fine (record (root_commits (seat_of place parent d) v ys PresumeCommit) { counts = w ∷ [] })
+        later rests
         (each_commit ys f) (inr x)
         (one_forced (CommitRecord d []) refl (elsewhere.other_commit turn d other []))
 
-    passes_commit : (p : Presumption) → After (prepared_commit_by (seat_of place parent d) (coordinator_view place n d) p)
+    passes_commit : (p : Presumption)
+        → After (prepared_commit_by (seat_of place parent d) (coordinator_view place n d) p)
         → Rests turn → Own → in_list (coordinator_view place n d).promised t ≡ false
-        → Fine turn (row_effect d (prepared_commit_by (seat_of place parent d) (coordinator_view place n d) p))
+        → Fine turn (row_effect d (prepared_commit_by (seat_of place parent d)
+        (coordinator_view place n d) p))
     passes_commit PresumeAbort later rests own f =
         row_fine _ later rests (one_behind _ _ (up_ack CommittedOutcome own) (each_commit _ f)) (inl refl)
         (one_forced _ refl (elsewhere.other_commit turn d other _))
     passes_commit PresumeCommit later rests own f =
-        row_fine _ later rests (each_commit _ f) (inl refl) (one_plain _ refl (elsewhere.other_commit turn d other []))
+        row_fine _ later rests (each_commit _ f) (inl refl)
+        (one_plain _ refl (elsewhere.other_commit turn d other []))
 
-    passes_abort : (p : Presumption) → After (prepared_abort_by (seat_of place parent d) (coordinator_view place n d) p)
+    passes_abort : (p : Presumption)
+        → After (prepared_abort_by (seat_of place parent d) (coordinator_view place n d) p)
         → Rests turn → Own → in_list (coordinator_view place n d).promised t ≡ false
         → Fine turn (row_effect d (prepared_abort_by (seat_of place parent d) (coordinator_view place n d) p))
     passes_abort PresumeAbort later rests own f =
-        row_fine _ later rests (each_abort _ f) (inl refl) (one_plain _ refl (elsewhere.other_abort turn d other []))
+        row_fine _ later rests (each_abort _ f) (inl refl)
+        (one_plain _ refl (elsewhere.other_abort turn d other []))
     passes_abort PresumeCommit later rests own f =
         row_fine _ later rests (one_behind _ _ (up_ack AbortedOutcome own) (each_abort _ f)) (inl refl)
         (one_forced _ refl (elsewhere.other_abort turn d other _))
@@ -379,25 +401,32 @@ module _ (turn : Turn) (d : Case) where
     rest_outcome CommittedOutcome i = rest_commit i
     rest_outcome AbortedOutcome i = rest_abort i
 
-    pub turn_elsewhere : (row : Row) → CaseTurn place parent n h d row → After row → Fine turn (row_effect d row)
+    pub turn_elsewhere : (row : Row) → CaseTurn place parent n h d row → After row
+        → Fine turn (row_effect d row)
     turn_elsewhere _ (turns.rests r) later =
         row_fine _ later (rest_nothing r) nothing_sent (inl refl) (none_written refl)
     turn_elsewhere _ (turns.invites q i e f g) later =
-        row_fine _ later (rested.rest_same turn (by_input.join_act turn d q i)) (wires.silent-join c t net place.me q d) (inl refl)
+        row_fine _ later (rested.rest_same turn (by_input.join_act turn d q i))
+        (wires.silent-join c t net place.me q d) (inl refl)
         (none_written refl)
     turn_elsewhere _ (turns.accepts u i e f) later =
-        row_fine _ later (rested.rest_joined turn d u i.0 i.1 (λ g k. clash (same_case d c) g other)) nothing_sent (inl refl)
+        row_fine _ later (rested.rest_joined turn d u i.0 i.1 (λ g k. clash (same_case d c) g other))
+        nothing_sent (inl refl)
         (none_written refl)
     turn_elsewhere _ (turns.sends_work q u op i e f g) later =
-        row_fine _ later (rested.rest_work turn d q op i) (wires.silent-work c t net place.me u.child (child_case d.txn u) _ op) (inl refl)
+        row_fine _ later (rested.rest_work turn d q op i)
+        (wires.silent-work c t net place.me u.child (child_case d.txn u) _ op) (inl refl)
         (none_written refl)
     turn_elsewhere _ (turns.finds_nobody i e f) later =
-        row_fine _ later (rest_to_commit i) (up_read (own_active e)) (told_elsewhere _ (to_commit_root i)) (none_written refl)
+        row_fine _ later (rest_to_commit i) (up_read (own_active e)) (told_elsewhere _ (to_commit_root i))
+        (none_written refl)
     turn_elsewhere _ (turns.asks_for_votes p i e f q) later =
-        asks_by (coordinator_view place n d) p refl later (rest_to_commit i) (elsewhere.active_apart turn d other e)
+        asks_by (coordinator_view place n d) p refl later (rest_to_commit i)
+        (elsewhere.active_apart turn d other e)
     turn_elsewhere _ (turns.gives_up why p i e q) later =
         row_fine _ later (rest_to_abort why i)
-        (one_behind _ _ (up_acknowledges p (own_active e)) (each_abort _ (elsewhere.active_apart turn d other e)))
+        (one_behind _ _ (up_acknowledges p (own_active e))
+        (each_abort _ (elsewhere.active_apart turn d other e)))
         (told_elsewhere _ (to_abort_root why i)) (none_written refl)
     turn_elsewhere _ (turns.counts_vote u w i k e) later =
         row_fine _ later (rest_vote u w i.hears) nothing_sent (inl refl) (none_written refl)
@@ -405,7 +434,8 @@ module _ (turn : Turn) (d : Case) where
         row_fine _ later (rest_vote u w i.vote.hears) (up_read (own_collecting i.vote.stands))
         (told_elsewhere _ (root_of u _ i.vote.hears)) (reads_by p)
     turn_elsewhere _ (turns.commits u w ys p i e s q) later =
-        commits_by (u, w) (turns.voted (coordinator_view place n d) u w) ys p later (rest_vote u w i.vote.hears)
+        commits_by (u, w) (turns.voted (coordinator_view place n d) u w) ys p later
+        (rest_vote u w i.vote.hears)
         (ap (λ ts. in_list ts t) (sym i.yes)
         ∙ elsewhere.in_yes _ _ t (elsewhere.collecting_apart turn d other i.vote.stands))
         (elsewhere.unticketed_apart turn d other s (root_of u _ i.vote.hears s))
@@ -417,20 +447,33 @@ module _ (turn : Turn) (d : Case) where
         aborts_no u us p i f later
       where
         aborts_no : (u : Ticket) (us : List Ticket) (p : Presumption) → CountsVote place n h d u VoteNo
-            → undecided_of (coordinator_view place n d).accepted (turns.voted (coordinator_view place n d) u VoteNo).votes ≡ us
-            → After (turns.counting u VoteNo (collecting_abort_by (seat_of place parent d) ByVote (turns.voted (coordinator_view place n d) u VoteNo) us p))
-            → Fine turn (row_effect d (turns.counting u VoteNo (collecting_abort_by (seat_of place parent d) ByVote (turns.voted (coordinator_view place n d) u VoteNo) us p)))
+            → undecided_of (coordinator_view place n d).accepted
+            (turns.voted (coordinator_view place n d) u VoteNo).votes ≡ us
+            → After (turns.counting u VoteNo
+            (collecting_abort_by (seat_of place parent d) ByVote
+            (turns.voted (coordinator_view place n d) u VoteNo) us p))
+            → Fine turn (row_effect d (turns.counting u VoteNo
+            (collecting_abort_by (seat_of place parent d) ByVote
+            (turns.voted (coordinator_view place n d) u VoteNo) us p)))
         aborts_no u us PresumeAbort i f later =
             row_fine _ later (rest_vote u VoteNo i.hears)
-            (one_behind _ _ (up_heard ByVote (own_collecting i.stands)) (each_abort us (ap (λ ts. in_list ts t) (sym f) ∙ elsewhere.in_undecided _ _ t (elsewhere.collecting_apart turn d other i.stands))))
-            (told_elsewhere _ (root_of u _ i.hears)) (one_plain _ refl (elsewhere.other_abort turn d other []))
+            (one_behind _ _ (up_heard ByVote (own_collecting i.stands))
+            (each_abort us (ap (λ ts. in_list ts t) (sym f)
+            ∙ elsewhere.in_undecided _ _ t (elsewhere.collecting_apart turn d other i.stands))))
+            (told_elsewhere _ (root_of u _ i.hears))
+            (one_plain _ refl (elsewhere.other_abort turn d other []))
         aborts_no u us PresumeCommit i f later =
             row_fine _ later (rest_vote u VoteNo i.hears)
-            (one_behind _ _ (up_heard ByVote (own_collecting i.stands)) (each_abort us (ap (λ ts. in_list ts t) (sym f) ∙ elsewhere.in_undecided _ _ t (elsewhere.collecting_apart turn d other i.stands))))
-            (told_elsewhere _ (root_of u _ i.hears)) (one_forced _ refl (elsewhere.other_abort turn d other us))
+            (one_behind _ _ (up_heard ByVote (own_collecting i.stands))
+            (each_abort us (ap (λ ts. in_list ts t) (sym f)
+            ∙ elsewhere.in_undecided _ _ t (elsewhere.collecting_apart turn d other i.stands))))
+            (told_elsewhere _ (root_of u _ i.hears))
+            (one_forced _ refl (elsewhere.other_abort turn d other us))
     turn_elsewhere _ (turns.aborts why us p i e f q) later =
-        aborts_by why (coordinator_view place n d) us p _ refl later (rest_to_abort why i) (own_collecting e) (to_abort_root why i)
-        (ap (λ ts. in_list ts t) (sym f) ∙ elsewhere.in_undecided _ _ t (elsewhere.collecting_apart turn d other e))
+        aborts_by why (coordinator_view place n d) us p _ refl later (rest_to_abort why i)
+        (own_collecting e) (to_abort_root why i)
+        (ap (λ ts. in_list ts t) (sym f)
+        ∙ elsewhere.in_undecided _ _ t (elsewhere.collecting_apart turn d other e))
     turn_elsewhere _ (turns.passes_commit p i e q) later =
         passes_commit p later (rest_commit i) (own_commit i) (elsewhere.prepared_apart turn d other e)
     turn_elsewhere _ (turns.passes_abort p i e q) later =
@@ -438,7 +481,8 @@ module _ (turn : Turn) (d : Case) where
     turn_elsewhere _ (turns.repeats_yes k i e) later =
         row_fine _ later (rest_prepare k i) (up_yes (own_prepare k i)) (inl refl) (none_written refl)
     turn_elsewhere _ (turns.asks i e) later =
-        row_fine _ later (rested.rest_same turn (by_input.ask_act turn d i)) (up_inquire (own_prepared e)) (inl refl)
+        row_fine _ later (rested.rest_same turn (by_input.ask_act turn d i)) (up_inquire (own_prepared e))
+        (inl refl)
         (none_written refl)
     turn_elsewhere _ (turns.refuses k i e) later =
         row_fine _ later (rest_prepare k i) (up_no (own_prepare k i)) (inl refl) (none_written refl)
@@ -447,7 +491,8 @@ module _ (turn : Turn) (d : Case) where
     turn_elsewhere _ (turns.waits_for_acks u o i e f g) later =
         row_fine _ later (rest_ack u o i) nothing_sent (inl refl) (none_written refl)
     turn_elsewhere _ (turns.ends u o i e f g) later =
-        row_fine _ later (rest_ack u o i) nothing_sent (inl refl) (one_plain (EndRecord d) refl (elsewhere.other_end turn d other))
+        row_fine _ later (rest_ack u o i) nothing_sent (inl refl)
+        (one_plain (EndRecord d) refl (elsewhere.other_end turn d other))
     turn_elsewhere _ (turns.answers u o i e) later =
         row_fine _ later (rest_inquiry u i) (answer o i.txn u i.belongs) (inl refl) (none_written refl)
 

@@ -86,67 +86,112 @@ module _ (turn : Turn) where
   promise_closed e = closed (not_open turn Prepared e (λ z. cc)) (not_asked turn Prepared e (λ z. cc))
 
   pub passes_commit : (p : Presumption) → HearsParent parent h (Commit c) → v.standing ≡ Prepared
-      → c.txn.presumption ≡ p → (x f : ℕ) → Ordered (promised.commit_row turn p) x f → Fails (promised.commit_row turn p) x f
+      → c.txn.presumption ≡ p → (x f : ℕ) → Ordered (promised.commit_row turn p) x f
+      → Fails (promised.commit_row turn p) x f
   passes_commit PresumeAbort i e q x f order =
       let b = promised.is_below turn i.from i.is_parent in
       let g = row_effect c (promised.commit_row turn PresumeAbort) in
-      one_written turn g x f order (CommitRecord c v.promised) refl (hears.of_rests turn g refl (rest_commit turn i))
-      (λ one. record_appended turn g x f order (CommitRecord c v.promised) one (λ j. refl) m.phase p0.accepted p0.acked
+      one_written turn g x f order (CommitRecord c v.promised) refl
+      (hears.of_rests turn g refl (rest_commit turn i))
+      (λ one. record_appended turn g x f order (CommitRecord c v.promised) one (λ j. refl) m.phase
+      p0.accepted p0.acked
       (promised.commit_says turn i) p0 refl
       (read_as turn _ _
-      (at_false b (λ y. X y (down p0.accepted p0.acked (begun_after m.phase (fails_in n h g x f) c) (wrote (CommitRecord c v.promised) c t promise p0))
+      (at_false b (λ y. X y (down p0.accepted p0.acked (begun_after m.phase (fails_in n h g x f) c)
+      (wrote (CommitRecord c v.promised) c t promise p0))
       ≡ crash.fails_to_pass_commit_naming (X y p0))
-      (readings.fails-passes_commit_naming manager above k c t o0 promise (begun_after m.phase (fails_in n h g x f) c) v.promised p0 v0
-      (promise_closed e) (promised.names turn e) (promised.no_owed_abort turn q (promised.facts turn e).no_commit)))
+      (readings.fails-passes_commit_naming manager above k c t o0 promise
+      (begun_after m.phase (fails_in n h g x f) c) v.promised p0 v0
+      (promise_closed e) (promised.names turn e)
+      (promised.no_owed_abort turn q (promised.facts turn e).no_commit)))
       (moves.fails_to_pass_commit_naming c.txn.presumption q (reading turn) inv
-      (record { cascaded = b; up = up; waits = promised.waits turn e; answer_is_true = promised.commit_told turn e i }))))
+      (record {
+        cascaded = b;
+        up = up;
+        waits = promised.waits turn e;
+        answer_is_true =
+            promised.commit_told turn e i;
+      }))))
   passes_commit PresumeCommit i e q x f order =
       let b = promised.is_below turn i.from i.is_parent in
       let g = row_effect c (promised.commit_row turn PresumeCommit) in
       one_written turn g x f order (CommitRecord c []) refl (hears.of_rests turn g refl (rest_commit turn i))
-      (λ one. record_appended turn g x f order (CommitRecord c []) one (λ j. refl) m.phase p0.accepted p0.acked
+      (λ one. record_appended turn g x f order (CommitRecord c []) one (λ j. refl) m.phase p0.accepted
+      p0.acked
       (promised.commit_says turn i) p0 refl
       (read_as turn _ _
-      (at_false b (λ y. X y (down p0.accepted p0.acked (begun_after m.phase (fails_in n h g x f) c) (wrote (CommitRecord c []) c t promise p0))
+      (at_false b (λ y. X y (down p0.accepted p0.acked (begun_after m.phase (fails_in n h g x f) c)
+      (wrote (CommitRecord c []) c t promise p0))
       ≡ crash.fails_to_pass_commit (X y p0))
-      (readings.fails-passes_commit manager above k c t o0 promise (begun_after m.phase (fails_in n h g x f) c) p0 v0
+      (readings.fails-passes_commit manager above k c t o0 promise
+      (begun_after m.phase (fails_in n h g x f) c) p0 v0
       (promise_closed e)))
       (moves.fails_to_pass_commit c.txn.presumption q (reading turn) inv
-      (record { cascaded = b; up = up; waits = promised.waits turn e; answer_is_true = promised.commit_told turn e i }))))
+      (record {
+        cascaded = b;
+        up = up;
+        waits = promised.waits turn e;
+        answer_is_true =
+            promised.commit_told turn e i;
+      }))))
 
   pub passes_abort : (p : Presumption) → HearsParent parent h (Abort c) → v.standing ≡ Prepared
-      → c.txn.presumption ≡ p → (x f : ℕ) → Ordered (promised.abort_row turn p) x f → Fails (promised.abort_row turn p) x f
+      → c.txn.presumption ≡ p → (x f : ℕ) → Ordered (promised.abort_row turn p) x f
+      → Fails (promised.abort_row turn p) x f
   passes_abort PresumeAbort i e q x f order =
       let b = promised.is_below turn i.from i.is_parent in
       let g = row_effect c (promised.abort_row turn PresumeAbort) in
       one_written turn g x f order (AbortRecord c []) refl
-      (hears.of_rests turn g refl (rest_abort turn i (not_open turn Prepared e (λ z. cc)) (not_asked turn Prepared e (λ z. cc))))
+      (hears.of_rests turn g refl (rest_abort turn i (not_open turn Prepared e (λ z. cc))
+      (not_asked turn Prepared e (λ z. cc))))
       (λ one. record_appended turn g x f order (AbortRecord c []) one (λ j. refl) m.phase p0.accepted p0.acked
       (promised.abort_says turn e i) p0 refl
-      (subst (λ (y : Bool). Fits_in turn (seen turn o0 (down p0.accepted p0.acked (begun_after m.phase (fails_in n h g x f) c) (wrote (AbortRecord c []) c t y p0)) v0))
+      (subst (λ (y : Bool). Fits_in turn
+      (seen turn o0 (down p0.accepted p0.acked (begun_after m.phase (fails_in n h g x f) c)
+      (wrote (AbortRecord c []) c t y p0)) v0))
       (sym (promised.promise_written turn e))
       (read_as turn _ _
-      (at_false b (λ y. X y (down p0.accepted p0.acked (begun_after m.phase (fails_in n h g x f) c) (wrote (AbortRecord c []) c t true p0))
+      (at_false b (λ y. X y (down p0.accepted p0.acked (begun_after m.phase (fails_in n h g x f) c)
+      (wrote (AbortRecord c []) c t true p0))
       ≡ crash.fails_to_pass_abort (X y p0))
-      (readings.fails-passes_abort manager above k c t o0 (begun_after m.phase (fails_in n h g x f) c) p0 v0 (promise_closed e)))
+      (readings.fails-passes_abort manager above k c t o0 (begun_after m.phase (fails_in n h g x f) c) p0
+      v0 (promise_closed e)))
       (moves.fails_to_pass_abort c.txn.presumption q (reading turn) inv
-      (record { cascaded = b; up = up; waits = promised.waits turn e; answer_is_true = promised.abort_told turn e i })))))
+      (record {
+        cascaded = b;
+        up = up;
+        waits = promised.waits turn e;
+        answer_is_true = promised.abort_told
+            turn e i;
+      })))))
   passes_abort PresumeCommit i e q x f order =
       let b = promised.is_below turn i.from i.is_parent in
       let g = row_effect c (promised.abort_row turn PresumeCommit) in
       one_written turn g x f order (AbortRecord c v.promised) refl
-      (hears.of_rests turn g refl (rest_abort turn i (not_open turn Prepared e (λ z. cc)) (not_asked turn Prepared e (λ z. cc))))
-      (λ one. record_appended turn g x f order (AbortRecord c v.promised) one (λ j. refl) m.phase p0.accepted p0.acked
+      (hears.of_rests turn g refl (rest_abort turn i (not_open turn Prepared e (λ z. cc))
+      (not_asked turn Prepared e (λ z. cc))))
+      (λ one. record_appended turn g x f order (AbortRecord c v.promised) one (λ j. refl) m.phase
+      p0.accepted p0.acked
       (promised.abort_says turn e i) p0 refl
-      (subst (λ (y : Bool). Fits_in turn (seen turn o0 (down p0.accepted p0.acked (begun_after m.phase (fails_in n h g x f) c) (wrote (AbortRecord c v.promised) c t y p0)) v0))
+      (subst (λ (y : Bool). Fits_in turn
+      (seen turn o0 (down p0.accepted p0.acked (begun_after m.phase (fails_in n h g x f) c)
+      (wrote (AbortRecord c v.promised) c t y p0)) v0))
       (sym (promised.promise_written turn e))
       (read_as turn _ _
-      (at_false b (λ y. X y (down p0.accepted p0.acked (begun_after m.phase (fails_in n h g x f) c) (wrote (AbortRecord c v.promised) c t true p0))
+      (at_false b (λ y. X y (down p0.accepted p0.acked (begun_after m.phase (fails_in n h g x f) c)
+      (wrote (AbortRecord c v.promised) c t true p0))
       ≡ crash.fails_to_pass_abort_naming (X y p0))
-      (readings.fails-passes_abort_naming manager above k c t o0 (begun_after m.phase (fails_in n h g x f) c) v.promised p0 v0 (promise_closed e)
+      (readings.fails-passes_abort_naming manager above k c t o0
+      (begun_after m.phase (fails_in n h g x f) c) v.promised p0 v0 (promise_closed e)
       (promised.names turn e) (promised.no_owed_commit turn q (promised.facts turn e).no_abort)))
       (moves.fails_to_pass_abort_naming c.txn.presumption q (reading turn) inv
-      (record { cascaded = b; up = up; waits = promised.waits turn e; answer_is_true = promised.abort_told turn e i })))))
+      (record {
+        cascaded = b;
+        up = up;
+        waits = promised.waits turn e;
+        answer_is_true = promised.abort_told
+            turn e i;
+      })))))
 
   -- The last ACK.
 
@@ -169,10 +214,15 @@ module _ (turn : Turn) where
       let g = row_effect c (decided.end_row turn) in
       let b = decided.heard_acks turn u o i d none in
       let late = decided.late_of turn o v.standing d refl in
-      one_written turn g x f order (EndRecord c) refl (hears.of_rests turn g refl (rests.rest_ack turn o i.txn u i.hears.0 i.hears.1))
-      (λ one. record_appended turn g x f order (EndRecord c) one (λ j. refl) m.phase p0.accepted b (decided.ack_says turn u o i d none) p0 refl
-      (subst (λ (y : Bool). Fits_in turn (seen turn o0 (down p0.accepted b y (wrote (EndRecord c) c t promise p0)) v0))
+      one_written turn g x f order (EndRecord c) refl
+      (hears.of_rests turn g refl (rests.rest_ack turn o i.txn u i.hears.0 i.hears.1))
+      (λ one. record_appended turn g x f order (EndRecord c) one (λ j. refl) m.phase p0.accepted b
+      (decided.ack_says turn u o i d none) p0 refl
+      (subst (λ (y : Bool). Fits_in turn
+      (seen turn o0 (down p0.accepted b y (wrote (EndRecord c) c t promise p0)) v0))
       (sym (begun_still turn g x f m.phase (rw one (has-cons (is_commit c) (EndRecord c) n.life)) refl))
-      (read_as turn _ _ (readings.fails-ends manager above k c t root o0 promise (rested turn b) v0 (closed late.0 late.1))
-      (end_fits b (decided.ack_fits turn u o i d none) o c.txn.presumption refl (decided.agrees turn u o i d none) d
+      (read_as turn _ _ (readings.fails-ends manager above k c t root o0 promise (rested turn b) v0
+      (closed late.0 late.1))
+      (end_fits b (decided.ack_fits turn u o i d none) o c.txn.presumption refl
+      (decided.agrees turn u o i d none) d
       (decided.all_acked turn u o i d none)))))

@@ -1,4 +1,5 @@
--- A fault behind which nothing of the pair's case was appended: the pair's parent fails, behind what it heard.
+-- A fault behind which nothing of the pair's case was appended: the pair's parent fails, behind what it
+-- heard.
 use Rattle.std.proofs.Common.{◌≡◌, ◌∙◌, Bool, true, false, ◌||◌, refl, sym, ap, subst, arith}
 use Rattle.tree_model.specs.Nodes.{Effect}
 use Rattle.tree_model.specs.Memory.{Memory, Phase as MemoryPhase, Idle, Open, Asked, Over}
@@ -105,7 +106,8 @@ module _ (turn : Turn) where
           by_test false g = clash (is_live p.phase) l (common.unborn (rw (f, g) refl)).closed
 
   begun_live : is_live p0.phase ≡ true → p0.begun ≡ true
-  begun_live l = own.begun_by turn refl (live_begun m.phase (sym (ap (λ b. is_live (phase_of b m.phase)) up) ∙ l))
+  begun_live l = own.begun_by turn refl
+      (live_begun m.phase (sym (ap (λ b. is_live (phase_of b m.phase)) up) ∙ l))
 
   -- the parent fails behind what it heard
   pub failing : (e : Effect) (y : Hears e) (b : Bool) → (is_begun y.phase ≡ true → b ≡ true)
@@ -119,25 +121,33 @@ module _ (turn : Turn) where
       r1 : Reading
       r1 = seen turn o0 (record y.half_then { accepted = y.accepted; acked = y.acked }) v0
 
-      fails : Fits_in turn (crash.parent_fails (seen turn o0 (record y.half_then { accepted = y.accepted; acked = y.acked }) v0))
+      fails : Fits_in turn (crash.parent_fails
+          (seen turn o0 (record y.half_then { accepted = y.accepted; acked = y.acked }) v0))
       fails = onward c.txn.presumption (reading turn) _ _ y.fits
-          (moves.parent_fails c.txn.presumption (seen turn o0 (record y.half_then { accepted = y.accepted; acked = y.acked }) v0) y.fits.invariant
+          (moves.parent_fails c.txn.presumption
+          (seen turn o0 (record y.half_then { accepted = y.accepted; acked = y.acked }) v0)
+          y.fits.invariant
           (record { up = is_up }))
         where
           is_up : y.half_then.failed ≡ false
           is_up = ap (λ (p : ParentHalf). p.failed) (sym y.is) ∙ up
 
-      by_live : (l : Bool) → is_live p0.phase ≡ l → Fits_in turn (seen turn o0 (down y.accepted y.acked b y.half_then) v0)
+      by_live : (l : Bool) → is_live p0.phase ≡ l
+          → Fits_in turn (seen turn o0 (down y.accepted y.acked b y.half_then) v0)
       by_live true l =
-          subst (λ (x : Bool). Fits_in turn (seen turn o0 (down y.accepted y.acked x y.half_then) v0)) (sym (f (y.lives l)))
+          subst (λ (x : Bool). Fits_in turn (seen turn o0 (down y.accepted y.acked x y.half_then) v0))
+          (sym (f (y.lives l)))
           (subst (λ (x : Reading). Fits_in turn x)
-          (sym (reading-fails_live manager above k root o0 (record y.half_then { accepted = y.accepted; acked = y.acked }) v0
-          (live_from (record y.half_then { accepted = y.accepted; acked = y.acked }) (common_of c.txn.presumption _ y.fits.invariant)
+          (sym (reading-fails_live manager above k root o0
+          (record y.half_then { accepted = y.accepted; acked = y.acked }) v0
+          (live_from (record y.half_then { accepted = y.accepted; acked = y.acked })
+          (common_of c.txn.presumption _ y.fits.invariant)
           (ap is_live y.same_phase ∙ l) (y.same_begun ∙ begun_live l))))
           fails)
       by_live false l =
           subst (λ (x : Reading). Fits_in turn x)
-          (sym (reading-fails_closed manager above k root o0 b (record y.half_then { accepted = y.accepted; acked = y.acked }) v0
+          (sym (reading-fails_closed manager above k root o0 b
+          (record y.half_then { accepted = y.accepted; acked = y.acked }) v0
           (ap is_live y.same_phase ∙ l) (λ i. g (y.rests l i) ∙ sym y.same_begun)))
           fails
 
@@ -148,9 +158,11 @@ module _ (turn : Turn) where
       fails : Fits_in turn (crash.parent_fails (reading turn))
       fails = moves.parent_fails c.txn.presumption (reading turn) turn.inv (record { up = up })
 
-      by_live : (l : Bool) → is_live p0.phase ≡ l → Fits_in turn (seen turn o0 (down p0.accepted p0.acked p0.begun p0) v0)
+      by_live : (l : Bool) → is_live p0.phase ≡ l
+          → Fits_in turn (seen turn o0 (down p0.accepted p0.acked p0.begun p0) v0)
       by_live true l =
-          subst (λ (x : Bool). Fits_in turn (seen turn o0 (down p0.accepted p0.acked x p0) v0)) (sym (begun_live l))
+          subst (λ (x : Bool). Fits_in turn (seen turn o0 (down p0.accepted p0.acked x p0) v0))
+          (sym (begun_live l))
           (subst (λ (x : Reading). Fits_in turn x)
           (sym (reading-fails_live manager above k root o0 p0 v0
           (live_from p0 (common_of c.txn.presumption (reading turn) turn.inv) l (begun_live l))))

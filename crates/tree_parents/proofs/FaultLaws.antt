@@ -35,19 +35,26 @@ use Rattle.tree_parents.proofs.Wires.{wire-nothing}
 nothing_sent : (place : Place) (n k : Node) (c : Case) (t : Ticket) (net : List Envelope)
     (manager outcome above : Bool) (h : ChildHalf)
     → Fits c.txn.presumption
-    (reading_from (is_root_ticket c.ticket) manager (outcome_in place.role n c outcome) above (parent_half place n c t) h (wire c t net))
-    (reading_from (is_root_ticket c.ticket) manager (outcome_in place.role k c outcome) above (parent_half place k c t) h (wire c t net))
+    (reading_from (is_root_ticket c.ticket) manager (outcome_in place.role n c outcome) above
+    (parent_half place n c t) h (wire c t net))
+    (reading_from (is_root_ticket c.ticket) manager (outcome_in place.role k c outcome) above
+    (parent_half place k c t) h (wire c t net))
     → Fits c.txn.presumption
-    (reading_from (is_root_ticket c.ticket) manager (outcome_in place.role n c outcome) above (parent_half place n c t) h (wire c t net))
-    (reading_from (is_root_ticket c.ticket) manager (outcome_in place.role k c outcome) above (parent_half place k c t) h (wire c t (net ++ [])))
+    (reading_from (is_root_ticket c.ticket) manager (outcome_in place.role n c outcome) above
+    (parent_half place n c t) h (wire c t net))
+    (reading_from (is_root_ticket c.ticket) manager (outcome_in place.role k c outcome) above
+    (parent_half place k c t) h (wire c t (net ++ [])))
 nothing_sent place n k c t net manager outcome above h f =
     subst (λ (x : Wire). Fits c.txn.presumption
-    (reading_from (is_root_ticket c.ticket) manager (outcome_in place.role n c outcome) above (parent_half place n c t) h (wire c t net))
-    (reading_from (is_root_ticket c.ticket) manager (outcome_in place.role k c outcome) above (parent_half place k c t) h x))
+    (reading_from (is_root_ticket c.ticket) manager (outcome_in place.role n c outcome) above
+    (parent_half place n c t) h (wire c t net))
+    (reading_from (is_root_ticket c.ticket) manager (outcome_in place.role k c outcome) above
+    (parent_half place k c t) h x))
     (sym (wire-nothing c t net)) f
 
 -- a process that passes over an input is up
-passes_up : (role : Role) (place : Place) (n : Node) (i : Input) → passes_at role place n i ≡ true → n.failed ≡ false
+passes_up : (role : Role) (place : Place) (n : Node) (i : Input) → passes_at role place n i ≡ true
+    → n.failed ≡ false
 passes_up AtRoot place n i e = absurd (cc)
 passes_up (AtLeaf p) place n i e = absurd (cc)
 passes_up (Below p) place n (ActInput a) e = absurd (cc)
@@ -71,8 +78,10 @@ outcome_left AtRoot n c o = refl
 outcome_left (Below p) n c o = refl
 outcome_left (AtLeaf p) n c o = refl
 
-module _ (tree : List TreeEntry) (es : List Made) (w : World) (apart : NoOwnParent tree) (run : IsRun tree es w)
-    (holds : WorldHolds tree w) (known : JoinedAreBorn tree w) (q : ProcessId) (listed : is_listed tree q ≡ true)
+module _ (tree : List TreeEntry) (es : List Made) (w : World) (apart : NoOwnParent tree)
+    (run : IsRun tree es w)
+    (holds : WorldHolds tree w) (known : JoinedAreBorn tree w) (q : ProcessId)
+    (listed : is_listed tree q ≡ true)
     (i : IsCoordinator (role_of tree q)) (h : Heard) (stands : InputStands w.net q h.input)
     (up : (w.at q).failed ≡ false) where
   abbrev place : Place
@@ -87,44 +96,57 @@ module _ (tree : List TreeEntry) (es : List Made) (w : World) (apart : NoOwnPare
   faults_fit e turn x f then = record {
     follows = λ c t pair mine free manager outcome above k from inv.
         let free_now = free_before w.net [] c t free in
-        let own = turn_here tree es w apart run holds known q listed i h stands up c t pair mine free_now manager outcome above k from inv in
+        let own = turn_here tree es w apart run holds known q listed i h stands up c t pair mine free_now
+        manager outcome above k from inv in
         let seat = here tree es w apart run holds known q listed i h stands up in
         nothing_sent place n (fails_in n h e x f) c t w.net manager outcome above k
         (subst (λ (p : ParentHalf). Fits c.txn.presumption
-        (reading_from (is_root_ticket c.ticket) manager (outcome_in place.role n c outcome) above p k (wire c t w.net))
-        (reading_from (is_root_ticket c.ticket) manager (outcome_in place.role (fails_in n h e x f) c outcome) above
+        (reading_from (is_root_ticket c.ticket) manager (outcome_in place.role n c outcome) above p k
+        (wire c t w.net))
+        (reading_from (is_root_ticket c.ticket) manager
+        (outcome_in place.role (fails_in n h e x f) c outcome) above
         (parent_half place (fails_in n h e x f) c t) k (wire c t w.net)))
-        (sym (half_now tree es w apart run holds known q listed i h stands up c t pair mine free_now manager outcome above k from inv))
-        (turn_fails own e (turn_by (role_of tree q) seat.parent seat.seat place n h e turn) x f (then.in_order c)));
+        (sym (half_now tree es w apart run holds known q listed i h stands up c t pair mine free_now
+        manager outcome above k from inv))
+        (turn_fails own e (turn_by (role_of tree q) seat.parent seat.seat place n h e turn) x f
+        (then.in_order c)));
   }
 
   pub passing_fits : ParentStep place w.net [] n (record n { failed = true })
   passing_fits = record {
     follows = λ c t pair mine free manager outcome above k from inv.
         let free_now = free_before w.net [] c t free in
-        let own = turn_here tree es w apart run holds known q listed i h stands up c t pair mine free_now manager outcome above k from inv in
+        let own = turn_here tree es w apart run holds known q listed i h stands up c t pair mine free_now
+        manager outcome above k from inv in
         nothing_sent place n (record n { failed = true }) c t w.net manager outcome above k
         (subst (λ (p : ParentHalf). Fits c.txn.presumption
-        (reading_from (is_root_ticket c.ticket) manager (outcome_in place.role n c outcome) above p k (wire c t w.net))
-        (reading_from (is_root_ticket c.ticket) manager (outcome_in place.role (record n { failed = true }) c outcome) above
+        (reading_from (is_root_ticket c.ticket) manager (outcome_in place.role n c outcome) above p k
+        (wire c t w.net))
+        (reading_from (is_root_ticket c.ticket) manager
+        (outcome_in place.role (record n { failed = true }) c outcome) above
         (parent_half place (record n { failed = true }) c t) k (wire c t w.net)))
-        (sym (half_now tree es w apart run holds known q listed i h stands up c t pair mine free_now manager outcome above k from inv))
+        (sym (half_now tree es w apart run holds known q listed i h stands up c t pair mine free_now
+        manager outcome above k from inv))
         (subst (λ (p : ParentHalf). Fits c.txn.presumption
         (reading_from (is_root_ticket c.ticket) manager (outcome_in place.role n c outcome) above
         (remembered_half (memory_of place n c) n c t) k (wire c t w.net))
-        (reading_from (is_root_ticket c.ticket) manager (outcome_in place.role (record n { failed = true }) c outcome) above
+        (reading_from (is_root_ticket c.ticket) manager
+        (outcome_in place.role (record n { failed = true }) c outcome) above
         p k (wire c t w.net)))
         (sym (left_down place n c t))
         (subst (λ (o : Bool). Fits c.txn.presumption
         (reading_from (is_root_ticket c.ticket) manager (outcome_in place.role n c outcome) above
         (remembered_half (memory_of place n c) n c t) k (wire c t w.net))
         (reading_from (is_root_ticket c.ticket) manager o above
-        (let p = remembered_half (memory_of place n c) n c t in down p.accepted p.acked p.begun p) k (wire c t w.net)))
+        (let p = remembered_half (memory_of place n c) n c t in down p.accepted p.acked p.begun p) k
+        (wire c t w.net)))
         (sym (outcome_left place.role n c outcome)) (fails_still own))));
   }
 
-inputs_step : (tree : List TreeEntry) (es : List Made) (w : World) → NoOwnParent tree → IsRun tree es w → WorldHolds tree w
-    → JoinedAreBorn tree w → (m : Move) → is_listed tree m.step.process ≡ true → IsCoordinator (role_of tree m.step.process)
+inputs_step : (tree : List TreeEntry) (es : List Made) (w : World) → NoOwnParent tree → IsRun tree es w
+    → WorldHolds tree w
+    → JoinedAreBorn tree w → (m : Move) → is_listed tree m.step.process ≡ true
+    → IsCoordinator (role_of tree m.step.process)
     → Stands w.net m.step.process m.step.happening → (i : Input) → m.step.happening ≡ Handles i
     → (e : Effect) (k : Node) → StepOf (place_of tree m.step.process) (w.at m.step.process) m e k
     → Coordinates (place_of tree m.step.process) (w.net ++ e.messages) k
@@ -133,27 +155,34 @@ inputs_step tree es w apart run holds known m listed role stands j handles _ _ (
     let q = m.step.process in
     let h = heard_in m i in
     let turn = turn_of (place_of tree q) (w.at q) h g r in
-    handles_fit tree es w apart run holds known q listed role h (subst (λ (x : Happening). Stands w.net q x) hp stands) turn.up g
+    handles_fit tree es w apart run holds known q listed role h
+    (subst (λ (x : Happening). Stands w.net q x) hp stands) turn.up g
     (coordinator_turn_of (place_of tree q) (w.at q) h g r) then (still_up (w.at q) h g turn.up)
-inputs_step tree es w apart run holds known m listed role stands j handles _ _ (failed_in i f g fl hp np r) then =
+inputs_step tree es w apart run holds known m listed role stands j handles _ _
+    (failed_in i f g fl hp np r) then =
     let q = m.step.process in
     let h = heard_in m i in
     let turn = turn_of (place_of tree q) (w.at q) h g r in
-    faults_fit tree es w apart run holds known q listed role h (subst (λ (x : Happening). Stands w.net q x) hp stands) turn.up g
+    faults_fit tree es w apart run holds known q listed role h
+    (subst (λ (x : Happening). Stands w.net q x) hp stands) turn.up g
     (coordinator_turn_of (place_of tree q) (w.at q) h g r) f.appended f.forced then
 inputs_step tree es w apart run holds known m listed role stands j handles _ _ (passed i hp r) then =
     same_step (place_of tree m.step.process) w.net (w.at m.step.process)
-inputs_step tree es w apart run holds known m listed role stands j handles _ _ (failed_passing i f fl hp r) then =
+inputs_step tree es w apart run holds known m listed role stands j handles _ _
+    (failed_passing i f fl hp r) then =
     let q = m.step.process in
-    passing_fits tree es w apart run holds known q listed role (heard_in m i) (subst (λ (x : Happening). Stands w.net q x) hp stands)
+    passing_fits tree es w apart run holds known q listed role (heard_in m i)
+    (subst (λ (x : Happening). Stands w.net q x) hp stands)
     (passes_up (role_of tree q) (place_of tree q) (w.at q) i r)
 inputs_step tree es w apart run holds known m listed role stands j handles _ _ (reopened k hp) then =
     absurd (let z = sym handles ∙ hp in cc)
-inputs_step tree es w apart run holds known m listed role stands j handles _ _ (failed_reopening k f fl hp) then =
+inputs_step tree es w apart run holds known m listed role stands j handles _ _
+    (failed_reopening k f fl hp) then =
     absurd (let z = sym handles ∙ hp in cc)
 inputs_step tree es w apart run holds known m listed role stands j handles _ _ (trimmed hp up) then =
     absurd (let z = sym handles ∙ hp in cc)
-inputs_step tree es w apart run holds known m listed role stands j handles _ _ (failed_trimming f fl hp up) then =
+inputs_step tree es w apart run holds known m listed role stands j handles _ _
+    (failed_trimming f fl hp up) then =
     absurd (let z = sym handles ∙ hp in cc)
 
 pub coordinator_inputs : CoordinatorInputs
@@ -162,6 +191,7 @@ coordinator_inputs tree es w apart run holds known m e w' role stands made i han
     let at = makes_at tree w m e w' made in
     let there : w'.at q ≡ at.node = ap (λ (x : World). x.at q) at.world ∙ put_self q at.node w.at in
     subst (λ (x : Node). ParentStep (place_of tree q) w.net e.messages (w.at q) x) (sym there)
-    (inputs_step tree es w apart run holds known m (makes_listed tree w m e w' made) role stands i handles e at.node
+    (inputs_step tree es w apart run holds known m (makes_listed tree w m e w' made) role stands i handles
+    e at.node
     (step_of (place_of tree q) (w.at q) m e at.node at.made)
     (subst (λ (x : Node). Coordinates (place_of tree q) (w.net ++ e.messages) x) there then))

@@ -78,7 +78,8 @@ module _ (turn : Turn) where
 
   -- Of one that moves a case that can still be decided.
   pub of_goes : (e : Effect) (ph : Phase) → is_live p0.phase ≡ true → Goes turn ph → is_begun ph ≡ true
-      → (q : ParentHalf) → heard_so e c t p0 ≡ q → q.phase ≡ p0.phase → q.begun ≡ p0.begun → q.accepted ≡ p0.accepted
+      → (q : ParentHalf) → heard_so e c t p0 ≡ q → q.phase ≡ p0.phase → q.begun ≡ p0.begun → q.accepted
+      ≡ p0.accepted
       → q.acked ≡ p0.acked → Fits_in turn (seen turn o0 q v0) → Hears turn e
   of_goes e ph l s b q is f g i j fits = record {
     phase = ph;
@@ -89,7 +90,8 @@ module _ (turn : Turn) where
     is = is;
     same_phase = f;
     same_begun = g;
-    fits = subst (λ (a : Bool). Fits_in turn (seen turn o0 (record q { accepted = a; acked = p0.acked }) v0)) i
+    fits = subst (λ (a : Bool). Fits_in turn
+        (seen turn o0 (record q { accepted = a; acked = p0.acked }) v0)) i
         (subst (λ (a : Bool). Fits_in turn (seen turn o0 (record q { acked = a }) v0)) j fits);
     lives = λ x. b;
     rests = λ x y. absurd (let z = sym l ∙ x in cc);
@@ -98,7 +100,8 @@ module _ (turn : Turn) where
   pub plain_goes : (row : Row) (ph : Phase) → is_live p0.phase ≡ true → Goes turn ph → is_begun ph ≡ true
       → heard_so (row_effect c row) c t p0 ≡ p0 → Hears turn (row_effect c row)
   plain_goes row ph l s b is =
-      of_goes (row_effect c row) ph l s b p0 is refl refl refl refl (unmoved c.txn.presumption (reading turn) inv)
+      of_goes (row_effect c row) ph l s b p0 is refl refl refl refl
+      (unmoved c.txn.presumption (reading turn) inv)
 
   pub active_live : v.standing ≡ Active → is_live p0.phase ≡ true
   active_live e = ap is_live (active.active_phase turn e)
@@ -109,13 +112,16 @@ module _ (turn : Turn) where
   heard_vote e u w none one = rw (none, one) (simp (same_case-refl, or-false))
 
   pub vote_goes : (e : Effect) (u : Ticket) (w : Vote) (i : CountsVote place n h c u w) → turns.Consents w
-      → e.accepts ≡ [] → e.counts ≡ (c, (u, w)) ∷ [] → (ph : Phase) → Goes turn ph → is_begun ph ≡ true → Hears turn e
+      → e.accepts ≡ [] → e.counts ≡ (c, (u, w)) ∷ [] → (ph : Phase) → Goes turn ph → is_begun ph ≡ true
+      → Hears turn e
   vote_goes e u w i k none one ph s b =
-      of_goes e ph (ap is_live (votes.phase turn u w i)) s b (heard w (same_ticket u t) p0) (heard_vote e u w none one) refl refl refl refl
+      of_goes e ph (ap is_live (votes.phase turn u w i)) s b (heard w (same_ticket u t) p0)
+      (heard_vote e u w none one) refl refl refl refl
       (votes.hears turn u w i k)
 
   -- JOINED is accepted
-  pub joined_goes : (u : Ticket) → HearsMessage h (Joined c u) → v.standing ≡ Active → has_child v.accepted u.child ≡ false
+  pub joined_goes : (u : Ticket) → HearsMessage h (Joined c u) → v.standing ≡ Active
+      → has_child v.accepted u.child ≡ false
       → (row : Row) → row.accepts ≡ u ∷ [] → row.counts ≡ [] → Hears turn (row_effect c row)
   joined_goes u i e f row one none = record {
     phase = Open;
@@ -126,12 +132,14 @@ module _ (turn : Turn) where
     is = rw (one, none) (simp (same_case-refl, or-false));
     same_phase = refl;
     same_begun = refl;
-    fits = subst (λ (x : Reading). Fits_in turn x) (sym (by_test (same_ticket u t))) (active.accepts_fits turn u i e (same_ticket u t) refl);
+    fits = subst (λ (x : Reading). Fits_in turn x) (sym (by_test (same_ticket u t)))
+        (active.accepts_fits turn u i e (same_ticket u t) refl);
     lives = λ l. refl;
     rests = λ l x. absurd (let z = sym (active_live e) ∙ l in cc);
   }
     where
-      by_test : (b : Bool) → seen turn o0 (record p0 { accepted = p0.accepted || b; acked = p0.acked; took_part = b || p0.took_part }) v0
+      by_test : (b : Bool) → seen turn o0
+          (record p0 { accepted = p0.accepted || b; acked = p0.acked; took_part = b || p0.took_part }) v0
           ≡ (if b then move.accepts (reading turn) else reading turn)
       by_test true = simp (or-true)
       by_test false = simp (or-false)

@@ -47,7 +47,8 @@ module _ (manager above : Bool) (k : ChildHalf) (c : Case) (t : Ticket) where
       rw (l.begun, l.no_commit, f, g, h) (simp (dead-now, same_case-refl, or-false))
   fails-collects false o b ts p v l g h =
       let f = l.given refl in
-      rw (f, l.no_prepare, l.never_promised, l.no_read, g, h) (simp (dead-now, same_case-refl, or-true, or-false))
+      rw (f, l.no_prepare, l.never_promised, l.no_read, g, h)
+      (simp (dead-now, same_case-refl, or-true, or-false))
 
   pub fails-aborts : (root o b : Bool) (p : ParentHalf) (v : Wire) → Live root o p v
       → X root o (D true p (wrote (AbortRecord c []) c t b p)) v ≡ crash.fails_to_abort (X root o p v)
@@ -56,7 +57,8 @@ module _ (manager above : Bool) (k : ChildHalf) (c : Case) (t : Ticket) where
       rw (l.begun, l.no_commit, f) (simp (dead-now, same_case-refl, in_list-none))
   fails-aborts false o b p v l =
       let f = l.given refl in
-      rw (f, l.no_prepare, l.never_promised, l.no_read) (simp (dead-now, same_case-refl, or-true, in_list-none))
+      rw (f, l.no_prepare, l.never_promised, l.no_read)
+      (simp (dead-now, same_case-refl, or-true, in_list-none))
 
   pub fails-aborts_naming : (root o b : Bool) (us : List Ticket) (p : ParentHalf) (v : Wire) → Live root o p v
       → in_list us t ≡ (p.accepted && not p.first_read) → p.owed ≡ false
@@ -66,7 +68,8 @@ module _ (manager above : Bool) (k : ChildHalf) (c : Case) (t : Ticket) where
       rw (l.begun, l.no_commit, f, g, h) (simp (dead-now, same_case-refl, or-false))
   fails-aborts_naming false o b us p v l g h =
       let f = l.given refl in
-      rw (f, l.no_prepare, l.never_promised, l.no_read, g, h) (simp (dead-now, same_case-refl, or-true, or-false))
+      rw (f, l.no_prepare, l.never_promised, l.no_read, g, h)
+      (simp (dead-now, same_case-refl, or-true, or-false))
 
   pub fails-hears_no : (root o b : Bool) (us : List Ticket) (p : ParentHalf) (v : Wire) → Live root o p v
       → in_list us t ≡ false
@@ -99,23 +102,28 @@ module _ (manager above : Bool) (k : ChildHalf) (c : Case) (t : Ticket) where
 
   pub fails-decides_naming : (o b : Bool) (ys : List Ticket) (p : ParentHalf) (v : Wire) → Live true o p v
       → in_list ys t ≡ (p.accepted && p.first_yes) → p.owed ≡ false
-      → X true o (D true p (wrote (CommitRecord c ys) c t b p)) v ≡ crash.fails_to_decide_naming (X true o p v)
+      → X true o (D true p (wrote (CommitRecord c ys) c t b p)) v
+      ≡ crash.fails_to_decide_naming (X true o p v)
   fails-decides_naming o b ys p v l g h =
       rw (l.begun, l.live, g, h) (simp (dead-live, dead-promised, same_case-refl, or-false))
 
   pub fails-decides : (o b : Bool) (p : ParentHalf) (v : Wire) → Live true o p v
       → X true o (D true p (wrote (CommitRecord c []) c t b p)) v ≡ crash.fails_to_decide (X true o p v)
-  fails-decides o b p v l = rw (l.begun, l.live) (simp (dead-live, dead-promised, same_case-refl, in_list-none))
+  fails-decides o b p v l = rw (l.begun, l.live)
+      (simp (dead-live, dead-promised, same_case-refl, in_list-none))
 
   pub fails-promises : (o b : Bool) (ys : List Ticket) (p : ParentHalf) (v : Wire) → Live false o p v
       → in_list ys t ≡ (p.accepted && p.first_yes) → p.names ≡ false
-      → X false o (D true p (wrote (PrepareRecord c ys) c t b p)) v ≡ crash.fails_to_promise_up (X false o p v)
+      → X false o (D true p (wrote (PrepareRecord c ys) c t b p)) v
+      ≡ crash.fails_to_promise_up (X false o p v)
   fails-promises o b ys p v l g h =
       rw (l.live, g, h) (simp (dead-live, dead-promised, same_case-refl, or-false))
 
-  pub fails-passes_commit_naming : (o b x : Bool) (ys : List Ticket) (p : ParentHalf) (v : Wire) → p.phase ≡ Closed
+  pub fails-passes_commit_naming : (o b x : Bool) (ys : List Ticket) (p : ParentHalf) (v : Wire) → p.phase
+      ≡ Closed
       → in_list ys t ≡ p.names → p.owed ≡ false
-      → X false o (D x p (wrote (CommitRecord c ys) c t b p)) v ≡ crash.fails_to_pass_commit_naming (X false o p v)
+      → X false o (D x p (wrote (CommitRecord c ys) c t b p)) v
+      ≡ crash.fails_to_pass_commit_naming (X false o p v)
   fails-passes_commit_naming o b x ys p v e g h = rw (e, g, h) (simp (same_case-refl, or-false))
 
   pub fails-passes_commit : (o b x : Bool) (p : ParentHalf) (v : Wire) → p.phase ≡ Closed
@@ -126,9 +134,11 @@ module _ (manager above : Bool) (k : ChildHalf) (c : Case) (t : Ticket) where
       → X false o (D x p (wrote (AbortRecord c []) c t true p)) v ≡ crash.fails_to_pass_abort (X false o p v)
   fails-passes_abort o x p v e = rw e (simp (same_case-refl, in_list-none))
 
-  pub fails-passes_abort_naming : (o x : Bool) (ys : List Ticket) (p : ParentHalf) (v : Wire) → p.phase ≡ Closed
+  pub fails-passes_abort_naming : (o x : Bool) (ys : List Ticket) (p : ParentHalf) (v : Wire) → p.phase
+      ≡ Closed
       → in_list ys t ≡ p.names → p.owed ≡ false
-      → X false o (D x p (wrote (AbortRecord c ys) c t true p)) v ≡ crash.fails_to_pass_abort_naming (X false o p v)
+      → X false o (D x p (wrote (AbortRecord c ys) c t true p)) v
+      ≡ crash.fails_to_pass_abort_naming (X false o p v)
   fails-passes_abort_naming o x ys p v e g h = rw (e, g, h) (simp (same_case-refl, or-false))
 
   pub fails-ends : (root o b : Bool) (p : ParentHalf) (v : Wire) → p.phase ≡ Closed

@@ -98,26 +98,32 @@ module _ (turn : Turn) where
       (hears.of_rests turn (row_effect c row) (rw (no_ticket, no_vote) refl) r)
 
   goes_fault : (row : Row) (x f : ℕ) → Orders row x f → row.written ≡ [] → row.accepts ≡ [] → row.counts ≡ []
-      → (ph : Phase) → is_live p0.phase ≡ true → Goes turn ph → is_begun ph ≡ true → Fails (row_effect c row) x f
+      → (ph : Phase) → is_live p0.phase ≡ true → Goes turn ph → is_begun ph ≡ true
+      → Fails (row_effect c row) x f
   goes_fault row x f order none no_ticket no_vote ph l s b =
       none_written turn (row_effect c row) x f order.is none
       (hears.plain_goes turn row ph l s b (rw (no_ticket, no_vote) refl))
 
-  own_fault : (row : Row) → CaseTurn place parent n h c row → (x f : ℕ) → Orders row x f → Fails (row_effect c row) x f
+  own_fault : (row : Row) → CaseTurn place parent n h c row → (x f : ℕ) → Orders row x f
+      → Fails (row_effect c row) x f
   own_fault _ (turns.rests r) x f order = rests_fault _ x f order refl refl refl (rest_nothing turn r)
   own_fault _ (turns.invites q i e g j) x f order =
       rests_fault _ x f order refl refl refl (rested.rest_same turn (by_input.join_act turn c q i))
   own_fault _ (turns.accepts u i e g) x f order = joined_fault _ x f order refl u i e g refl refl
     where
-      joined_fault : (row : Row) (x f : ℕ) → Orders row x f → row.written ≡ [] → (u : Ticket) → HearsMessage h (Joined c u)
-          → (own.v turn).standing ≡ Active → has_child (own.v turn).accepted u.child ≡ false → row.accepts ≡ u ∷ [] → row.counts ≡ []
+      joined_fault : (row : Row) (x f : ℕ) → Orders row x f → row.written ≡ [] → (u : Ticket)
+          → HearsMessage h (Joined c u)
+          → (own.v turn).standing ≡ Active → has_child (own.v turn).accepted u.child ≡ false → row.accepts
+          ≡ u ∷ [] → row.counts ≡ []
           → Fails (row_effect c row) x f
       joined_fault row x f order none u i e g one no_vote =
-          none_written turn (row_effect c row) x f order.is none (hears.joined_goes turn u i e g row one no_vote)
+          none_written turn (row_effect c row) x f order.is none
+          (hears.joined_goes turn u i e g row one no_vote)
   own_fault _ (turns.sends_work q u op i e g j) x f order =
       rests_fault _ x f order refl refl refl (rested.rest_work turn c q op i)
   own_fault _ (turns.finds_nobody i e g) x f order =
-      goes_fault _ x f order refl refl refl Over (hears.active_live turn e) (active.nobody_says turn i e g) refl
+      goes_fault _ x f order refl refl refl Over (hears.active_live turn e)
+      (active.nobody_says turn i e g) refl
   own_fault _ (turns.asks_for_votes p i e g q) x f order = cases.asks_for_votes turn p i e g q x f order.is
   own_fault _ (turns.gives_up why p i e q) x f order =
       goes_fault _ x f order refl refl refl Over (hears.active_live turn e)
@@ -125,13 +131,15 @@ module _ (turn : Turn) where
   own_fault _ (turns.counts_vote u w i j e) x f order = voted_fault _ x f order refl u w i j refl refl e
     where
       voted_fault : (row : Row) (x f : ℕ) → Orders row x f → row.written ≡ [] → (u : Ticket) (w : Vote)
-          → (i : turns.CountsVote place n h c u w) → turns.Consents w → row.accepts ≡ [] → row.counts ≡ (u, w) ∷ []
+          → (i : turns.CountsVote place n h c u w) → turns.Consents w → row.accepts ≡ [] → row.counts
+          ≡ (u, w) ∷ []
           → all_voted (own.v turn).accepted (turns.voted (own.v turn) u w).votes ≡ false
           → Fails (row_effect c row) x f
       voted_fault row x f order none u w i j no_ticket one e =
           none_written turn (row_effect c row) x f order.is none
           (hears.vote_goes turn (row_effect c row) u w i j (rw no_ticket refl) (rw one refl) Asked
-          (votes.vote_says turn u w i Asked (goes_on w j _ ∙ rw (votes.all_seen turn u w i false e) refl)) refl)
+          (votes.vote_says turn u w i Asked (goes_on w j _ ∙ rw (votes.all_seen turn u w i false e) refl))
+          refl)
   own_fault _ (turns.reads_only u w ys p l e q) x f order = cases.reads_only turn u w ys l p e q x f order.is
   own_fault _ (turns.commits u w ys p l e s q) x f order = cases.commits turn u w ys l p s q x f order.is
   own_fault _ (turns.promises u w ys p l e s) x f order = cases.promises turn u w ys l p s x f order.is
@@ -140,7 +148,8 @@ module _ (turn : Turn) where
   own_fault _ (turns.passes_commit p i e q) x f order = ends.passes_commit turn p i e q x f order.is
   own_fault _ (turns.passes_abort p i e q) x f order = ends.passes_abort turn p i e q x f order.is
   own_fault _ (turns.repeats_yes j i e) x f order =
-      rests_fault _ x f order refl refl refl (rest_prepare turn j i (λ o. not_open turn Prepared e (λ z. cc) o))
+      rests_fault _ x f order refl refl refl
+      (rest_prepare turn j i (λ o. not_open turn Prepared e (λ z. cc) o))
   own_fault _ (turns.asks i e) x f order =
       rests_fault _ x f order refl refl refl (rested.rest_same turn (by_input.ask_act turn c i))
   own_fault _ (turns.refuses j i e) x f order =
@@ -169,14 +178,17 @@ module _ (turn : Turn) where
         )
         refl
 
-    by_wrote : (row : Row) → CaseTurn place parent n h d row → WroteElsewhere turn d other row.written → (x f : ℕ)
+    by_wrote : (row : Row) → CaseTurn place parent n h d row → WroteElsewhere turn d other row.written
+        → (x f : ℕ)
         → Ordered (row_effect d row) x f → Fails (row_effect d row) x f
     by_wrote row r w x f order = by_written w
       where
         y : Hears turn (row_effect d row)
-        y = hears.of_rests turn (row_effect d row) (heard_nothing row) (elsewhere_rows.rests_elsewhere turn d other row r)
+        y = hears.of_rests turn (row_effect d row) (heard_nothing row)
+            (elsewhere_rows.rests_elsewhere turn d other row r)
 
-        one : (s : Record) → entries_written row.written ≡ s ∷ [] → Unrelated turn s → Fails (row_effect d row) x f
+        one : (s : Record) → entries_written row.written ≡ s ∷ [] → Unrelated turn s
+            → Fails (row_effect d row) x f
         one s e u = elim (left_one x s) [
           | inl none ↦ nothing_appended turn (row_effect d row) x f order y (ap (λ l. take x l) e ∙ none)
           | inr all ↦ appended_elsewhere turn (row_effect d row) x f order y s (ap (λ l. take x l) e ∙ all) u
@@ -193,13 +205,16 @@ module _ (turn : Turn) where
     wrote_elsewhere _ (turns.asks_for_votes PresumeCommit i e g q) =
         one_forced _ refl (elsewhere.other_collecting turn d other _)
     wrote_elsewhere _ (turns.reads_only u w ys PresumeAbort l e q) = wrote_none refl
-    wrote_elsewhere _ (turns.reads_only u w ys PresumeCommit l e q) = one_plain _ refl (elsewhere.other_end turn d other)
+    wrote_elsewhere _ (turns.reads_only u w ys PresumeCommit l e q) = one_plain _ refl
+        (elsewhere.other_end turn d other)
     wrote_elsewhere _ (turns.commits u w ys PresumeAbort l e s q) =
         one_forced _ refl (elsewhere.other_commit turn d other ys)
     wrote_elsewhere _ (turns.commits u w ys PresumeCommit l e s q) =
         one_forced _ refl (elsewhere.other_commit turn d other [])
-    wrote_elsewhere _ (turns.promises u w ys p l e s) = one_forced _ refl (elsewhere.other_prepare turn d other ys)
-    wrote_elsewhere _ (turns.hears_no u us PresumeAbort i g q) = one_plain _ refl (elsewhere.other_abort turn d other [])
+    wrote_elsewhere _ (turns.promises u w ys p l e s) = one_forced _ refl
+        (elsewhere.other_prepare turn d other ys)
+    wrote_elsewhere _ (turns.hears_no u us PresumeAbort i g q) = one_plain _ refl
+        (elsewhere.other_abort turn d other [])
     wrote_elsewhere _ (turns.hears_no u us PresumeCommit i g q) =
         one_forced _ refl (elsewhere.other_abort turn d other us)
     wrote_elsewhere _ (turns.aborts why us PresumeAbort i e g q) =
@@ -210,7 +225,8 @@ module _ (turn : Turn) where
         one_forced _ refl (elsewhere.other_commit turn d other _)
     wrote_elsewhere _ (turns.passes_commit PresumeCommit i e q) =
         one_plain _ refl (elsewhere.other_commit turn d other [])
-    wrote_elsewhere _ (turns.passes_abort PresumeAbort i e q) = one_plain _ refl (elsewhere.other_abort turn d other [])
+    wrote_elsewhere _ (turns.passes_abort PresumeAbort i e q) = one_plain _ refl
+        (elsewhere.other_abort turn d other [])
     wrote_elsewhere _ (turns.passes_abort PresumeCommit i e q) =
         one_forced _ refl (elsewhere.other_abort turn d other _)
     wrote_elsewhere _ (turns.ends u o i e g j) = one_plain _ refl (elsewhere.other_end turn d other)
@@ -234,7 +250,8 @@ module _ (turn : Turn) where
 
   -- A case is born.
 
-  born_hears : (e : Effect) → heard_so e c t p0 ≡ p0 → Says turn Open p0.accepted p0.acked → at_root turn ≡ false → Hears turn e
+  born_hears : (e : Effect) → heard_so e c t p0 ≡ p0 → Says turn Open p0.accepted p0.acked → at_root turn
+      ≡ false → Hears turn e
   born_hears e is s b = record {
     phase = Open;
     accepted = p0.accepted;
@@ -251,16 +268,19 @@ module _ (turn : Turn) where
 
   fresh_fault : (p : ProcessId) (d : Case) → (s : parent ≡ Some p) → (i : HearsMessage h (Join d))
       → (e : active_ticket (memory_of place n d).active d ≡ None) → (x f : ℕ)
-      → Ordered (born.answer turn p d (born.fresh turn d)) x f → Fails (born.answer turn p d (born.fresh turn d)) x f
+      → Ordered (born.answer turn p d (born.fresh turn d)) x f
+      → Fails (born.answer turn p d (born.fresh turn d)) x f
   fresh_fault p d s i e x f order = by_test (same_case c (child_case d.txn (born.fresh turn d))) refl
     where
       by_test : (b : Bool) → born.IsFresh turn d b → Fails (born.answer turn p d (born.fresh turn d)) x f
       by_test false g =
           none_written turn (born.answer turn p d (born.fresh turn d)) x f order refl
-          (hears.of_rests turn (born.answer turn p d (born.fresh turn d)) refl (rests_as turn (born.fresh_elsewhere turn p d s i e g)))
+          (hears.of_rests turn (born.answer turn p d (born.fresh turn d)) refl
+          (rests_as turn (born.fresh_elsewhere turn p d s i e g)))
       by_test true g =
           none_written turn (born.answer turn p d (born.fresh turn d)) x f order refl
-          (born_hears (born.answer turn p d (born.fresh turn d)) refl (born.fresh_says turn p d s i e g) (is_below turn p s))
+          (born_hears (born.answer turn p d (born.fresh turn d)) refl (born.fresh_says turn p d s i e g)
+          (is_below turn p s))
 
   begin_fault : (q : Presumption) (s : parent ≡ None) (i : h.input ≡ ActInput (Begin q)) (x f : ℕ)
       → Ordered (begin_effect (born.begun_txn turn q)) x f → Fails (begin_effect (born.begun_txn turn q)) x f
@@ -269,29 +289,35 @@ module _ (turn : Turn) where
       by_test : (b : Bool) → born.IsNew turn q b → Fails (begin_effect (born.begun_txn turn q)) x f
       by_test false g =
           none_written turn (begin_effect (born.begun_txn turn q)) x f order refl
-          (hears.of_rests turn (begin_effect (born.begun_txn turn q)) refl (rests_as turn (born.begin_elsewhere turn q s i g)))
+          (hears.of_rests turn (begin_effect (born.begun_txn turn q)) refl
+          (rests_as turn (born.begin_elsewhere turn q s i g)))
       by_test true g =
           let at = born.at_the_root turn q s i in
           let u = (own.common turn).unborn (born.begin_unborn turn q s i g) in
           let fits = born.begin_fits turn q s i g in
-          nothing_as turn (begin_effect (born.begun_txn turn q)) x f order (take-nil {A = Record} x) Open p0.accepted p0.acked
+          nothing_as turn (begin_effect (born.begun_txn turn q)) x f order (take-nil {A = Record} x) Open
+          p0.accepted p0.acked
           (born.begin_says turn q s i g) p0 refl
           (read_as turn _ _
           (subst (λ b. o0 ≡ false → reading_from b manager o0 above (down p0.accepted p0.acked true p0) k v0
           ≡ crash.parent_fails (at_top.begins (reading_from b manager o0 above p0 k v0))) (sym at)
           (λ z. reading-fails_begun manager above o0 k p0 v0 u.no_commit z) (u.root_undecided at))
           (and_then turn (at_top.begins (reading turn)) _ fits
-          (moves.parent_fails c.txn.presumption (at_top.begins (reading turn)) fits.invariant (record { up = up }))))
+          (moves.parent_fails c.txn.presumption (at_top.begins (reading turn)) fits.invariant
+          (record { up = up }))))
 
   -- Each turn.
   pub turn_fails : (e : Effect) → CoordinatorTurn place parent n h e → (x f : ℕ) → Ordered e x f → Fails e x f
   turn_fails _ (turns.does_nothing i) x f order =
-      none_written turn no_effect x f order refl (hears.of_rests turn no_effect refl (no_case.of_no_case turn i))
+      none_written turn no_effect x f order refl
+      (hears.of_rests turn no_effect refl (no_case.of_no_case turn i))
   turn_fails _ (turns.of_case d row r) x f order = by_case (same_case_tells d c)
     where
-      by_case : ((same_case d c ≡ true) × (d ≡ c)) ⊎ ((same_case d c ≡ false) × (d ≢ c)) → Fails (row_effect d row) x f
+      by_case : ((same_case d c ≡ true) × (d ≡ c)) ⊎ ((same_case d c ≡ false) × (d ≢ c))
+          → Fails (row_effect d row) x f
       by_case (inl same) =
-          subst (λ (z : Case). CaseTurn place parent n h z row → Ordered (row_effect z row) x f → Fails (row_effect z row) x f)
+          subst (λ (z : Case). CaseTurn place parent n h z row → Ordered (row_effect z row) x f
+          → Fails (row_effect z row) x f)
           (sym same.1) (λ s o. own_fault row s x f (record { is = o })) r order
       by_case (inr other) = other_fault d other.0 row r x f order
   turn_fails _ (turns.begins q s i) x f order = begin_fault q s i x f order
@@ -301,4 +327,5 @@ module _ (turn : Turn) where
   turn_fails _ (turns.gives_fresh p d s i e) x f order = fresh_fault p d s i e x f order
   turn_fails _ (turns.presumes y u i none) x f order =
       none_written turn (no_case.told turn y u) x f order refl
-      (hears.of_rests turn (no_case.told turn y u) refl (rested.rest_same turn (by_input.inquires turn (child_case y u) i.0 i.1)))
+      (hears.of_rests turn (no_case.told turn y u) refl
+      (rested.rest_same turn (by_input.inquires turn (child_case y u) i.0 i.1)))

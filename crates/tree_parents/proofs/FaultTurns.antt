@@ -47,34 +47,43 @@ module _ (turn : Turn) where
     -- nothing was written
     pub none_written : e.written ≡ [] → Hears turn e → Fault_fine turn e x f
     none_written none y =
-        nothing_appended turn e x f order y (ap (λ ws. take x (entries_written ws)) none ∙ take-nil {A = Record} x)
+        nothing_appended turn e x f order y
+        (ap (λ ws. take x (entries_written ws)) none ∙ take-nil {A = Record} x)
 
     -- a record of the case was appended
-    pub record_appended : (r : Record) → left ≡ r ∷ [] → ((j : ℕ) → boot_after j r ≡ j) → (ph : Phase) (a b : Bool)
+    pub record_appended : (r : Record) → left ≡ r ∷ [] → ((j : ℕ) → boot_after j r ≡ j)
+        → (ph : Phase) (a b : Bool)
         → Says turn ph a b
         → (q : ParentHalf) → heard_so e c t p0 ≡ q
-        → Fits_in turn (seen turn o0 (down a b (begun_after ph (fails_in n h e x f) c) (wrote r c t promised q)) v0)
+        → Fits_in turn (seen turn o0 (down a b (begun_after ph (fails_in n h e x f) c)
+        (wrote r c t promised q)) v0)
         → Fault_fine turn e x f
     record_appended r one stays ph a b s q is fits =
         let now = begun_after ph (fails_in n h e x f) c in
         fault_fits turn e x f order (down a b now (wrote r c t promised q))
         (half_so turn e x f ph a b s (rw one (stays (boot_of (kept n))))
-        ∙ (half_fails_behind m.phase ph (in_list m.accepted t) a (acked_of m c t) b n h e x f c t (nested.forced_is_old (is_prepare c)) r one
-        ∙ ap (λ (p : ParentHalf). cut (parent_front c (fails_in n h e x f).forced) (down a b now (wrote r c t promised p))) is))
-        refl (ap (λ (p : ParentHalf). p.collecting_forced) (sym is)) (ap (λ (p : ParentHalf). p.own_prepare_forced) (sym is))
+        ∙ (half_fails_behind m.phase ph (in_list m.accepted t) a (acked_of m c t) b n h e x f c t
+        (nested.forced_is_old (is_prepare c)) r one
+        ∙ ap (λ (p : ParentHalf). cut (parent_front c (fails_in n h e x f).forced)
+        (down a b now (wrote r c t promised p))) is))
+        refl (ap (λ (p : ParentHalf). p.collecting_forced) (sym is))
+        (ap (λ (p : ParentHalf). p.own_prepare_forced) (sym is))
         (ap (λ (p : ParentHalf). p.commit_forced) (sym is)) fits
 
     -- nothing was appended
     pub nothing_as : left ≡ [] → (ph : Phase) (a b : Bool) → Says turn ph a b → (q : ParentHalf)
         → heard_so e c t p0 ≡ q
-        → Fits_in turn (seen turn o0 (down a b (begun_after ph (fails_in n h e x f) c) q) v0) → Fault_fine turn e x f
+        → Fits_in turn (seen turn o0 (down a b (begun_after ph (fails_in n h e x f) c) q) v0)
+        → Fault_fine turn e x f
     nothing_as none ph a b s q is fits =
         let now = begun_after ph (fails_in n h e x f) c in
         fault_fits turn e x f order (down a b now q)
         (half_so turn e x f ph a b s (rw none refl)
-        ∙ (half_fails m.phase ph (in_list m.accepted t) a (acked_of m c t) b n h e x f c t (nested.forced_is_old (is_prepare c)) none
+        ∙ (half_fails m.phase ph (in_list m.accepted t) a (acked_of m c t) b n h e x f c t
+        (nested.forced_is_old (is_prepare c)) none
         ∙ ap (λ (p : ParentHalf). cut (parent_front c (fails_in n h e x f).forced) (down a b now p)) is))
-        refl (ap (λ (p : ParentHalf). p.collecting_forced) (sym is)) (ap (λ (p : ParentHalf). p.own_prepare_forced) (sym is))
+        refl (ap (λ (p : ParentHalf). p.collecting_forced) (sym is))
+        (ap (λ (p : ParentHalf). p.own_prepare_forced) (sym is))
         (ap (λ (p : ParentHalf). p.commit_forced) (sym is)) fits
 
     -- the record was appended, or not

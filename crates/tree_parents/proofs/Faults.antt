@@ -1,4 +1,5 @@
--- A fault in an event of a coordinator, on the pair: the half that it leaves, and the forced front that stands then.
+-- A fault in an event of a coordinator, on the pair: the half that it leaves, and the forced front that
+-- stands then.
 use Rattle.std.proofs.Common.{◌≡◌, ◌∙◌, ◌⊎◌, inl, inr, ℕ, Bool, true, false, ◌||◌, ◌&&◌, List, [], ◌∷◌, ◌++◌, take, drop, refl, sym, ap, subst, arith}
 use Rattle.std.proofs.lemmas.List.{append_assoc, take-append-drop}
 use Rattle.std.proofs.lemmas.List.Folds.{list_any-append}
@@ -77,7 +78,8 @@ cut front p = record p {
   commit_forced = front.commit;
 }
 
-module _ (ph ph' : Phase) (a a' k k' : Bool) (n : Node) (h : Heard) (e : Effect) (x f : ℕ) (c : Case) (t : Ticket)
+module _ (ph ph' : Phase) (a a' k k' : Bool) (n : Node) (h : Heard) (e : Effect) (x f : ℕ) (c : Case)
+    (t : Ticket)
     (old : IsOld (is_prepare c) n) where
   abbrev after_fault : Node
   after_fault = fails_in n h e x f
@@ -90,7 +92,12 @@ module _ (ph ph' : Phase) (a a' k k' : Bool) (n : Node) (h : Heard) (e : Effect)
       ≡ cut (parent_front c after_fault.forced) (down a' k' now (heard_so e c t (half_of ph a k n c t)))
   half_fails none =
       rw none
-      (simp (ever-cut (is_prepare c) n.forced f (n.unforced ++ []) n.durable old, has-cut, has-nil_behind, list_any-append))
+      (simp (
+        ever-cut (is_prepare c) n.forced f (n.unforced ++ []) n.durable old,
+        has-cut,
+        has-nil_behind,
+        list_any-append,
+      ))
 
   pub half_fails_behind : (r : Record) → take x (entries_written e.written) ≡ r ∷ []
       → half_of ph' a' k' after_fault c t
@@ -98,7 +105,13 @@ module _ (ph ph' : Phase) (a a' k k' : Bool) (n : Node) (h : Heard) (e : Effect)
       (down a' k' now (wrote r c t (has (is_prepare c) n.life) (heard_so e c t (half_of ph a k n c t))))
   half_fails_behind r one =
       rw one
-      (simp (ever-cut (is_prepare c) n.forced f (n.unforced ++ r ∷ []) n.durable old, has-cut, has-push_behind, has-cons, list_any-append))
+      (simp (
+        ever-cut (is_prepare c) n.forced f (n.unforced ++ r ∷ []) n.durable old,
+        has-cut,
+        has-push_behind,
+        has-cons,
+        list_any-append,
+      ))
 
 -- A front of a list in order.
 
@@ -126,7 +139,8 @@ behind_front q r (z ∷ xs) ys none e g =
         → (q z || has q xs) ≡ true
     by_either (inl now) j s w k = left _ _ now
     by_either (inr rest) (inr later) s w k = right _ _ (k s later rest)
-    by_either (inr rest) (inl here) s w k = clash (r z && has q (xs ++ ys)) (and_so (r z) (has q (xs ++ ys)) here rest) w
+    by_either (inr rest) (inl here) s w k = clash (r z && has q (xs ++ ys))
+        (and_so (r z) (has q (xs ++ ys)) here rest) w
 
 -- Readings.
 
@@ -138,12 +152,14 @@ implied_root : (a b x : Bool) → (a ≡ true → b ≡ true) → (b || ((true &
 implied_root true b x f = rw (f refl) refl
 implied_root false b x f = refl
 
-pub reading-cut : (root manager above o : Bool) (k : ChildHalf) (front : ParentFront) (p : ParentHalf) (v : Wire)
+pub reading-cut : (root manager above o : Bool) (k : ChildHalf) (front : ParentFront) (p : ParentHalf)
+    (v : Wire)
     → (front.commit ≡ true → p.commit_kept ≡ true) → (front.own_prepare ≡ true → p.own_prepare_kept ≡ true)
     → reading_from root manager ((root && front.commit) || o) above (cut front p) k v
     ≡ crash.hardens_failed_parent front (reading_from root manager o above p k v)
 reading-cut true manager above o k front p v f g = simp (implied_root front.commit p.commit_kept o f)
-reading-cut false manager above o k front p v f g = simp (implied front.own_prepare p.own_prepare_kept p.own_prepare_ever g)
+reading-cut false manager above o k front p v f g = simp
+    (implied front.own_prepare p.own_prepare_kept p.own_prepare_ever g)
 
 module _ (turn : Turn) where
   open turn use {place, n, h, net, c, t, manager, outcome, above, k, rooted, nested}
@@ -157,7 +173,8 @@ module _ (turn : Turn) where
   -- the fault keeps the invariant
   abbrev pub Fault_fine : Effect → ℕ → ℕ → Type 0
   Fault_fine e x f = Fits c.txn.presumption (reading turn)
-      (seen turn (outcome_in place.role (fails_in n h e x f) c outcome) (parent_half place (fails_in n h e x f) c t) v0)
+      (seen turn (outcome_in place.role (fails_in n h e x f) c outcome)
+      (parent_half place (fails_in n h e x f) c t) v0)
 
   old_is : (q : Record → Bool) → IsOld q n
   old_is q e = nested.forced_is_old q e
@@ -166,14 +183,16 @@ module _ (turn : Turn) where
       → outcome_in role (fails_in n h e x f) c outcome
       ≡ ((b && has (is_commit c) (fails_in n h e x f).forced) || outcome_in role n c outcome)
   outcome_then AtRoot b e x f i =
-      rw i (ever-cut (is_commit c) n.forced f (n.unforced ++ take x (entries_written e.written)) n.durable (old_is (is_commit c)))
+      rw i (ever-cut (is_commit c) n.forced f (n.unforced ++ take x (entries_written e.written)) n.durable
+      (old_is (is_commit c)))
   outcome_then (Below p) b e x f i = rw i refl
   outcome_then (AtLeaf p) b e x f i = rw i refl
 
   module _ (e : Effect) (x f : ℕ) (order : InOrder c (kept (fails_in n h e x f))) (q : ParentHalf)
       (is : parent_half place (fails_in n h e x f) c t ≡ cut (parent_front c (fails_in n h e x f).forced) q)
       (down_so : q.failed ≡ true) (collecting_so : q.collecting_forced ≡ p0.collecting_forced)
-      (prepare_so : q.own_prepare_forced ≡ p0.own_prepare_forced) (commit_so : q.commit_forced ≡ p0.commit_forced) where
+      (prepare_so : q.own_prepare_forced ≡ p0.own_prepare_forced)
+      (commit_so : q.commit_forced ≡ p0.commit_forced) where
     abbrev k' : Node
     k' = fails_in n h e x f
 
@@ -218,12 +237,18 @@ module _ (turn : Turn) where
       had_commit = λ i. sym commit_is ∙ in_kept (is_commit c) i;
       had_abort = λ i. sym abort_is ∙ in_kept (is_abort c) i;
       had_end = λ i. sym end_is ∙ in_kept (is_end c) i;
-      promise_behind_collecting = λ i j. stands_so (is_collecting c) (is_prepare c) order.collecting_promise i (collecting_is ∙ j);
-      commit_behind_collecting = λ i j. stands_so (is_collecting c) (is_commit c) order.collecting_commit i (collecting_is ∙ j);
-      commit_behind_promise = λ i j. stands_so (is_prepare c) (is_commit c) order.promise_commit i (prepare_is ∙ j);
-      abort_behind_collecting = λ i j. stands_so (is_collecting c) (is_abort c) order.collecting_abort i (collecting_is ∙ j);
-      abort_behind_promise = λ i j. stands_so (is_prepare c) (is_abort c) order.promise_abort i (prepare_is ∙ j);
-      end_behind_collecting = λ i j. stands_so (is_collecting c) (is_end c) order.collecting_end i (collecting_is ∙ j);
+      promise_behind_collecting = λ i j. stands_so (is_collecting c) (is_prepare c)
+          order.collecting_promise i (collecting_is ∙ j);
+      commit_behind_collecting = λ i j. stands_so (is_collecting c) (is_commit c) order.collecting_commit
+          i (collecting_is ∙ j);
+      commit_behind_promise = λ i j. stands_so (is_prepare c) (is_commit c) order.promise_commit i
+          (prepare_is ∙ j);
+      abort_behind_collecting = λ i j. stands_so (is_collecting c) (is_abort c) order.collecting_abort i
+          (collecting_is ∙ j);
+      abort_behind_promise = λ i j. stands_so (is_prepare c) (is_abort c) order.promise_abort i
+          (prepare_is ∙ j);
+      end_behind_collecting = λ i j. stands_so (is_collecting c) (is_end c) order.collecting_end i
+          (collecting_is ∙ j);
       end_behind_commit = λ i j. stands_so (is_commit c) (is_end c) order.commit_end i (commit_is ∙ j);
       end_behind_abort = λ i j. stands_so (is_abort c) (is_end c) order.abort_end i (abort_is ∙ j);
     }
@@ -239,4 +264,5 @@ module _ (turn : Turn) where
         (sym (reading-cut (at_root turn) manager above (told_outcome turn) k front q v0
         (λ i. sym commit_is ∙ in_kept (is_commit c) i) (λ i. sym prepare_is ∙ in_kept (is_prepare c) i)))
         (onward c.txn.presumption (reading turn) r (crash.hardens_failed_parent front r) fits
-        (moves.hardens_failed c.txn.presumption front r fits.invariant (record { failed = down_so; front_of = is_front })))))
+        (moves.hardens_failed c.txn.presumption front r fits.invariant
+        (record { failed = down_so; front_of = is_front })))))

@@ -83,15 +83,18 @@ open_if_active PresumeCommit Asked e = absurd (cc)
 open_if_active PresumeAbort Over e = absurd (cc)
 open_if_active PresumeCommit Over e = absurd (cc)
 
-pub active_is_open : (place : Place) (n : Node) (c : Case) → (coordinator_view place n c).standing ≡ ActiveStanding
+pub active_is_open : (place : Place) (n : Node) (c : Case) → (coordinator_view place n c).standing
+    ≡ ActiveStanding
     → (memory_of place n c).phase ≡ Open
 active_is_open place n c e =
     let ph = (memory_of place n c).phase in
     let s : standing_at (kept n) c ph ≡ ActiveStanding = sym (viewed place n c) ∙ e in
-    open_if_active c.txn.presumption ph (sym (unrecorded_stands (kept n) c ph (active_unrecorded (kept n) c ph s)) ∙ s)
+    open_if_active c.txn.presumption ph
+    (sym (unrecorded_stands (kept n) c ph (active_unrecorded (kept n) c ph s)) ∙ s)
 
 -- a case that is neither open nor asked is closed
-closed_so : (s : Standing) → (s ≡ ActiveStanding → ⊥) → (s ≡ CollectingStanding → ⊥) → phase_by false s ≡ Closed
+closed_so : (s : Standing) → (s ≡ ActiveStanding → ⊥) → (s ≡ CollectingStanding → ⊥) → phase_by false s
+    ≡ Closed
 closed_so ActiveStanding f g = absurd (f refl)
 closed_so CollectingStanding f g = absurd (g refl)
 closed_so Unknown f g = refl
@@ -100,7 +103,8 @@ closed_so Committing f g = refl
 closed_so Aborting f g = refl
 closed_so Heuristic f g = refl
 
-phases : (s : Standing) (ph : MemoryPhase) → (s ≡ ActiveStanding → ph ≡ Open) → (ph ≡ Open → s ≡ ActiveStanding)
+phases : (s : Standing) (ph : MemoryPhase) → (s ≡ ActiveStanding → ph ≡ Open)
+    → (ph ≡ Open → s ≡ ActiveStanding)
     → (ph ≡ Asked → s ≡ CollectingStanding) → (s ≡ CollectingStanding → ph ≡ Asked)
     → phase_by false s ≡ live_phase ph
 phases s Open f g k l = rw (g refl) refl

@@ -40,7 +40,8 @@ in_one xs ys t e = either _ _ (sym (list_any-append _ xs ys) ∙ e)
 
 record_names : (c : Case) (t : Ticket) (r : Record) → in_list (named_in c r) t ≡ true → is_naming c t r ≡ true
 record_names c t (CollectingRecord d ts) e =
-    let x = same_case d c && in_list ts t in left (x || false) false (left x false (named_if (same_case d c) ts t e))
+    let x = same_case d c && in_list ts t in left (x || false) false
+    (left x false (named_if (same_case d c) ts t e))
 record_names c t (PrepareRecord d ts) e =
     left (same_case d c && in_list ts t) false (named_if (same_case d c) ts t e)
 record_names c t (CommitRecord d ts) e = named_if (same_case d c) ts t e

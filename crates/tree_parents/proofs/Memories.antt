@@ -27,12 +27,14 @@ pub by_role : (role : Role) (parent : Option ProcessId) → IsSeat role parent �
 by_role _ _ top P a b = a
 by_role _ _ (under p) P a b = b p
 
-pub below_is : (role : Role) (parent : Option ProcessId) → IsSeat role parent → (P : Role → Type 0) (p : ProcessId)
+pub below_is : (role : Role) (parent : Option ProcessId) → IsSeat role parent
+    → (P : Role → Type 0) (p : ProcessId)
     → parent ≡ Some p → P (Below p) → P role
 below_is _ _ top P p e a = absurd (cc)
 below_is _ _ (under q) P p e a = subst (λ (x : ProcessId). P (Below x)) (let f : p ≡ q = cc in f) a
 
-pub top_is : (role : Role) (parent : Option ProcessId) → IsSeat role parent → (P : Role → Type 0) → parent ≡ None
+pub top_is : (role : Role) (parent : Option ProcessId) → IsSeat role parent → (P : Role → Type 0) → parent
+    ≡ None
     → P AtRoot → P role
 top_is _ _ top P e a = a
 top_is _ _ (under q) P e a = absurd (cc)
@@ -96,7 +98,8 @@ module _ (turn : Turn) where
       → m' ≡ (if same_case d c then sends_work m (ticket_of_child m.accepted q) m.phase else m)
   work_act d q op i = at_either _ _ i refl (λ p. refl)
 
-  pub vote_comes : (w : Vote) (x : Txn) (u : Ticket) (j : ℕ) → h.input ≡ MessageInput j (vote_message w (child_case x u))
+  pub vote_comes : (w : Vote) (x : Txn) (u : Ticket) (j : ℕ) → h.input
+      ≡ MessageInput j (vote_message w (child_case x u))
       → m' ≡ (if same_txn x c.txn then takes_vote m u w m.phase else m)
   vote_comes VoteYes x u j i = at_either _ _ i refl (λ p. refl)
   vote_comes VoteNo x u j i = at_either _ _ i refl (λ p. refl)
@@ -106,16 +109,22 @@ module _ (turn : Turn) where
   if_itself true = refl
   if_itself false = refl
 
-  pub unticketed_vote : (w : Vote) (x : Txn) (j : ℕ) → h.input ≡ MessageInput j (vote_message w (root_case x)) → m' ≡ m
-  unticketed_vote VoteYes x j i = at_either _ m i (if_itself (same_txn x c.txn)) (λ p. if_itself (same_txn x c.txn))
-  unticketed_vote VoteNo x j i = at_either _ m i (if_itself (same_txn x c.txn)) (λ p. if_itself (same_txn x c.txn))
-  unticketed_vote VoteRead x j i = at_either _ m i (if_itself (same_txn x c.txn)) (λ p. if_itself (same_txn x c.txn))
+  pub unticketed_vote : (w : Vote) (x : Txn) (j : ℕ) → h.input
+      ≡ MessageInput j (vote_message w (root_case x)) → m' ≡ m
+  unticketed_vote VoteYes x j i = at_either _ m i (if_itself (same_txn x c.txn))
+      (λ p. if_itself (same_txn x c.txn))
+  unticketed_vote VoteNo x j i = at_either _ m i (if_itself (same_txn x c.txn))
+      (λ p. if_itself (same_txn x c.txn))
+  unticketed_vote VoteRead x j i = at_either _ m i (if_itself (same_txn x c.txn))
+      (λ p. if_itself (same_txn x c.txn))
 
-  pub ack_comes : (o : Outcome) (x : Txn) (u : Ticket) (j : ℕ) → h.input ≡ MessageInput j (Ack (child_case x u) o)
+  pub ack_comes : (o : Outcome) (x : Txn) (u : Ticket) (j : ℕ) → h.input
+      ≡ MessageInput j (Ack (child_case x u) o)
       → m' ≡ (if same_txn x c.txn then takes_ack m u o m.phase else m)
   ack_comes o x u j i = at_either _ _ i refl (λ p. refl)
 
-  pub unticketed_ack : (o : Outcome) (x : Txn) (j : ℕ) → h.input ≡ MessageInput j (Ack (root_case x) o) → m' ≡ m
+  pub unticketed_ack : (o : Outcome) (x : Txn) (j : ℕ) → h.input ≡ MessageInput j (Ack (root_case x) o)
+      → m' ≡ m
   unticketed_ack o x j i = at_either _ m i (if_itself (same_txn x c.txn)) (λ p. if_itself (same_txn x c.txn))
 
   -- Inputs of the root alone.
@@ -128,22 +137,26 @@ module _ (turn : Turn) where
       → m' ≡ (if same_case (root_case x) c then closes m m.phase else m)
   abort_act x s i = at_top s _ _ i refl
 
-  pub commit_act_elsewhere : (x : Txn) → same_case (root_case x) c ≡ false → h.input ≡ ActInput (CommitAct x) → m' ≡ m
+  pub commit_act_elsewhere : (x : Txn) → same_case (root_case x) c ≡ false → h.input
+      ≡ ActInput (CommitAct x) → m' ≡ m
   commit_act_elsewhere x e i = at_either _ m i (rw e refl) (λ p. refl)
 
-  pub abort_act_elsewhere : (x : Txn) → same_case (root_case x) c ≡ false → h.input ≡ ActInput (AbortAct x) → m' ≡ m
+  pub abort_act_elsewhere : (x : Txn) → same_case (root_case x) c ≡ false → h.input
+      ≡ ActInput (AbortAct x) → m' ≡ m
   abort_act_elsewhere x e i = at_either _ m i (rw e refl) (λ p. refl)
 
   pub begin_act : (p : Presumption) → parent ≡ None → h.input ≡ ActInput (Begin p)
       → m' ≡ begins place.me boot c m p
   begin_act p s i = at_top s _ _ i refl
 
-  pub root_passes : (x : Message) (j : ℕ) → parent ≡ None → h.input ≡ MessageInput j x → hears_child c m x ≡ m → m' ≡ m
+  pub root_passes : (x : Message) (j : ℕ) → parent ≡ None → h.input ≡ MessageInput j x → hears_child c m x
+      ≡ m → m' ≡ m
   root_passes x j s i e = at_top s _ m i e
 
   -- and of a coordinator below it
 
-  pub prepare_comes : (d : Case) (j l : ℕ) (p : ProcessId) → parent ≡ Some p → h.input ≡ MessageInput j (Prepare d l)
+  pub prepare_comes : (d : Case) (j l : ℕ) (p : ProcessId) → parent ≡ Some p → h.input
+      ≡ MessageInput j (Prepare d l)
       → m' ≡ (if same_case d c then asks_votes (retires m d) m.phase else retires m d)
   prepare_comes d j l p s i = at_below p s _ _ i refl
 

@@ -1,4 +1,5 @@
--- A parent's moves keep the invariant, one behind another: under either presumption, or under the one that has the move.
+-- A parent's moves keep the invariant, one behind another: under either presumption, or under the one that
+-- has the move.
 use Rattle.std.proofs.Common.{◌≡◌, false}
 use Rattle.tree_model.specs.declared.names.Presumption.{Presumption}
 use Rattle.tree_model.specs.declared.names.Presumption.TheVariants.{PresumeAbort, PresumeCommit}
@@ -91,7 +92,8 @@ pub asks_for_votes : (pr : Presumption) → pr ≡ PresumeAbort → Keeps pr mov
 asks_for_votes PresumeAbort e r h g = parent_abort.asks_for_votes r h g
 asks_for_votes PresumeCommit e r h g = absurd (cc)
 
-pub collects_votes : (pr : Presumption) → pr ≡ PresumeCommit → Keeps pr move.MayAskForVotes move.collects_votes
+pub collects_votes : (pr : Presumption) → pr ≡ PresumeCommit
+    → Keeps pr move.MayAskForVotes move.collects_votes
 collects_votes PresumeCommit e r h g = parent_commit.asks_for_votes r h g
 collects_votes PresumeAbort e r h g = absurd (cc)
 
@@ -119,7 +121,8 @@ pub ends_abort : (pr : Presumption) → pr ≡ PresumeCommit → Keeps pr move.M
 ends_abort PresumeCommit e r h g = parent_commit.ends r h g
 ends_abort PresumeAbort e r h g = absurd (cc)
 
-pub answers_commit : (pr : Presumption) → pr ≡ PresumeAbort → Keeps pr move.MayAnswerCommit move.answers_commit
+pub answers_commit : (pr : Presumption) → pr ≡ PresumeAbort
+    → Keeps pr move.MayAnswerCommit move.answers_commit
 answers_commit PresumeAbort e r h g = parent_abort.answers_commit r h g
 answers_commit PresumeCommit e r h g = absurd (cc)
 
@@ -131,7 +134,8 @@ pub presumes_abort : (pr : Presumption) → pr ≡ PresumeAbort → Keeps pr mov
 presumes_abort PresumeAbort e r h g = parent_abort.presumes r h g
 presumes_abort PresumeCommit e r h g = absurd (cc)
 
-pub presumes_commit : (pr : Presumption) → pr ≡ PresumeCommit → Keeps pr move.MayPresumeCommit move.answers_commit
+pub presumes_commit : (pr : Presumption) → pr ≡ PresumeCommit
+    → Keeps pr move.MayPresumeCommit move.answers_commit
 presumes_commit PresumeCommit e r h g = parent_commit.presumes r h g
 presumes_commit PresumeAbort e r h g = absurd (cc)
 
@@ -139,7 +143,8 @@ pub ends_read_only : (pr : Presumption) → pr ≡ PresumeAbort → Keeps pr roo
 ends_read_only PresumeAbort e r h g = root_abort.ends_read_only r h g
 ends_read_only PresumeCommit e r h g = absurd (cc)
 
-pub ends_read_only_collected : (pr : Presumption) → pr ≡ PresumeCommit → Keeps pr root.MayEndReadOnly root.ends_read_only_collected
+pub ends_read_only_collected : (pr : Presumption) → pr ≡ PresumeCommit
+    → Keeps pr root.MayEndReadOnly root.ends_read_only_collected
 ends_read_only_collected PresumeCommit e r h g = root_commit.ends_read_only r h g
 ends_read_only_collected PresumeAbort e r h g = absurd (cc)
 
@@ -155,11 +160,13 @@ pub reads_up : (pr : Presumption) → pr ≡ PresumeAbort → Keeps pr below.May
 reads_up PresumeAbort e r h g = cascaded_abort.reads_up r h g
 reads_up PresumeCommit e r h g = absurd (cc)
 
-pub reads_up_collected : (pr : Presumption) → pr ≡ PresumeCommit → Keeps pr below.MayReadUp below.reads_up_collected
+pub reads_up_collected : (pr : Presumption) → pr ≡ PresumeCommit
+    → Keeps pr below.MayReadUp below.reads_up_collected
 reads_up_collected PresumeCommit e r h g = cascaded_commit.reads_up r h g
 reads_up_collected PresumeAbort e r h g = absurd (cc)
 
-pub passes_commit_forced : (pr : Presumption) → pr ≡ PresumeAbort → Keeps pr below.MayPassCommit below.passes_commit_forced
+pub passes_commit_forced : (pr : Presumption) → pr ≡ PresumeAbort
+    → Keeps pr below.MayPassCommit below.passes_commit_forced
 passes_commit_forced PresumeAbort e r h g = cascaded_abort.passes_commit r h g
 passes_commit_forced PresumeCommit e r h g = absurd (cc)
 
@@ -171,11 +178,13 @@ pub passes_abort : (pr : Presumption) → pr ≡ PresumeAbort → Keeps pr below
 passes_abort PresumeAbort e r h g = cascaded_abort.passes_abort r h g
 passes_abort PresumeCommit e r h g = absurd (cc)
 
-pub passes_abort_forced : (pr : Presumption) → pr ≡ PresumeCommit → Keeps pr below.MayPassAbort below.passes_abort_forced
+pub passes_abort_forced : (pr : Presumption) → pr ≡ PresumeCommit
+    → Keeps pr below.MayPassAbort below.passes_abort_forced
 passes_abort_forced PresumeCommit e r h g = cascaded_commit.passes_abort r h g
 passes_abort_forced PresumeAbort e r h g = absurd (cc)
 
-pub fails_to_collect : (pr : Presumption) → pr ≡ PresumeCommit → Keeps pr crash.MayFailToCollect crash.fails_to_collect
+pub fails_to_collect : (pr : Presumption) → pr ≡ PresumeCommit
+    → Keeps pr crash.MayFailToCollect crash.fails_to_collect
 fails_to_collect PresumeCommit e r h g = crash_commit.fails_to_collect r h g
 fails_to_collect PresumeAbort e r h g = absurd (cc)
 
@@ -183,15 +192,18 @@ pub fails_to_abort : (pr : Presumption) → pr ≡ PresumeAbort → Keeps pr mov
 fails_to_abort PresumeAbort e r h g = crash_abort.fails_to_abort r h g
 fails_to_abort PresumeCommit e r h g = absurd (cc)
 
-pub fails_to_abort_naming : (pr : Presumption) → pr ≡ PresumeCommit → Keeps pr move.MayAbort crash.fails_to_abort_naming
+pub fails_to_abort_naming : (pr : Presumption) → pr ≡ PresumeCommit
+    → Keeps pr move.MayAbort crash.fails_to_abort_naming
 fails_to_abort_naming PresumeCommit e r h g = crash_commit.fails_to_abort r h g
 fails_to_abort_naming PresumeAbort e r h g = absurd (cc)
 
-pub fails_to_end_read_only : (pr : Presumption) → pr ≡ PresumeCommit → Keeps pr crash.MayFailToEndReadOnly crash.fails_to_end_read_only
+pub fails_to_end_read_only : (pr : Presumption) → pr ≡ PresumeCommit
+    → Keeps pr crash.MayFailToEndReadOnly crash.fails_to_end_read_only
 fails_to_end_read_only PresumeCommit e r h g = crash_commit.fails_to_end_read_only r h g
 fails_to_end_read_only PresumeAbort e r h g = absurd (cc)
 
-pub fails_to_decide_naming : (pr : Presumption) → pr ≡ PresumeAbort → Keeps pr root.MayDecide crash.fails_to_decide_naming
+pub fails_to_decide_naming : (pr : Presumption) → pr ≡ PresumeAbort
+    → Keeps pr root.MayDecide crash.fails_to_decide_naming
 fails_to_decide_naming PresumeAbort e r h g = crash_abort.fails_to_decide r h g
 fails_to_decide_naming PresumeCommit e r h g = absurd (cc)
 
@@ -199,26 +211,32 @@ pub fails_to_decide : (pr : Presumption) → pr ≡ PresumeCommit → Keeps pr r
 fails_to_decide PresumeCommit e r h g = crash_commit.fails_to_decide r h g
 fails_to_decide PresumeAbort e r h g = absurd (cc)
 
-pub fails_to_pass_commit_naming : (pr : Presumption) → pr ≡ PresumeAbort → Keeps pr below.MayPassCommit crash.fails_to_pass_commit_naming
+pub fails_to_pass_commit_naming : (pr : Presumption) → pr ≡ PresumeAbort
+    → Keeps pr below.MayPassCommit crash.fails_to_pass_commit_naming
 fails_to_pass_commit_naming PresumeAbort e r h g = crash_abort.fails_to_pass_commit r h g
 fails_to_pass_commit_naming PresumeCommit e r h g = absurd (cc)
 
-pub fails_to_pass_commit : (pr : Presumption) → pr ≡ PresumeCommit → Keeps pr below.MayPassCommit crash.fails_to_pass_commit
+pub fails_to_pass_commit : (pr : Presumption) → pr ≡ PresumeCommit
+    → Keeps pr below.MayPassCommit crash.fails_to_pass_commit
 fails_to_pass_commit PresumeCommit e r h g = crash_commit.fails_to_pass_commit r h g
 fails_to_pass_commit PresumeAbort e r h g = absurd (cc)
 
-pub fails_to_pass_abort : (pr : Presumption) → pr ≡ PresumeAbort → Keeps pr below.MayPassAbort crash.fails_to_pass_abort
+pub fails_to_pass_abort : (pr : Presumption) → pr ≡ PresumeAbort
+    → Keeps pr below.MayPassAbort crash.fails_to_pass_abort
 fails_to_pass_abort PresumeAbort e r h g = crash_abort.fails_to_pass_abort r h g
 fails_to_pass_abort PresumeCommit e r h g = absurd (cc)
 
-pub fails_to_pass_abort_naming : (pr : Presumption) → pr ≡ PresumeCommit → Keeps pr below.MayPassAbort crash.fails_to_pass_abort_naming
+pub fails_to_pass_abort_naming : (pr : Presumption) → pr ≡ PresumeCommit
+    → Keeps pr below.MayPassAbort crash.fails_to_pass_abort_naming
 fails_to_pass_abort_naming PresumeCommit e r h g = crash_commit.fails_to_pass_abort r h g
 fails_to_pass_abort_naming PresumeAbort e r h g = absurd (cc)
 
-pub fails_to_end_commit : (pr : Presumption) → pr ≡ PresumeAbort → Keeps pr move.MayEndCommit crash.fails_to_end
+pub fails_to_end_commit : (pr : Presumption) → pr ≡ PresumeAbort
+    → Keeps pr move.MayEndCommit crash.fails_to_end
 fails_to_end_commit PresumeAbort e r h g = crash_abort.fails_to_end r h g
 fails_to_end_commit PresumeCommit e r h g = absurd (cc)
 
-pub fails_to_end_abort : (pr : Presumption) → pr ≡ PresumeCommit → Keeps pr move.MayEndAbort crash.fails_to_end
+pub fails_to_end_abort : (pr : Presumption) → pr ≡ PresumeCommit
+    → Keeps pr move.MayEndAbort crash.fails_to_end
 fails_to_end_abort PresumeCommit e r h g = crash_commit.fails_to_end r h g
 fails_to_end_abort PresumeAbort e r h g = absurd (cc)

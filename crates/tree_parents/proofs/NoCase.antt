@@ -46,7 +46,8 @@ use Rattle.tree_parents.proofs.Wires as wires
 use Rattle.tree_parents.proofs.Wires.{same_children}
 use Rattle.tree_parents.proofs.Writes.{stands_so}
 
-in_filtered : (f : Case → Bool) (cs : List Case) (c : Case) → f c ≡ true → list_any (λ y. same_case y c) cs ≡ true
+in_filtered : (f : Case → Bool) (cs : List Case) (c : Case) → f c ≡ true
+    → list_any (λ y. same_case y c) cs ≡ true
     → list_any (λ y. same_case y c) (filter f cs) ≡ true
 in_filtered f [] c e i = absurd (cc)
 in_filtered f (d ∷ cs) c e i = by_test (f d) refl (either _ _ i) (in_filtered f cs c e)
@@ -114,24 +115,30 @@ module _ (turn : Turn) where
 
   looked_at : (r : Role) (o : Option ProcessId) → IsSeat r o → is_root_ticket c.ticket ≡ is_top r → (x : Txn)
       → same_txn x c.txn ≡ true
-      → (is_top r ≡ false → list_any (λ y. same_case y c) (cases_in (kept n) ++ (memory_of place n (some_case place)).issued) ≡ true)
+      → (is_top r ≡ false → list_any (λ y. same_case y c)
+      (cases_in (kept n) ++ (memory_of place n (some_case place)).issued) ≡ true)
       → list_any (λ y. same_case y c) (own_cases r place n x) ≡ true
   looked_at _ _ top e x s f = left _ _ (roots_case c.ticket refl e)
     where
-      roots_case : (u : Option Ticket) → c.ticket ≡ u → is_root_ticket c.ticket ≡ true → same_case (root_case x) c ≡ true
+      roots_case : (u : Option Ticket) → c.ticket ≡ u → is_root_ticket c.ticket ≡ true
+          → same_case (root_case x) c ≡ true
       roots_case None g k =
-          subst (λ (o : Option Ticket). same_case (root_case x) (record { txn = c.txn; ticket = o }) ≡ true) (sym g) (grind (arith, names, s))
+          subst (λ (o : Option Ticket). same_case (root_case x) (record { txn = c.txn; ticket = o })
+          ≡ true) (sym g) (grind (arith, names, s))
       roots_case (Some u) g k = absurd (let z = sym (ap is_root_ticket g) ∙ k in cc)
   looked_at _ _ (under p) e x s f = in_filtered (λ y. same_txn y.txn x) _ c (turned x c.txn s) (f refl)
 
-  cascades : (r : Role) (o : Option ProcessId) → IsSeat r o → is_top r ≡ false → RoleHolds r place net n → Cascades place net n
+  cascades : (r : Role) (o : Option ProcessId) → IsSeat r o → is_top r ≡ false → RoleHolds r place net n
+      → Cascades place net n
   cascades _ _ top e x = absurd (cc)
   cascades _ _ (under p) e x = x.1.0
 
-  in_first_part : (xs ys : List Case) → list_any (λ y. same_case y c) xs ≡ true → list_any (λ y. same_case y c) (xs ++ ys) ≡ true
+  in_first_part : (xs ys : List Case) → list_any (λ y. same_case y c) xs ≡ true
+      → list_any (λ y. same_case y c) (xs ++ ys) ≡ true
   in_first_part xs ys e = list_any-append _ xs ys ∙ left _ _ e
 
-  in_second_part : (xs ys : List Case) → list_any (λ y. same_case y c) ys ≡ true → list_any (λ y. same_case y c) (xs ++ ys) ≡ true
+  in_second_part : (xs ys : List Case) → list_any (λ y. same_case y c) ys ≡ true
+      → list_any (λ y. same_case y c) (xs ++ ys) ≡ true
   in_second_part xs ys e = list_any-append _ xs ys ∙ right _ _ e
 
   has_so : (cs : List Case) → has_case cs c ≡ true → list_any (λ y. same_case y c) cs ≡ true
@@ -143,14 +150,17 @@ module _ (turn : Turn) where
   accepted_is_looked_at x u s e =
       looked_at place.role parent seat rooted x s
       (λ below. let q = cascades place.role parent seat below by_role in
-      in_second_part (cases_in (kept n)) _ (has_so _ (q.issued c (λ idle. clash (in_list m.accepted u) e (q.idle_accepts_none c u idle)))))
+      in_second_part (cases_in (kept n)) _
+      (has_so _ (q.issued c (λ idle. clash (in_list m.accepted u) e (q.idle_accepts_none c u idle)))))
 
-  named_is_looked_at : (x : Txn) (u : Ticket) → same_txn x c.txn ≡ true → in_list (named_by c (kept n)) u ≡ true
+  named_is_looked_at : (x : Txn) (u : Ticket) → same_txn x c.txn ≡ true → in_list (named_by c (kept n)) u
+      ≡ true
       → list_any (λ y. same_case y c) (own_cases place.role place n x) ≡ true
   named_is_looked_at x u s e =
       looked_at place.role parent seat rooted x s
       (λ below. in_first_part (cases_in (kept n)) _ (has_so _
-      (recorded_case c (kept n) (has_other (is_naming c u) (is_record_of c) (kept n) is_of_case (records_name c u (kept n) e)))))
+      (recorded_case c (kept n) (has_other (is_naming c u) (is_record_of c) (kept n) is_of_case
+      (records_name c u (kept n) e)))))
     where
       is_of_case : (r : Record) → is_naming c u r ≡ true → is_record_of c r ≡ true
       is_of_case (CollectingRecord d ts) f = first (same_case d c) (in_list ts u) (flat _ f)
@@ -188,11 +198,13 @@ module _ (turn : Turn) where
   not_there x u none false f g = refl
   not_there x u none true f g =
       clash (belongs m (kept n) c u) (g refl)
-      (none_passes (λ y. belongs (memory_of place n y) (kept n) y u) (own_cases place.role place n x) c none (f refl))
+      (none_passes (λ y. belongs (memory_of place n y) (kept n) y u) (own_cases place.role place n x) c
+      none (f refl))
 
   pub not_accepted : (x : Txn) (u : Ticket) → same_txn x c.txn ≡ true → case_of_child place n x u ≡ None
       → in_list m.accepted u ≡ false
-  not_accepted x u s none = not_there x u none (in_list m.accepted u) (accepted_is_looked_at x u s) (λ e. left _ _ e)
+  not_accepted x u s none = not_there x u none (in_list m.accepted u) (accepted_is_looked_at x u s)
+      (λ e. left _ _ e)
 
   not_named : (x : Txn) (u : Ticket) → same_txn x c.txn ≡ true → case_of_child place n x u ≡ None
       → in_list (named_by c (kept n)) u ≡ false
@@ -202,7 +214,16 @@ module _ (turn : Turn) where
   -- Nothing is done.
 
   idle_effect : DoesNothing turn no_effect
-  idle_effect = record { accepts = refl; yes_votes = refl; no_votes = refl; read_votes = refl; committed = refl; aborted = refl; told = refl }
+  idle_effect = record {
+    accepts = refl;
+    yes_votes = refl;
+    no_votes = refl;
+    read_votes = refl;
+    committed =
+        refl;
+    aborted = refl;
+    told = refl;
+  }
 
   unticketed : (says : Case → Message) (x : Txn) → ChildSays says → Hears h (says (root_case x)) → Rests turn
   unticketed _ x (turns.votes w) i = rested.rest_same turn (by_input.unticketed_vote turn w x i.0 i.1)
@@ -214,13 +235,17 @@ module _ (turn : Turn) where
   nowhere _ x u (turns.votes w) i none =
       rested.rest_vote turn w x u i.0 i.1 (λ s a. rw (not_accepted x u s none) refl)
   nowhere _ x u (turns.acknowledged o) i none = rested.rest_ack turn o x u i.0 i.1
-  nowhere _ x u turns.inquires i none = rested.rest_same turn (by_input.inquires turn (child_case x u) i.0 i.1)
+  nowhere _ x u turns.inquires i none = rested.rest_same turn
+      (by_input.inquires turn (child_case x u) i.0 i.1)
 
-  not_taken : (msg : Message) → Hears h msg → (o : Option ProcessId) → parent ≡ o → IsNotTaken o msg → Rests turn
+  not_taken : (msg : Message) → Hears h msg → (o : Option ProcessId) → parent ≡ o → IsNotTaken o msg
+      → Rests turn
   not_taken (Work d l op) i o s e = rested.rest_same turn (by_input.work_comes turn d i.0 l op i.1)
   not_taken (Join d) i None s e = rested.rest_same turn (by_input.root_passes turn (Join d) i.0 s i.1 refl)
-  not_taken (Prepare d l) i None s e = rested.rest_same turn (by_input.root_passes turn (Prepare d l) i.0 s i.1 refl)
-  not_taken (Commit d) i None s e = rested.rest_same turn (by_input.root_passes turn (Commit d) i.0 s i.1 refl)
+  not_taken (Prepare d l) i None s e = rested.rest_same turn
+      (by_input.root_passes turn (Prepare d l) i.0 s i.1 refl)
+  not_taken (Commit d) i None s e = rested.rest_same turn
+      (by_input.root_passes turn (Commit d) i.0 s i.1 refl)
   not_taken (Abort d) i None s e = rested.rest_same turn (by_input.root_passes turn (Abort d) i.0 s i.1 refl)
   not_taken msg i o s e = absurd e
 
@@ -229,12 +254,15 @@ module _ (turn : Turn) where
   of_no_case (turns.belongs_nowhere says x u k i none) = nowhere says x u k i none
   of_no_case (turns.not_taken msg i e) = not_taken msg i parent refl e
 
-  pub does_nothing : IsOfNoCase place parent n h → IsOpenAlike place (after n h no_effect) c → Fine turn no_effect
-  does_nothing i later = quiet_fine turn no_effect later idle_effect (of_no_case i) (simp (wires.sent-none)) refl
+  pub does_nothing : IsOfNoCase place parent n h → IsOpenAlike place (after n h no_effect) c
+      → Fine turn no_effect
+  does_nothing i later = quiet_fine turn no_effect later idle_effect (of_no_case i)
+      (simp (wires.sent-none)) refl
 
   -- What is presumed is told.
 
-  stranger : (x : Txn) → same_txn x c.txn ≡ true → case_of_child place n x t ≡ None → pair.IsStranger (reading turn)
+  stranger : (x : Txn) → same_txn x c.txn ≡ true → case_of_child place n x t ≡ None
+      → pair.IsStranger (reading turn)
   stranger x s none = record {
     up = up;
     not_accepted = not_accepted x t s none;
@@ -256,7 +284,8 @@ module _ (turn : Turn) where
       decision_names (AbortRecord d ts) f = f
       decision_names r f = absurd (cc)
 
-      unnamed : (q : Record → Bool) → ((r : Record) → q r ≡ true → is_naming c t r ≡ true) → has q (kept n) ≡ false
+      unnamed : (q : Record → Bool) → ((r : Record) → q r ≡ true → is_naming c t r ≡ true)
+          → has q (kept n) ≡ false
       unnamed q f = by_test (has q (kept n)) refl
         where
           by_test : (b : Bool) → has q (kept n) ≡ b → has q (kept n) ≡ false
@@ -268,21 +297,27 @@ module _ (turn : Turn) where
   told x u = sends_only (post place.me u.child (tells_outcome (presumed x.presumption) (child_case x u)) ∷ [])
 
   -- the net behind it
-  told_wire_by : (x : Txn) (u : Ticket) (o : Outcome) (b : Bool) → same_case (child_case x u) (child_case c.txn t) ≡ b
-      → wire c t (net ++ post place.me u.child (tells_outcome o (child_case x u)) ∷ []) ≡ (if b then told_wire turn o else v0)
+  told_wire_by : (x : Txn) (u : Ticket) (o : Outcome) (b : Bool)
+      → same_case (child_case x u) (child_case c.txn t) ≡ b
+      → wire c t (net ++ post place.me u.child (tells_outcome o (child_case x u)) ∷ [])
+      ≡ (if b then told_wire turn o else v0)
   told_wire_by x u CommittedOutcome true e = wires.wire-commit c t net place.me u.child x u true e
   told_wire_by x u CommittedOutcome false e = wires.wire-commit c t net place.me u.child x u false e
   told_wire_by x u AbortedOutcome true e = wires.wire-abort c t net place.me u.child x u true e
   told_wire_by x u AbortedOutcome false e = wires.wire-abort c t net place.me u.child x u false e
 
-  presumed_fits : (p : Presumption) → c.txn.presumption ≡ p → v0.inquire ≡ true → pair.IsStranger (reading turn)
+  presumed_fits : (p : Presumption) → c.txn.presumption ≡ p → v0.inquire ≡ true
+      → pair.IsStranger (reading turn)
       → Fits_in turn (seen turn (told_outcome turn) p0 (told_wire turn (presumed p)))
   presumed_fits PresumeAbort q a s =
-      moves.presumes_abort c.txn.presumption q (reading turn) inv (record { asked = a; nothing_known = inr s })
+      moves.presumes_abort c.txn.presumption q (reading turn) inv
+      (record { asked = a; nothing_known = inr s })
   presumed_fits PresumeCommit q a s =
-      moves.presumes_commit c.txn.presumption q (reading turn) inv (record { asked = a; nothing_known = inr s })
+      moves.presumes_commit c.txn.presumption q (reading turn) inv
+      (record { asked = a; nothing_known = inr s })
 
-  pub presumes : (x : Txn) (u : Ticket) → Hears h (Inquire (child_case x u)) → case_of_child place n x u ≡ None
+  pub presumes : (x : Txn) (u : Ticket) → Hears h (Inquire (child_case x u)) → case_of_child place n x u
+      ≡ None
       → IsOpenAlike place (after n h (told x u)) c → Fine turn (told x u)
   presumes x u i none later = by_test (same_case (child_case x u) (child_case c.txn t)) refl
     where
@@ -293,12 +328,24 @@ module _ (turn : Turn) where
           → Fits_in turn (seen turn (told_outcome turn) p0 w) → Fine turn (told x u)
       sent_so w e f =
           fine_silent turn (told x u) later m.phase p0.accepted p0.acked says w e refl
-          (subst (λ (y : Bool). Fits_in turn (seen turn (told_outcome turn) (stands_so false m.phase p0.accepted p0.acked y p0) w))
+          (subst (λ (y : Bool). Fits_in turn
+          (seen turn (told_outcome turn) (stands_so false m.phase p0.accepted p0.acked y p0) w))
           (sym (begun_silent turn (told x u) refl
-          (record { accepts = refl; yes_votes = refl; no_votes = refl; read_votes = refl; committed = refl; aborted = refl; told = refl })))
-          (subst (λ (y : ParentHalf). Fits_in turn (seen turn (told_outcome turn) y w)) (sym (shown turn p0.acked)) f))
+          (record {
+            accepts = refl;
+            yes_votes = refl;
+            no_votes = refl;
+            read_votes = refl;
+            committed =
+                refl;
+            aborted = refl;
+            told = refl;
+          })))
+          (subst (λ (y : ParentHalf). Fits_in turn (seen turn (told_outcome turn) y w))
+          (sym (shown turn p0.acked)) f))
 
-      its : same_case (child_case x u) (child_case c.txn t) ≡ true → (same_txn x c.txn ≡ true) × (same_ticket u t ≡ true)
+      its : same_case (child_case x u) (child_case c.txn t) ≡ true → (same_txn x c.txn ≡ true)
+          × (same_ticket u t ≡ true)
       its e = both (same_txn x c.txn) (same_ticket u t) (sym (same_children x c.txn u t) ∙ e)
 
       presumption_is : same_txn x c.txn ≡ true → x.presumption ≡ c.txn.presumption
@@ -314,11 +361,14 @@ module _ (turn : Turn) where
       ]
 
       by_test : (b : Bool) → same_case (child_case x u) (child_case c.txn t) ≡ b → Fine turn (told x u)
-      by_test false e = sent_so v0 (told_wire_by x u (presumed x.presumption) false e) (unmoved c.txn.presumption (reading turn) inv)
+      by_test false e = sent_so v0 (told_wire_by x u (presumed x.presumption) false e)
+          (unmoved c.txn.presumption (reading turn) inv)
       by_test true e =
           let f = its e in
           sent_so (told_wire turn (presumed x.presumption)) (told_wire_by x u (presumed x.presumption) true e)
-          (subst (λ (p : Presumption). Fits_in turn (seen turn (told_outcome turn) p0 (told_wire turn (presumed p)))) (sym (presumption_is f.0))
+          (subst (λ (p : Presumption). Fits_in turn
+          (seen turn (told_outcome turn) p0 (told_wire turn (presumed p)))) (sym (presumption_is f.0))
           (presumed_fits c.txn.presumption refl
-          (was_sent (is_inquiry_message (child_case c.txn t)) net place.me h.input i.0 (Inquire (child_case x u)) stands i.1 e)
+          (was_sent (is_inquiry_message (child_case c.txn t)) net place.me h.input i.0
+          (Inquire (child_case x u)) stands i.1 e)
           (stranger x f.0 (none_of_it f.1))))

@@ -115,11 +115,13 @@ module _ (turn : Turn) where
 
   pub begun_by : {ph : Phase} → m.phase ≡ ph → is_begun ph ≡ true → p0.begun ≡ true
   begun_by f g =
-      ap (λ b. b || list_any (is_told_of_txn c.txn) n.told || list_any (λ y. same_txn y c.txn) n.found_undecided ||
+      ap (λ b. b || list_any (is_told_of_txn c.txn) n.told || list_any (λ y. same_txn y c.txn)
+      n.found_undecided ||
       has (is_commit c) n.life)
       (ap is_begun f ∙ g)
 
-  lives : (ph : Phase) → (ph ≡ Open) ⊎ (ph ≡ Asked) → m.phase ≡ ph → (pair.is_live p0.phase ≡ true) × (p0.begun ≡ true)
+  lives : (ph : Phase) → (ph ≡ Open) ⊎ (ph ≡ Asked) → m.phase ≡ ph → (pair.is_live p0.phase ≡ true)
+      × (p0.begun ≡ true)
   lives Open e f = (ap pair.is_live (phase_is Open pair.Active f refl), begun_by f refl)
   lives Asked e f = (ap pair.is_live (phase_is Asked pair.Collecting f refl), begun_by f refl)
   lives Idle (inl e) f = absurd (cc)
@@ -151,11 +153,13 @@ module _ (turn : Turn) where
 
   -- What is told.
 
-  pub told_aborted : is_told_so (is_told_aborted c.txn) (told_of c.txn (told_by parent ConcludedAborted)) ≡ at_root turn
+  pub told_aborted : is_told_so (is_told_aborted c.txn) (told_of c.txn (told_by parent ConcludedAborted))
+      ≡ at_root turn
   told_aborted = seat_is
       (λ s e. ap (λ o. is_told_so (is_told_aborted c.txn) (told_of c.txn (told_by o ConcludedAborted))) s
       ∙ (rw (same_txn-refl c.txn) refl ∙ sym e))
-      (λ p s e. ap (λ o. is_told_so (is_told_aborted c.txn) (told_of c.txn (told_by o ConcludedAborted))) s ∙ sym e)
+      (λ p s e. ap (λ o. is_told_so (is_told_aborted c.txn) (told_of c.txn (told_by o ConcludedAborted)))
+      s ∙ sym e)
 
   told_nothing : (q : Told → Bool) (a : Conclusion)
       → q (record { txn = c.txn; conclusion = a }) ≡ false
@@ -166,7 +170,8 @@ module _ (turn : Turn) where
       by_parent None = e
       by_parent (Some p) = refl
 
-  pub abort_no_commit : is_told_so (is_told_committed c.txn) (told_of c.txn (told_by parent ConcludedAborted)) ≡ false
+  pub abort_no_commit : is_told_so (is_told_committed c.txn)
+      (told_of c.txn (told_by parent ConcludedAborted)) ≡ false
   abort_no_commit = told_nothing (is_told_committed c.txn) ConcludedAborted (and-false (same_txn c.txn c.txn))
 
   pub read_no_commit : is_told_so (is_told_committed c.txn) (told_of c.txn (told_by parent ReadOnly)) ≡ false
@@ -191,7 +196,8 @@ module _ (turn : Turn) where
   abbrev pub Goes : Phase → Type 0
   Goes ph = Says turn ph p0.accepted p0.acked
 
-  says_of : (x : Memory) (ph : Phase) → m' ≡ x → x.phase ≡ ph → x.accepted ≡ m.accepted → x.acks ≡ m.acks → Goes ph
+  says_of : (x : Memory) (ph : Phase) → m' ≡ x → x.phase ≡ ph → x.accepted ≡ m.accepted → x.acks ≡ m.acks
+      → Goes ph
   says_of x ph e f a b = record {
     phase = ap (λ (y : Memory). y.phase) e ∙ f;
     accepted_so = ap (λ (y : Memory). in_list y.accepted t) e ∙ ap (λ ts. in_list ts t) a;
@@ -207,13 +213,15 @@ module _ (turn : Turn) where
 
   pub to_commit : IsToCommit parent h c → m.phase ≡ Open → Goes (if none_of m.accepted then Over else Asked)
   to_commit (turns.commit_act x e i) o =
-      let same : same_case (root_case x) c ≡ true = subst (λ (y : Case). same_case y c ≡ true) e (same_case-refl c) in
+      let same : same_case (root_case x) c
+      ≡ true = subst (λ (y : Case). same_case y c ≡ true) e (same_case-refl c) in
       asked_says m m.phase o refl refl (by_input.commit_act turn x (act_is_at_root x e) i ∙ rw same refl)
   to_commit (turns.prepare_comes p k e i) o =
       asked_says (retires m c) m.phase o refl refl
       (by_input.prepare_comes turn c i.0 k p e i.1 ∙ rw (same_case-refl c) refl)
 
-  closed_says : (x : Memory) (ph : Phase) → (ph ≡ Open) ⊎ (ph ≡ Asked) → x.accepted ≡ m.accepted → x.acks ≡ m.acks
+  closed_says : (x : Memory) (ph : Phase) → (ph ≡ Open) ⊎ (ph ≡ Asked) → x.accepted ≡ m.accepted → x.acks
+      ≡ m.acks
       → m' ≡ closes x ph → Goes Over
   closed_says x Open e a b f = says_of _ _ f refl a b
   closed_says x Asked e a b f = says_of _ _ f refl a b
@@ -224,10 +232,12 @@ module _ (turn : Turn) where
 
   pub to_abort : (why : Reason) → IsToAbort parent h c why → (m.phase ≡ Open) ⊎ (m.phase ≡ Asked) → Goes Over
   to_abort _ (turns.abort_act x e i) o =
-      let same : same_case (root_case x) c ≡ true = subst (λ (y : Case). same_case y c ≡ true) e (same_case-refl c) in
+      let same : same_case (root_case x) c
+      ≡ true = subst (λ (y : Case). same_case y c ≡ true) e (same_case-refl c) in
       closed_says m m.phase o refl refl (by_input.abort_act turn x (act_is_at_root x e) i ∙ rw same refl)
   to_abort _ (turns.abort_comes p e i) o =
-      closed_says (retires m c) m.phase o refl refl (by_input.abort_comes turn c i.0 p e i.1 ∙ rw (same_case-refl c) refl)
+      closed_says (retires m c) m.phase o refl refl
+      (by_input.abort_comes turn c i.0 p e i.1 ∙ rw (same_case-refl c) refl)
 
   -- the transaction of the case to which a child's ticket belongs
   same_txn_if : (r : Role) (o : Option ProcessId) → IsSeat r o → (x : Txn) (u : Ticket)
@@ -237,7 +247,8 @@ module _ (turn : Turn) where
   same_txn_if _ _ top x u e = by_test _ e
     where
       by_test : (b : Bool) → (if b then Some (root_case x) else None) ≡ Some c → same_txn x c.txn ≡ true
-      by_test true f = subst (λ (y : Case). same_txn x y.txn ≡ true) (let g : root_case x ≡ c = cc in g) (same_txn-refl x)
+      by_test true f = subst (λ (y : Case). same_txn x y.txn ≡ true) (let g : root_case x ≡ c = cc in g)
+          (same_txn-refl x)
       by_test false f = absurd (cc)
   same_txn_if _ _ (under p) x u e = in_filtered _ _ e
     where
@@ -250,14 +261,17 @@ module _ (turn : Turn) where
           turned : (a b : Txn) → same_txn a b ≡ true → same_txn b a ≡ true
           turned a b q = grind (arith, names, q)
 
-          found : (b : Bool) → same_txn y.txn x ≡ true → (if b then Some y else find f (filter (λ z. same_txn z.txn x) ys)) ≡ Some c
+          found : (b : Bool) → same_txn y.txn x ≡ true
+              → (if b then Some y else find f (filter (λ z. same_txn z.txn x) ys)) ≡ Some c
               → (find f (filter (λ z. same_txn z.txn x) ys) ≡ Some c → same_txn x c.txn ≡ true)
               → same_txn x c.txn ≡ true
-          found true q k l = subst (λ (z : Case). same_txn x z.txn ≡ true) (let d : y ≡ c = cc in d) (turned y.txn x q)
+          found true q k l = subst (λ (z : Case). same_txn x z.txn ≡ true) (let d : y ≡ c = cc in d)
+              (turned y.txn x q)
           found false q k l = l k
 
           by_test : (b : Bool) → same_txn y.txn x ≡ b
-              → find f (if b then y ∷ filter (λ z. same_txn z.txn x) ys else filter (λ z. same_txn z.txn x) ys) ≡ Some c
+              → find f (if b then y ∷ filter (λ z. same_txn z.txn x) ys else filter
+              (λ z. same_txn z.txn x) ys) ≡ Some c
               → (find f (filter (λ z. same_txn z.txn x) ys) ≡ Some c → same_txn x c.txn ≡ true)
               → same_txn x c.txn ≡ true
           by_test true q k l = found (f y) q k l

@@ -60,7 +60,8 @@ unfolding still_owed
 in_owed acks o ts t = in_filter _ ts t
 
 -- who is among none and was not heard is the last one
-last_one : (named heard it : Bool) → ((named && not heard) && not it) ≡ false → named ≡ true → (heard || it) ≡ true
+last_one : (named heard it : Bool) → ((named && not heard) && not it) ≡ false → named ≡ true
+    → (heard || it) ≡ true
 last_one true true it e f = refl
 last_one true false true e f = refl
 last_one true false false e f = absurd (cc)
@@ -93,7 +94,8 @@ module _ (turn : Turn) where
   m = remembered turn
 
   -- the decision's outcome is the one that is acknowledged
-  decided_as : (o : Outcome) (s : Standing) → Decided o s → v.standing ≡ s → (p : Presumption) → c.txn.presumption ≡ p
+  decided_as : (o : Outcome) (s : Standing) → Decided o s → v.standing ≡ s → (p : Presumption)
+      → c.txn.presumption ≡ p
       → o ≡ acknowledged p
   decided_as _ _ turns.by_commit e PresumeAbort q = refl
   decided_as _ _ turns.by_abort e PresumeCommit q = refl
@@ -106,8 +108,10 @@ module _ (turn : Turn) where
       clash (none_of (owing_by c (kept n)))
       ((subst (λ (x : Presumption). NamesBy x c (kept n)) q (holds.names c)).1 f.abort) f.some
 
-  pub late_of : (o : Outcome) (s : Standing) → Decided o s → v.standing ≡ s → (m.phase ≡ Open → ⊥) × (m.phase ≡ Asked → ⊥)
-  late_of _ _ turns.by_commit e = (not_open turn Committing e (λ z. cc), not_asked turn Committing e (λ z. cc))
+  pub late_of : (o : Outcome) (s : Standing) → Decided o s → v.standing ≡ s → (m.phase ≡ Open → ⊥)
+      × (m.phase ≡ Asked → ⊥)
+  late_of _ _ turns.by_commit e =
+      (not_open turn Committing e (λ z. cc), not_asked turn Committing e (λ z. cc))
   late_of _ _ turns.by_abort e = (not_open turn Aborting e (λ z. cc), not_asked turn Aborting e (λ z. cc))
 
   -- whom the view says that an ACK is owed by
@@ -122,13 +126,15 @@ module _ (turn : Turn) where
       ∙ (in_owed m.acks AbortedOutcome (owing_by c (kept n)) t
       ∙ ap (λ b. b && not (has_acked m.acks AbortedOutcome t)) (owing_by-naming c t (kept n)))
 
-  pub may_end_commit : (b : Bool) → (s : Standing) → Decided CommittedOutcome s → v.standing ≡ s → (p0.owed ≡ true → b ≡ true)
+  pub may_end_commit : (b : Bool) → (s : Standing) → Decided CommittedOutcome s → v.standing ≡ s
+      → (p0.owed ≡ true → b ≡ true)
       → move.MayEndCommit (seen turn o0 (rested turn b) v0)
   may_end_commit b _ turns.by_commit e f =
       let g = committing_facts place n c e in
       record { decided = record { up = up; decided = g.commit; not_ended = g.no_end }; all_acked = f }
 
-  pub may_end_abort : (b : Bool) → (s : Standing) → Decided AbortedOutcome s → v.standing ≡ s → (p0.owed ≡ true → b ≡ true)
+  pub may_end_abort : (b : Bool) → (s : Standing) → Decided AbortedOutcome s → v.standing ≡ s
+      → (p0.owed ≡ true → b ≡ true)
       → move.MayEndAbort (seen turn o0 (rested turn b) v0)
   may_end_abort b _ turns.by_abort e f =
       let g = aborting_facts place n c e in
@@ -161,19 +167,22 @@ module _ (turn : Turn) where
     ack_now =
         let late = late_of o v.standing d refl in
         let same = own.of_txn turn i.txn u i.belongs in
-        by_input.ack_comes turn o i.txn u i.hears.0 i.hears.1 ∙ (rw same refl ∙ acks_late m u o m.phase late.0 late.1)
+        by_input.ack_comes turn o i.txn u i.hears.0 i.hears.1
+        ∙ (rw same refl ∙ acks_late m u o m.phase late.0 late.1)
 
     pub ack_says : Says turn m.phase p0.accepted heard_acks
     ack_says = record {
       phase = ap (λ (y : Memory). y.phase) ack_now;
       accepted_so = ap (λ (y : Memory). in_list y.accepted t) ack_now;
-      acked_so = ap (λ (y : Memory). acked_of y c t) ack_now ∙ has_acked-push m.acks u o (acknowledged c.txn.presumption) t;
+      acked_so = ap (λ (y : Memory). acked_of y c t) ack_now
+          ∙ has_acked-push m.acks u o (acknowledged c.txn.presumption) t;
     }
 
     pub ack_fits : Fits_in turn (seen turn o0 (rested turn heard_acks) v0)
     ack_fits =
         rest_fits turn heard_acks
-        (acked_now turn i.txn u o i.hears.0 i.hears.1 (own.of_txn turn i.txn u i.belongs) (heard_so turn u o) refl)
+        (acked_now turn i.txn u o i.hears.0 i.hears.1 (own.of_txn turn i.txn u i.belongs)
+        (heard_so turn u o) refl)
 
     pub agrees : o ≡ acknowledged c.txn.presumption
     agrees = decided_as o v.standing d refl c.txn.presumption refl
@@ -191,9 +200,12 @@ module _ (turn : Turn) where
     pub ends : After turn end_row → Fine turn (row_effect c end_row)
     ends later =
         let x = has (is_prepare c) n.life in
-        fine_plain turn (row_effect c end_row) later.alike m.phase p0.accepted heard_acks ack_says v0 (wires.wire-nothing c t net)
+        fine_plain turn (row_effect c end_row) later.alike m.phase p0.accepted heard_acks ack_says v0
+        (wires.wire-nothing c t net)
         (EndRecord c) (λ j. refl) refl
-        (subst (λ (y : Bool). Fits_in turn (seen turn o0 (stands_so false m.phase p0.accepted heard_acks y (wrote (EndRecord c) c t x p0)) v0))
+        (subst (λ (y : Bool). Fits_in turn
+        (seen turn o0 (stands_so false m.phase p0.accepted heard_acks y
+        (wrote (EndRecord c) c t x p0)) v0))
         (sym begun_so)
         (subst (λ (y : ParentHalf). Fits_in turn (seen turn o0 y v0)) (sym (shown heard_acks x))
         (read_as turn _ _ (readings.reading-ended manager above k c t root o0 x (rested turn heard_acks) v0)
@@ -201,7 +213,16 @@ module _ (turn : Turn) where
       where
         begun_so : begun_after m.phase (after n h (row_effect c end_row)) c ≡ p0.begun
         begun_so = begun_plain turn (row_effect c end_row) (EndRecord c) refl refl
-            (record { accepts = refl; yes_votes = refl; no_votes = refl; read_votes = refl; committed = refl; aborted = refl; told = refl })
+            (record {
+              accepts = refl;
+              yes_votes = refl;
+              no_votes = refl;
+              read_votes = refl;
+              committed =
+                  refl;
+              aborted = refl;
+              told = refl;
+            })
 
         shown : (b x : Bool) → stands_so false m.phase p0.accepted b p0.begun (wrote (EndRecord c) c t x p0)
             ≡ wrote (EndRecord c) c t x (rested turn b)
@@ -211,11 +232,13 @@ module _ (turn : Turn) where
 
   pub asked : (u : Ticket) → HearsChild place n h c u Inquire → same_ticket u t ≡ true → v0.inquire ≡ true
   asked u i e =
-      was_sent (is_inquiry_message (child_case c.txn t)) net place.me h.input i.hears.0 (Inquire (child_case i.txn u)) stands i.hears.1
+      was_sent (is_inquiry_message (child_case c.txn t)) net place.me h.input i.hears.0
+      (Inquire (child_case i.txn u)) stands i.hears.1
       (same_children i.txn c.txn u t ∙ rw (own.of_txn turn i.txn u i.belongs, e) refl)
 
   closed : (s : Standing) → v.standing ≡ s → s ≢ Active → s ≢ Collecting → is_live p0.phase ≡ false
-  closed s e f g = ap is_live (phase_stays turn) ∙ by_phase m.phase (not_open turn s e f) (not_asked turn s e g)
+  closed s e f g = ap is_live (phase_stays turn)
+      ∙ by_phase m.phase (not_open turn s e f) (not_asked turn s e g)
     where
       by_phase : (ph : Phase) → (ph ≡ Open → ⊥) → (ph ≡ Asked → ⊥) → is_live (live_phase ph) ≡ false
       by_phase Idle x y = refl
@@ -235,8 +258,10 @@ module _ (turn : Turn) where
     nothing = by_facts (unknown_facts place n c e);
   }
     where
-      by_facts : UnknownFacts p0.end_kept p0.commit_kept p0.abort_kept p0.own_prepare_kept p0.collecting_kept (none_of (owing_by c (kept n)))
-          → (p0.end_kept ≡ true) ⊎ ((p0.abort_kept ≡ true) ⊎ ((p0.commit_kept ≡ false) × (p0.own_prepare_kept ≡ false)))
+      by_facts : UnknownFacts p0.end_kept p0.commit_kept p0.abort_kept p0.own_prepare_kept
+          p0.collecting_kept (none_of (owing_by c (kept n)))
+          → (p0.end_kept ≡ true) ⊎ ((p0.abort_kept ≡ true)
+          ⊎ ((p0.commit_kept ≡ false) × (p0.own_prepare_kept ≡ false)))
       by_facts (ended f) = inl f
       by_facts (aborted f g x) = inr (inl g)
       by_facts (unrecorded f g x) = inr (inr (f, g))
@@ -250,8 +275,10 @@ module _ (turn : Turn) where
     nothing = by_facts (unknown_facts place n c e);
   }
     where
-      by_facts : UnknownFacts p0.end_kept p0.commit_kept p0.abort_kept p0.own_prepare_kept p0.collecting_kept (none_of (owing_by c (kept n)))
-          → (p0.end_kept ≡ true) ⊎ ((p0.commit_kept ≡ true) ⊎ (((p0.abort_kept ≡ true) × (p0.owed ≡ false)) ⊎ (p0.collecting_kept ≡ false)))
+      by_facts : UnknownFacts p0.end_kept p0.commit_kept p0.abort_kept p0.own_prepare_kept
+          p0.collecting_kept (none_of (owing_by c (kept n)))
+          → (p0.end_kept ≡ true) ⊎ ((p0.commit_kept ≡ true)
+          ⊎ (((p0.abort_kept ≡ true) × (p0.owed ≡ false)) ⊎ (p0.collecting_kept ≡ false)))
       by_facts (ended f) = inl f
       by_facts (committed f g) = inr (inl f)
       by_facts (aborted f g x) = inr (inr (inl (g, not_owed x)))
@@ -265,7 +292,8 @@ module _ (turn : Turn) where
   abbrev pub reading_told : Outcome → Reading
   reading_told o = seen turn o0 p0 (told_wire o)
 
-  pub answer_fits : (p : Presumption) → c.txn.presumption ≡ p → (s : Standing) → v.standing ≡ s → (o : Outcome) → Answers p s o
+  pub answer_fits : (p : Presumption) → c.txn.presumption ≡ p → (s : Standing) → v.standing ≡ s
+      → (o : Outcome) → Answers p s o
       → v0.inquire ≡ true
       → Fits_in turn (reading_told o)
   answer_fits PresumeAbort q _ e _ (turns.by_decision p s o turns.by_commit) a =

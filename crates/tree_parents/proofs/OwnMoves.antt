@@ -27,7 +27,25 @@ use Rattle.tree_parents.proofs.Turns.{Turn, Fine, Fits_in, R as seen, m as remem
 use Rattle.tree_parents.proofs.Writes.{did, stands_so, wrote, hardens, begun_after}
 
 module _ (turn : Turn) where
-  open turn use {place, parent, seat, n, h, net, c, t, manager, above, k, up, rooted, inv, holds, stands, from_above}
+  open turn use {
+    place,
+    parent,
+    seat,
+    n,
+    h,
+    net,
+    c,
+    t,
+    manager,
+    above,
+    k,
+    up,
+    rooted,
+    inv,
+    holds,
+    stands,
+    from_above,
+  }
 
   abbrev m : Memory
   m = remembered turn
@@ -61,7 +79,8 @@ module _ (turn : Turn) where
         → Fits_in turn (R o0 (stands_so false ph p0.accepted p0.acked now q) w) → Fine turn (row_effect c row)
     own_silent none f =
         fine_silent turn (row_effect c row) later.alike ph p0.accepted p0.acked s w e none
-        (subst (λ (x : ParentHalf). Fits_in turn (R o0 (stands_so false ph p0.accepted p0.acked now x) w)) (sym d) f)
+        (subst (λ (x : ParentHalf). Fits_in turn (R o0 (stands_so false ph p0.accepted p0.acked now x) w))
+        (sym d) f)
 
     pub own_forced : (r : Record)
         → ((x : ℕ) → boot_after x r ≡ x)
@@ -72,7 +91,8 @@ module _ (turn : Turn) where
     own_forced r stays one f =
         fine_forced turn (row_effect c row) later.alike ph p0.accepted p0.acked s w e r stays one
         (subst (λ (x : ParentHalf). Fits_in turn (R ((root && (is_commit c r || p0.commit_kept)) || o0)
-        (stands_so false ph p0.accepted p0.acked now (hardens (wrote r c t (has (is_prepare c) n.life) x))) w)) (sym d) f)
+        (stands_so false ph p0.accepted p0.acked now
+        (hardens (wrote r c t (has (is_prepare c) n.life) x))) w)) (sym d) f)
 
     pub own_plain : (r : Record)
         → ((x : ℕ) → boot_after x r ≡ x)
@@ -83,7 +103,8 @@ module _ (turn : Turn) where
     own_plain r stays one f =
         fine_plain turn (row_effect c row) later.alike ph p0.accepted p0.acked s w e r stays one
         (subst (λ (x : ParentHalf). Fits_in turn (R o0
-        (stands_so false ph p0.accepted p0.acked now (wrote r c t (has (is_prepare c) n.life) x)) w)) (sym d) f)
+        (stands_so false ph p0.accepted p0.acked now (wrote r c t (has (is_prepare c) n.life) x)) w))
+        (sym d) f)
 
   -- one move, behind the force of what stood
   pub forced_first : Fits_in turn (move.hardens_parent (reading turn))
@@ -99,11 +120,13 @@ module _ (turn : Turn) where
   pub from_above_says : (p : ProcessId) → parent ≡ Some p
       → FromAbove net c v.standing turn.outcome above
   from_above_says p s =
-      below_is place.role parent seat (λ r. Above r net c v.standing turn.outcome above → FromAbove net c v.standing turn.outcome above)
+      below_is place.role parent seat
+      (λ r. Above r net c v.standing turn.outcome above → FromAbove net c v.standing turn.outcome above)
       p s (λ x. x) from_above
 
   pub asked_above : IsToCommit parent h c → root ≡ false → above ≡ true
-  asked_above (turns.commit_act x e i) f = absurd (let g = own.act_is_roots turn x e in let q = sym g ∙ f in cc)
+  asked_above (turns.commit_act x e i) f = absurd
+      (let g = own.act_is_roots turn x e in let q = sym g ∙ f in cc)
   asked_above (turns.prepare_comes p j e i) f =
       (from_above_says p e).asked_takes_part
       (was_sent (is_prepare_message c) net place.me h.input i.0 (Prepare c j) stands i.1 (same_case-refl c))

@@ -51,7 +51,25 @@ pub left_as : (ph : Phase) (x : Bool) (q : ParentHalf) → q.phase ≡ phase_of 
 left_as ph x q e = rw e refl
 
 module _ (turn : Turn) where
-  open turn use {place, parent, seat, n, h, net, c, t, manager, above, k, up, inv, holds, nested, stands, outcome}
+  open turn use {
+    place,
+    parent,
+    seat,
+    n,
+    h,
+    net,
+    c,
+    t,
+    manager,
+    above,
+    k,
+    up,
+    inv,
+    holds,
+    nested,
+    stands,
+    outcome,
+  }
 
   abbrev p0 : ParentHalf
   p0 = half turn
@@ -84,14 +102,16 @@ module _ (turn : Turn) where
   pub phase_stays : p0.phase ≡ phase_of false m.phase
   phase_stays = ap (λ b. phase_of b m.phase) up
 
-  pub facts : v.standing ≡ Prepared → PreparedFacts p0.end_kept p0.commit_kept p0.abort_kept p0.own_prepare_kept
+  pub facts : v.standing ≡ Prepared
+      → PreparedFacts p0.end_kept p0.commit_kept p0.abort_kept p0.own_prepare_kept
   facts e = prepared_facts place n c e
 
   pub waits : v.standing ≡ Prepared → Waits (reading turn)
   waits e = let f = facts e in record { promised = f.promise; no_commit = f.no_commit; no_abort = f.no_abort }
 
   pub names : v.standing ≡ Prepared → in_list v.promised t ≡ p0.names
-  names e = ap (λ (x : CoordinatorView). in_list x.promised t) (view_so place n c Prepared e) ∙ promised_by-naming c t (kept_records)
+  names e = ap (λ (x : CoordinatorView). in_list x.promised t) (view_so place n c Prepared e)
+      ∙ promised_by-naming c t (kept_records)
     where
       kept_records : List Record
       kept_records = kept n
@@ -107,13 +127,15 @@ module _ (turn : Turn) where
   commit_told e i =
       outcome_is i.from i.is_parent
       ∙ (from_above_says turn i.from i.is_parent).commit_is_true
-      (was_sent (is_outcome_message CommittedOutcome c) net place.me h.input i.hears.0 (Commit c) stands i.hears.1 (same_case-refl c)) e
+      (was_sent (is_outcome_message CommittedOutcome c) net place.me h.input i.hears.0 (Commit c) stands
+      i.hears.1 (same_case-refl c)) e
 
   pub abort_told : v.standing ≡ Prepared → HearsParent parent h (Abort c) → o0 ≡ false
   abort_told e i =
       outcome_is i.from i.is_parent
       ∙ (from_above_says turn i.from i.is_parent).abort_is_true
-      (was_sent (is_outcome_message AbortedOutcome c) net place.me h.input i.hears.0 (Abort c) stands i.hears.1 (same_case-refl c)) e
+      (was_sent (is_outcome_message AbortedOutcome c) net place.me h.input i.hears.0 (Abort c) stands
+      i.hears.1 (same_case-refl c)) e
 
   pub is_below : (p : ProcessId) → parent ≡ Some p → root ≡ false
   is_below p s = own.seat_is turn (λ s' e. absurd (let z = sym s ∙ s' in cc)) (λ p' s' e. e)
@@ -123,13 +145,15 @@ module _ (turn : Turn) where
 
   pub abort_says : v.standing ≡ Prepared → HearsParent parent h (Abort c) → Goes turn m.phase
   abort_says e i =
-      rested.abort_stays turn c i.hears.0 i.from i.is_parent i.hears.1 (λ x o. not_open Prepared e (λ z. cc) o)
+      rested.abort_stays turn c i.hears.0 i.from i.is_parent i.hears.1
+      (λ x o. not_open Prepared e (λ z. cc) o)
       (λ x o. not_asked Prepared e (λ z. cc) o)
 
   pub no_owed_abort : c.txn.presumption ≡ PresumeAbort → p0.commit_kept ≡ false → p0.owed ≡ false
   no_owed_abort q f = by_test p0.owed refl
     where
-      stands_for : (pr : Presumption) → pr ≡ PresumeAbort → InvariantOf pr (reading turn) → p0.owed ≡ true → p0.commit_kept ≡ true
+      stands_for : (pr : Presumption) → pr ≡ PresumeAbort → InvariantOf pr (reading turn) → p0.owed ≡ true
+          → p0.commit_kept ≡ true
       stands_for PresumeAbort e j x = j.owed_stands x
       stands_for PresumeCommit e j x = absurd (cc)
 
@@ -140,7 +164,8 @@ module _ (turn : Turn) where
   pub no_owed_commit : c.txn.presumption ≡ PresumeCommit → p0.abort_kept ≡ false → p0.owed ≡ false
   no_owed_commit q f = by_test p0.owed refl
     where
-      stands_for : (pr : Presumption) → pr ≡ PresumeCommit → InvariantOf pr (reading turn) → p0.owed ≡ true → p0.abort_kept ≡ true
+      stands_for : (pr : Presumption) → pr ≡ PresumeCommit → InvariantOf pr (reading turn) → p0.owed
+          ≡ true → p0.abort_kept ≡ true
       stands_for PresumeCommit e j x = j.owed_stands x
       stands_for PresumeAbort e j x = absurd (cc)
 
@@ -167,12 +192,16 @@ module _ (turn : Turn) where
   now row = begun_after m.phase (after n h (row_effect c row)) c
 
   commits_to : v.standing ≡ Prepared
-      → wire c t (net ++ each (seat_of place parent c) Commit v.promised) ≡ record v0 { commit = p0.names || v0.commit }
-  commits_to e = wires.wire-commits c t net (seat_of place parent c) v.promised p0.names (rw (same_txn-refl c.txn) (names e))
+      → wire c t (net ++ each (seat_of place parent c) Commit v.promised)
+      ≡ record v0 { commit = p0.names || v0.commit }
+  commits_to e = wires.wire-commits c t net (seat_of place parent c) v.promised p0.names
+      (rw (same_txn-refl c.txn) (names e))
 
   aborts_to : v.standing ≡ Prepared
-      → wire c t (net ++ each (seat_of place parent c) Abort v.promised) ≡ record v0 { abort = p0.names || v0.abort }
-  aborts_to e = wires.wire-aborts c t net (seat_of place parent c) v.promised p0.names (rw (same_txn-refl c.txn) (names e))
+      → wire c t (net ++ each (seat_of place parent c) Abort v.promised)
+      ≡ record v0 { abort = p0.names || v0.abort }
+  aborts_to e = wires.wire-aborts c t net (seat_of place parent c) v.promised p0.names
+      (rw (same_txn-refl c.txn) (names e))
 
   pub passes_commit : (p : Presumption) → HearsParent parent h (Commit c) → v.standing ≡ Prepared
       → c.txn.presumption ≡ p → After turn (commit_row p) → Fine turn (row_effect c (commit_row p))
@@ -183,16 +212,19 @@ module _ (turn : Turn) where
       let w : Wire = record v0 { commit = p0.names || v0.commit } in
       let half_then : ParentHalf = hardens (wrote (CommitRecord c v.promised) c t promised p0) in
       own_forced turn (commit_row PresumeAbort) later m.phase (commit_says i) w
-      (silent_before c t net (posted_up place.me parent (Ack c CommittedOutcome)) (each (seat_of place parent c) Commit v.promised)
+      (silent_before c t net (posted_up place.me parent (Ack c CommittedOutcome))
+      (each (seat_of place parent c) Commit v.promised)
       (wires.silent-ack c t net place.me parent c (not_childs turn) CommittedOutcome) ∙ commits_to e)
       p0 refl (CommitRecord c v.promised) (λ j. refl) refl
-      (subst (λ (x : ParentHalf). Fits_in turn (seen turn ((root && (is_commit c (CommitRecord c v.promised) || p0.commit_kept)) || o0) x w))
+      (subst (λ (x : ParentHalf). Fits_in turn
+      (seen turn ((root && (is_commit c (CommitRecord c v.promised) || p0.commit_kept)) || o0) x w))
       (sym (left_as m.phase (now (commit_row PresumeAbort)) half_then phase_stays))
       (read_as turn _ _
       (at_false b (λ y. X y ((y && (is_commit c (CommitRecord c v.promised) || p0.commit_kept)) || o0)
       (record half_then { begun = now (commit_row PresumeAbort) }) w
       ≡ below.passes_commit_forced (move.hardens_parent (X y o0 p0 v0)))
-      (readings.reading-passes_commit_forced manager above k c t o0 promised (now (commit_row PresumeAbort)) v.promised p0 v0 (names e)
+      (readings.reading-passes_commit_forced manager above k c t o0 promised
+      (now (commit_row PresumeAbort)) v.promised p0 v0 (names e)
       (no_owed_abort q f.no_commit)))
       (and_then turn (move.hardens_parent (reading turn)) _ first
       (moves.passes_commit_forced c.txn.presumption q (move.hardens_parent (reading turn)) first.invariant
@@ -241,17 +273,20 @@ module _ (turn : Turn) where
       let w : Wire = record v0 { abort = p0.names || v0.abort } in
       let half_then : Bool → ParentHalf = λ y. hardens (wrote (AbortRecord c v.promised) c t y p0) in
       own_forced turn (abort_row PresumeCommit) later m.phase (abort_says e i) w
-      (silent_before c t net (posted_up place.me parent (Ack c AbortedOutcome)) (each (seat_of place parent c) Abort v.promised)
+      (silent_before c t net (posted_up place.me parent (Ack c AbortedOutcome))
+      (each (seat_of place parent c) Abort v.promised)
       (wires.silent-ack c t net place.me parent c (not_childs turn) AbortedOutcome) ∙ aborts_to e)
       p0 refl (AbortRecord c v.promised) (λ j. refl) refl
-      (subst (λ (x : ParentHalf). Fits_in turn (seen turn ((root && (is_commit c (AbortRecord c v.promised) || p0.commit_kept)) || o0) x w))
+      (subst (λ (x : ParentHalf). Fits_in turn
+      (seen turn ((root && (is_commit c (AbortRecord c v.promised) || p0.commit_kept)) || o0) x w))
       (sym (left_as m.phase (now (abort_row PresumeCommit)) (half_then promised) phase_stays
       ∙ ap (λ y. record (half_then y) { begun = now (abort_row PresumeCommit) }) (promise_written e)))
       (read_as turn _ _
       (at_false b (λ y. X y ((y && (is_commit c (AbortRecord c v.promised) || p0.commit_kept)) || o0)
       (record (half_then true) { begun = now (abort_row PresumeCommit) }) w
       ≡ below.passes_abort_forced (move.hardens_parent (X y o0 p0 v0)))
-      (readings.reading-passes_abort_forced manager above k c t o0 (now (abort_row PresumeCommit)) v.promised p0 v0 (names e)
+      (readings.reading-passes_abort_forced manager above k c t o0 (now (abort_row PresumeCommit))
+      v.promised p0 v0 (names e)
       (no_owed_commit q f.no_abort)))
       (and_then turn (move.hardens_parent (reading turn)) _ first
       (moves.passes_abort_forced c.txn.presumption q (move.hardens_parent (reading turn)) first.invariant

@@ -42,7 +42,8 @@ module _ (turn : Turn) where
     | inr f ↦ f.0
   ]
 
-  pub quiet_row : (row : Row) → After row → row.written ≡ [] → row.told ≡ None → row.accepts ≡ [] → row.counts ≡ []
+  pub quiet_row : (row : Row) → After row → row.written ≡ [] → row.told ≡ None → row.accepts ≡ []
+      → row.counts ≡ []
       → Rests turn
       → Silent c t net row.messages → Fine turn (row_effect c row)
   quiet_row row later none no_told none_accepted none_counted r silent =
@@ -90,7 +91,8 @@ module _ (turn : Turn) where
   rest_nothing (turns.invited_already q i) = rested.rest_same turn (by_input.join_act turn c q i)
   rest_nothing (turns.takes_nobody u i f) =
       rested.rest_joined turn c u i.0 i.1
-      (λ g o. ap (λ ts. has_child ts u.child) (sym (active_accepted turn (open_is_active o))) ∙ f (open_is_active o))
+      (λ g o. ap (λ ts. has_child ts u.child) (sym (active_accepted turn (open_is_active o)))
+      ∙ f (open_is_active o))
   rest_nothing (turns.counts_nothing u w i f) =
       rested.rest_vote turn w i.txn u i.hears.0 i.hears.1
       (λ g o. counted_not u (asked_is_collecting o) (f (asked_is_collecting o)))

@@ -52,38 +52,57 @@ module _ (turn : Turn) where
   m = remembered turn
 
   -- only messages are sent
-  pub only_sends : (ls : List Envelope) (x : CoordinatorView) → After turn (sends ls x) → Goes turn m.phase → (w : Wire)
+  pub only_sends : (ls : List Envelope) (x : CoordinatorView) → After turn (sends ls x)
+      → Goes turn m.phase → (w : Wire)
       → wire c t (net ++ ls) ≡ w
       → Fits_in turn (seen turn (told_outcome turn) p0 w) → Fine turn (row_effect c (sends ls x))
   only_sends ls x later says w e f =
       fine_silent turn (row_effect c (sends ls x)) later.alike m.phase p0.accepted p0.acked says w e refl
-      (subst (λ (y : Bool). Fits_in turn (seen turn (told_outcome turn) (stands_so false m.phase p0.accepted p0.acked y p0) w))
+      (subst (λ (y : Bool). Fits_in turn
+      (seen turn (told_outcome turn) (stands_so false m.phase p0.accepted p0.acked y p0) w))
       (sym (begun_silent turn (row_effect c (sends ls x)) refl
-      (record { accepts = refl; yes_votes = refl; no_votes = refl; read_votes = refl; committed = refl; aborted = refl; told = refl })))
-      (subst (λ (y : ParentHalf). Fits_in turn (seen turn (told_outcome turn) y w)) (sym (shown turn p0.acked)) f))
+      (record {
+        accepts = refl;
+        yes_votes = refl;
+        no_votes = refl;
+        read_votes = refl;
+        committed = refl;
+        aborted = refl;
+        told = refl;
+      })))
+      (subst (λ (y : ParentHalf). Fits_in turn (seen turn (told_outcome turn) y w))
+      (sym (shown turn p0.acked)) f))
 
   answer_wire : (u : Ticket) (o : Outcome) (b : Bool) → same_ticket u t ≡ b
-      → wire c t (net ++ to_child (seat_of place parent c) (tells_outcome o) u ∷ []) ≡ (if b then told_wire turn o else v0)
+      → wire c t (net ++ to_child (seat_of place parent c) (tells_outcome o) u ∷ [])
+      ≡ (if b then told_wire turn o else v0)
   answer_wire u CommittedOutcome true e =
-      wires.wire-commit c t net place.me u.child c.txn u true (wires.same_children c.txn c.txn u t ∙ rw (same_txn-refl c.txn, e) refl)
+      wires.wire-commit c t net place.me u.child c.txn u true
+      (wires.same_children c.txn c.txn u t ∙ rw (same_txn-refl c.txn, e) refl)
   answer_wire u CommittedOutcome false e =
-      wires.wire-commit c t net place.me u.child c.txn u false (wires.same_children c.txn c.txn u t ∙ rw (same_txn-refl c.txn, e) refl)
+      wires.wire-commit c t net place.me u.child c.txn u false
+      (wires.same_children c.txn c.txn u t ∙ rw (same_txn-refl c.txn, e) refl)
   answer_wire u AbortedOutcome true e =
-      wires.wire-abort c t net place.me u.child c.txn u true (wires.same_children c.txn c.txn u t ∙ rw (same_txn-refl c.txn, e) refl)
+      wires.wire-abort c t net place.me u.child c.txn u true
+      (wires.same_children c.txn c.txn u t ∙ rw (same_txn-refl c.txn, e) refl)
   answer_wire u AbortedOutcome false e =
-      wires.wire-abort c t net place.me u.child c.txn u false (wires.same_children c.txn c.txn u t ∙ rw (same_txn-refl c.txn, e) refl)
+      wires.wire-abort c t net place.me u.child c.txn u false
+      (wires.same_children c.txn c.txn u t ∙ rw (same_txn-refl c.txn, e) refl)
 
-  answers : (u : Ticket) (o : Outcome) → HearsChild place n h c u Inquire → Answers c.txn.presumption v.standing o
+  answers : (u : Ticket) (o : Outcome) → HearsChild place n h c u Inquire
+      → Answers c.txn.presumption v.standing o
       → (b : Bool) → same_ticket u t ≡ b
       → After turn (sends (to_child (seat_of place parent c) (tells_outcome o) u ∷ []) v)
       → Fine turn (row_effect c (sends (to_child (seat_of place parent c) (tells_outcome o) u ∷ []) v))
   answers u o i e true f later =
       only_sends (to_child (seat_of place parent c) (tells_outcome o) u ∷ []) v later
-      (stays turn m (by_input.inquires turn (child_case i.txn u) i.hears.0 i.hears.1) (itself turn)) (told_wire turn o) (answer_wire u o true f)
+      (stays turn m (by_input.inquires turn (child_case i.txn u) i.hears.0 i.hears.1) (itself turn))
+      (told_wire turn o) (answer_wire u o true f)
       (decided.answer_fits turn c.txn.presumption refl v.standing refl o e (decided.asked turn u i f))
   answers u o i e false f later =
       only_sends (to_child (seat_of place parent c) (tells_outcome o) u ∷ []) v later
-      (stays turn m (by_input.inquires turn (child_case i.txn u) i.hears.0 i.hears.1) (itself turn)) v0 (answer_wire u o false f)
+      (stays turn m (by_input.inquires turn (child_case i.txn u) i.hears.0 i.hears.1) (itself turn)) v0
+      (answer_wire u o false f)
       (unmoved c.txn.presumption (reading turn) inv)
 
   pub refuses_late : (s : Standing) → Refuses s → v.standing ≡ s → m.phase ≡ Open → ⊥
@@ -92,10 +111,14 @@ module _ (turn : Turn) where
 
   pub acknowledges_late : (o : Outcome) (p : Presumption) (s : Standing) → Acknowledges o p s → v.standing ≡ s
       → (m.phase ≡ Open → ⊥) × (m.phase ≡ Asked → ⊥)
-  acknowledges_late _ _ _ turns.commit_presumed_abort e = (not_open turn Unknown e (λ z. cc), not_asked turn Unknown e (λ z. cc))
-  acknowledges_late _ _ _ (turns.commit_again p) e = (not_open turn Committing e (λ z. cc), not_asked turn Committing e (λ z. cc))
-  acknowledges_late _ _ _ turns.abort_presumed_commit e = (not_open turn Unknown e (λ z. cc), not_asked turn Unknown e (λ z. cc))
-  acknowledges_late _ _ _ (turns.abort_again p) e = (not_open turn Aborting e (λ z. cc), not_asked turn Aborting e (λ z. cc))
+  acknowledges_late _ _ _ turns.commit_presumed_abort e =
+      (not_open turn Unknown e (λ z. cc), not_asked turn Unknown e (λ z. cc))
+  acknowledges_late _ _ _ (turns.commit_again p) e =
+      (not_open turn Committing e (λ z. cc), not_asked turn Committing e (λ z. cc))
+  acknowledges_late _ _ _ turns.abort_presumed_commit e =
+      (not_open turn Unknown e (λ z. cc), not_asked turn Unknown e (λ z. cc))
+  acknowledges_late _ _ _ (turns.abort_again p) e =
+      (not_open turn Aborting e (λ z. cc), not_asked turn Aborting e (λ z. cc))
 
   pub own_turn : (row : Row) → CaseTurn place parent n h c row → After turn row → Fine turn (row_effect c row)
   own_turn _ (turns.rests r) later =
@@ -119,19 +142,22 @@ module _ (turn : Turn) where
   own_turn _ (turns.passes_commit p i e q) later = promised.passes_commit turn p i e q later
   own_turn _ (turns.passes_abort p i e q) later = promised.passes_abort turn p i e q later
   own_turn _ (turns.repeats_yes k i e) later =
-      quiet_row turn _ later refl refl refl refl (rest_prepare turn k i (λ o. not_open turn Prepared e (λ z. cc) o))
+      quiet_row turn _ later refl refl refl refl
+      (rest_prepare turn k i (λ o. not_open turn Prepared e (λ z. cc) o))
       (wires.silent-yes c t net place.me parent c (not_childs turn))
   own_turn _ (turns.asks i e) later =
       quiet_row turn _ later refl refl refl refl (rested.rest_same turn (by_input.ask_act turn c i))
       (wires.silent-inquire c t net place.me parent c (not_childs turn))
   own_turn _ (turns.refuses k i e) later =
-      quiet_row turn _ later refl refl refl refl (rest_prepare turn k i (λ o. refuses_late v.standing e refl o))
+      quiet_row turn _ later refl refl refl refl
+      (rest_prepare turn k i (λ o. refuses_late v.standing e refl o))
       (wires.silent-no c t net place.me parent c (not_childs turn))
   own_turn _ (turns.acknowledges o i e) later =
       let late = acknowledges_late o c.txn.presumption v.standing e refl in
       quiet_row turn _ later refl refl refl refl (rest_outcome turn o i late.0 late.1)
       (wires.silent-ack c t net place.me parent c (not_childs turn) o)
   own_turn _ (turns.waits_for_acks u o i e f g) later =
-      quiet_row turn _ later refl refl refl refl (rested.rest_ack turn o i.txn u i.hears.0 i.hears.1) (simp (wires.sent-none))
+      quiet_row turn _ later refl refl refl refl (rested.rest_ack turn o i.txn u i.hears.0 i.hears.1)
+      (simp (wires.sent-none))
   own_turn _ (turns.ends u o i e f g) later = decided.ends turn u o i e g later
   own_turn _ (turns.answers u o i e) later = answers u o i e (same_ticket u t) refl later

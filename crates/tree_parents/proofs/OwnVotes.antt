@@ -79,7 +79,8 @@ module _ (turn : Turn) where
   pub asked_takes_part : m.phase ≡ Asked → (p : ProcessId) → parent ≡ Some p → above ≡ true
   asked_takes_part a p s =
       (from_above_says turn p s).asked_takes_part
-      (below_is place.role parent seat (λ r. RoleHolds r place net n → sent (is_prepare_message c) net ≡ true) p s
+      (below_is place.role parent seat
+      (λ r. RoleHolds r place net n → sent (is_prepare_message c) net ≡ true) p s
       (λ x. x.1.0.asked_was_prepared up c a) by_role)
 
   module _ (u : Ticket) (w : Vote) where
@@ -98,10 +99,13 @@ module _ (turn : Turn) where
         → Fine turn (row_effect c (counting u w (quiet (voted v u w))))
     counts_vote i consents not_all later =
         own_silent turn (counting u w (quiet (voted v u w))) later Asked
-        (votes.vote_says turn u w i Asked (goes_on w consents _ ∙ rw (votes.all_seen turn u w i false not_all) refl)) v0
+        (votes.vote_says turn u w i Asked
+        (goes_on w consents _ ∙ rw (votes.all_seen turn u w i false not_all) refl)) v0
         (wires.wire-nothing c t net) p1
-        (own.did_vote turn (row_effect c (counting u w (quiet (voted v u w)))) u w false false (half turn) refl refl refl refl) refl
-        (read_as turn _ _ (readings.reading-waits manager above k c t root o0 p1 v0 (votes.phase turn u w i) (votes.alive turn u w i).begun)
+        (own.did_vote turn (row_effect c (counting u w (quiet (voted v u w)))) u w false false (half turn)
+        refl refl refl refl) refl
+        (read_as turn _ _ (readings.reading-waits manager above k c t root o0 p1 v0
+        (votes.phase turn u w i) (votes.alive turn u w i).begun)
         (votes.hears turn u w i consents))
 
     module _ (ys : List Ticket) (l : CountsLast place n h c u w ys) where
@@ -143,14 +147,17 @@ module _ (turn : Turn) where
       })
 
       told_read : (p : Presumption) → did (row_effect c (read_row p)) c t (half turn) ≡ p1
-      told_read p = own.did_vote turn (row_effect c (read_row p)) u w false false (half turn) refl refl (own.read_no_commit turn) (own.read_no_abort turn)
+      told_read p = own.did_vote turn (row_effect c (read_row p)) u w false false (half turn) refl refl
+          (own.read_no_commit turn) (own.read_no_abort turn)
 
       said_up : (p : ProcessId) → parent ≡ Some p
           → wire c t (net ++ posted_up place.me parent (Read c)) ≡ record v0 { read_up = true }
-      said_up p s = ap (λ o. wire c t (net ++ posted_up place.me o (Read c))) s ∙ wires.wire-read_up c t net place.me p (not_childs turn)
+      said_up p s = ap (λ o. wire c t (net ++ posted_up place.me o (Read c))) s
+          ∙ wires.wire-read_up c t net place.me p (not_childs turn)
 
       said_nothing : parent ≡ None → wire c t (net ++ posted_up place.me parent (Read c)) ≡ v0
-      said_nothing s = ap (λ o. wire c t (net ++ posted_up place.me o (Read c))) s ∙ wires.wire-nothing c t net
+      said_nothing s = ap (λ o. wire c t (net ++ posted_up place.me o (Read c))) s
+          ∙ wires.wire-nothing c t net
 
       may_read : (p : ProcessId) → parent ≡ Some p → root ≡ false → none_of ys ≡ true → below.MayReadUp r1
       may_read p s is_below none = record {
@@ -161,7 +168,8 @@ module _ (turn : Turn) where
       }
 
       may_end : root ≡ true → none_of ys ≡ true → at_top.MayEndReadOnly r1
-      may_end is_root none = record { root = is_root; waiting = votes.phase turn u w i; all_read = all_read none }
+      may_end is_root none = record
+          { root = is_root; waiting = votes.phase turn u w i; all_read = all_read none }
 
       abbrev X : Bool → ParentHalf → Wire → Reading
       X b q x = readings.R manager above k c t b o0 q x
@@ -170,29 +178,46 @@ module _ (turn : Turn) where
           → Fine turn (row_effect c (read_row p))
       reads_only PresumeAbort none q later =
           own.seat_is turn
-          (λ s is_root. own_silent turn (read_row PresumeAbort) later Over ends_votes v0 (said_nothing s) p1 (told_read PresumeAbort) refl
+          (λ s is_root. own_silent turn (read_row PresumeAbort) later Over ends_votes v0 (said_nothing s)
+          p1 (told_read PresumeAbort) refl
           (read_as turn _ _
-          (at_literal true is_root (λ b. Live b o0 p1 v0 → X b (stands_so false Over p1.accepted p1.acked true p1) v0 ≡ at_top.ends_read_only (X b p1 v0))
+          (at_literal true is_root (λ b. Live b o0 p1 v0
+          → X b (stands_so false Over p1.accepted p1.acked true p1) v0
+          ≡ at_top.ends_read_only (X b p1 v0))
           (λ x. readings.reading-ends manager above k c t o0 p1 v0 x) alive)
-          (and_then turn r1 _ heard_it (moves.ends_read_only c.txn.presumption q r1 heard_it.invariant (may_end is_root none)))))
-          (λ p s is_below. own_silent turn (read_row PresumeAbort) later Over ends_votes (record v0 { read_up = true }) (said_up p s) p1 (told_read PresumeAbort) refl
+          (and_then turn r1 _ heard_it (moves.ends_read_only c.txn.presumption q r1 heard_it.invariant
+          (may_end is_root none)))))
+          (λ p s is_below. own_silent turn (read_row PresumeAbort) later Over ends_votes
+          (record v0 { read_up = true }) (said_up p s) p1 (told_read PresumeAbort) refl
           (read_as turn _ _
-          (at_literal false is_below (λ b. Live b o0 p1 v0 → X b (stands_so false Over p1.accepted p1.acked true p1) (record v0 { read_up = true }) ≡ below.reads_up (X b p1 v0))
+          (at_literal false is_below (λ b. Live b o0 p1 v0
+          → X b (stands_so false Over p1.accepted p1.acked true p1) (record v0 { read_up = true })
+          ≡ below.reads_up (X b p1 v0))
           (λ x. readings.reading-reads manager above k c t o0 p1 v0 x) alive)
-          (and_then turn r1 _ heard_it (moves.reads_up c.txn.presumption q r1 heard_it.invariant (may_read p s is_below none)))))
+          (and_then turn r1 _ heard_it (moves.reads_up c.txn.presumption q r1 heard_it.invariant
+          (may_read p s is_below none)))))
       reads_only PresumeCommit none q later =
           let x = has (is_prepare c) n.life in
           own.seat_is turn
-          (λ s is_root. own_plain turn (read_row PresumeCommit) later Over ends_votes v0 (said_nothing s) p1 (told_read PresumeCommit) (EndRecord c) (λ j. refl) refl
+          (λ s is_root. own_plain turn (read_row PresumeCommit) later Over ends_votes v0 (said_nothing s)
+          p1 (told_read PresumeCommit) (EndRecord c) (λ j. refl) refl
           (read_as turn _ _
-          (at_literal true is_root (λ b. Live b o0 p1 v0 → X b (stands_so false Over p1.accepted p1.acked true (wrote (EndRecord c) c t x p1)) v0 ≡ at_top.ends_read_only_collected (X b p1 v0))
+          (at_literal true is_root (λ b. Live b o0 p1 v0
+          → X b (stands_so false Over p1.accepted p1.acked true (wrote (EndRecord c) c t x p1)) v0
+          ≡ at_top.ends_read_only_collected (X b p1 v0))
           (λ y. readings.reading-ends_collected manager above k c t o0 x p1 v0 y) alive)
-          (and_then turn r1 _ heard_it (moves.ends_read_only_collected c.txn.presumption q r1 heard_it.invariant (may_end is_root none)))))
-          (λ p s is_below. own_plain turn (read_row PresumeCommit) later Over ends_votes (record v0 { read_up = true }) (said_up p s) p1 (told_read PresumeCommit) (EndRecord c) (λ j. refl) refl
+          (and_then turn r1 _ heard_it (moves.ends_read_only_collected c.txn.presumption q r1
+          heard_it.invariant (may_end is_root none)))))
+          (λ p s is_below. own_plain turn (read_row PresumeCommit) later Over ends_votes
+          (record v0 { read_up = true }) (said_up p s) p1 (told_read PresumeCommit) (EndRecord c)
+          (λ j. refl) refl
           (read_as turn _ _
-          (at_literal false is_below (λ b. Live b o0 p1 v0 → X b (stands_so false Over p1.accepted p1.acked true (wrote (EndRecord c) c t x p1)) (record v0 { read_up = true }) ≡ below.reads_up_collected (X b p1 v0))
+          (at_literal false is_below (λ b. Live b o0 p1 v0
+          → X b (stands_so false Over p1.accepted p1.acked true (wrote (EndRecord c) c t x p1))
+          (record v0 { read_up = true }) ≡ below.reads_up_collected (X b p1 v0))
           (λ y. readings.reading-reads_collected manager above k c t o0 x p1 v0 y) alive)
-          (and_then turn r1 _ heard_it (moves.reads_up_collected c.txn.presumption q r1 heard_it.invariant (may_read p s is_below none)))))
+          (and_then turn r1 _ heard_it (moves.reads_up_collected c.txn.presumption q r1 heard_it.invariant
+          (may_read p s is_below none)))))
 
       -- The root commits.
 
@@ -202,33 +227,40 @@ module _ (turn : Turn) where
       pub no_owed : c.txn.presumption ≡ PresumeAbort → p1.owed ≡ false
       no_owed q = by_test p1.owed refl
         where
-          stands_for : (pr : Presumption) → pr ≡ PresumeAbort → InvariantOf pr r1 → p1.owed ≡ true → p1.commit_kept ≡ true
+          stands_for : (pr : Presumption) → pr ≡ PresumeAbort → InvariantOf pr r1 → p1.owed ≡ true
+              → p1.commit_kept ≡ true
           stands_for PresumeAbort e j x = j.owed_stands x
           stands_for PresumeCommit e j x = absurd (cc)
 
           by_test : (b : Bool) → p1.owed ≡ b → p1.owed ≡ false
           by_test false x = x
-          by_test true x = clash p1.commit_kept (stands_for c.txn.presumption q heard_it.invariant x) alive.no_commit
+          by_test true x = clash p1.commit_kept (stands_for c.txn.presumption q heard_it.invariant x)
+              alive.no_commit
 
       pub no_names : p1.names ≡ false
       no_names = by_test p1.names refl
         where
           by_test : (b : Bool) → p1.names ≡ b → p1.names ≡ false
           by_test false x = x
-          by_test true x = clash p1.own_prepare_kept ((common_of c.txn.presumption r1 heard_it.invariant).names_has_yes x).1 alive.no_prepare
+          by_test true x = clash p1.own_prepare_kept
+              ((common_of c.txn.presumption r1 heard_it.invariant).names_has_yes x).1 alive.no_prepare
 
       abbrev pub commit_row : Presumption → Row
       commit_row p = counting u w (root_commits (seat_of place parent c) (voted v u w) ys p)
 
-      told_commit : (p : Presumption) → did (row_effect c (commit_row p)) c t (half turn) ≡ told_so true false p1
-      told_commit PresumeAbort = own.did_vote turn (row_effect c (commit_row PresumeAbort)) u w true false (half turn) refl refl
+      told_commit : (p : Presumption) → did (row_effect c (commit_row p)) c t (half turn)
+          ≡ told_so true false p1
+      told_commit PresumeAbort = own.did_vote turn (row_effect c (commit_row PresumeAbort)) u w true false
+          (half turn) refl refl
           (rw (same_txn-refl c.txn) refl) (and-false (same_txn c.txn c.txn))
-      told_commit PresumeCommit = own.did_vote turn (row_effect c (commit_row PresumeCommit)) u w true false (half turn) refl refl
+      told_commit PresumeCommit = own.did_vote turn (row_effect c (commit_row PresumeCommit)) u w true
+          false (half turn) refl refl
           (rw (same_txn-refl c.txn) refl) (and-false (same_txn c.txn c.txn))
 
       commits_to : wire c t (net ++ each (seat_of place parent c) Commit ys)
           ≡ record v0 { commit = (p1.accepted && p1.first_yes) || v0.commit }
-      commits_to = wires.wire-commits c t net (seat_of place parent c) ys (p1.accepted && p1.first_yes) (rw (same_txn-refl c.txn) yes_names)
+      commits_to = wires.wire-commits c t net (seat_of place parent c) ys (p1.accepted && p1.first_yes)
+          (rw (same_txn-refl c.txn) yes_names)
 
       may_decide : root ≡ true → at_top.MayDecide (move.hardens_parent r1)
       may_decide is_root = record {
@@ -243,33 +275,42 @@ module _ (turn : Turn) where
           let x = has (is_prepare c) n.life in
           own.seat_is turn
           (λ s' is_root. own_forced turn (commit_row PresumeAbort) later Over ends_votes
-          (record v0 { commit = (p1.accepted && p1.first_yes) || v0.commit }) commits_to (told_so true false p1) (told_commit PresumeAbort)
+          (record v0 { commit = (p1.accepted && p1.first_yes) || v0.commit }) commits_to
+          (told_so true false p1) (told_commit PresumeAbort)
           (CommitRecord c ys) (λ j. refl) refl
           (read_as turn _ _
           (at_literal true is_root (λ b. Live b o0 p1 v0
-          → readings.R manager above k c t b ((b && (is_commit c (CommitRecord c ys) || p1.commit_kept)) || o0)
-          (stands_so false Over p1.accepted p1.acked true (hardens (wrote (CommitRecord c ys) c t x (told_so true false p1))))
+          → readings.R manager above k c t b
+          ((b && (is_commit c (CommitRecord c ys) || p1.commit_kept)) || o0)
+          (stands_so false Over p1.accepted p1.acked true
+          (hardens (wrote (CommitRecord c ys) c t x (told_so true false p1))))
           (record v0 { commit = (p1.accepted && p1.first_yes) || v0.commit })
           ≡ at_top.decides_naming (move.hardens_parent (X b p1 v0)))
-          (λ y. readings.reading-decides_naming manager above k c t o0 x ys p1 v0 y yes_names (no_owed q)) alive)
+          (λ y. readings.reading-decides_naming manager above k c t o0 x ys p1 v0 y yes_names (no_owed q))
+          alive)
           (and_then turn (move.hardens_parent r1) _ forced_first
-          (moves.decides_naming c.txn.presumption q (move.hardens_parent r1) forced_first.invariant (may_decide is_root)))))
+          (moves.decides_naming c.txn.presumption q (move.hardens_parent r1) forced_first.invariant
+          (may_decide is_root)))))
           (λ p s' is_below. absurd (let z = sym s ∙ s' in cc))
       commits PresumeCommit s q later =
           let x = has (is_prepare c) n.life in
           own.seat_is turn
           (λ s' is_root. own_forced turn (commit_row PresumeCommit) later Over ends_votes
-          (record v0 { commit = (p1.accepted && p1.first_yes) || v0.commit }) commits_to (told_so true false p1) (told_commit PresumeCommit)
+          (record v0 { commit = (p1.accepted && p1.first_yes) || v0.commit }) commits_to
+          (told_so true false p1) (told_commit PresumeCommit)
           (CommitRecord c []) (λ j. refl) refl
           (read_as turn _ _
           (at_literal true is_root (λ b. Live b o0 p1 v0
-          → readings.R manager above k c t b ((b && (is_commit c (CommitRecord c []) || p1.commit_kept)) || o0)
-          (stands_so false Over p1.accepted p1.acked true (hardens (wrote (CommitRecord c []) c t x (told_so true false p1))))
+          → readings.R manager above k c t b
+          ((b && (is_commit c (CommitRecord c []) || p1.commit_kept)) || o0)
+          (stands_so false Over p1.accepted p1.acked true
+          (hardens (wrote (CommitRecord c []) c t x (told_so true false p1))))
           (record v0 { commit = (p1.accepted && p1.first_yes) || v0.commit })
           ≡ at_top.decides (move.hardens_parent (X b p1 v0)))
           (λ y. readings.reading-decides manager above k c t o0 x p1 v0 y) alive)
           (and_then turn (move.hardens_parent r1) _ forced_first
-          (moves.decides c.txn.presumption q (move.hardens_parent r1) forced_first.invariant (may_decide is_root)))))
+          (moves.decides c.txn.presumption q (move.hardens_parent r1) forced_first.invariant
+          (may_decide is_root)))))
           (λ p s' is_below. absurd (let z = sym s ∙ s' in cc))
 
       -- A cascaded coordinator promises.
@@ -277,7 +318,8 @@ module _ (turn : Turn) where
       abbrev pub promise_row : Row
       promise_row = counting u w (cascaded_prepares (seat_of place parent c) (voted v u w) ys)
 
-      pub promises : (p : ProcessId) → parent ≡ Some p → After turn promise_row → Fine turn (row_effect c promise_row)
+      pub promises : (p : ProcessId) → parent ≡ Some p → After turn promise_row
+          → Fine turn (row_effect c promise_row)
       promises p s later =
           let x = has (is_prepare c) n.life in
           own.seat_is turn
@@ -288,7 +330,8 @@ module _ (turn : Turn) where
           (PrepareRecord c ys) (λ j. refl) refl
           (read_as turn _ _
           (at_literal false is_below (λ b. Live b o0 p1 v0
-          → readings.R manager above k c t b ((b && (is_commit c (PrepareRecord c ys) || p1.commit_kept)) || o0)
+          → readings.R manager above k c t b
+          ((b && (is_commit c (PrepareRecord c ys) || p1.commit_kept)) || o0)
           (stands_so false Over p1.accepted p1.acked true (hardens (wrote (PrepareRecord c ys) c t x p1))) v0
           ≡ below.promises (move.hardens_parent (X b p1 v0)))
           (λ y. readings.reading-promises manager above k c t o0 x ys p1 v0 y yes_names no_names) alive)

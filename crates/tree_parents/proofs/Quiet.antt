@@ -1,4 +1,5 @@
--- What an event leaves of a pair where it does nothing of the pair's case, or only hears an ACK, or only forces.
+-- What an event leaves of a pair where it does nothing of the pair's case, or only hears an ACK, or only
+-- forces.
 use Rattle.std.proofs.Common.{◌≡◌, ◌∙◌, ◌⊎◌, inl, inr, ℕ, Bool, true, false, ◌||◌, ◌&&◌, [], refl, sym, subst, arith}
 use Rattle.std.specs.List.{list_any}
 use Rattle.tree_model.specs.declared.records.Record.{Record}
@@ -78,7 +79,8 @@ module _ (turn : Turn) where
   pub rest_fits : (b : Bool) → (b ≡ acked_of m c t) ⊎ ((b ≡ true) × (v0.ack ≡ true))
       → Fits_in turn (seen turn o0 (rested b) v0)
   rest_fits b (inl e) =
-      subst (λ (x : Bool). Fits_in turn (seen turn o0 (rested x) v0)) (sym e) (unmoved c.txn.presumption (reading turn) inv)
+      subst (λ (x : Bool). Fits_in turn (seen turn o0 (rested x) v0)) (sym e)
+      (unmoved c.txn.presumption (reading turn) inv)
   rest_fits b (inr e) =
       subst (λ (x : Bool). Fits_in turn (seen turn o0 (rested x) v0)) (sym e.0)
       (moves.hears_ack c.txn.presumption (reading turn) inv (record { said = e.1 }))
@@ -91,7 +93,8 @@ module _ (turn : Turn) where
       → list_any (is_told_of_txn c.txn) (told_first e.told n.told) ≡ list_any (is_told_of_txn c.txn) n.told
   told_still e d = told-first (is_told_of_txn c.txn) e.told n.told ∙ rw (d.told) refl
 
-  pub begun_silent : (e : Effect) → e.written ≡ [] → DoesNothing e → begun_after m.phase (after n h e) c ≡ p0.begun
+  pub begun_silent : (e : Effect) → e.written ≡ [] → DoesNothing e → begun_after m.phase (after n h e) c
+      ≡ p0.begun
   begun_silent e none d = rw (none, told_still e d) refl
 
   pub begun_forced : (e : Effect) (r : Record) → e.written ≡ forced r → is_commit c r ≡ false → DoesNothing e
@@ -117,22 +120,28 @@ module _ (turn : Turn) where
     quiet_fine none =
         fine_silent turn e later m.phase (in_list m.accepted t) s.acked s.says v0
         (wire-silent c t net e.messages silent) none
-        (subst (λ (x : ParentHalf). Fits_in turn (seen turn o0 (stands_so false m.phase (in_list m.accepted t) s.acked now x) v0))
+        (subst (λ (x : ParentHalf). Fits_in turn
+        (seen turn o0 (stands_so false m.phase (in_list m.accepted t) s.acked now x) v0))
         (sym (did_nothing e p0 d))
-        (subst (λ (x : Bool). Fits_in turn (seen turn o0 (stands_so false m.phase (in_list m.accepted t) s.acked x p0) v0))
+        (subst (λ (x : Bool). Fits_in turn
+        (seen turn o0 (stands_so false m.phase (in_list m.accepted t) s.acked x p0) v0))
         (sym (begun_silent e none d))
-        (subst (λ (x : ParentHalf). Fits_in turn (seen turn o0 x v0)) (sym (shown s.acked)) (rest_fits s.acked s.why))))
+        (subst (λ (x : ParentHalf). Fits_in turn (seen turn o0 x v0)) (sym (shown s.acked))
+        (rest_fits s.acked s.why))))
 
     -- a record of another case was written, unforced
     pub plain_elsewhere : (r : Record) → e.written ≡ plain r → Unrelated r → Fine turn e
     plain_elsewhere r one u =
         fine_plain turn e later m.phase (in_list m.accepted t) s.acked s.says v0
         (wire-silent c t net e.messages silent) r u.boot one
-        (subst (λ (x : ParentHalf). Fits_in turn (seen turn o0 (stands_so false m.phase (in_list m.accepted t) s.acked now x) v0))
+        (subst (λ (x : ParentHalf). Fits_in turn
+        (seen turn o0 (stands_so false m.phase (in_list m.accepted t) s.acked now x) v0))
         (sym (u.same _ (did e c t p0) ∙ did_nothing e p0 d))
-        (subst (λ (x : Bool). Fits_in turn (seen turn o0 (stands_so false m.phase (in_list m.accepted t) s.acked x p0) v0))
+        (subst (λ (x : Bool). Fits_in turn
+        (seen turn o0 (stands_so false m.phase (in_list m.accepted t) s.acked x p0) v0))
         (sym (begun_plain e r one u.commits d))
-        (subst (λ (x : ParentHalf). Fits_in turn (seen turn o0 x v0)) (sym (shown s.acked)) (rest_fits s.acked s.why))))
+        (subst (λ (x : ParentHalf). Fits_in turn (seen turn o0 x v0)) (sym (shown s.acked))
+        (rest_fits s.acked s.why))))
 
     hardened : (b : Bool) → (b ≡ acked_of m c t) ⊎ ((b ≡ true) × (v0.ack ≡ true))
         → Fits_in turn (seen turn ((at_root turn && p0.commit_kept) || o0) (hardens (rested b)) v0)
@@ -150,7 +159,8 @@ module _ (turn : Turn) where
         fine_forced turn e later m.phase (in_list m.accepted t) s.acked s.says v0
         (wire-silent c t net e.messages silent) r u.boot one
         (subst (λ (q : Bool). Fits_in turn (seen turn ((at_root turn && (q || p0.commit_kept)) || o0)
-        (stands_so false m.phase (in_list m.accepted t) s.acked now (hardens (wrote r c t (has (is_prepare c) n.life) (did e c t p0)))) v0))
+        (stands_so false m.phase (in_list m.accepted t) s.acked now
+        (hardens (wrote r c t (has (is_prepare c) n.life) (did e c t p0)))) v0))
         (sym u.commits)
         (subst (λ (x : ParentHalf). Fits_in turn (seen turn ((at_root turn && p0.commit_kept) || o0)
         (stands_so false m.phase (in_list m.accepted t) s.acked now (hardens x)) v0))
@@ -158,5 +168,6 @@ module _ (turn : Turn) where
         (subst (λ (x : Bool). Fits_in turn (seen turn ((at_root turn && p0.commit_kept) || o0)
         (stands_so false m.phase (in_list m.accepted t) s.acked x (hardens p0)) v0))
         (sym (begun_forced e r one u.commits d))
-        (subst (λ (x : ParentHalf). Fits_in turn (seen turn ((at_root turn && p0.commit_kept) || o0) (hardens x) v0))
+        (subst (λ (x : ParentHalf). Fits_in turn
+        (seen turn ((at_root turn && p0.commit_kept) || o0) (hardens x) v0))
         (sym (shown s.acked)) (hardened s.acked s.why)))))

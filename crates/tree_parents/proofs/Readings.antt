@@ -68,7 +68,8 @@ module _ (manager above : Bool) (k : ChildHalf) (c : Case) (t : Ticket) where
   tells root p = record p { told_aborted = root || p.told_aborted }
 
   pub reading-asks : (root o : Bool) (p : ParentHalf) (v : Wire) → p.phase ≡ Active → p.begun ≡ true
-      → R root o (S Asked p p) (record v { prepare = p.accepted || v.prepare }) ≡ move.asks_for_votes (R root o p v)
+      → R root o (S Asked p p) (record v { prepare = p.accepted || v.prepare })
+      ≡ move.asks_for_votes (R root o p v)
   reading-asks true o p v e f = rw (e, f) (simp (dead-live))
   reading-asks false o p v e f = rw e (simp (dead-live))
 
@@ -150,7 +151,8 @@ module _ (manager above : Bool) (k : ChildHalf) (c : Case) (t : Ticket) where
       rw (l.begun, l.no_commit, f) (simp (dead-now, same_case-refl, in_list-none))
   reading-hears_no false o b p v l =
       let f = l.given refl in
-      rw (f, l.no_prepare, l.never_promised, l.no_read) (simp (dead-now, or-true, same_case-refl, in_list-none))
+      rw (f, l.no_prepare, l.never_promised, l.no_read)
+      (simp (dead-now, or-true, same_case-refl, in_list-none))
 
   pub reading-aborts : (root o b : Bool) (p : ParentHalf) (v : Wire) → Live root o p v
       → R root o (S Over p (wrote (AbortRecord c []) c t b (tells root p)))
@@ -161,10 +163,12 @@ module _ (manager above : Bool) (k : ChildHalf) (c : Case) (t : Ticket) where
       rw (l.begun, l.no_commit, f) (simp (dead-now, same_case-refl, in_list-none))
   reading-aborts false o b p v l =
       let f = l.given refl in
-      rw (f, l.no_prepare, l.never_promised, l.no_read) (simp (dead-now, or-true, same_case-refl, in_list-none))
+      rw (f, l.no_prepare, l.never_promised, l.no_read)
+      (simp (dead-now, or-true, same_case-refl, in_list-none))
 
   -- and PC
-  pub reading-hears_no_forced : (root o b : Bool) (us : List Ticket) (p : ParentHalf) (v : Wire) → Live root o p v
+  pub reading-hears_no_forced : (root o b : Bool) (us : List Ticket) (p : ParentHalf) (v : Wire)
+      → Live root o p v
       → in_list us t ≡ false
       → R root ((root && (is_commit c (AbortRecord c us) || p.commit_kept)) || o)
       (S Over p (hardens (wrote (AbortRecord c us) c t b (tells root (record p { first_no = true }))))) v
@@ -176,7 +180,8 @@ module _ (manager above : Bool) (k : ChildHalf) (c : Case) (t : Ticket) where
       let f = l.given refl in
       rw (f, l.no_prepare, l.never_promised, l.no_read, g) (simp (dead-now, or-true, same_case-refl))
 
-  pub reading-aborts_forced : (root o b : Bool) (us : List Ticket) (p : ParentHalf) (v : Wire) → Live root o p v
+  pub reading-aborts_forced : (root o b : Bool) (us : List Ticket) (p : ParentHalf) (v : Wire)
+      → Live root o p v
       → in_list us t ≡ (p.accepted && not p.first_read) → p.owed ≡ false
       → R root ((root && (is_commit c (AbortRecord c us) || p.commit_kept)) || o)
       (S Over p (hardens (wrote (AbortRecord c us) c t b (tells root p))))
@@ -187,7 +192,8 @@ module _ (manager above : Bool) (k : ChildHalf) (c : Case) (t : Ticket) where
       rw (l.begun, l.no_commit, f, g, h) (simp (dead-now, same_case-refl, or-false))
   reading-aborts_forced false o b us p v l g h =
       let f = l.given refl in
-      rw (f, l.no_prepare, l.never_promised, l.no_read, g, h) (simp (dead-now, or-true, same_case-refl, or-false))
+      rw (f, l.no_prepare, l.never_promised, l.no_read, g, h)
+      (simp (dead-now, or-true, same_case-refl, or-false))
 
   -- The outcome finds the promise.
 
@@ -225,7 +231,8 @@ module _ (manager above : Bool) (k : ChildHalf) (c : Case) (t : Ticket) where
 
   -- JOINED was accepted, of the pair's ticket or of another
   pub reading-accepts : (root o b : Bool) (p : ParentHalf) (v : Wire) → p.phase ≡ Active → p.begun ≡ true
-      → R root o (stands_so false Open (p.accepted || b) p.acked true (record p { took_part = b || p.took_part })) v
+      → R root o (stands_so false Open (p.accepted || b) p.acked true
+      (record p { took_part = b || p.took_part })) v
       ≡ (if b then move.accepts (R root o p v) else R root o p v)
   reading-accepts true o true p v e f = rw (e, f) (simp (or-true))
   reading-accepts false o true p v e f = rw e (simp (or-true))

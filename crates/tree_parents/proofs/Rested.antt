@@ -57,7 +57,8 @@ module _ (turn : Turn) where
   pub rest_alike : (x : Memory) → m' ≡ x → Alike turn x → Rests turn
   rest_alike x e a = rests_as turn (stays turn x e a)
 
-  if_alike : (b : Bool) (x y : Memory) → (b ≡ true → Alike turn x) → Alike turn y → Alike turn (if b then x else y)
+  if_alike : (b : Bool) (x y : Memory) → (b ≡ true → Alike turn x) → Alike turn y
+      → Alike turn (if b then x else y)
   if_alike true x y f g = f refl
   if_alike false x y f g = g
 
@@ -81,7 +82,8 @@ module _ (turn : Turn) where
       (λ e. uncounted u w m.phase (f e))
 
   -- a ticket that belongs to another case is not accepted in this one
-  pub others_ticket : (x : Txn) (u : Ticket) (d : Case) → case_of_child place n x u ≡ Some d → same_case d c ≡ false
+  pub others_ticket : (x : Txn) (u : Ticket) (d : Case) → case_of_child place n x u ≡ Some d
+      → same_case d c ≡ false
       → in_list m.accepted u ≡ false
   others_ticket x u d found other = by_test (in_list m.accepted u) refl
     where
@@ -95,15 +97,18 @@ module _ (turn : Turn) where
   abbrev pub heard_so : Ticket → Outcome → Bool
   heard_so u o = same_outcome o (acknowledged c.txn.presumption) && same_ticket u t
 
-  pub acked_now : (x : Txn) (u : Ticket) (o : Outcome) (j : ℕ) → h.input ≡ MessageInput j (Ack (child_case x u) o)
+  pub acked_now : (x : Txn) (u : Ticket) (o : Outcome) (j : ℕ) → h.input
+      ≡ MessageInput j (Ack (child_case x u) o)
       → same_txn x c.txn ≡ true → (b : Bool) → heard_so u o ≡ b
-      → ((acked_of m c t || b) ≡ acked_of m c t) ⊎ (((acked_of m c t || b) ≡ true) × ((net_part turn).ack ≡ true))
+      → ((acked_of m c t || b) ≡ acked_of m c t)
+      ⊎ (((acked_of m c t || b) ≡ true) × ((net_part turn).ack ≡ true))
   acked_now x u o j i same false e = inl (or-false (acked_of m c t))
     where
       or-false : (a : Bool) → (a || false) ≡ a
       or-false a = grind arith
   acked_now x u o j i same true e =
-      let one : same_ticket u t ≡ true = (both (same_outcome o (acknowledged c.txn.presumption)) (same_ticket u t) e).1 in
+      let one : same_ticket u t ≡ true =
+      (both (same_outcome o (acknowledged c.txn.presumption)) (same_ticket u t) e).1 in
       inr (
         or-true (acked_of m c t),
         was_sent (is_ack_message (child_case c.txn t)) net place.me h.input j
@@ -123,7 +128,8 @@ module _ (turn : Turn) where
     says = record {
       phase = ap (λ (y : Memory). y.phase) e;
       accepted_so = ap (λ (y : Memory). in_list y.accepted t) e;
-      acked_so = ap (λ (y : Memory). acked_of y c t) e ∙ has_acked-push m.acks u o (acknowledged c.txn.presumption) t;
+      acked_so = ap (λ (y : Memory). acked_of y c t) e
+          ∙ has_acked-push m.acks u o (acknowledged c.txn.presumption) t;
     };
     why = acked_now x u o j i same (heard_so u o) refl;
   }
@@ -132,12 +138,14 @@ module _ (turn : Turn) where
     says = record {
       phase = ap (λ (y : Memory). y.phase) e;
       accepted_so = ap (λ (y : Memory). in_list y.accepted t) e;
-      acked_so = ap (λ (y : Memory). acked_of y c t) e ∙ has_acked-push m.acks u o (acknowledged c.txn.presumption) t;
+      acked_so = ap (λ (y : Memory). acked_of y c t) e
+          ∙ has_acked-push m.acks u o (acknowledged c.txn.presumption) t;
     };
     why = acked_now x u o j i same (heard_so u o) refl;
   }
 
-  pub rest_ack : (o : Outcome) (x : Txn) (u : Ticket) (j : ℕ) → h.input ≡ MessageInput j (Ack (child_case x u) o)
+  pub rest_ack : (o : Outcome) (x : Txn) (u : Ticket) (j : ℕ) → h.input
+      ≡ MessageInput j (Ack (child_case x u) o)
       → Rests turn
   rest_ack o x u j i = by_test (same_txn x c.txn) refl
     where
@@ -163,7 +171,8 @@ module _ (turn : Turn) where
   closes_late d Idle e f g = retired d
   closes_late d Over e f g = record { phase = sym e; accepted = refl; acks = refl }
 
-  pub rest_prepare : (d : Case) (j l : ℕ) (p : ProcessId) → parent ≡ Some p → h.input ≡ MessageInput j (Prepare d l)
+  pub rest_prepare : (d : Case) (j l : ℕ) (p : ProcessId) → parent ≡ Some p → h.input
+      ≡ MessageInput j (Prepare d l)
       → (same_case d c ≡ true → m.phase ≡ Open → ⊥) → Rests turn
   rest_prepare d j l p s i f =
       rest_alike (if same_case d c then asks_votes (retires m d) m.phase else retires m d)
@@ -181,7 +190,8 @@ module _ (turn : Turn) where
       (λ e. closes_late d m.phase refl (f e) (g e)) (retired d))
 
   pub rest_abort : (d : Case) (j : ℕ) (p : ProcessId) → parent ≡ Some p → h.input ≡ MessageInput j (Abort d)
-      → (same_case d c ≡ true → m.phase ≡ Open → ⊥) → (same_case d c ≡ true → m.phase ≡ Asked → ⊥) → Rests turn
+      → (same_case d c ≡ true → m.phase ≡ Open → ⊥) → (same_case d c ≡ true → m.phase ≡ Asked → ⊥)
+      → Rests turn
   rest_abort d j p s i f g = rests_as turn (abort_stays d j p s i f g)
 
   -- JOINED that nobody takes.
@@ -201,12 +211,15 @@ module _ (turn : Turn) where
 
   pub rest_work : (d : Case) (q : ProcessId) (op : Op) → h.input ≡ ActInput (WorkAct d q op) → Rests turn
   rest_work d q op i =
-      rest_if (same_case d c) _ (by_input.work_act turn d q op i) (λ e. works_alike turn (ticket_of_child m.accepted q) m.phase)
+      rest_if (same_case d c) _ (by_input.work_act turn d q op i)
+      (λ e. works_alike turn (ticket_of_child m.accepted q) m.phase)
 
   -- Acts for another case.
 
-  pub rest_commit_act : (x : Txn) → h.input ≡ ActInput (CommitAct x) → same_case (root_case x) c ≡ false → Rests turn
+  pub rest_commit_act : (x : Txn) → h.input ≡ ActInput (CommitAct x) → same_case (root_case x) c ≡ false
+      → Rests turn
   rest_commit_act x i e = rest_same (by_input.commit_act_elsewhere turn x e i)
 
-  pub rest_abort_act : (x : Txn) → h.input ≡ ActInput (AbortAct x) → same_case (root_case x) c ≡ false → Rests turn
+  pub rest_abort_act : (x : Txn) → h.input ≡ ActInput (AbortAct x) → same_case (root_case x) c ≡ false
+      → Rests turn
   rest_abort_act x i e = rest_same (by_input.abort_act_elsewhere turn x e i)

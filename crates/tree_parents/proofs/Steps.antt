@@ -54,7 +54,8 @@ turn_fits turn _ (turns.of_case d row r) later = by_case (same_case_tells d turn
         → Fine turn (row_effect d row)
     by_case (inl same) =
         subst (λ (x : Case). CaseTurn turn.place turn.parent turn.n turn.h x row
-        → IsOpenAlike turn.place (after turn.n turn.h (row_effect x row)) turn.c → Fine turn (row_effect x row)) (sym same.1)
+        → IsOpenAlike turn.place (after turn.n turn.h (row_effect x row)) turn.c
+        → Fine turn (row_effect x row)) (sym same.1)
         (λ s l. own_turn turn row s (record { alike = l })) r later
     by_case (inr other) = elsewhere.turn_elsewhere turn d other.0 row r (record { alike = later })
 turn_fits turn _ (turns.begins q s i) later = born.begins turn q s i later
@@ -72,12 +73,14 @@ seated AtRoot i = record { parent = None; seat = top }
 seated (Below p) i = record { parent = Some p; seat = under p }
 seated (AtLeaf p) i = absurd i
 
-pub turn_by : (role : Role) (o : Option ProcessId) → IsSeat role o → (place : Place) (n : Node) (h : Heard) (e : Effect)
+pub turn_by : (role : Role) (o : Option ProcessId) → IsSeat role o
+    → (place : Place) (n : Node) (h : Heard) (e : Effect)
     → CoordinatorTurnAt role place n h e → CoordinatorTurn place o n h e
 turn_by _ _ top place n h e t = t
 turn_by _ _ (under p) place n h e t = t
 
-pub root_ticket : (role : Role) (o : Option Ticket) → IsCoordinator role → IsParentRole role o → is_root_ticket o ≡ is_top role
+pub root_ticket : (role : Role) (o : Option Ticket) → IsCoordinator role → IsParentRole role o
+    → is_root_ticket o ≡ is_top role
 root_ticket AtRoot None i x = refl
 root_ticket AtRoot (Some u) i x = absurd x
 root_ticket (Below p) (Some u) i x = refl
@@ -98,8 +101,10 @@ free_before net ls c t f = second _ _ _ (sent-append (gives_other c t) net ls) f
     second false b x e g = sym e ∙ g
 
 -- The turn of an input in a world that a run has led to, on one pair.
-module _ (tree : List TreeEntry) (es : List Made) (w : World) (apart : NoOwnParent tree) (run : IsRun tree es w)
-    (holds : WorldHolds tree w) (known : JoinedAreBorn tree w) (q : ProcessId) (listed : is_listed tree q ≡ true)
+module _ (tree : List TreeEntry) (es : List Made) (w : World) (apart : NoOwnParent tree)
+    (run : IsRun tree es w)
+    (holds : WorldHolds tree w) (known : JoinedAreBorn tree w) (q : ProcessId)
+    (listed : is_listed tree q ≡ true)
     (i : IsCoordinator (role_of tree q)) (h : Heard) (stands : InputStands w.net q h.input)
     (up : (w.at q).failed ≡ false) where
   abbrev place : Place
@@ -117,10 +122,12 @@ module _ (tree : List TreeEntry) (es : List Made) (w : World) (apart : NoOwnPare
   pub coordinates : Coordinates place w.net n
   coordinates = coordinates_of (role_of tree q) i place w.net n here_holds.role
 
-  module _ (c : Case) (t : Ticket) (pair : IsPair tree c t) (mine : process_of c ≡ q) (free : IsFree w.net c t)
+  module _ (c : Case) (t : Ticket) (pair : IsPair tree c t) (mine : process_of c ≡ q)
+      (free : IsFree w.net c t)
       (manager outcome above : Bool) (k : ChildHalf)
       (from_above : Above place.role w.net c (coordinator_view place n c).standing outcome above)
-      (inv : InvariantOf c.txn.presumption (reading_from (is_root_ticket c.ticket) manager (outcome_in place.role n c outcome) above
+      (inv : InvariantOf c.txn.presumption
+      (reading_from (is_root_ticket c.ticket) manager (outcome_in place.role n c outcome) above
       (parent_half place n c t) k (wire c t w.net))) where
     pub half_now : parent_half place n c t ≡ remembered_half (memory_of place n c) n c t
     half_now = half_is place n c t up i (coordinates.alike up c)
@@ -159,26 +166,33 @@ module _ (tree : List TreeEntry) (es : List Made) (w : World) (apart : NoOwnPare
       rooted = root_ticket (role_of tree q) c.ticket i
           (subst (λ (x : ProcessId). IsParentRole (role_of tree x) c.ticket) mine pair.parent.role);
       joined_is_born = λ e. subst (λ (x : ProcessId). is_born (is_root_ticket c.ticket)
-          (parent_half (place_of tree x) (w.at x) c t).begun (sent (gives_case c) w.net) ≡ true) mine (known c t pair e);
+          (parent_half (place_of tree x) (w.at x) c t).begun (sent (gives_case c) w.net) ≡ true) mine
+          (known c t pair e);
       from_above = from_above;
       inv = subst (λ (p : ParentHalf). InvariantOf c.txn.presumption
-          (reading_from (is_root_ticket c.ticket) manager (outcome_in place.role n c outcome) above p k (wire c t w.net)))
+          (reading_from (is_root_ticket c.ticket) manager (outcome_in place.role n c outcome) above p k
+          (wire c t w.net)))
           half_now inv;
     }
 
   -- An input that is handled.
-  pub handles_fit : (e : Effect) → CoordinatorTurnAt (role_of tree q) place n h e → Coordinates place (w.net ++ e.messages) (after n h e)
+  pub handles_fit : (e : Effect) → CoordinatorTurnAt (role_of tree q) place n h e
+      → Coordinates place (w.net ++ e.messages) (after n h e)
       → (after n h e).failed ≡ false
       → ParentStep place w.net e.messages n (after n h e)
   handles_fit e turn then still_up = record {
     follows = λ c t pair mine free manager outcome above k from inv.
-        let own = turn_here c t pair mine (free_before w.net e.messages c t free) manager outcome above k from inv in
+        let own = turn_here c t pair mine (free_before w.net e.messages c t free) manager outcome above k
+        from inv in
         subst (λ (p : ParentHalf). Fits c.txn.presumption
-        (reading_from (is_root_ticket c.ticket) manager (outcome_in place.role n c outcome) above p k (wire c t w.net))
+        (reading_from (is_root_ticket c.ticket) manager (outcome_in place.role n c outcome) above p k
+        (wire c t w.net))
         (reading_from (is_root_ticket c.ticket) manager (outcome_in place.role (after n h e) c outcome) above
         (parent_half place (after n h e) c t) k (wire c t (w.net ++ e.messages))))
-        (sym (half_now c t pair mine (free_before w.net e.messages c t free) manager outcome above k from inv))
-        (turn_fits own e (turn_by (role_of tree q) here.parent here.seat place n h e turn) (then.alike still_up c));
+        (sym (half_now c t pair mine (free_before w.net e.messages c t free) manager outcome above k from
+        inv))
+        (turn_fits own e (turn_by (role_of tree q) here.parent here.seat place n h e turn)
+        (then.alike still_up c));
   }
 
 -- An input that is passed over, or nothing is done.
@@ -186,40 +200,52 @@ pub same_step : (place : Place) (net : List Envelope) (n : Node) → ParentStep 
 same_step place net n = record {
   follows = λ c t pair mine free manager outcome above k from inv.
       subst (λ (x : Wire). Fits c.txn.presumption
-      (reading_from (is_root_ticket c.ticket) manager (outcome_in place.role n c outcome) above (parent_half place n c t) k (wire c t net))
-      (reading_from (is_root_ticket c.ticket) manager (outcome_in place.role n c outcome) above (parent_half place n c t) k x))
+      (reading_from (is_root_ticket c.ticket) manager (outcome_in place.role n c outcome) above
+      (parent_half place n c t) k (wire c t net))
+      (reading_from (is_root_ticket c.ticket) manager (outcome_in place.role n c outcome) above
+      (parent_half place n c t) k x))
       (sym (wire-nothing c t net)) (unmoved c.txn.presumption _ inv);
 }
 
 pub still_up : (n : Node) (h : Heard) (e : Effect) → n.failed ≡ false → (after n h e).failed ≡ false
 still_up n h e up =
-    either_logs n (entries_written e.written) (is_any_forced e.written) (λ (l : Logs). l.failed ≡ false) (λ b. up) (λ b. up)
+    either_logs n (entries_written e.written) (is_any_forced e.written) (λ (l : Logs). l.failed ≡ false)
+    (λ b. up) (λ b. up)
 
-rows_step : (tree : List TreeEntry) (es : List Made) (w : World) → NoOwnParent tree → IsRun tree es w → WorldHolds tree w
-    → JoinedAreBorn tree w → (m : Move) → is_listed tree m.step.process ≡ true → IsCoordinator (role_of tree m.step.process)
-    → Stands w.net m.step.process m.step.happening → (i : Input) → m.step.happening ≡ Handles i → m.step.fault ≡ None
+rows_step : (tree : List TreeEntry) (es : List Made) (w : World) → NoOwnParent tree → IsRun tree es w
+    → WorldHolds tree w
+    → JoinedAreBorn tree w → (m : Move) → is_listed tree m.step.process ≡ true
+    → IsCoordinator (role_of tree m.step.process)
+    → Stands w.net m.step.process m.step.happening → (i : Input) → m.step.happening ≡ Handles i
+    → m.step.fault ≡ None
     → (e : Effect) (k : Node) → StepOf (place_of tree m.step.process) (w.at m.step.process) m e k
     → Coordinates (place_of tree m.step.process) (w.net ++ e.messages) k
     → ParentStep (place_of tree m.step.process) w.net e.messages (w.at m.step.process) k
-rows_step tree es w apart run holds known m listed role stands j handles whole _ _ (handled i g hp np r) then =
+rows_step tree es w apart run holds known m listed role stands j handles whole _ _ (handled i g hp np r)
+    then =
     let q = m.step.process in
     let h = heard_in m i in
     let turn = turn_of (place_of tree q) (w.at q) h g r in
-    handles_fit tree es w apart run holds known q listed role h (subst (λ (x : Happening). Stands w.net q x) hp stands) turn.up g
+    handles_fit tree es w apart run holds known q listed role h
+    (subst (λ (x : Happening). Stands w.net q x) hp stands) turn.up g
     (coordinator_turn_of (place_of tree q) (w.at q) h g r) then (still_up (w.at q) h g turn.up)
-rows_step tree es w apart run holds known m listed role stands j handles whole _ _ (failed_in i f g fl hp np r) then =
+rows_step tree es w apart run holds known m listed role stands j handles whole _ _
+    (failed_in i f g fl hp np r) then =
     absurd (let z = sym whole ∙ fl in cc)
 rows_step tree es w apart run holds known m listed role stands j handles whole _ _ (passed i hp r) then =
     same_step (place_of tree m.step.process) w.net (w.at m.step.process)
-rows_step tree es w apart run holds known m listed role stands j handles whole _ _ (failed_passing i f fl hp r) then =
+rows_step tree es w apart run holds known m listed role stands j handles whole _ _
+    (failed_passing i f fl hp r) then =
     absurd (let z = sym whole ∙ fl in cc)
 rows_step tree es w apart run holds known m listed role stands j handles whole _ _ (reopened k hp) then =
     absurd (let z = sym handles ∙ hp in cc)
-rows_step tree es w apart run holds known m listed role stands j handles whole _ _ (failed_reopening k f fl hp) then =
+rows_step tree es w apart run holds known m listed role stands j handles whole _ _
+    (failed_reopening k f fl hp) then =
     absurd (let z = sym handles ∙ hp in cc)
 rows_step tree es w apart run holds known m listed role stands j handles whole _ _ (trimmed hp up) then =
     absurd (let z = sym handles ∙ hp in cc)
-rows_step tree es w apart run holds known m listed role stands j handles whole _ _ (failed_trimming f fl hp up) then =
+rows_step tree es w apart run holds known m listed role stands j handles whole _ _
+    (failed_trimming f fl hp up) then =
     absurd (let z = sym handles ∙ hp in cc)
 
 pub put_self : (q : ProcessId) (k : Node) (at : ProcessId → Node) → put_at q k at q ≡ k
@@ -231,6 +257,7 @@ coordinator_rows tree es w apart run holds known m e w' role stands made i handl
     let at = makes_at tree w m e w' made in
     let there : w'.at q ≡ at.node = ap (λ (x : World). x.at q) at.world ∙ put_self q at.node w.at in
     subst (λ (x : Node). ParentStep (place_of tree q) w.net e.messages (w.at q) x) (sym there)
-    (rows_step tree es w apart run holds known m (makes_listed tree w m e w' made) role stands i handles whole e at.node
+    (rows_step tree es w apart run holds known m (makes_listed tree w m e w' made) role stands i handles
+    whole e at.node
     (step_of (place_of tree q) (w.at q) m e at.node at.made)
     (subst (λ (x : Node). Coordinates (place_of tree q) (w.net ++ e.messages) x) there then))

@@ -98,7 +98,8 @@ pub data UnknownFacts (E C A P K N : Bool) : Type 0 where
   aborted : C ≡ false → A ≡ true → N ≡ true → UnknownFacts E C A P K N
   unrecorded : C ≡ false → P ≡ false → K ≡ false → UnknownFacts E C A P K N
 
-unknown_by : (E C A P K N : Bool) (s : Standing) → standing_by E C A P K N s ≡ Unknown → UnknownFacts E C A P K N
+unknown_by : (E C A P K N : Bool) (s : Standing) → standing_by E C A P K N s ≡ Unknown
+    → UnknownFacts E C A P K N
 unknown_by true C A P K N s e = ended refl
 unknown_by false true A P K true s e = committed refl refl
 unknown_by false true A P K false s e = absurd (cc)

@@ -37,7 +37,8 @@ abbrev pub is_top : Role → Bool
 is_top AtRoot = true
 is_top _ = false
 
--- The coordinator, what it was and heard, and the net behind it; the pair's case and ticket, with the child's half; and
+-- The coordinator, what it was and heard, and the net behind it; the pair's case and ticket, with the
+-- child's half; and
 -- what is known of them.
 pub record Turn : Type 0 where
   pub place : Place
@@ -67,10 +68,12 @@ pub record Turn : Type 0 where
   pub rooted : is_root_ticket c.ticket ≡ is_top place.role
   -- a case to which JOINED gave a ticket is known
   pub joined_is_born : ever_sent (is_joined_message c t) net ≡ true
-      → is_born (is_root_ticket c.ticket) (remembered_half (memory_of place n c) n c t).begun (ever_sent (gives_case c) net) ≡ true
+      → is_born (is_root_ticket c.ticket) (remembered_half (memory_of place n c) n c t).begun
+      (ever_sent (gives_case c) net) ≡ true
   pub from_above : Above place.role net c (coordinator_view place n c).standing outcome above
   pub inv : InvariantOf c.txn.presumption (reading_from (is_root_ticket c.ticket) manager
-      (outcome_in place.role n c outcome) above (remembered_half (memory_of place n c) n c t) k (wire c t net))
+      (outcome_in place.role n c outcome) above (remembered_half (memory_of place n c) n c t) k
+      (wire c t net))
 
 is_coordinator : (role : Role) (parent : Option ProcessId) → IsSeat role parent → IsCoordinator role
 is_coordinator _ _ top = tt
@@ -108,7 +111,8 @@ module _ (turn : Turn) where
   -- an effect keeps the invariant
   abbrev pub Fine : Effect → Type 0
   Fine e = Fits c.txn.presumption r0
-      (R (outcome_in place.role (after n h e) c outcome) (parent_half place (after n h e) c t) (wire c t (net ++ e.messages)))
+      (R (outcome_in place.role (after n h e) c outcome) (parent_half place (after n h e) c t)
+      (wire c t (net ++ e.messages)))
 
   abbrev pub Fits_in : Reading → Type 0
   Fits_in r = Fits c.txn.presumption r0 r
@@ -140,10 +144,12 @@ module _ (turn : Turn) where
   -- The half behind an event.
 
   still_up : (e : Effect) → (after n h e).failed ≡ false
-  still_up e = either_logs n (entries_written e.written) (is_any_forced e.written) (λ (l : Logs). l.failed ≡ false)
+  still_up e = either_logs n (entries_written e.written) (is_any_forced e.written)
+      (λ (l : Logs). l.failed ≡ false)
       (λ b. up) (λ b. up)
 
-  module _ (e : Effect) (later : IsOpenAlike place (after n h e) c) (ph : Phase) (a b : Bool) (s : Says ph a b)
+  module _ (e : Effect) (later : IsOpenAlike place (after n h e) c) (ph : Phase) (a b : Bool)
+      (s : Says ph a b)
       (v : Wire) (sent : wire c t (net ++ e.messages) ≡ v) where
     abbrev now : Bool
     now = begun_after ph (after n h e) c
@@ -152,14 +158,16 @@ module _ (turn : Turn) where
         → parent_half place (after n h e) c t ≡ half_of ph a b (after n h e) c t
     half_then f =
         half_is place (after n h e) c t (still_up e) (is_coordinator place.role parent seat) later
-        ∙ (ap (λ (x : Memory). remembered_half x (after n h e) c t) f ∙ rw (s.phase, s.accepted_so, s.acked_so) refl)
+        ∙ (ap (λ (x : Memory). remembered_half x (after n h e) c t) f
+        ∙ rw (s.phase, s.accepted_so, s.acked_so) refl)
 
     assemble : (o : Bool) (p : ParentHalf) → outcome_in place.role (after n h e) c outcome ≡ o
         → memory_of place (after n h e) c ≡ m'
         → half_of ph a b (after n h e) c t ≡ stands_so n.failed ph a b now p
         → Fits_in (R o (stands_so false ph a b now p) v) → Fine e
     assemble o p f g q fits =
-        subst (λ (x : Wire). Fits_in (R (outcome_in place.role (after n h e) c outcome) (parent_half place (after n h e) c t) x))
+        subst (λ (x : Wire). Fits_in (R (outcome_in place.role (after n h e) c outcome)
+        (parent_half place (after n h e) c t) x))
         (sym sent)
         (subst (λ (x : ParentHalf). Fits_in (R (outcome_in place.role (after n h e) c outcome) x v))
         (sym (half_then g ∙ (q ∙ ap (λ (u : Bool). stands_so u ph a b now p) up)))
@@ -168,7 +176,8 @@ module _ (turn : Turn) where
     pub fine_silent : e.written ≡ []
         → Fits_in (R o0 (stands_so false ph a b now (did e c t p0)) v) → Fine e
     fine_silent none fits =
-        assemble o0 (did e c t p0) (outcome_stays place.role e (rw none refl)) (memory_of-nothing place n h e c none)
+        assemble o0 (did e c t p0) (outcome_stays place.role e (rw none refl))
+        (memory_of-nothing place n h e c none)
         (half_silent m.phase ph (in_list m.accepted t) a (acked_of m c t) b n h e c t none) fits
 
     pub fine_forced : (r : Record) → ((x : ℕ) → boot_after x r ≡ x) → e.written ≡ forced r
@@ -182,7 +191,8 @@ module _ (turn : Turn) where
         (half_forced m.phase ph (in_list m.accepted t) a (acked_of m c t) b n h e c t r one) fits
 
     pub fine_plain : (r : Record) → ((x : ℕ) → boot_after x r ≡ x) → e.written ≡ plain r
-        → Fits_in (R o0 (stands_so false ph a b now (wrote r c t (has (is_prepare c) n.life) (did e c t p0))) v)
+        → Fits_in (R o0 (stands_so false ph a b now
+        (wrote r c t (has (is_prepare c) n.life) (did e c t p0))) v)
         → Fine e
     fine_plain r stays one fits =
         assemble o0 (wrote r c t (has (is_prepare c) n.life) (did e c t p0))

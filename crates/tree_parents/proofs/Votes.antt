@@ -39,11 +39,13 @@ voted_so-push : (x w : Vote) (vs : List (Ticket × Vote)) (u t : Ticket)
 unfolding voted_so
 voted_so-push x w vs u t = grind (arith, list_any-append)
 
-unvoted : (x : Vote) (vs : List (Ticket × Vote)) (t : Ticket) → has_voted vs t ≡ false → voted_so x vs t ≡ false
+unvoted : (x : Vote) (vs : List (Ticket × Vote)) (t : Ticket) → has_voted vs t ≡ false → voted_so x vs t
+    ≡ false
 unfolding voted_so has_voted
 unvoted x [] t e = refl
 unvoted x (v ∷ vs) t e =
-    none_of_both (same_vote x v.1) (same_ticket v.0 t) (list_any (λ (y : Ticket × Vote). same_ticket y.0 t) vs) _ e
+    none_of_both (same_vote x v.1) (same_ticket v.0 t)
+    (list_any (λ (y : Ticket × Vote). same_ticket y.0 t) vs) _ e
     (unvoted x vs t)
   where
     none_of_both : (a b d y : Bool) → (b || d) ≡ false → (d ≡ false → y ≡ false) → ((a && b) || y) ≡ false
@@ -77,7 +79,8 @@ voted_some (v ∷ vs) t e = by_vote v.1 (either _ _ e) (voted_some vs t)
     right true b x = refl
     right false b x = x
 
-    rest : (w : Vote) → (voted_so VoteYes vs t ≡ true) ⊎ ((voted_so VoteNo vs t ≡ true) ⊎ (voted_so VoteRead vs t ≡ true))
+    rest : (w : Vote) → (voted_so VoteYes vs t ≡ true)
+        ⊎ ((voted_so VoteNo vs t ≡ true) ⊎ (voted_so VoteRead vs t ≡ true))
         → (((same_vote VoteYes w && same_ticket v.0 t) || voted_so VoteYes vs t) ≡ true)
         ⊎ ((((same_vote VoteNo w && same_ticket v.0 t) || voted_so VoteNo vs t) ≡ true)
         ⊎ (((same_vote VoteRead w && same_ticket v.0 t) || voted_so VoteRead vs t) ≡ true))
@@ -85,8 +88,10 @@ voted_some (v ∷ vs) t e = by_vote v.1 (either _ _ e) (voted_some vs t)
     rest w (inr (inl x)) = inr (inl (right _ _ x))
     rest w (inr (inr x)) = inr (inr (right _ _ x))
 
-    by_vote : (w : Vote) → (same_ticket v.0 t ≡ true) ⊎ (list_any (λ (y : Ticket × Vote). same_ticket y.0 t) vs ≡ true)
-        → (has_voted vs t ≡ true → (voted_so VoteYes vs t ≡ true) ⊎ ((voted_so VoteNo vs t ≡ true) ⊎ (voted_so VoteRead vs t ≡ true)))
+    by_vote : (w : Vote) → (same_ticket v.0 t ≡ true)
+        ⊎ (list_any (λ (y : Ticket × Vote). same_ticket y.0 t) vs ≡ true)
+        → (has_voted vs t ≡ true → (voted_so VoteYes vs t ≡ true)
+        ⊎ ((voted_so VoteNo vs t ≡ true) ⊎ (voted_so VoteRead vs t ≡ true)))
         → (((same_vote VoteYes w && same_ticket v.0 t) || voted_so VoteYes vs t) ≡ true)
         ⊎ ((((same_vote VoteNo w && same_ticket v.0 t) || voted_so VoteNo vs t) ≡ true)
         ⊎ (((same_vote VoteRead w && same_ticket v.0 t) || voted_so VoteRead vs t) ≡ true))
@@ -205,7 +210,8 @@ module _ (turn : Turn) where
     its_accepted e = (both (in_list m.accepted t) (not (has_voted m.votes t)) (its_counted e)).0
 
     its_unvoted : its ≡ true → has_voted m.votes t ≡ false
-    its_unvoted e = flip (has_voted m.votes t) ((both (in_list m.accepted t) (not (has_voted m.votes t)) (its_counted e)).1)
+    its_unvoted e = flip (has_voted m.votes t)
+        ((both (in_list m.accepted t) (not (has_voted m.votes t)) (its_counted e)).1)
       where
         flip : (b : Bool) → not b ≡ true → b ≡ false
         flip false x = refl
@@ -218,11 +224,14 @@ module _ (turn : Turn) where
     its_first e x = votes_now x ∙ unvoted x m.votes t (its_unvoted e)
 
     its_said : (q : Message → Bool) → its ≡ true
-        → q (vote_message w (child_case i.hears.txn u)) ≡ same_case (child_case i.hears.txn u) (child_case c.txn t)
+        → q (vote_message w (child_case i.hears.txn u))
+        ≡ same_case (child_case i.hears.txn u) (child_case c.txn t)
         → sent q net ≡ true
     its_said q e f =
-        was_sent q net place.me h.input i.hears.hears.0 (vote_message w (child_case i.hears.txn u)) stands i.hears.hears.1
-        (f ∙ (same_children i.hears.txn c.txn u t ∙ rw (own.of_txn turn i.hears.txn u i.hears.belongs, e) refl))
+        was_sent q net place.me h.input i.hears.hears.0 (vote_message w (child_case i.hears.txn u)) stands
+        i.hears.hears.1
+        (f ∙ (same_children i.hears.txn c.txn u t
+        ∙ rw (own.of_txn turn i.hears.txn u i.hears.belongs, e) refl))
 
     -- what was heard then
     pub heard_now : (x : Vote) → ((its && is_vote x w) || has_heard_vote n c t (is_vote x))
@@ -230,7 +239,8 @@ module _ (turn : Turn) where
     heard_now x =
         ap (λ b. (its && is_vote x w) || b) (votes_now x)
         ∙ (turned its (is_vote x w) (voted_so x m.votes t)
-        ∙ (ap (λ b. voted_so x m.votes t || (b && its)) (sym (same_is_vote x w)) ∙ sym (voted_so-push x w m.votes u t)))
+        ∙ (ap (λ b. voted_so x m.votes t || (b && its)) (sym (same_is_vote x w))
+        ∙ sym (voted_so-push x w m.votes u t)))
       where
         turned : (a b d : Bool) → ((a && b) || d) ≡ (d || (b && a))
         turned a b d = grind arith
@@ -241,25 +251,30 @@ module _ (turn : Turn) where
     no_said f e = its_said (is_no_message (child_case c.txn t)) e
         (ap (λ (x : Vote). is_no_message (child_case c.txn t) (vote_message x (child_case i.hears.txn u))) f)
 
-    hears_by : Consents w → (b : Bool) → its ≡ b → Fits_in turn (seen turn (told_outcome turn) (heard w b p0) (net_part turn))
+    hears_by : Consents w → (b : Bool) → its ≡ b
+        → Fits_in turn (seen turn (told_outcome turn) (heard w b p0) (net_part turn))
     hears_by k false e = unmoved c.txn.presumption (reading turn) inv
     hears_by k true e = elim (consents_so w k) [
-      | inl f ↦ subst (λ (x : Vote). Fits_in turn (seen turn (told_outcome turn) (heard x true p0) (net_part turn))) (sym f)
+      | inl f ↦ subst (λ (x : Vote). Fits_in turn
+          (seen turn (told_outcome turn) (heard x true p0) (net_part turn))) (sym f)
           (moves.hears_yes c.txn.presumption (reading turn) inv
           (record {
             waiting = phase;
             accepted = its_accepted e;
             said = its_said (is_yes_message (child_case c.txn t)) e
-                (ap (λ (x : Vote). is_yes_message (child_case c.txn t) (vote_message x (child_case i.hears.txn u))) f);
+                (ap (λ (x : Vote). is_yes_message (child_case c.txn t)
+                (vote_message x (child_case i.hears.txn u))) f);
             first = its_first e VoteRead;
           }))
-      | inr f ↦ subst (λ (x : Vote). Fits_in turn (seen turn (told_outcome turn) (heard x true p0) (net_part turn))) (sym f)
+      | inr f ↦ subst (λ (x : Vote). Fits_in turn
+          (seen turn (told_outcome turn) (heard x true p0) (net_part turn))) (sym f)
           (moves.hears_read c.txn.presumption (reading turn) inv
           (record {
             waiting = phase;
             accepted = its_accepted e;
             said = its_said (is_read_message (child_case c.txn t)) e
-                (ap (λ (x : Vote). is_read_message (child_case c.txn t) (vote_message x (child_case i.hears.txn u))) f);
+                (ap (λ (x : Vote). is_read_message (child_case c.txn t)
+                (vote_message x (child_case i.hears.txn u))) f);
             first = its_first e VoteYes;
           }))
     ]
@@ -271,7 +286,8 @@ module _ (turn : Turn) where
     r1 = seen turn (told_outcome turn) p1 (net_part turn)
 
     pub no_no : Consents w → p1.first_no ≡ false
-    no_no k = ((common_of c.txn.presumption r1 (hears k).invariant).undecided (ap pair.is_live phase)).no_first_no
+    no_no k = ((common_of c.txn.presumption r1 (hears k).invariant).undecided
+        (ap pair.is_live phase)).no_first_no
 
     -- all have voted for it
     pub has_vote : Consents w → all_voted m.accepted votes ≡ true → HasVote r1

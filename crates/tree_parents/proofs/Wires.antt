@@ -1,4 +1,5 @@
--- What a coordinator's messages leave of the net's part of a reading: to its parent, to each of its children, to one.
+-- What a coordinator's messages leave of the net's part of a reading: to its parent, to each of its
+-- children, to one.
 use Rattle.std.proofs.Common.{◌≡◌, ◌∙◌, ℕ, Bool, true, false, ◌||◌, ◌&&◌, Option, Some, None, List, [], ◌∷◌, ◌++◌, map, refl, sym, ap, arith}
 use Rattle.std.specs.List.{list_any}
 use Rattle.std.proofs.lemmas.List.{append_assoc}
@@ -22,7 +23,8 @@ use Rattle.tree_model.specs.Standings.{CoordinatorView}
 use Rattle.tree_readings.specs.ReadingOf.{Wire, wire, no_wire, gives_case, is_prepare_message, is_no_message, is_ack_message, is_inquiry_message}
 use Rattle.tree_readings.proofs.Lists.{sent-append}
 
-pub sent-cons : (q : Message → Bool) (l : Envelope) (ls : List Envelope) → sent q (l ∷ ls) ≡ (q l.message || sent q ls)
+pub sent-cons : (q : Message → Bool) (l : Envelope) (ls : List Envelope) → sent q (l ∷ ls)
+    ≡ (q l.message || sent q ls)
 unfolding sent
 sent-cons q l ls = refl
 
@@ -53,7 +55,8 @@ sent-each s m t [] q b f = none b
     none false = refl
 sent-each s m t (u ∷ us) q b f =
     ap (λ x. x || list_any (λ e. q e.message) (map (to_child s m) us)) (f u)
-    ∙ (ap (λ x. (b && same_ticket u t) || x) (sent-each s m t us q b f) ∙ spread b (same_ticket u t) (list_any (λ v. same_ticket v t) us))
+    ∙ (ap (λ x. (b && same_ticket u t) || x) (sent-each s m t us q b f)
+    ∙ spread b (same_ticket u t) (list_any (λ v. same_ticket v t) us))
   where
     spread : (b x y : Bool) → ((b && x) || (b && y)) ≡ (b && (x || y))
     spread b x y = grind arith
@@ -69,7 +72,8 @@ sent-each_none s m (u ∷ us) q f = ap (λ b. b || list_any (λ e. q e.message) 
 abbrev prepares_to : Seat → CoordinatorView → List Ticket → List Envelope
 prepares_to s v ts = map (λ t. post s.me t.child (Prepare (child_case s.own.txn t) (works_of v.works t))) ts
 
-sent-prepares : (s : Seat) (v : CoordinatorView) (t : Ticket) (ts : List Ticket) (q : Message → Bool) (b : Bool)
+sent-prepares : (s : Seat) (v : CoordinatorView) (t : Ticket) (ts : List Ticket) (q : Message → Bool)
+    (b : Bool)
     → ((u : Ticket) → q (Prepare (child_case s.own.txn u) (works_of v.works u)) ≡ (b && same_ticket u t))
     → sent q (prepares_to s v ts) ≡ (b && in_list ts t)
 unfolding sent in_list
@@ -80,7 +84,8 @@ sent-prepares s v t [] q b f = none b
     none false = refl
 sent-prepares s v t (u ∷ us) q b f =
     ap (λ x. x || list_any (λ e. q e.message) (prepares_to s v us)) (f u)
-    ∙ (ap (λ x. (b && same_ticket u t) || x) (sent-prepares s v t us q b f) ∙ spread b (same_ticket u t) (list_any (λ w. same_ticket w t) us))
+    ∙ (ap (λ x. (b && same_ticket u t) || x) (sent-prepares s v t us q b f)
+    ∙ spread b (same_ticket u t) (list_any (λ w. same_ticket w t) us))
   where
     spread : (b x y : Bool) → ((b && x) || (b && y)) ≡ (b && (x || y))
     spread b x y = grind arith
@@ -130,7 +135,8 @@ module _ (c : Case) (t : Ticket) (net : List Envelope) where
 
   -- Up.
 
-  module _ (me : ProcessId) (parent : Option ProcessId) (e : Case) (other : same_case e (child_case c.txn t) ≡ false) where
+  module _ (me : ProcessId) (parent : Option ProcessId) (e : Case)
+      (other : same_case e (child_case c.txn t) ≡ false) where
     pub silent-yes : Silent (posted_up me parent (Yes e))
     silent-yes = at parent
       where
@@ -178,52 +184,92 @@ module _ (c : Case) (t : Ticket) (net : List Envelope) where
   pub wire-commits : (s : Seat) (ts : List Ticket) (b : Bool) → (same_txn s.own.txn c.txn && in_list ts t) ≡ b
       → behind (each s Commit ts) ≡ record v { commit = b || v.commit }
   wire-commits s ts b e =
-      let joined : sent (is_joined_message c t) (each s Commit ts) ≡ false = sent-each_none s Commit ts (is_joined_message c t) (λ d. refl) in
-      let given : sent (gives_case c) (each s Commit ts) ≡ false = sent-each_none s Commit ts (gives_case c) (λ d. refl) in
-      let read_up : sent (is_read_message c) (each s Commit ts) ≡ false = sent-each_none s Commit ts (is_read_message c) (λ d. refl) in
-      let prepare : sent (is_prepare_message (child_case c.txn t)) (each s Commit ts) ≡ false = sent-each_none s Commit ts (is_prepare_message (child_case c.txn t)) (λ d. refl) in
-      let yes' : sent (is_yes_message (child_case c.txn t)) (each s Commit ts) ≡ false = sent-each_none s Commit ts (is_yes_message (child_case c.txn t)) (λ d. refl) in
-      let no' : sent (is_no_message (child_case c.txn t)) (each s Commit ts) ≡ false = sent-each_none s Commit ts (is_no_message (child_case c.txn t)) (λ d. refl) in
-      let read : sent (is_read_message (child_case c.txn t)) (each s Commit ts) ≡ false = sent-each_none s Commit ts (is_read_message (child_case c.txn t)) (λ d. refl) in
-      let commit : sent (is_outcome_message CommittedOutcome (child_case c.txn t)) (each s Commit ts) ≡ b = sent-each s Commit t ts (is_outcome_message CommittedOutcome (child_case c.txn t)) (same_txn s.own.txn c.txn)
+      let joined : sent (is_joined_message c t) (each s Commit ts)
+      ≡ false = sent-each_none s Commit ts (is_joined_message c t) (λ d. refl) in
+      let given : sent (gives_case c) (each s Commit ts)
+      ≡ false = sent-each_none s Commit ts (gives_case c) (λ d. refl) in
+      let read_up : sent (is_read_message c) (each s Commit ts)
+      ≡ false = sent-each_none s Commit ts (is_read_message c) (λ d. refl) in
+      let prepare : sent (is_prepare_message (child_case c.txn t)) (each s Commit ts)
+      ≡ false = sent-each_none s Commit ts (is_prepare_message (child_case c.txn t)) (λ d. refl) in
+      let yes' : sent (is_yes_message (child_case c.txn t)) (each s Commit ts)
+      ≡ false = sent-each_none s Commit ts (is_yes_message (child_case c.txn t)) (λ d. refl) in
+      let no' : sent (is_no_message (child_case c.txn t)) (each s Commit ts)
+      ≡ false = sent-each_none s Commit ts (is_no_message (child_case c.txn t)) (λ d. refl) in
+      let read : sent (is_read_message (child_case c.txn t)) (each s Commit ts)
+      ≡ false = sent-each_none s Commit ts (is_read_message (child_case c.txn t)) (λ d. refl) in
+      let commit : sent (is_outcome_message CommittedOutcome (child_case c.txn t)) (each s Commit ts)
+      ≡ b = sent-each s Commit t ts (is_outcome_message CommittedOutcome (child_case c.txn t))
+      (same_txn s.own.txn c.txn)
       (λ u. same_children s.own.txn c.txn u t) ∙ e in
-      let abort : sent (is_outcome_message AbortedOutcome (child_case c.txn t)) (each s Commit ts) ≡ false = sent-each_none s Commit ts (is_outcome_message AbortedOutcome (child_case c.txn t)) (λ d. refl) in
-      let ack : sent (is_ack_message (child_case c.txn t)) (each s Commit ts) ≡ false = sent-each_none s Commit ts (is_ack_message (child_case c.txn t)) (λ d. refl) in
-      let inquire : sent (is_inquiry_message (child_case c.txn t)) (each s Commit ts) ≡ false = sent-each_none s Commit ts (is_inquiry_message (child_case c.txn t)) (λ d. refl) in
+      let abort : sent (is_outcome_message AbortedOutcome (child_case c.txn t)) (each s Commit ts)
+      ≡ false = sent-each_none s Commit ts (is_outcome_message AbortedOutcome (child_case c.txn t))
+      (λ d. refl) in
+      let ack : sent (is_ack_message (child_case c.txn t)) (each s Commit ts)
+      ≡ false = sent-each_none s Commit ts (is_ack_message (child_case c.txn t)) (λ d. refl) in
+      let inquire : sent (is_inquiry_message (child_case c.txn t)) (each s Commit ts)
+      ≡ false = sent-each_none s Commit ts (is_inquiry_message (child_case c.txn t)) (λ d. refl) in
       simp (sent-append, joined, given, read_up, prepare, yes', no', read, commit, abort, ack, inquire)
 
   pub wire-aborts : (s : Seat) (ts : List Ticket) (b : Bool) → (same_txn s.own.txn c.txn && in_list ts t) ≡ b
       → behind (each s Abort ts) ≡ record v { abort = b || v.abort }
   wire-aborts s ts b e =
-      let joined : sent (is_joined_message c t) (each s Abort ts) ≡ false = sent-each_none s Abort ts (is_joined_message c t) (λ d. refl) in
-      let given : sent (gives_case c) (each s Abort ts) ≡ false = sent-each_none s Abort ts (gives_case c) (λ d. refl) in
-      let read_up : sent (is_read_message c) (each s Abort ts) ≡ false = sent-each_none s Abort ts (is_read_message c) (λ d. refl) in
-      let prepare : sent (is_prepare_message (child_case c.txn t)) (each s Abort ts) ≡ false = sent-each_none s Abort ts (is_prepare_message (child_case c.txn t)) (λ d. refl) in
-      let yes' : sent (is_yes_message (child_case c.txn t)) (each s Abort ts) ≡ false = sent-each_none s Abort ts (is_yes_message (child_case c.txn t)) (λ d. refl) in
-      let no' : sent (is_no_message (child_case c.txn t)) (each s Abort ts) ≡ false = sent-each_none s Abort ts (is_no_message (child_case c.txn t)) (λ d. refl) in
-      let read : sent (is_read_message (child_case c.txn t)) (each s Abort ts) ≡ false = sent-each_none s Abort ts (is_read_message (child_case c.txn t)) (λ d. refl) in
-      let commit : sent (is_outcome_message CommittedOutcome (child_case c.txn t)) (each s Abort ts) ≡ false = sent-each_none s Abort ts (is_outcome_message CommittedOutcome (child_case c.txn t)) (λ d. refl) in
-      let abort : sent (is_outcome_message AbortedOutcome (child_case c.txn t)) (each s Abort ts) ≡ b = sent-each s Abort t ts (is_outcome_message AbortedOutcome (child_case c.txn t)) (same_txn s.own.txn c.txn)
+      let joined : sent (is_joined_message c t) (each s Abort ts)
+      ≡ false = sent-each_none s Abort ts (is_joined_message c t) (λ d. refl) in
+      let given : sent (gives_case c) (each s Abort ts)
+      ≡ false = sent-each_none s Abort ts (gives_case c) (λ d. refl) in
+      let read_up : sent (is_read_message c) (each s Abort ts)
+      ≡ false = sent-each_none s Abort ts (is_read_message c) (λ d. refl) in
+      let prepare : sent (is_prepare_message (child_case c.txn t)) (each s Abort ts)
+      ≡ false = sent-each_none s Abort ts (is_prepare_message (child_case c.txn t)) (λ d. refl) in
+      let yes' : sent (is_yes_message (child_case c.txn t)) (each s Abort ts)
+      ≡ false = sent-each_none s Abort ts (is_yes_message (child_case c.txn t)) (λ d. refl) in
+      let no' : sent (is_no_message (child_case c.txn t)) (each s Abort ts)
+      ≡ false = sent-each_none s Abort ts (is_no_message (child_case c.txn t)) (λ d. refl) in
+      let read : sent (is_read_message (child_case c.txn t)) (each s Abort ts)
+      ≡ false = sent-each_none s Abort ts (is_read_message (child_case c.txn t)) (λ d. refl) in
+      let commit : sent (is_outcome_message CommittedOutcome (child_case c.txn t)) (each s Abort ts)
+      ≡ false = sent-each_none s Abort ts (is_outcome_message CommittedOutcome (child_case c.txn t))
+      (λ d. refl) in
+      let abort : sent (is_outcome_message AbortedOutcome (child_case c.txn t)) (each s Abort ts)
+      ≡ b = sent-each s Abort t ts (is_outcome_message AbortedOutcome (child_case c.txn t))
+      (same_txn s.own.txn c.txn)
       (λ u. same_children s.own.txn c.txn u t) ∙ e in
-      let ack : sent (is_ack_message (child_case c.txn t)) (each s Abort ts) ≡ false = sent-each_none s Abort ts (is_ack_message (child_case c.txn t)) (λ d. refl) in
-      let inquire : sent (is_inquiry_message (child_case c.txn t)) (each s Abort ts) ≡ false = sent-each_none s Abort ts (is_inquiry_message (child_case c.txn t)) (λ d. refl) in
+      let ack : sent (is_ack_message (child_case c.txn t)) (each s Abort ts)
+      ≡ false = sent-each_none s Abort ts (is_ack_message (child_case c.txn t)) (λ d. refl) in
+      let inquire : sent (is_inquiry_message (child_case c.txn t)) (each s Abort ts)
+      ≡ false = sent-each_none s Abort ts (is_inquiry_message (child_case c.txn t)) (λ d. refl) in
       simp (sent-append, joined, given, read_up, prepare, yes', no', read, commit, abort, ack, inquire)
 
-  pub wire-prepares : (s : Seat) (w : CoordinatorView) (ts : List Ticket) (b : Bool) → (same_txn s.own.txn c.txn && in_list ts t) ≡ b
+  pub wire-prepares : (s : Seat) (w : CoordinatorView) (ts : List Ticket) (b : Bool)
+      → (same_txn s.own.txn c.txn && in_list ts t) ≡ b
       → behind (prepares_to s w ts) ≡ record v { prepare = b || v.prepare }
   wire-prepares s w ts b e =
-      let joined : sent (is_joined_message c t) (prepares_to s w ts) ≡ false = sent-prepares_none s w ts (is_joined_message c t) (λ d. refl) in
-      let given : sent (gives_case c) (prepares_to s w ts) ≡ false = sent-prepares_none s w ts (gives_case c) (λ d. refl) in
-      let read_up : sent (is_read_message c) (prepares_to s w ts) ≡ false = sent-prepares_none s w ts (is_read_message c) (λ d. refl) in
-      let prepare : sent (is_prepare_message (child_case c.txn t)) (prepares_to s w ts) ≡ b = sent-prepares s w t ts (is_prepare_message (child_case c.txn t)) (same_txn s.own.txn c.txn)
+      let joined : sent (is_joined_message c t) (prepares_to s w ts)
+      ≡ false = sent-prepares_none s w ts (is_joined_message c t) (λ d. refl) in
+      let given : sent (gives_case c) (prepares_to s w ts)
+      ≡ false = sent-prepares_none s w ts (gives_case c) (λ d. refl) in
+      let read_up : sent (is_read_message c) (prepares_to s w ts)
+      ≡ false = sent-prepares_none s w ts (is_read_message c) (λ d. refl) in
+      let prepare : sent (is_prepare_message (child_case c.txn t)) (prepares_to s w ts)
+      ≡ b = sent-prepares s w t ts (is_prepare_message (child_case c.txn t)) (same_txn s.own.txn c.txn)
       (λ u. same_children s.own.txn c.txn u t) ∙ e in
-      let yes' : sent (is_yes_message (child_case c.txn t)) (prepares_to s w ts) ≡ false = sent-prepares_none s w ts (is_yes_message (child_case c.txn t)) (λ d. refl) in
-      let no' : sent (is_no_message (child_case c.txn t)) (prepares_to s w ts) ≡ false = sent-prepares_none s w ts (is_no_message (child_case c.txn t)) (λ d. refl) in
-      let read : sent (is_read_message (child_case c.txn t)) (prepares_to s w ts) ≡ false = sent-prepares_none s w ts (is_read_message (child_case c.txn t)) (λ d. refl) in
-      let commit : sent (is_outcome_message CommittedOutcome (child_case c.txn t)) (prepares_to s w ts) ≡ false = sent-prepares_none s w ts (is_outcome_message CommittedOutcome (child_case c.txn t)) (λ d. refl) in
-      let abort : sent (is_outcome_message AbortedOutcome (child_case c.txn t)) (prepares_to s w ts) ≡ false = sent-prepares_none s w ts (is_outcome_message AbortedOutcome (child_case c.txn t)) (λ d. refl) in
-      let ack : sent (is_ack_message (child_case c.txn t)) (prepares_to s w ts) ≡ false = sent-prepares_none s w ts (is_ack_message (child_case c.txn t)) (λ d. refl) in
-      let inquire : sent (is_inquiry_message (child_case c.txn t)) (prepares_to s w ts) ≡ false = sent-prepares_none s w ts (is_inquiry_message (child_case c.txn t)) (λ d. refl) in
+      let yes' : sent (is_yes_message (child_case c.txn t)) (prepares_to s w ts)
+      ≡ false = sent-prepares_none s w ts (is_yes_message (child_case c.txn t)) (λ d. refl) in
+      let no' : sent (is_no_message (child_case c.txn t)) (prepares_to s w ts)
+      ≡ false = sent-prepares_none s w ts (is_no_message (child_case c.txn t)) (λ d. refl) in
+      let read : sent (is_read_message (child_case c.txn t)) (prepares_to s w ts)
+      ≡ false = sent-prepares_none s w ts (is_read_message (child_case c.txn t)) (λ d. refl) in
+      let commit : sent (is_outcome_message CommittedOutcome (child_case c.txn t)) (prepares_to s w ts)
+      ≡ false = sent-prepares_none s w ts (is_outcome_message CommittedOutcome (child_case c.txn t))
+      (λ d. refl) in
+      let abort : sent (is_outcome_message AbortedOutcome (child_case c.txn t)) (prepares_to s w ts)
+      ≡ false = sent-prepares_none s w ts (is_outcome_message AbortedOutcome (child_case c.txn t))
+      (λ d. refl) in
+      let ack : sent (is_ack_message (child_case c.txn t)) (prepares_to s w ts)
+      ≡ false = sent-prepares_none s w ts (is_ack_message (child_case c.txn t)) (λ d. refl) in
+      let inquire : sent (is_inquiry_message (child_case c.txn t)) (prepares_to s w ts)
+      ≡ false = sent-prepares_none s w ts (is_inquiry_message (child_case c.txn t)) (λ d. refl) in
       simp (sent-append, joined, given, read_up, prepare, yes', no', read, commit, abort, ack, inquire)
 
   -- To one.
@@ -252,4 +298,5 @@ pub silent_before : (c : Case) (t : Ticket) (net xs ys : List Envelope) → Sile
 silent_before c t net xs ys e =
     let q = ap (λ ls. wire c t ls) (sym (append_assoc net xs ys)) in
     q ∙ (wire-append c t (net ++ xs) ys
-    ∙ (ap (λ (x : Wire). both c t net (wire c t ys) x) (wire-silent c t net xs e) ∙ sym (wire-append c t net ys)))
+    ∙ (ap (λ (x : Wire). both c t net (wire c t ys) x) (wire-silent c t net xs e)
+    ∙ sym (wire-append c t net ys)))

@@ -1,4 +1,5 @@
--- What an event of a coordinator does to its half of a reading, by the record that it wrote and by what it counted.
+-- What an event of a coordinator does to its half of a reading, by the record that it wrote and by what it
+-- counted.
 use Rattle.std.proofs.Common.{◌≡◌, Bool, false, ◌||◌, ◌&&◌, Option, Some, None, List, [], refl, arith}
 use Rattle.std.specs.List.{list_any}
 use Rattle.std.proofs.lemmas.List.Folds.{list_any-append}

@@ -26,7 +26,8 @@ JoinedAreBorn tree w = (c : Case) (t : Ticket) → IsPair tree c t → sent (is_
     (parent_half (place_of tree (process_of c)) (w.at (process_of c)) c t).begun (sent (gives_case c) w.net)
     ≡ true
 
--- Where a run has led to a world in which the world's invariant holds, each input that a coordinator handles or passes
+-- Where a run has led to a world in which the world's invariant holds, each input that a coordinator
+-- handles or passes
 -- over keeps the pairs below it, whatever the outcome and the child's half are.
 abbrev pub CoordinatorRows : Type 0
 CoordinatorRows = (tree : List TreeEntry) (es : List Made) (w : World) → NoOwnParent tree → IsRun tree es w
@@ -38,7 +39,8 @@ CoordinatorRows = (tree : List TreeEntry) (es : List Made) (w : World) → NoOwn
     Coordinates (place_of tree q) (w.net ++ e.messages) (w'.at q)
     → ParentStep (place_of tree q) w.net e.messages (w.at q) (w'.at q))
 
--- The same, and also where the device fails in the input, whatever of its records was appended, and whatever was forced.
+-- The same, and also where the device fails in the input, whatever of its records was appended, and
+-- whatever was forced.
 abbrev pub CoordinatorInputs : Type 0
 CoordinatorInputs = (tree : List TreeEntry) (es : List Made) (w : World) → NoOwnParent tree → IsRun tree es w
     → WorldHolds tree w → JoinedAreBorn tree w

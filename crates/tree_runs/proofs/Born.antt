@@ -1,4 +1,5 @@
--- In every run of a tree a case of which JOIN or JOINED was ever sent is known: the root began it, or its own ticket was
+-- In every run of a tree a case of which JOIN or JOINED was ever sent is known: the root began it, or its
+-- own ticket was
 -- given.
 use Rattle.std.proofs.Common.{◌≡◌, ◌≢◌, ◌∙◌, inl, inr, Bool, true, false, Option, Some, None, List, refl, ap, subst}
 use Rattle.tree_model.specs.declared.names.Case.{Case}
@@ -48,7 +49,8 @@ Known w c = KnownBy w c.txn c.ticket
 pub given_known : (w : World) (c : Case) → sent (gives_case c) w.net ≡ true → Known w c
 given_known w c e = by_ticket c.txn c.ticket e
   where
-    by_ticket : (x : Txn) (o : Option Ticket) → sent (gives_case (record { txn = x; ticket = o })) w.net ≡ true
+    by_ticket : (x : Txn) (o : Option Ticket) → sent (gives_case (record { txn = x; ticket = o })) w.net
+        ≡ true
         → KnownBy w x o
     by_ticket x None f = absurd (none_gives x w.net f)
     by_ticket x (Some t) f = f
@@ -99,7 +101,8 @@ module _ (tree : List TreeEntry) (es : List Made) (w : World) (run : IsRun tree 
         let g = h.1.own_records c e in began_known w me c g.0 g.1.0 (listed r c.txn g.1.1)
     recorded_known (Some p) r h c e = given_known w c (h.1.1.recorded_is_given c e).1
 
-    awake_known : (o : Option ProcessId) → role_of tree me ≡ role_below o → Is o → n.failed ≡ false → (c : Case)
+    awake_known : (o : Option ProcessId) → role_of tree me ≡ role_below o → Is o → n.failed ≡ false
+        → (c : Case)
         → (memory_of (coordinator_place me o tree) n c).phase ≢ Idle → Known w c
     awake_known None r h up c f =
         let g = h.1.own_memory c f in
@@ -119,7 +122,8 @@ module _ (tree : List TreeEntry) (es : List Made) (w : World) (run : IsRun tree 
     coordinates (Some p) h = h.0
 
     -- a case that is known stands somewhere
-    pub standing_known : n.failed ≡ false → (c : Case) → (coordinator_view place n c).standing ≢ Unknown → Known w c
+    pub standing_known : n.failed ≡ false → (c : Case) → (coordinator_view place n c).standing ≢ Unknown
+        → Known w c
     standing_known up c f = elim (known_by place n c f) [
       | inl awake ↦ awake_known parent role holds up c awake
       | inr stands ↦ recorded_known parent role holds c

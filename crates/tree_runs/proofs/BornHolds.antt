@@ -49,7 +49,8 @@ ends b e f = absurd (cc)
 
 -- Letters of a coordinator's case.
 
-down_joins_none : {A : Type 0} → (c : Case) → (d : Case) (m : Message) → IsForCase d m → is_join c m ≡ true → A
+down_joins_none : {A : Type 0} → (c : Case) → (d : Case) (m : Message) → IsForCase d m → is_join c m
+    ≡ true → A
 down_joins_none c d (Join e) i f = absurd i
 down_joins_none c d (Joined e t) i f = absurd i
 down_joins_none c d (Work e k op) i f = absurd (cc)
@@ -75,7 +76,8 @@ up_joins_none c d (Abort e) i f = absurd i
 up_joins_none c d (Ack e o) i f = absurd (cc)
 up_joins_none c d (Inquire e) i f = absurd (cc)
 
-down_answers_none : {A : Type 0} → (c : Case) (t : Ticket) → (d : Case) (m : Message) → IsForCase d m → is_joined_message c t m ≡ true → A
+down_answers_none : {A : Type 0} → (c : Case) (t : Ticket) → (d : Case) (m : Message) → IsForCase d m
+    → is_joined_message c t m ≡ true → A
 down_answers_none c t d (Join e) i f = absurd i
 down_answers_none c t d (Joined e u) i f = absurd i
 down_answers_none c t d (Work e k op) i f = absurd (cc)
@@ -88,7 +90,8 @@ down_answers_none c t d (Abort e) i f = absurd (cc)
 down_answers_none c t d (Ack e o) i f = absurd i
 down_answers_none c t d (Inquire e) i f = absurd i
 
-up_answers_none : {A : Type 0} → (c : Case) (t : Ticket) → (d : Case) (m : Message) → IsFromCase d m → is_joined_message c t m ≡ true → A
+up_answers_none : {A : Type 0} → (c : Case) (t : Ticket) → (d : Case) (m : Message) → IsFromCase d m
+    → is_joined_message c t m ≡ true → A
 up_answers_none c t d (Join e) i f = absurd i
 up_answers_none c t d (Joined e u) i f = absurd i
 up_answers_none c t d (Work e k op) i f = absurd i
@@ -141,7 +144,8 @@ one_alone q l ls e f = alone (q l.message) (sym (ap (sent q) e) ∙ f)
     alone : (a : Bool) → (a || false) ≡ true → a ≡ true
     alone a g = grind arith
 
-told_joins_none : {A : Type 0} → (c : Case) (o : Outcome) (d : Case) → is_join c (tells_outcome o d) ≡ true → A
+told_joins_none : {A : Type 0} → (c : Case) (o : Outcome) (d : Case) → is_join c (tells_outcome o d)
+    ≡ true → A
 told_joins_none c CommittedOutcome d e = absurd (cc)
 told_joins_none c AbortedOutcome d e = absurd (cc)
 
@@ -203,11 +207,14 @@ module _ (tree : List TreeEntry) (es : List Made) (w : World) (run : IsRun tree 
             told_joins_none c o (child_case x t) (one_alone (is_join c) _ ls f g)
         writes_join ws ls (gives p d t e f k j a) c g = ends _ (one_alone (is_join c) _ ls f g) refl
 
-        writes_answer : (ws : _) (ls : List Envelope) → Writes place parent (w.at me) i ws ls → AnswersKnown w ls
+        writes_answer : (ws : _) (ls : List Envelope) → Writes place parent (w.at me) i ws ls
+            → AnswersKnown w ls
         writes_answer ws ls (writes_nothing e f) c t g = none_at_all (is_joined_message c t) ls f g
         writes_answer ws ls (for_act a d e k o s) c t g = all_answer_none c t (seat_of place parent d) ls s g
-        writes_answer ws ls (for_child d x u e o s) c t g = all_answer_none c t (seat_of place parent d) ls s g
-        writes_answer ws ls (for_parent d k m e f o s) c t g = all_answer_none c t (seat_of place parent d) ls s g
+        writes_answer ws ls (for_child d x u e o s) c t g = all_answer_none c t (seat_of place parent d)
+            ls s g
+        writes_answer ws ls (for_parent d k m e f o s) c t g = all_answer_none c t
+            (seat_of place parent d) ls s g
         writes_answer ws ls (presumes x u o e f) c t g =
             told_answers_none c t o (child_case x u) (one_alone (is_joined_message c t) _ ls f g)
         writes_answer ws ls (gives p d u e f k j a) c t g =
@@ -220,9 +227,11 @@ module _ (tree : List TreeEntry) (es : List Made) (w : World) (run : IsRun tree 
       leaf_place = record { me = me; role = AtLeaf p; tree = tree }
 
       heard_join : (d : Case) → Hears h (Join d) → Known w d
-      heard_join d i = joins d (was_sent (is_join d) w.net me h.input i.0 (Join d) stands i.1 (same_case-refl d))
+      heard_join d i = joins d (was_sent (is_join d) w.net me h.input i.0 (Join d) stands i.1
+          (same_case-refl d))
 
-      quiet_ack : (q : Message → Bool) (d : Case) (o : Outcome) → ((x : Case) (u : Outcome) → q (Ack x u) ≡ false)
+      quiet_ack : (q : Message → Bool) (d : Case) (o : Outcome)
+          → ((x : Case) (u : Outcome) → q (Ack x u) ≡ false)
           → sent q (acknowledgement (leaf_of leaf_place p d) o) ≡ false
       unfolding sent
       quiet_ack q d o f = by_test (is_acknowledged d.txn.presumption o)
@@ -252,8 +261,10 @@ module _ (tree : List TreeEntry) (es : List Made) (w : World) (run : IsRun tree 
           ends _ (one_alone (is_joined_message c t) _ _ refl g) refl
       leaf_answers c t _ (leaf.refuses d k i a) g =
           ends _ (one_alone (is_joined_message c t) _ _ refl g) refl
-      leaf_answers c t _ (leaf.obeys d o i e) g = ends _ g (quiet_ack (is_joined_message c t) d o (λ x u. refl))
-      leaf_answers c t _ (leaf.notes d o i e) g = ends _ g (quiet_ack (is_joined_message c t) d o (λ x u. refl))
+      leaf_answers c t _ (leaf.obeys d o i e) g = ends _ g
+          (quiet_ack (is_joined_message c t) d o (λ x u. refl))
+      leaf_answers c t _ (leaf.notes d o i e) g = ends _ g
+          (quiet_ack (is_joined_message c t) d o (λ x u. refl))
       leaf_answers c t _ (leaf.acknowledges_told d o i e) g =
           ends _ g (quiet_ack (is_joined_message c t) d o (λ x u. refl))
       leaf_answers c t _ (leaf.acknowledges d o i e) g =
@@ -285,7 +296,8 @@ module _ (tree : List TreeEntry) (es : List Made) (w : World) (run : IsRun tree 
 
 -- Steps.
 
-more_begun : (x : Txn) (o : Option Txn) (xs : List Txn) → among x xs ≡ true → among x (begun_first o xs) ≡ true
+more_begun : (x : Txn) (o : Option Txn) (xs : List Txn) → among x xs ≡ true → among x (begun_first o xs)
+    ≡ true
 more_begun x None xs e = e
 more_begun x (Some y) xs e = right (same_txn y x) (among x xs) e
 
@@ -309,7 +321,8 @@ record JoinsHold (w : World) : Type 0 where
   joins : JoinsKnown w w.net
   answers : AnswersKnown w w.net
 
-module _ (tree : List TreeEntry) (es : List Made) (w : World) (run : IsRun tree es w) (old : JoinsHold w) (m : Move)
+module _ (tree : List TreeEntry) (es : List Made) (w : World) (run : IsRun tree es w) (old : JoinsHold w)
+    (m : Move)
     (e : Effect) (w' : World) (stands : Stands w.net m.step.process m.step.happening)
     (made : world_makes tree w m ≡ Some (e, w'))
   where
@@ -329,10 +342,16 @@ module _ (tree : List TreeEntry) (es : List Made) (w : World) (run : IsRun tree 
     nobody = record { child = q; boot = 0; number = 0 }
 
     nothing : JoinsKnown w [] × AnswersKnown w []
-    nothing = (λ c f. none_at_all (is_join c) [] refl f, λ c t f. none_at_all (is_joined_message c t) [] refl f)
+    nothing = (
+      λ c f. none_at_all (is_join c) [] refl f,
+      λ c t f. none_at_all (is_joined_message c t) []
+          refl f,
+    )
 
-    by_coordinator : (parent : Option ProcessId) → role_of tree q ≡ role_below parent → (g : Effect) (k : Node)
-        → StepOf (coordinator_place q parent tree) (w.at q) m g k → JoinsKnown w g.messages × AnswersKnown w g.messages
+    by_coordinator : (parent : Option ProcessId) → role_of tree q ≡ role_below parent
+        → (g : Effect) (k : Node)
+        → StepOf (coordinator_place q parent tree) (w.at q) m g k → JoinsKnown w g.messages
+        × AnswersKnown w g.messages
     by_coordinator parent role _ _ (handled i g hp np r) =
         let t = turn_of (coordinator_place q parent tree) (w.at q) (heard_in m i) g r in
         let s = subst (λ (x : Happening). Stands w.net q x) hp stands in
@@ -348,18 +367,23 @@ module _ (tree : List TreeEntry) (es : List Made) (w : World) (run : IsRun tree 
         written_by (Some p) t = t
     by_coordinator parent role _ _ (reopened j hp) = resumes parent
       where
-        resumes : (o : Option ProcessId) → JoinsKnown w (restart_effect (coordinator_place q o tree) (w.at q) j).messages
+        resumes : (o : Option ProcessId)
+            → JoinsKnown w (restart_effect (coordinator_place q o tree) (w.at q) j).messages
             × AnswersKnown w (restart_effect (coordinator_place q o tree) (w.at q) j).messages
         resumes None = (
-          λ c f. ends _ f (resumed.quiet q None (left_of (w.at q) j ++ coordinator_reopens (left_of (w.at q) j)) c nobody
+          λ c f. ends _ f (resumed.quiet q None
+              (left_of (w.at q) j ++ coordinator_reopens (left_of (w.at q) j)) c nobody
               (is_join c) (λ x. refl) (λ x. refl) (λ x. refl)),
-          λ c t f. ends _ f (resumed.quiet q None (left_of (w.at q) j ++ coordinator_reopens (left_of (w.at q) j)) c t
+          λ c t f. ends _ f (resumed.quiet q None
+              (left_of (w.at q) j ++ coordinator_reopens (left_of (w.at q) j)) c t
               (is_joined_message c t) (λ x. refl) (λ x. refl) (λ x. refl)),
         )
         resumes (Some p) = (
-          λ c f. ends _ f (resumed.quiet q (Some p) (left_of (w.at q) j ++ coordinator_reopens (left_of (w.at q) j)) c
+          λ c f. ends _ f (resumed.quiet q (Some p)
+              (left_of (w.at q) j ++ coordinator_reopens (left_of (w.at q) j)) c
               nobody (is_join c) (λ x. refl) (λ x. refl) (λ x. refl)),
-          λ c t f. ends _ f (resumed.quiet q (Some p) (left_of (w.at q) j ++ coordinator_reopens (left_of (w.at q) j)) c t
+          λ c t f. ends _ f (resumed.quiet q (Some p)
+              (left_of (w.at q) j ++ coordinator_reopens (left_of (w.at q) j)) c t
               (is_joined_message c t) (λ x. refl) (λ x. refl) (λ x. refl)),
         )
     by_coordinator parent role _ _ (failed_in i f g fl hp np r) = nothing
@@ -391,7 +415,8 @@ module _ (tree : List TreeEntry) (es : List Made) (w : World) (run : IsRun tree 
 
     by_role : (r : Role) → role_of tree q ≡ r → JoinsKnown w e.messages × AnswersKnown w e.messages
     by_role AtRoot f = by_coordinator None f e node (subst (λ r. StepOf (at r) (w.at q) m e node) f step)
-    by_role (Below p) f = by_coordinator (Some p) f e node (subst (λ r. StepOf (at r) (w.at q) m e node) f step)
+    by_role (Below p) f = by_coordinator (Some p) f e node
+        (subst (λ r. StepOf (at r) (w.at q) m e node) f step)
     by_role (AtLeaf p) f = by_leaf p e node (subst (λ r. StepOf (at r) (w.at q) m e node) f step)
 
     -- what is known stays known
@@ -407,7 +432,8 @@ module _ (tree : List TreeEntry) (es : List Made) (w : World) (run : IsRun tree 
             (ap (λ r. among x (w.at r).begun) (process_is q p g) ∙ f)
           where
             process_is : (a b : ProcessId) → same_process a b ≡ true → a ≡ b
-            process_is a b h = elim (same_process_tells a b) [ inl t ↦ t.1 | inr z ↦ absurd (let y = z.0 in cc) ]
+            process_is a b h = elim (same_process_tells a b)
+                [ inl t ↦ t.1 | inr z ↦ absurd (let y = z.0 in cc) ]
         by_test false g = f
 
     still_known : (c : Case) → Known w c → Known later c
@@ -440,12 +466,14 @@ all_joins tree _ _ (makes es w m e w' run stands made) =
     subst JoinsHold (sym (makes_at tree w m e w' made).world)
     (joins_keep tree es w run (all_joins tree es w run) m e w' stands made)
 
-pub joined_are_born : (tree : List TreeEntry) (es : List Made) (w : World) → IsRun tree es w → JoinedAreBorn tree w
+pub joined_are_born : (tree : List TreeEntry) (es : List Made) (w : World) → IsRun tree es w
+    → JoinedAreBorn tree w
 joined_are_born tree es w run c t pair e =
     by_ticket c.txn c.ticket pair.parent.role pair.parent.top ((all_joins tree es w run).answers c t e)
   where
     by_ticket : (x : Txn) (o : Option Ticket)
-        → IsParentRole (role_of tree (process_of (record { txn = x; ticket = o }))) o → role_of tree x.root ≡ AtRoot
+        → IsParentRole (role_of tree (process_of (record { txn = x; ticket = o }))) o
+        → role_of tree x.root ≡ AtRoot
         → KnownBy w x o
         → is_born (is_root_ticket o)
         (parent_half (place_of tree (process_of (record { txn = x; ticket = o })))

@@ -62,7 +62,8 @@ module _ (tree : List TreeEntry) (me : ProcessId) (net : List Envelope) where
     pub own : process_of c ≡ me
     pub joined : sent (is_joined_message c t) net ≡ true
 
-  pub of_same : (d e : Case) → sent (gives_case d) net ≡ true → same_case d e ≡ true → sent (gives_case e) net ≡ true
+  pub of_same : (d e : Case) → sent (gives_case d) net ≡ true → same_case d e ≡ true
+      → sent (gives_case e) net ≡ true
   of_same d e g f = subst (λ (x : Case). sent (gives_case x) net ≡ true) (same_of d e f) g
 
   module _ (all_goes : AllGo tree net) where
@@ -104,20 +105,24 @@ module _ (tree : List TreeEntry) (me : ProcessId) (net : List Envelope) where
         or-true : (a : Bool) → (a || true) ≡ true
         or-true a = grind arith
 
-    pub each_commit : (s : Seat) → s.me ≡ me → (ts : List Ticket) → ((t : Ticket) → in_list ts t ≡ true → Mine s.own t)
+    pub each_commit : (s : Seat) → s.me ≡ me → (ts : List Ticket)
+        → ((t : Ticket) → in_list ts t ≡ true → Mine s.own t)
         → AllWell (each s Commit ts)
     each_commit s e [] f = tt
     each_commit s e (t ∷ ts) f = (
-      subst (λ p. Well (post p t.child (Commit (child_case s.own.txn t))) (Commit (child_case s.own.txn t))) (sym e)
+      subst (λ p. Well (post p t.child (Commit (child_case s.own.txn t)))
+          (Commit (child_case s.own.txn t))) (sym e)
           (down_commit s.own t (f t (listed_first t ts))),
       each_commit s e ts (λ u g. f u (listed_rest t u ts g)),
     )
 
-    pub each_abort : (s : Seat) → s.me ≡ me → (ts : List Ticket) → ((t : Ticket) → in_list ts t ≡ true → Mine s.own t)
+    pub each_abort : (s : Seat) → s.me ≡ me → (ts : List Ticket)
+        → ((t : Ticket) → in_list ts t ≡ true → Mine s.own t)
         → AllWell (each s Abort ts)
     each_abort s e [] f = tt
     each_abort s e (t ∷ ts) f = (
-      subst (λ p. Well (post p t.child (Abort (child_case s.own.txn t))) (Abort (child_case s.own.txn t))) (sym e)
+      subst (λ p. Well (post p t.child (Abort (child_case s.own.txn t))) (Abort (child_case s.own.txn t)))
+          (sym e)
           (down_abort s.own t (f t (listed_first t ts))),
       each_abort s e ts (λ u g. f u (listed_rest t u ts g)),
     )

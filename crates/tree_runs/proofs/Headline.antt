@@ -57,7 +57,8 @@ module _ (tree : List TreeEntry) (is_tree : IsTree tree) (es : List Made) (w : W
         by_happening : (x : Happening) → m.step.happening ≡ x
             → ParentStep (place_of tree q) w.net e.messages (w.at q) (w'.at q)
         by_happening (Handles x) f =
-            coordinator_inputs tree es w (no_own_parent tree is_tree) run h (joined_are_born tree es w run) m e w' i stands
+            coordinator_inputs tree es w (no_own_parent tree is_tree) run h
+            (joined_are_born tree es w run) m e w' i stands
             made x f co
         by_happening (Restart k) f =
             coordinator_crashes tree is_tree es w run h m e w' i (subst IsCrash (sym f) tt) stands made
@@ -102,7 +103,8 @@ cascaded_laws tree is_tree es w run h m e w' p below stands made =
 
 process_laws : (tree : List TreeEntry) → IsTree tree → ProcessLaws tree
 process_laws tree is_tree =
-    coordinators_are_enough tree (coordinators_keep tree (root_laws tree is_tree) (cascaded_laws tree is_tree))
+    coordinators_are_enough tree (coordinators_keep tree (root_laws tree is_tree)
+    (cascaded_laws tree is_tree))
 
 pub the_world_holds : (tree : List TreeEntry) → IsTree tree → (es : List Made) (w : World) → IsRun tree es w
     → WorldHolds tree w

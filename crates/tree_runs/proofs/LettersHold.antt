@@ -51,7 +51,8 @@ none_gives_now x (Abort d) e = cc
 none_gives_now x (Ack d o) e = cc
 none_gives_now x (Inquire d) e = cc
 
-pub none_gives : (x : Txn) (net : List Envelope) → sent (gives_case (record { txn = x; ticket = None })) net ≡ true → ⊥
+pub none_gives : (x : Txn) (net : List Envelope)
+    → sent (gives_case (record { txn = x; ticket = None })) net ≡ true → ⊥
 unfolding sent
 none_gives x [] e = cc
 none_gives x (l ∷ ls) e = elim (either (gives_case (record { txn = x; ticket = None }) l.message) _ e) [
@@ -62,7 +63,8 @@ none_gives x (l ∷ ls) e = elim (either (gives_case (record { txn = x; ticket =
 -- a case that was given, of a cascaded coordinator, is a parent's case of the tree
 given_parent : (tree : List TreeEntry) (net : List Envelope) (me p : ProcessId) → AllGo tree net
     → is_listed tree me ≡ true
-    → role_of tree me ≡ Below p → (c : Case) → process_of c ≡ me → sent (gives_case c) net ≡ true → IsParent tree c
+    → role_of tree me ≡ Below p → (c : Case) → process_of c ≡ me → sent (gives_case c) net ≡ true
+    → IsParent tree c
 given_parent tree net me p goes listed below c own g = by_ticket c.txn c.ticket own g
   where
     by_ticket : (x : Txn) (o : Option Ticket) → process_of (record { txn = x; ticket = o }) ≡ me
@@ -105,7 +107,8 @@ module _ (me : ProcessId) (parent : Option ProcessId) (tree : List TreeEntry) (n
     recorded None h p e c f = absurd (cc)
     recorded (Some r) h p e c f = let g = h.1.1.recorded_is_given c f in record { own = g.0; given = g.1 }
 
-    root_parent : (c : Case) → role_of tree me ≡ AtRoot → c.ticket ≡ None → process_of c ≡ me → IsParent tree c
+    root_parent : (c : Case) → role_of tree me ≡ AtRoot → c.ticket ≡ None → process_of c ≡ me
+        → IsParent tree c
     root_parent c top none own = record {
       listed = ap (is_listed tree) own ∙ listed;
       role = subst (λ r. IsParentRole r c.ticket) (sym (ap (role_of tree) own ∙ top))
@@ -132,25 +135,30 @@ module _ (me : ProcessId) (parent : Option ProcessId) (tree : List TreeEntry) (n
     turn_of_it (Some p) h e t = t
 
     resumed : (o : Option ProcessId) (j : ℕ)
-        → AllWell tree me net (flat_map (coordinator_resumes me o (left_of n j ++ coordinator_reopens (left_of n j)))
+        → AllWell tree me net (flat_map
+        (coordinator_resumes me o (left_of n j ++ coordinator_reopens (left_of n j)))
         (cases_in (left_of n j ++ coordinator_reopens (left_of n j))))
         → AllWell tree me net (restart_effect (coordinator_place me o tree) n j).messages
     resumed None j a = a
     resumed (Some p) j a = a
 
-    pub step_sends : (m : Move) → Stands net me m.step.happening → (e : Effect) (k : Node) → StepOf place n m e k
+    pub step_sends : (m : Move) → Stands net me m.step.happening → (e : Effect) (k : Node)
+        → StepOf place n m e k
         → AllWell tree me net e.messages
     step_sends m stands _ _ (handled i g hp np r) =
-        turns.effect_sends me parent tree n net role listed goes given_before nested (coordinates parent holds)
+        turns.effect_sends me parent tree n net role listed goes given_before nested
+        (coordinates parent holds)
         (remembered parent holds) (recorded parent holds) (invited parent role holds)
-        (turn_of place n (heard_in m i) g r).up (heard_in m i) (subst (λ (x : Happening). Stands net me x) hp stands) g
+        (turn_of place n (heard_in m i) g r).up (heard_in m i)
+        (subst (λ (x : Happening). Stands net me x) hp stands) g
         (turn_of_it parent (heard_in m i) g (coordinator_turn_of place n (heard_in m i) g r))
     step_sends m stands _ _ (failed_in i f g fl hp np r) = tt
     step_sends m stands _ _ (passed i hp r) = tt
     step_sends m stands _ _ (failed_passing i f fl hp r) = tt
     step_sends m stands _ _ (reopened j hp) =
         resumed parent j
-        (turns.resumes_well me parent tree n net role listed goes given_before nested (coordinates parent holds)
+        (turns.resumes_well me parent tree n net role listed goes given_before nested
+        (coordinates parent holds)
         (remembered parent holds) (recorded parent holds) (invited parent role holds) j
         (cases_in (left_of n j ++ coordinator_reopens (left_of n j))))
     step_sends m stands _ _ (failed_reopening j f fl hp) = tt
@@ -169,8 +177,14 @@ letters_hold tree es w run h m e w' parent role stands made =
     let node = h.nodes q listed in
     let here = makes_at tree w m e w' made in
     let at : Role → Place = λ r. record { me = q; role = r; tree = tree } in
-    let s = subst (λ r. StepOf (at r) n m e here.node) role (step_of (place_of tree q) n m e here.node here.made) in
+    let s = subst (λ r. StepOf (at r) n m e here.node) role
+    (step_of (place_of tree q) n m e here.node here.made) in
     let holds = subst (λ r. RoleHolds r (at r) w.net n) role node.role in
-    let well = step_sends q parent tree n w.net role listed h.net h.about_given node.lasts.nested holds m stands e
+    let well = step_sends q parent tree n w.net role listed h.net h.about_given node.lasts.nested holds m
+    stands e
     here.node s in
-    record { go = all_go tree q w.net e.messages well; about_given = all_given tree q w.net e.messages well h.about_given }
+    record {
+      go = all_go tree q w.net e.messages well;
+      about_given = all_given tree q w.net e.messages
+          well h.about_given;
+    }

@@ -1,4 +1,5 @@
--- In every run of a tree each letter goes where it belongs, and each message about a case is of a case that was given.
+-- In every run of a tree each letter goes where it belongs, and each message about a case is of a case that
+-- was given.
 use Rattle.std.proofs.Common.{◌≡◌, true, Option, Some, None, List, [], ◌∷◌, ◌++◌, refl, sym, ap, subst}
 use Rattle.tree_model.specs.declared.names.Case.{Case}
 use Rattle.tree_model.specs.declared.names.ProcessId.{ProcessId}
@@ -25,11 +26,13 @@ pub record NetHolds (tree : List TreeEntry) (net : List Envelope) : Type 0 where
   pub about_given : AboutGiven net
 
 -- letters that go where they belong, behind others that do
-go_both : (tree : List TreeEntry) (xs ys : List Envelope) → AllGo tree xs → AllGo tree ys → AllGo tree (xs ++ ys)
+go_both : (tree : List TreeEntry) (xs ys : List Envelope) → AllGo tree xs → AllGo tree ys
+    → AllGo tree (xs ++ ys)
 go_both tree [] ys f g = g
 go_both tree (x ∷ xs) ys f g = (f.0, go_both tree xs ys f.1 g)
 
-module _ (tree : List TreeEntry) (es : List Made) (w : World) (run : IsRun tree es w) (h : NetHolds tree w.net)
+module _ (tree : List TreeEntry) (es : List Made) (w : World) (run : IsRun tree es w)
+    (h : NetHolds tree w.net)
     (m : Move) (e : Effect) (w' : World) (stands : Stands w.net m.step.process m.step.happening)
     (made : world_makes tree w m ≡ Some (e, w'))
   where
@@ -45,12 +48,14 @@ module _ (tree : List TreeEntry) (es : List Made) (w : World) (run : IsRun tree 
     here : (r : Role) → role_of tree q ≡ r → StepOf (at r) (w.at q) m e (makes_at tree w m e w' made).node
     here r f =
         subst (λ x. StepOf (at x) (w.at q) m e (makes_at tree w m e w' made).node) f
-        (step_of (place_of tree q) (w.at q) m e (makes_at tree w m e w' made).node (makes_at tree w m e w' made).made)
+        (step_of (place_of tree q) (w.at q) m e (makes_at tree w m e w' made).node
+        (makes_at tree w m e w' made).made)
 
     by_coordinator : (parent : Option ProcessId) → role_of tree q ≡ role_below parent
         → AllGo tree e.messages × AboutGiven (w.net ++ e.messages)
     by_coordinator parent f =
-        let well = step_sends q parent tree (w.at q) w.net f (makes_listed tree w m e w' made) h.go h.about_given
+        let well = step_sends q parent tree (w.at q) w.net f (makes_listed tree w m e w' made) h.go
+        h.about_given
         node.lasts.nested (subst (λ r. RoleHolds r (at r) w.net (w.at q)) f node.role) m stands e
         (makes_at tree w m e w' made).node (here (role_below parent) f) in
         (all_go tree q w.net e.messages well, all_given tree q w.net e.messages well h.about_given)
@@ -61,7 +66,8 @@ module _ (tree : List TreeEntry) (es : List Made) (w : World) (run : IsRun tree 
     by_role (AtLeaf p) f =
         let listed = makes_listed tree w m e w' made in
         let fits = managers.letters_fit tree q p f listed w.net h.go h.about_given (w.at q) node.lasts.nested
-        (subst (λ r. RoleHolds r (at r) w.net (w.at q)) f node.role).1 m stands e (makes_at tree w m e w' made).node
+        (subst (λ r. RoleHolds r (at r) w.net (w.at q)) f node.role).1 m stands e
+        (makes_at tree w m e w' made).node
         (here (AtLeaf p) f) in (
           managers.all_go tree q p f listed w.net e.messages fits,
           managers.about_given tree q p f listed w.net e.messages fits h.about_given,

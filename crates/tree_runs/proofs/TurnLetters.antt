@@ -1,4 +1,5 @@
--- Each letter that a coordinator's turn or restart sends goes where it belongs, and is of a case that was given.
+-- Each letter that a coordinator's turn or restart sends goes where it belongs, and is of a case that was
+-- given.
 use Rattle.std.proofs.Common.{◌≡◌, ◌≢◌, ◌∙◌, ◌⊎◌, inl, inr, ◌||◌, ◌-◌, ◌+◌, ℕ, Bool, true, false, Option, Some, None, List, [], ◌∷◌, ◌++◌, map, find, if◌then◌else◌, take, refl, sym, ap, subst, arith}
 use Rattle.std.specs.List.{flat_map, list_any}
 use Rattle.tree_model.specs.declared.names.Case.{Case}
@@ -65,7 +66,8 @@ found_listed f (u ∷ us) t e = by_test (f u) e (found_listed f us t)
     by_test false g k = right _ _ (k g)
 
 -- a child of a process has that role in the tree
-role_parent : (k : Kind) (o : Option ProcessId) (p : ProcessId) → is_parent p o ≡ true → IsChildRole (role_by k o) p
+role_parent : (k : Kind) (o : Option ProcessId) (p : ProcessId) → is_parent p o ≡ true
+    → IsChildRole (role_by k o) p
 role_parent Coordinator None p e = absurd (cc)
 role_parent Coordinator (Some q) p e = process_is q p e
   where
@@ -77,7 +79,8 @@ role_parent Manager (Some q) p e = process_is q p e
     process_is : (a b : ProcessId) → same_process a b ≡ true → a ≡ b
     process_is a b f = elim (same_process_tells a b) [ inl t ↦ t.1 | inr g ↦ absurd (let h = g.0 in cc) ]
 
-is_child_role : (tree : List TreeEntry) (q p : ProcessId) → is_child tree q p ≡ true → IsChildRole (role_of tree q) p
+is_child_role : (tree : List TreeEntry) (q p : ProcessId) → is_child tree q p ≡ true
+    → IsChildRole (role_of tree q) p
 unfolding is_child role_of
 is_child_role [] q p e = absurd (cc)
 is_child_role (x ∷ xs) q p e = by_test (same_process x.id q) e (is_child_role xs q p)
@@ -125,7 +128,8 @@ promised_kept q Asked false false false false false none f = absurd (asked_not q
     asked_not PresumeCommit g = cc
 
 module _ (me : ProcessId) (parent : Option ProcessId) (tree : List TreeEntry) (n : Node) (net : List Envelope)
-    (role : role_of tree me ≡ role_below parent) (listed : is_listed tree me ≡ true) (goes : AllGo tree net) (given : AboutGiven net)
+    (role : role_of tree me ≡ role_below parent) (listed : is_listed tree me ≡ true)
+    (goes : AllGo tree net) (given : AboutGiven net)
     (nested : Nested (logs_of n))
     (co : Coordinates (coordinator_place me parent tree) net n)
     (remembered : (p : ProcessId) → parent ≡ Some p → n.failed ≡ false → (c : Case)
@@ -172,7 +176,8 @@ module _ (me : ProcessId) (parent : Option ProcessId) (tree : List TreeEntry) (n
     promised_by_view Heuristic c t e = e
 
     named_is : (c : Case) (t : Ticket) → has (is_naming c t) (kept n) ≡ true → Mine tree me net c t
-    named_is c t e = accepted_is c t (co.named_accepted c t (nested.kept_was_written (is_naming c t) (λ k. refl) e))
+    named_is c t e = accepted_is c t
+        (co.named_accepted c t (nested.kept_was_written (is_naming c t) (λ k. refl) e))
 
     viewed_is : (c : Case) (t : Ticket) → in_list (coordinator_view place n c).accepted t ≡ true
         → Mine tree me net c t
@@ -200,7 +205,8 @@ module _ (me : ProcessId) (parent : Option ProcessId) (tree : List TreeEntry) (n
     child_role p e =
         subst (λ r. IsChildRole r p) (sym (role ∙ ap role_below e)) refl
 
-    up_well : (o : Option ProcessId) (m : Message) → ((p : ProcessId) → o ≡ Some p → Well tree me net (post me p m) m)
+    up_well : (o : Option ProcessId) (m : Message)
+        → ((p : ProcessId) → o ≡ Some p → Well tree me net (post me p m) m)
         → Sent (posted_up me o m)
     up_well None m f = tt
     up_well (Some p) m f = (f p refl, tt)
@@ -208,12 +214,14 @@ module _ (me : ProcessId) (parent : Option ProcessId) (tree : List TreeEntry) (n
     prepared_promised : (c : Case) → coordinator_standing (kept n) c (memory_of place n c) ≡ Prepared
         → has (is_prepare c) (kept n) ≡ true
     prepared_promised c e =
-        promised_kept c.txn.presumption (memory_of place n c).phase (has (is_end c) (kept n)) (has (is_commit c) (kept n))
+        promised_kept c.txn.presumption (memory_of place n c).phase (has (is_end c) (kept n))
+        (has (is_commit c) (kept n))
         (has (is_abort c) (kept n)) (has (is_prepare c) (kept n)) (has (is_collecting c) (kept n))
         (none_of (owing_by c (kept n))) e
 
     module _ (up : n.failed ≡ false) (c : Case) where
-      live : (coordinator_view place n c).standing ≡ Active ⊎ ((coordinator_view place n c).standing ≡ Collecting)
+      live : (coordinator_view place n c).standing ≡ Active
+          ⊎ ((coordinator_view place n c).standing ≡ Collecting)
           → (memory_of place n c).phase ≢ Idle
       live (inl e) f = differ (sym (is_active place n c (co.alike up c) e) ∙ f)
         where
@@ -225,7 +233,8 @@ module _ (me : ProcessId) (parent : Option ProcessId) (tree : List TreeEntry) (n
           differ x = cc
 
       own_live : (p : ProcessId) → parent ≡ Some p
-          → (coordinator_view place n c).standing ≡ Active ⊎ ((coordinator_view place n c).standing ≡ Collecting)
+          → (coordinator_view place n c).standing ≡ Active
+          ⊎ ((coordinator_view place n c).standing ≡ Collecting)
           → Own tree me net goes c
       own_live p e k = remembered p e up c (live k)
 
@@ -239,18 +248,22 @@ module _ (me : ProcessId) (parent : Option ProcessId) (tree : List TreeEntry) (n
           (has_other (is_prepare c) (is_record_of c) (kept n) promise_record
           (prepared_promised c (sym (viewed place n c) ∙ k))))
 
-      yes_up : ((p : ProcessId) → parent ≡ Some p → Own tree me net goes c) → Sent (posted_up me parent (Yes c))
+      yes_up : ((p : ProcessId) → parent ≡ Some p → Own tree me net goes c)
+          → Sent (posted_up me parent (Yes c))
       yes_up f = up_well parent (Yes c) (λ p e. letters.up_yes tree me net goes p (child_role p e) c (f p e))
 
       no_up : ((p : ProcessId) → parent ≡ Some p → Own tree me net goes c) → Sent (posted_up me parent (No c))
       no_up f = up_well parent (No c) (λ p e. letters.up_no tree me net goes p (child_role p e) c (f p e))
 
-      read_up : ((p : ProcessId) → parent ≡ Some p → Own tree me net goes c) → Sent (posted_up me parent (Read c))
-      read_up f = up_well parent (Read c) (λ p e. letters.up_read tree me net goes p (child_role p e) c (f p e))
+      read_up : ((p : ProcessId) → parent ≡ Some p → Own tree me net goes c)
+          → Sent (posted_up me parent (Read c))
+      read_up f = up_well parent (Read c)
+          (λ p e. letters.up_read tree me net goes p (child_role p e) c (f p e))
 
       ack_up : (o : Outcome) → ((p : ProcessId) → parent ≡ Some p → Own tree me net goes c)
           → Sent (posted_up me parent (Ack c o))
-      ack_up o f = up_well parent (Ack c o) (λ p e. letters.up_ack tree me net goes p (child_role p e) c (f p e) o)
+      ack_up o f = up_well parent (Ack c o)
+          (λ p e. letters.up_ack tree me net goes p (child_role p e) c (f p e) o)
 
       inquire_up : ((p : ProcessId) → parent ≡ Some p → Own tree me net goes c)
           → Sent (posted_up me parent (Inquire c))
@@ -273,7 +286,8 @@ module _ (me : ProcessId) (parent : Option ProcessId) (tree : List TreeEntry) (n
       undecided_is : (us : List Ticket) (vs : _) → undecided_of (coordinator_view place n c).accepted vs ≡ us
           → (t : Ticket) → in_list us t ≡ true → Mine tree me net c t
       undecided_is us vs e t g =
-          viewed_is c t (in_undecided (coordinator_view place n c).accepted vs t (ap (λ ts. in_list ts t) e ∙ g))
+          viewed_is c t (in_undecided (coordinator_view place n c).accepted vs t
+          (ap (λ ts. in_list ts t) e ∙ g))
 
       yesses_are : (ys : List Ticket) (vs : _) → yes_of (coordinator_view place n c).accepted vs ≡ ys
           → (t : Ticket) → in_list ys t ≡ true → Mine tree me net c t
@@ -281,7 +295,8 @@ module _ (me : ProcessId) (parent : Option ProcessId) (tree : List TreeEntry) (n
           viewed_is c t (in_yesses (coordinator_view place n c).accepted vs t (ap (λ ts. in_list ts t) e ∙ g))
 
       abort_above : (why : Reason)
-          → (coordinator_view place n c).standing ≡ Active ⊎ ((coordinator_view place n c).standing ≡ Collecting)
+          → (coordinator_view place n c).standing ≡ Active
+          ⊎ ((coordinator_view place n c).standing ≡ Collecting)
           → Sent (abort_heard_above (seat_of place parent c) why)
       abort_above ByVote k = no_up (λ p e. own_live p e k)
       abort_above ByAct k = tt
@@ -301,10 +316,13 @@ module _ (me : ProcessId) (parent : Option ProcessId) (tree : List TreeEntry) (n
     module _ (up : n.failed ≡ false) (h : Heard) (stands : InputStands net me h.input) where
       heard_goes : (m : Message) → Hears h m → (l : Envelope) × ((l.to ≡ me) × GoesBy tree l m)
       heard_goes m i =
-          let s : IsSent net me i.0 m = subst (λ (x : Input). InputStands net me x) i.1 stands in
-          (record { from = s.sender; to = me; message = m }, (refl, goes_at tree net (i.0 - 1) _ goes s.stands))
+          let s : IsSent net me i.0 m = subst (λ (x : Input). InputStands net me x) i.1 stands in (
+            record { from = s.sender; to = me; message = m },
+            (refl, goes_at tree net (i.0 - 1) _ goes s.stands),
+          )
 
-      heard_given : (m : Message) → Hears h m → (d : Case) → is_about d m ≡ true → sent (gives_case d) net ≡ true
+      heard_given : (m : Message) → Hears h m → (d : Case) → is_about d m ≡ true → sent (gives_case d) net
+          ≡ true
       heard_given m i d e =
           let s : IsSent net me i.0 m = subst (λ (x : Input). InputStands net me x) i.1 stands in
           given d (sent_at (is_about d) net (i.0 - 1) _ s.stands e)
@@ -326,7 +344,8 @@ module _ (me : ProcessId) (parent : Option ProcessId) (tree : List TreeEntry) (n
           → Sent (map (λ t. post me t.child (Prepare (child_case c.txn t) (works_of ws t)))
           (coordinator_view place n c).accepted)
       asks_all c ws =
-          letters.each_prepare tree me net goes c works_of ws (coordinator_view place n c).accepted (viewed_is c)
+          letters.each_prepare tree me net goes c works_of ws (coordinator_view place n c).accepted
+          (viewed_is c)
 
       turn_sends : (c : Case) (row : Row) → CaseTurn place parent n h c row → Sent row.messages
       turn_sends c _ (rests r) = tt
@@ -353,12 +372,15 @@ module _ (me : ProcessId) (parent : Option ProcessId) (tree : List TreeEntry) (n
       turn_sends c _ (commits t w ys PresumeAbort i e f a) = commits_to up c ys (yesses_are up c ys _ i.yes)
       turn_sends c _ (commits t w ys PresumeCommit i e f a) = commits_to up c ys (yesses_are up c ys _ i.yes)
       turn_sends c _ (promises t w ys p i e f) =
-          subst (λ o. Sent (posted_up me o (Yes c))) refl (yes_up up c (λ q g. own_live up c q g (inr i.vote.stands)))
+          subst (λ o. Sent (posted_up me o (Yes c))) refl
+          (yes_up up c (λ q g. own_live up c q g (inr i.vote.stands)))
       turn_sends c _ (hears_no t us PresumeAbort i e f) =
-          both up c (abort_heard_above (seat_of place parent c) ByVote) _ (abort_above up c ByVote (inr i.stands))
+          both up c (abort_heard_above (seat_of place parent c) ByVote) _
+          (abort_above up c ByVote (inr i.stands))
           (aborts_to up c us (undecided_is up c us _ e))
       turn_sends c _ (hears_no t us PresumeCommit i e f) =
-          both up c (abort_heard_above (seat_of place parent c) ByVote) _ (abort_above up c ByVote (inr i.stands))
+          both up c (abort_heard_above (seat_of place parent c) ByVote) _
+          (abort_above up c ByVote (inr i.stands))
           (aborts_to up c us (undecided_is up c us _ e))
       turn_sends c _ (aborts why us PresumeAbort i e f a) =
           both up c (abort_heard_above (seat_of place parent c) why) _ (abort_above up c why (inr e))
@@ -388,12 +410,14 @@ module _ (me : ProcessId) (parent : Option ProcessId) (tree : List TreeEntry) (n
           (letters.down_told tree me net goes c t (belongs_is i.txn t c i.belongs) o, tt)
 
       -- JOIN comes from the parent, and its answer goes there.
-      joined_well : (p : ProcessId) (d : Case) (t : Ticket) → parent ≡ Some p → Hears h (Join d) → t.child ≡ me
+      joined_well : (p : ProcessId) (d : Case) (t : Ticket) → parent ≡ Some p → Hears h (Join d) → t.child
+          ≡ me
           → Well tree me net (post me p (Joined d t)) (Joined d t)
       joined_well p d t e i own =
           let g = heard_goes (Join d) i in
           let of : p ≡ g.0.from =
-          subst (λ r. IsChildRole r g.0.from) (ap (role_of tree) g.1.0 ∙ (role ∙ ap role_below e)) g.1.1.1.1 in
+          subst (λ r. IsChildRole r g.0.from) (ap (role_of tree) g.1.0 ∙ (role ∙ ap role_below e))
+          g.1.1.1.1 in
           let here = g.1.1.0 ∙ sym of in
           record {
             goes = (
@@ -413,7 +437,8 @@ module _ (me : ProcessId) (parent : Option ProcessId) (tree : List TreeEntry) (n
 
       presumed_well : (x : Txn) (t : Ticket) (o : Outcome) → IsChildRole (role_of tree t.child) me
           → sent (gives_case (child_case x t)) net ≡ true
-          → Well tree me net (post me t.child (tells_outcome o (child_case x t))) (tells_outcome o (child_case x t))
+          → Well tree me net (post me t.child (tells_outcome o (child_case x t)))
+          (tells_outcome o (child_case x t))
       presumed_well x t CommittedOutcome child g =
           record { goes = (refl, child); given = λ e f. letters.of_same tree me net (child_case x t) e g f }
       presumed_well x t AbortedOutcome child g =
@@ -430,8 +455,11 @@ module _ (me : ProcessId) (parent : Option ProcessId) (tree : List TreeEntry) (n
           let child : IsChildRole (role_of tree t.child) me =
           subst (λ y. IsChildRole (role_of tree t.child) y) g.1.0
           (subst (λ y. IsChildRole (role_of tree y) g.0.to) (sym g.1.1.0) g.1.1.1) in
-          let known = heard_given (Inquire (child_case x t)) i in
-          (presumed_well x t (presumed x.presumption) child (known (child_case x t) (same_case-refl (child_case x t))), tt)
+          let known = heard_given (Inquire (child_case x t)) i in (
+            presumed_well x t (presumed x.presumption) child
+                (known (child_case x t) (same_case-refl (child_case x t))),
+            tt,
+          )
 
     -- A restart.
 
@@ -445,10 +473,12 @@ module _ (me : ProcessId) (parent : Option ProcessId) (tree : List TreeEntry) (n
         | inr rest ↦ in_second q n.forced n.unforced (in_front q j n.unforced rest)
       ]
 
-      decides_names : (c : Case) (t : Ticket) (r : Record) → is_decision_naming c t r ≡ true → is_naming c t r ≡ true
+      decides_names : (c : Case) (t : Ticket) (r : Record) → is_decision_naming c t r ≡ true
+          → is_naming c t r ≡ true
       decides_names c t r e = grind (arith, e)
 
-      decided_is : (c : Case) (t : Ticket) → has (is_decision_naming c t) rest_of ≡ true → Mine tree me net c t
+      decided_is : (c : Case) (t : Ticket) → has (is_decision_naming c t) rest_of ≡ true
+          → Mine tree me net c t
       decided_is c t e =
           named_is c t (was_kept (is_naming c t)
           (in_left (in_either (is_naming c t) (left_of n j) (coordinator_reopens (left_of n j))
@@ -460,12 +490,15 @@ module _ (me : ProcessId) (parent : Option ProcessId) (tree : List TreeEntry) (n
           in_left (inl old) = old
           in_left (inr new) = reopens_name c t (left_of n j) new
 
-      owed_by : (o : Outcome) (c : Case) (t : Ticket) → in_list (still_owed [] o (owing_by c rest_of)) t ≡ true
+      owed_by : (o : Outcome) (c : Case) (t : Ticket) → in_list (still_owed [] o (owing_by c rest_of)) t
+          ≡ true
           → has (is_decision_naming c t) rest_of ≡ true
-      owed_by o c t e = sym (owing-by c t rest_of) ∙ (ap (λ ts. in_list ts t) (sym (all_owed o (owing_by c rest_of))) ∙ e)
+      owed_by o c t e = sym (owing-by c t rest_of)
+          ∙ (ap (λ ts. in_list ts t) (sym (all_owed o (owing_by c rest_of))) ∙ e)
 
       owed_in : (s : Standing) (c : Case) (t : Ticket)
-          → in_list (view_at s rest_of c fresh_memory).owed t ≡ true → has (is_decision_naming c t) rest_of ≡ true
+          → in_list (view_at s rest_of c fresh_memory).owed t ≡ true
+          → has (is_decision_naming c t) rest_of ≡ true
       owed_in Unknown c t e = nobody_listed t e
       owed_in Active c t e = owed_by (decided_outcome Active) c t e
       owed_in Collecting c t e = owed_by (decided_outcome Collecting) c t e
@@ -474,7 +507,8 @@ module _ (me : ProcessId) (parent : Option ProcessId) (tree : List TreeEntry) (n
       owed_in Aborting c t e = owed_by (decided_outcome Aborting) c t e
       owed_in Heuristic c t e = owed_by (decided_outcome Heuristic) c t e
 
-      owed_is : (c : Case) (t : Ticket) → in_list (recorded_view rest_of c).owed t ≡ true → Mine tree me net c t
+      owed_is : (c : Case) (t : Ticket) → in_list (recorded_view rest_of c).owed t ≡ true
+          → Mine tree me net c t
       unfolding recorded_view
       owed_is c t e = decided_is c t (owed_in (coordinator_standing rest_of c fresh_memory) c t e)
 
