@@ -22,6 +22,7 @@ use Rattle.tree_nodes.proofs.Worlds.{has_other}
 use Rattle.tree_headline.proofs.Parts.{case_parts}
 use Rattle.tree_auditor.specs.Audits.{AllUp, AuditsAreTrue, audited, has_line, has_line_in, has_place, is_case_at, logs_of_world, outcome_within}
 use Rattle.tree_auditor.proofs.Climb.{climb_says, none_so}
+use Rattle.tree_auditor.proofs.Mismatches.{shown_stands, standing_shows}
 use Rattle.tree_auditor.proofs.RootLines.{root_says}
 
 -- Lines of cases with tickets.
@@ -118,4 +119,16 @@ module _ (tree : List TreeEntry) (es : List Made) (w : World) (is_tree : IsTree 
 
 pub audits_are_true : (tree : List TreeEntry) (es : List Made) (w : World) → IsTree tree → IsRun tree es w
     → WorldHolds tree w → AllUp tree w → AuditsAreTrue tree w
-audits_are_true tree es w is_tree run h up = record { outcomes = line_tells tree es w is_tree run h up }
+audits_are_true tree es w is_tree run h up = record {
+  outcomes = tells;
+  mismatches_stand = λ c o s.
+      let f = shown_stands tree w h up c o s.line s.decided in
+      (record { decided = f.0; differs = λ e. s.differs (e ∙ sym (tells c s.line)) }, f.1);
+  standing_mismatches_show = λ c o m s.
+      let f = standing_shows tree w h up c o s in
+      record { line = f.0; decided = f.1; differs = λ e. m.differs (e ∙ tells c f.0) };
+}
+  where
+    tells : (c : Case) → has_line tree (logs_of_world w) c ≡ true → audited tree (logs_of_world w) c
+        ≡ outcome_of w c.txn
+    tells = line_tells tree es w is_tree run h up

@@ -2,4 +2,6 @@ pub mod RootCommits
 pub mod RootLines
 pub mod Naming
 pub mod Climb
+pub mod Mismatches
 pub mod Audit
+pub mod Decisions

@@ -1,5 +1,5 @@
 -- The audit: what a tree and the kept lists of its processes say of each case, and that it is true.
-use Rattle.std.specs.Prelude.{◌≡◌, ℕ, zero, suc, Bool, true, false, not, ◌&&◌, ◌||◌, Option, Some, None, List, find, length}
+use Rattle.std.specs.Prelude.{◌≡◌, ◌≢◌, ℕ, zero, suc, Bool, true, false, not, ◌&&◌, ◌||◌, Option, Some, None, List, find, length}
 use Rattle.tree_model.specs.declared.names.Case.{Case}
 use Rattle.tree_model.specs.declared.names.Outcome.{Outcome}
 use Rattle.tree_model.specs.declared.names.Outcome.TheVariants.{Committed, Aborted}
@@ -10,9 +10,9 @@ use Rattle.tree_model.specs.declared.names.Txn.{Txn}
 use Rattle.tree_model.specs.declared.records.Record.{Record}
 use Rattle.tree_model.specs.declared.trees.TreeEntry.{TreeEntry}
 use Rattle.tree_model.specs.Names.{same_process, same_txn, presumed, process_of}
-use Rattle.tree_model.specs.Records.{has, is_collecting, is_prepare, is_commit, is_abort, is_end, is_prepared, is_forgot, cases_in}
+use Rattle.tree_model.specs.Records.{has, is_collecting, is_prepare, is_commit, is_abort, is_end, is_prepared, is_decided, is_forgot, cases_in}
 use Rattle.tree_model.specs.Nodes.{Role, AtRoot, Below, AtLeaf, role_of, is_listed, kept}
-use Rattle.tree_model.specs.Outcomes.{outcome_of}
+use Rattle.tree_model.specs.Outcomes.{DecisionStands, Mismatch, outcome_of}
 use Rattle.tree_model.specs.World.{World}
 use Rattle.tree_readings.specs.ReadingOf.{is_learnt_abort, is_learnt_commit, is_promise}
 use Rattle.tree_nodes.specs.WorldHolds.{is_naming, parent_in}
@@ -110,7 +110,14 @@ has_line tree logs c =
     is_listed tree (process_of c) && (is_case_at tree (process_of c) c
     && has_line_in (role_of tree (process_of c)) c (logs (process_of c)))
 
--- What is true of an audit of a world: each line's outcome is the transaction's.
+-- its line shows an operator's decision by this outcome, and a mismatch
+pub record ShowsMismatch (tree : List TreeEntry) (logs : Logs) (c : Case) (o : Outcome) : Type 0 where
+  pub line : has_line tree logs c ≡ true
+  pub decided : has (is_decided c o) (logs (process_of c)) ≡ true
+  pub differs : o ≢ audited tree logs c
+
+-- What is true of an audit of a world: each line's outcome is the transaction's, and the mismatches that it shows are
+-- just those that stand.
 
 -- the kept lists of a world
 abbrev pub logs_of_world : World → Logs
@@ -123,3 +130,7 @@ AllUp tree w = (q : ProcessId) → is_listed tree q ≡ true → (w.at q).failed
 pub record AuditsAreTrue (tree : List TreeEntry) (w : World) : Type 0 where
   pub outcomes : (c : Case) → has_line tree (logs_of_world w) c ≡ true
       → audited tree (logs_of_world w) c ≡ outcome_of w c.txn
+  pub mismatches_stand : (c : Case) (o : Outcome) → ShowsMismatch tree (logs_of_world w) c o
+      → Mismatch w c o × DecisionStands (w.at (process_of c)) c o
+  pub standing_mismatches_show : (c : Case) (o : Outcome) → Mismatch w c o
+      → DecisionStands (w.at (process_of c)) c o → ShowsMismatch tree (logs_of_world w) c o
