@@ -19,7 +19,8 @@ pub fn headline()
 {}
 
 /// Behind every run of every tree in which no process is failed, the audit of the logs' kept records gives each case that
-/// it lists the outcome of its transaction, although roots have forgotten and trimmed.
+/// it lists the outcome of its transaction, although roots have forgotten and trimmed; and the mismatches that it shows are
+/// just those that stand.
 pub fn audits_are_true()
     ensures { (tree : List TreeEntry) (es : List Made) (w : World) → IsTree tree → IsRun tree es w → AllUp tree w
         → AuditsAreTrue tree w }
