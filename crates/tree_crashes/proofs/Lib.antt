@@ -1,6 +1,7 @@
 pub mod Named
 pub mod Fronts
 pub mod Reopened
+pub mod RecordedStandings
 pub mod Resumed
 pub mod Losing
 pub mod LostHalves

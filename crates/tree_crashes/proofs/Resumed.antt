@@ -7,8 +7,6 @@ use Rattle.std.specs.List.{flat_map}
 use Rattle.std.proofs.lemmas.List.Folds.{list_any-append}
 use Rattle.tree_model.specs.declared.names.Case.{Case}
 use Rattle.tree_model.specs.declared.names.Outcome.TheVariants.{Committed as CommittedOutcome, Aborted as AbortedOutcome}
-use Rattle.tree_model.specs.declared.names.Presumption.{Presumption}
-use Rattle.tree_model.specs.declared.names.Presumption.TheVariants.{PresumeAbort, PresumeCommit}
 use Rattle.tree_model.specs.declared.names.ProcessId.{ProcessId}
 use Rattle.tree_model.specs.declared.names.Ticket.{Ticket}
 use Rattle.tree_model.specs.declared.messages.Envelope.{Envelope}
@@ -35,79 +33,9 @@ use Rattle.tree_nodes.proofs.Phases.{standing_at}
 use Rattle.tree_nodes.proofs.RootLogs.{recorded_case, recorded_stands}
 use Rattle.tree_crashes.proofs.Named.{owing-by, all_owed, somebody}
 use Rattle.tree_crashes.proofs.Reopened.{exactly}
+use Rattle.tree_crashes.proofs.RecordedStandings.{Aborts, Decides, aborting_by, both_hold, committing_by, first_holds, is_not, prepared_by, second_holds, split_three, three, was_not}
 
 -- Where a case stands by its records alone.
-
-pub record Decides (e m : Bool) : Type 0 where
-  pub not_ended : e ≡ false
-  pub decided : m ≡ true
-
-committing_by : (p : Presumption) (e m a r k n : Bool)
-    → standing_by e m a r k n (phase_standing p Idle) ≡ Committing → Decides e m
-committing_by p false true a r k n f = record { not_ended = refl; decided = refl }
-committing_by p true m a r k n f = absurd (cc)
-committing_by p false false true r k true f = absurd (cc)
-committing_by p false false true r k false f = absurd (cc)
-committing_by p false false false true k n f = absurd (cc)
-committing_by p false false false false true n f = absurd (cc)
-committing_by PresumeAbort false false false false false n f = absurd (cc)
-committing_by PresumeCommit false false false false false n f = absurd (cc)
-
-pub record Aborts (e m a : Bool) : Type 0 where
-  pub not_ended : e ≡ false
-  pub not_committed : m ≡ false
-  pub decided : a ≡ true
-
-aborting_by : (p : Presumption) (e m a r k n : Bool)
-    → standing_by e m a r k n (phase_standing p Idle) ≡ Aborting → Aborts e m a
-aborting_by p false false true r k n f = record { not_ended = refl; not_committed = refl; decided = refl }
-aborting_by p true m a r k n f = absurd (cc)
-aborting_by p false true a r k true f = absurd (cc)
-aborting_by p false true a r k false f = absurd (cc)
-aborting_by p false false false true k n f = absurd (cc)
-aborting_by p false false false false true n f = absurd (cc)
-aborting_by PresumeAbort false false false false false n f = absurd (cc)
-aborting_by PresumeCommit false false false false false n f = absurd (cc)
-
-prepared_by : (p : Presumption) (e m a r k n : Bool)
-    → standing_by e m a r k n (phase_standing p Idle) ≡ Prepared → r ≡ true
-prepared_by p e m a true k n f = refl
-prepared_by p true m a false k n f = absurd (cc)
-prepared_by p false true a false k true f = absurd (cc)
-prepared_by p false true a false k false f = absurd (cc)
-prepared_by p false false true false k true f = absurd (cc)
-prepared_by p false false true false k false f = absurd (cc)
-prepared_by p false false false false true n f = absurd (cc)
-prepared_by PresumeAbort false false false false false n f = absurd (cc)
-prepared_by PresumeCommit false false false false false n f = absurd (cc)
-
-three : (a b c : Bool) → a ≡ true → b ≡ true → c ≡ true → (a && (b && c)) ≡ true
-three a b c e f g = grind arith
-
-record Three (a b c : Bool) : Type 0 where
-  first : a ≡ true
-  second : b ≡ true
-  third : c ≡ true
-
-split_three : (a b c : Bool) → (a && (b && c)) ≡ true → Three a b c
-split_three a b c e = grind arith
-
-is_not : (a : Bool) → a ≡ false → not a ≡ true
-is_not a e = grind arith
-
-was_not : (a : Bool) → not a ≡ true → a ≡ false
-was_not a e = grind arith
-
-both_hold : (a b : Bool) → a ≡ true → b ≡ true → (a && b) ≡ true
-both_hold a b e f = grind arith
-
-first_holds : (a b : Bool) → (a && b) ≡ true → a ≡ true
-first_holds a b e = grind arith
-
-second_holds : (a b : Bool) → (a && b) ≡ true → b ≡ true
-second_holds a b e = grind arith
-
--- What is sent case by case.
 
 sent-both : (q : Message → Bool) (xs ys : List Envelope) → sent q (xs ++ ys) ≡ (sent q xs || sent q ys)
 unfolding sent

@@ -1,7 +1,9 @@
 pub mod CoordinatorLetters
+pub mod TreeChildren
 pub mod TurnLetters
 pub mod LettersHold
 pub mod NetsHold
 pub mod Born
+pub mod JoinLetters
 pub mod BornHolds
 pub mod Headline

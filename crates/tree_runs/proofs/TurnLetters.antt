@@ -1,10 +1,8 @@
 -- Each letter that a coordinator's turn or restart sends goes where it belongs, and is of a case that was
 -- given.
-use Rattle.std.proofs.Common.{◌≡◌, ◌≢◌, ◌∙◌, ◌⊎◌, inl, inr, ◌||◌, ◌-◌, ◌+◌, ℕ, Bool, true, false, Option, Some, None, List, [], ◌∷◌, ◌++◌, map, find, if◌then◌else◌, take, refl, sym, ap, subst, arith}
-use Rattle.std.specs.List.{flat_map, list_any}
+use Rattle.std.proofs.Common.{◌≡◌, ◌≢◌, ◌∙◌, ◌⊎◌, inl, inr, ◌-◌, ◌+◌, ℕ, Bool, true, false, Option, Some, None, List, [], ◌∷◌, ◌++◌, map, take, refl, sym, ap, subst, arith}
+use Rattle.std.specs.List.{flat_map}
 use Rattle.tree_model.specs.declared.names.Case.{Case}
-use Rattle.tree_model.specs.declared.names.Kind.{Kind}
-use Rattle.tree_model.specs.declared.names.Kind.TheVariants.{Coordinator, Manager}
 use Rattle.tree_model.specs.declared.names.Outcome.{Outcome}
 use Rattle.tree_model.specs.declared.names.Outcome.TheVariants.{Committed as CommittedOutcome, Aborted as AbortedOutcome}
 use Rattle.tree_model.specs.declared.names.Presumption.{Presumption}
@@ -20,13 +18,13 @@ use Rattle.tree_model.specs.declared.standings.Standing.{Standing}
 use Rattle.tree_model.specs.declared.standings.Standing.TheVariants.{Unknown, Active, Collecting, Prepared, Committing, Aborting, Heuristic}
 use Rattle.tree_model.specs.declared.events.Input.{Input}
 use Rattle.tree_model.specs.declared.trees.TreeEntry.{TreeEntry}
-use Rattle.tree_model.specs.Names.{child_case, presumed, process_of, same_process, same_ticket}
-use Rattle.tree_model.specs.NameLaws.{same_case-refl, same_process_tells, same_ticket-refl}
+use Rattle.tree_model.specs.Names.{child_case, presumed, process_of}
+use Rattle.tree_model.specs.NameLaws.{same_case-refl}
 use Rattle.tree_model.specs.Records.{has, in_list, is_abort, is_collecting, is_commit, is_end, is_prepare, none_of, owing_by, promised_by}
-use Rattle.tree_model.specs.Nodes.{Effect, Heard, Node, Place, AtRoot, is_child, is_listed, is_parent, kept, role_by, role_of}
-use Rattle.tree_model.specs.Memory.{Phase, Idle, Open, Asked, Over, fresh_memory, memory_of, ticket_of_child, undecided_of, works_of, yes_of}
+use Rattle.tree_model.specs.Nodes.{Effect, Heard, Node, Place, AtRoot, is_listed, kept, role_of}
+use Rattle.tree_model.specs.Memory.{Idle, Open, Asked, fresh_memory, memory_of, undecided_of, works_of, yes_of}
 use Rattle.tree_model.specs.Outcomes.{has_accepted, sent}
-use Rattle.tree_model.specs.Standings.{case_of_child, coordinator_standing, coordinator_view, decided_outcome, phase_standing, standing_by, still_owed, view_at}
+use Rattle.tree_model.specs.Standings.{case_of_child, coordinator_standing, coordinator_view, decided_outcome, still_owed, view_at}
 use Rattle.tree_model.specs.CoordinatorRows.{Reason, ByVote, ByAct, ByAbort, Row, abort_heard_above, acknowledges_abort, each, post, posted_up, tells_outcome}
 use Rattle.tree_model.specs.Reactions.{seat_of}
 use Rattle.tree_model.specs.Restarts.{coordinator_reopens, coordinator_resumes, left_of, recorded_view, resumes_by}
@@ -43,7 +41,7 @@ use Rattle.tree_nodes.proofs.Naming.{in_undecided, in_yesses, promises_name, rec
 use Rattle.tree_nodes.proofs.OwnCases.{child_belongs}
 use Rattle.tree_nodes.proofs.Remembering.{coordinator_place, role_below}
 use Rattle.tree_nodes.proofs.RootLogs.{recorded_stands}
-use Rattle.tree_nodes.proofs.Tests.{either, in_either, in_first, in_front, in_second, left, not_both, right}
+use Rattle.tree_nodes.proofs.Tests.{either, in_either, in_first, in_front, in_second, not_both}
 use Rattle.tree_nodes.proofs.Tickets.{active_is_own}
 use Rattle.tree_nodes.proofs.Worlds.{has_other}
 use Rattle.tree_crashes.proofs.CrashPairs.{is_active}
@@ -51,81 +49,7 @@ use Rattle.tree_crashes.proofs.Named.{all_owed, owing-by}
 use Rattle.tree_headline.proofs.ManagerLetters.{goes_at}
 use Rattle.tree_runs.proofs.CoordinatorLetters as letters
 use Rattle.tree_runs.proofs.CoordinatorLetters.{AllWell, Mine, Own, Well}
-
-found_listed : (f : Ticket → Bool) (ts : List Ticket) (t : Ticket) → find f ts ≡ Some t → in_list ts t ≡ true
-unfolding in_list
-found_listed f [] t e = absurd (cc)
-found_listed f (u ∷ us) t e = by_test (f u) e (found_listed f us t)
-  where
-    by_test : (b : Bool) → (if b then Some u else find f us) ≡ Some t
-        → (find f us ≡ Some t → list_any (λ x. same_ticket x t) us ≡ true)
-        → (same_ticket u t || list_any (λ x. same_ticket x t) us) ≡ true
-    by_test true g k =
-        let same : u ≡ t = cc in
-        left _ _ (ap (λ x. same_ticket x t) same ∙ same_ticket-refl t)
-    by_test false g k = right _ _ (k g)
-
--- a child of a process has that role in the tree
-role_parent : (k : Kind) (o : Option ProcessId) (p : ProcessId) → is_parent p o ≡ true
-    → IsChildRole (role_by k o) p
-role_parent Coordinator None p e = absurd (cc)
-role_parent Coordinator (Some q) p e = process_is q p e
-  where
-    process_is : (a b : ProcessId) → same_process a b ≡ true → a ≡ b
-    process_is a b f = elim (same_process_tells a b) [ inl t ↦ t.1 | inr g ↦ absurd (let h = g.0 in cc) ]
-role_parent Manager None p e = absurd (cc)
-role_parent Manager (Some q) p e = process_is q p e
-  where
-    process_is : (a b : ProcessId) → same_process a b ≡ true → a ≡ b
-    process_is a b f = elim (same_process_tells a b) [ inl t ↦ t.1 | inr g ↦ absurd (let h = g.0 in cc) ]
-
-is_child_role : (tree : List TreeEntry) (q p : ProcessId) → is_child tree q p ≡ true
-    → IsChildRole (role_of tree q) p
-unfolding is_child role_of
-is_child_role [] q p e = absurd (cc)
-is_child_role (x ∷ xs) q p e = by_test (same_process x.id q) e (is_child_role xs q p)
-  where
-    by_test : (b : Bool) → (if b then is_parent p x.parent else is_child xs q p) ≡ true
-        → (is_child xs q p ≡ true → IsChildRole (role_of xs q) p)
-        → IsChildRole (if b then role_by x.kind x.parent else role_of xs q) p
-    by_test true f k = role_parent x.kind x.parent p f
-    by_test false f k = k f
-
-nobody_listed : {A : Type 0} → (t : Ticket) → in_list [] t ≡ true → A
-unfolding in_list
-nobody_listed t e = absurd (cc)
-
-found_child : (ts : List Ticket) (q : ProcessId) (t : Ticket) → ticket_of_child ts q ≡ Some t
-    → in_list ts t ≡ true
-unfolding ticket_of_child
-found_child ts q t e = found_listed (λ u. same_process u.child q) ts t e
-
--- a case that is Prepared has its promise
-promised_kept : (q : Presumption) (ph : Phase) (e m a r k none : Bool)
-    → standing_by e m a r k none (phase_standing q ph) ≡ Prepared → r ≡ true
-promised_kept q ph e m a true k none f = refl
-promised_kept q ph true m a false k none f = absurd (cc)
-promised_kept q ph false true a false k true f = absurd (cc)
-promised_kept q ph false true a false k false f = absurd (cc)
-promised_kept q ph false false true false k true f = absurd (cc)
-promised_kept q ph false false true false k false f = absurd (cc)
-promised_kept q ph false false false false true none f = absurd (cc)
-promised_kept q Open false false false false false none f = absurd (cc)
-promised_kept q Idle false false false false false none f = absurd (idle_not q f)
-  where
-    idle_not : (x : Presumption) → phase_standing x Idle ≡ Prepared → ⊥
-    idle_not PresumeAbort g = cc
-    idle_not PresumeCommit g = cc
-promised_kept q Over false false false false false none f = absurd (over_not q f)
-  where
-    over_not : (x : Presumption) → phase_standing x Over ≡ Prepared → ⊥
-    over_not PresumeAbort g = cc
-    over_not PresumeCommit g = cc
-promised_kept q Asked false false false false false none f = absurd (asked_not q f)
-  where
-    asked_not : (x : Presumption) → phase_standing x Asked ≡ Prepared → ⊥
-    asked_not PresumeAbort g = cc
-    asked_not PresumeCommit g = cc
+use Rattle.tree_runs.proofs.TreeChildren.{found_child, is_child_role, nobody_listed, promised_kept}
 
 module _ (me : ProcessId) (parent : Option ProcessId) (tree : List TreeEntry) (n : Node) (net : List Envelope)
     (role : role_of tree me ≡ role_below parent) (listed : is_listed tree me ≡ true)
