@@ -21,7 +21,7 @@ use Rattle.tree_model.specs.declared.records.Record.TheVariants.{Opened, Collect
 use Rattle.tree_model.specs.declared.standings.Vote.TheVariants.{Yes as VoteYes}
 use Rattle.tree_model.specs.Names.{root_case, child_case}
 use Rattle.tree_model.specs.Nodes.{Heard, ReadsOnly, Written, no_effect, after}
-use Rattle.tree_model.specs.Plays.{Play, Acts, Delivers, Restarts}
+use Rattle.tree_model.specs.Plays.{Play, Acts, Delivers, Restarts, Trims}
 use Rattle.tree_model.specs.Rows.{process, txn, ticket, tree_a, tree_b, tree_c}
 use Rattle.tree_wrong.specs.WrongSteps.{WrongStep}
 
@@ -154,13 +154,13 @@ prepare_before_collecting = record {
   behind = Delivers 4 ∷ Restarts (process 1) 0 ∷ Acts (Ask (case_at PresumeCommit second)) ∷ Delivers 6 ∷ Delivers 7 ∷ [];
 }
 
--- A restart gives out the last boot again, in which a ticket was given. Its branch has committed and is forgotten; JOIN,
--- WORK and PREPARE come a second time, the ticket is given again, and it promises again; it asks, is told that the
+-- A restart gives out the last boot again, in which a ticket was given. Its branch has committed, and a trim has dropped
+-- it; JOIN, WORK and PREPARE come a second time, the ticket is given again, and promises again; it asks, is told that the
 -- transaction aborted, and rolls back.
 abbrev pub boot_reused : WrongStep
 boot_reused = record {
   tree = tree_a;
-  events = one_is_told PresumeAbort ++ Delivers 6 ∷ Delivers 7 ∷ [];
+  events = one_is_told PresumeAbort ++ Delivers 6 ∷ Delivers 7 ∷ Trims (process 2) ∷ [];
   process = process 2;
   happening = Restart 0;
   leaves = λ n. record n {
