@@ -71,4 +71,4 @@ falls holds =
     (issues.given_once is_up (top PresumeAbort) second refl was_joined)
 
 pub boot_reused : Breaks wrong.boot_reused
-boot_reused = by_world wrong.boot_reused reused_goes refl tree_a_is_tree falls
+boot_reused = by_world wrong.boot_reused reused_goes refl tree_a_is_tree tt falls

@@ -5,7 +5,7 @@ use Rattle.tree_model.specs.declared.names.Ticket.{Ticket}
 use Rattle.tree_model.specs.Plays.{Played, plays_all}
 use Rattle.tree_model.specs.Rows.{process}
 use Rattle.tree_model.specs.Trees.{IsTree}
-use Rattle.tree_model.specs.World.{World}
+use Rattle.tree_model.specs.World.{World, Stands}
 use Rattle.tree_nodes.specs.WorldHolds.{WorldHolds, IsPair, IsFree, PairHolds}
 use Rattle.tree_pairs.specs.Reading.{Reading, is_live}
 use Rattle.tree_pairs.specs.Standing.{IsSettled}
@@ -17,25 +17,30 @@ use Rattle.tree_wrong.proofs.PlayedRuns.{player_of, goes_on, goes, are_single, i
 abbrev pub play_of : WrongStep → Played
 play_of s = plays_all s.tree (process 1) s.events
 
+abbrev pub reached : WrongStep → World
+reached s = (player_of (play_of s)).world
+
 abbrev pub left_by : WrongStep → World
-left_by s = wrongly_left s (player_of (play_of s)).world
+left_by s = wrongly_left s (reached s)
 
 -- the run, and that the step breaks its world
 pub by_world : (s : WrongStep) → goes_on (play_of s) ≡ true → are_single s.events ≡ true → IsTree s.tree
-    → (WorldHolds s.tree (left_by s) → ⊥) → Breaks s
-by_world s go single tree falls = record {
+    → Stands (reached s).net s.process s.happening → (WorldHolds s.tree (left_by s) → ⊥) → Breaks s
+by_world s go single tree stands falls = record {
   player = player_of (play_of s);
   played_out = goes (play_of s) go;
   is_tree = tree;
   is_run = is_run s.tree (process 1) s.events single;
+  stands = stands;
   breaks = falls;
 }
 
 -- the same, where the step breaks a pair
 pub by_pair : (s : WrongStep) (c : Case) (t : Ticket) → goes_on (play_of s) ≡ true → are_single s.events ≡ true
-    → IsTree s.tree → IsPair s.tree c t → IsFree (left_by s).net c t → (PairHolds s.tree (left_by s) c t → ⊥)
+    → IsTree s.tree → Stands (reached s).net s.process s.happening → IsPair s.tree c t → IsFree (left_by s).net c t → (PairHolds s.tree (left_by s) c t → ⊥)
     → Breaks s
-by_pair s c t go single tree pair free falls = by_world s go single tree (λ holds. falls (holds.pairs c t pair free))
+by_pair s c t go single tree stands pair free falls =
+    by_world s go single tree stands (λ holds. falls (holds.pairs c t pair free))
 
 -- The parent has ended, and its child still keeps its promise.
 pub record IsEndedEarly (r : Reading) : Type 0 where

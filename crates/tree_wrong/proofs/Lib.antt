@@ -5,3 +5,5 @@ pub mod Breaking
 pub mod UnderAbort
 pub mod UnderCommit
 pub mod Boots
+pub mod Harming
+pub mod Harms

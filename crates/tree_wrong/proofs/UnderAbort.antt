@@ -1,7 +1,8 @@
 -- The wrong bodies under Presumed Abort that break a pair.
-use Rattle.std.proofs.Common.{◌≡◌, true, refl}
+use Rattle.std.proofs.Common.{◌≡◌, arith, true, refl}
 use Rattle.tree_model.specs.declared.names.Presumption.TheVariants.{PresumeAbort}
-use Rattle.tree_model.specs.Rows.{tree_a, tree_b}
+use Rattle.tree_model.specs.World.{Stands}
+use Rattle.tree_model.specs.Rows.{process, tree_a, tree_c}
 use Rattle.tree_nodes.specs.WorldHolds.{IsFree, pair_reading}
 use Rattle.tree_pairs.specs.Reading.{Reading}
 use Rattle.tree_wrong.specs.WrongSteps.{Breaks}
@@ -9,14 +10,18 @@ use Rattle.tree_wrong.specs.WrongBodies.{top, case_at, second, third}
 use Rattle.tree_wrong.specs.WrongBodies as wrong
 use Rattle.tree_wrong.proofs.Computing.{computing}
 use Rattle.tree_wrong.proofs.PlayedRuns.{goes_on}
-use Rattle.tree_wrong.proofs.Breaking.{play_of, left_by, by_pair, IsEndedEarly, ended_early, IsReadOverAVote, read_over_a_vote, IsDecisionLost, decision_lost, IsUnvoted, unvoted}
-use Rattle.tree_wrong.proofs.Trees.{tree_a_is_tree, tree_b_is_tree, root_and_second, root_and_third, second_and_third}
+use Rattle.tree_wrong.proofs.Breaking.{play_of, reached, left_by, by_pair, IsEndedEarly, ended_early, IsReadOverAVote, read_over_a_vote, IsDecisionLost, decision_lost, IsUnvoted, unvoted}
+use Rattle.tree_wrong.proofs.Trees.{tree_a_is_tree, tree_c_is_tree, root_and_second, root_and_third, second_and_third_of_c}
 
 -- The root that forgets.
 
 forgets_goes : goes_on (play_of wrong.forgets_after_first_ack) ≡ true
 unfolding computing
 forgets_goes = refl
+
+forgets_stands : Stands (reached wrong.forgets_after_first_ack).net wrong.forgets_after_first_ack.process wrong.forgets_after_first_ack.happening
+unfolding computing
+forgets_stands = record { sender = process 2; counted = omega arith; stands = refl }
 
 forgets_free : IsFree (left_by wrong.forgets_after_first_ack).net (top PresumeAbort) third
 unfolding computing
@@ -37,7 +42,7 @@ forgets_says = record {
 }
 
 pub forgets_after_first_ack : Breaks wrong.forgets_after_first_ack
-forgets_after_first_ack = by_pair wrong.forgets_after_first_ack (top PresumeAbort) third forgets_goes refl tree_a_is_tree
+forgets_after_first_ack = by_pair wrong.forgets_after_first_ack (top PresumeAbort) third forgets_goes refl tree_a_is_tree forgets_stands
     (root_and_third PresumeAbort) forgets_free (ended_early forgets_reading forgets_says)
 
 -- The coordinator that says READ.
@@ -46,12 +51,16 @@ reads_goes : goes_on (play_of wrong.reads_over_a_yes) ≡ true
 unfolding computing
 reads_goes = refl
 
+reads_stands : Stands (reached wrong.reads_over_a_yes).net wrong.reads_over_a_yes.process wrong.reads_over_a_yes.happening
+unfolding computing
+reads_stands = record { sender = process 3; counted = omega arith; stands = refl }
+
 reads_free : IsFree (left_by wrong.reads_over_a_yes).net (case_at PresumeAbort second) third
 unfolding computing
 reads_free = refl
 
 abbrev reads_reading : Reading
-reads_reading = pair_reading tree_b (left_by wrong.reads_over_a_yes) (case_at PresumeAbort second) third
+reads_reading = pair_reading tree_c (left_by wrong.reads_over_a_yes) (case_at PresumeAbort second) third
 
 reads_says : IsReadOverAVote reads_reading
 unfolding computing
@@ -62,14 +71,18 @@ reads_says = record {
 }
 
 pub reads_over_a_yes : Breaks wrong.reads_over_a_yes
-reads_over_a_yes = by_pair wrong.reads_over_a_yes (case_at PresumeAbort second) third reads_goes refl tree_b_is_tree
-    (second_and_third PresumeAbort) reads_free (read_over_a_vote reads_reading reads_says)
+reads_over_a_yes = by_pair wrong.reads_over_a_yes (case_at PresumeAbort second) third reads_goes refl tree_c_is_tree reads_stands
+    (second_and_third_of_c PresumeAbort) reads_free (read_over_a_vote reads_reading reads_says)
 
 -- The manager that drops its operator's decision.
 
 told_goes : goes_on (play_of wrong.told_drops_decision) ≡ true
 unfolding computing
 told_goes = refl
+
+told_stands : Stands (reached wrong.told_drops_decision).net wrong.told_drops_decision.process wrong.told_drops_decision.happening
+unfolding computing
+told_stands = record { sender = process 1; counted = omega arith; stands = refl }
 
 told_free : IsFree (left_by wrong.told_drops_decision).net (top PresumeAbort) second
 unfolding computing
@@ -87,7 +100,7 @@ told_says = record {
 }
 
 pub told_drops_decision : Breaks wrong.told_drops_decision
-told_drops_decision = by_pair wrong.told_drops_decision (top PresumeAbort) second told_goes refl tree_a_is_tree
+told_drops_decision = by_pair wrong.told_drops_decision (top PresumeAbort) second told_goes refl tree_a_is_tree told_stands
     (root_and_second PresumeAbort) told_free (decision_lost told_reading told_says)
 
 -- The root that does not wait for all votes.
@@ -95,6 +108,10 @@ told_drops_decision = by_pair wrong.told_drops_decision (top PresumeAbort) secon
 commits_goes : goes_on (play_of wrong.commits_on_votes_so_far) ≡ true
 unfolding computing
 commits_goes = refl
+
+commits_stands : Stands (reached wrong.commits_on_votes_so_far).net wrong.commits_on_votes_so_far.process wrong.commits_on_votes_so_far.happening
+unfolding computing
+commits_stands = record { sender = process 2; counted = omega arith; stands = refl }
 
 commits_free : IsFree (left_by wrong.commits_on_votes_so_far).net (top PresumeAbort) third
 unfolding computing
@@ -113,5 +130,5 @@ commits_says = record {
 }
 
 pub commits_on_votes_so_far : Breaks wrong.commits_on_votes_so_far
-commits_on_votes_so_far = by_pair wrong.commits_on_votes_so_far (top PresumeAbort) third commits_goes refl tree_a_is_tree
+commits_on_votes_so_far = by_pair wrong.commits_on_votes_so_far (top PresumeAbort) third commits_goes refl tree_a_is_tree commits_stands
     (root_and_third PresumeAbort) commits_free (unvoted commits_reading commits_says)

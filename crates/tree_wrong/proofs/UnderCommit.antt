@@ -1,7 +1,8 @@
 -- The wrong bodies under Presumed Commit that break a pair.
-use Rattle.std.proofs.Common.{◌≡◌, true, refl}
+use Rattle.std.proofs.Common.{◌≡◌, arith, true, refl}
 use Rattle.tree_model.specs.declared.names.Presumption.TheVariants.{PresumeCommit}
-use Rattle.tree_model.specs.Rows.{tree_a, tree_b}
+use Rattle.tree_model.specs.World.{Stands}
+use Rattle.tree_model.specs.Rows.{process, tree_a, tree_b}
 use Rattle.tree_nodes.specs.WorldHolds.{IsFree, pair_reading}
 use Rattle.tree_pairs.specs.Reading.{Reading}
 use Rattle.tree_wrong.specs.WrongSteps.{Breaks}
@@ -9,7 +10,7 @@ use Rattle.tree_wrong.specs.WrongBodies.{top, case_at, second, third}
 use Rattle.tree_wrong.specs.WrongBodies as wrong
 use Rattle.tree_wrong.proofs.Computing.{computing}
 use Rattle.tree_wrong.proofs.PlayedRuns.{goes_on}
-use Rattle.tree_wrong.proofs.Breaking.{play_of, left_by, by_pair, IsAskedEarly, asked_early, IsContradicted, contradicted, IsDecisionDropped, decision_dropped}
+use Rattle.tree_wrong.proofs.Breaking.{play_of, reached, left_by, by_pair, IsAskedEarly, asked_early, IsContradicted, contradicted, IsDecisionDropped, decision_dropped}
 use Rattle.tree_wrong.proofs.Trees.{tree_a_is_tree, tree_b_is_tree, root_and_second, second_and_third}
 
 -- The root that asks before it has written whom.
@@ -17,6 +18,10 @@ use Rattle.tree_wrong.proofs.Trees.{tree_a_is_tree, tree_b_is_tree, root_and_sec
 asks_goes : goes_on (play_of wrong.prepare_before_collecting) ≡ true
 unfolding computing
 asks_goes = refl
+
+asks_stands : Stands (reached wrong.prepare_before_collecting).net wrong.prepare_before_collecting.process wrong.prepare_before_collecting.happening
+unfolding computing
+asks_stands = tt
 
 asks_free : IsFree (left_by wrong.prepare_before_collecting).net (top PresumeCommit) second
 unfolding computing
@@ -35,7 +40,7 @@ asks_says = record {
 }
 
 pub prepare_before_collecting : Breaks wrong.prepare_before_collecting
-prepare_before_collecting = by_pair wrong.prepare_before_collecting (top PresumeCommit) second asks_goes refl tree_a_is_tree
+prepare_before_collecting = by_pair wrong.prepare_before_collecting (top PresumeCommit) second asks_goes refl tree_a_is_tree asks_stands
     (root_and_second PresumeCommit) asks_free (asked_early asks_reading asks_says)
 
 -- The coordinator that obeys a commit behind an abort.
@@ -43,6 +48,10 @@ prepare_before_collecting = by_pair wrong.prepare_before_collecting (top Presume
 obeys_goes : goes_on (play_of wrong.obeys_contradicting_commit) ≡ true
 unfolding computing
 obeys_goes = refl
+
+obeys_stands : Stands (reached wrong.obeys_contradicting_commit).net wrong.obeys_contradicting_commit.process wrong.obeys_contradicting_commit.happening
+unfolding computing
+obeys_stands = record { sender = process 1; counted = omega arith; stands = refl }
 
 obeys_free : IsFree (left_by wrong.obeys_contradicting_commit).net (case_at PresumeCommit second) third
 unfolding computing
@@ -59,7 +68,7 @@ obeys_says = record {
 }
 
 pub obeys_contradicting_commit : Breaks wrong.obeys_contradicting_commit
-obeys_contradicting_commit = by_pair wrong.obeys_contradicting_commit (case_at PresumeCommit second) third obeys_goes refl tree_b_is_tree
+obeys_contradicting_commit = by_pair wrong.obeys_contradicting_commit (case_at PresumeCommit second) third obeys_goes refl tree_b_is_tree obeys_stands
     (second_and_third PresumeCommit) obeys_free (contradicted obeys_reading obeys_says)
 
 -- The trim that drops a Commit.
@@ -67,6 +76,10 @@ obeys_contradicting_commit = by_pair wrong.obeys_contradicting_commit (case_at P
 trims_goes : goes_on (play_of wrong.trim_drops_commit) ≡ true
 unfolding computing
 trims_goes = refl
+
+trims_stands : Stands (reached wrong.trim_drops_commit).net wrong.trim_drops_commit.process wrong.trim_drops_commit.happening
+unfolding computing
+trims_stands = tt
 
 trims_free : IsFree (left_by wrong.trim_drops_commit).net (top PresumeCommit) second
 unfolding computing
@@ -84,5 +97,5 @@ trims_says = record {
 }
 
 pub trim_drops_commit : Breaks wrong.trim_drops_commit
-trim_drops_commit = by_pair wrong.trim_drops_commit (top PresumeCommit) second trims_goes refl tree_a_is_tree
+trim_drops_commit = by_pair wrong.trim_drops_commit (top PresumeCommit) second trims_goes refl tree_a_is_tree trims_stands
     (root_and_second PresumeCommit) trims_free (decision_dropped trims_reading trims_says)

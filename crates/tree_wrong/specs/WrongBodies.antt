@@ -12,6 +12,7 @@ use Rattle.tree_model.specs.declared.messages.Message.TheVariants.{Prepare, Yes,
 use Rattle.tree_model.specs.declared.messages.Op.TheVariants.{Put}
 use Rattle.tree_model.specs.declared.events.Act.TheVariants.{Begin, Join, Work, Commit as CommitAct, Abort as AbortAct, Ask, Decide}
 use Rattle.tree_model.specs.declared.events.Conclusion.TheVariants.{Committed as ConcludedCommitted}
+use Rattle.tree_model.specs.declared.events.Happening.TheVariants.{Input as Handles, Restart, Trim}
 use Rattle.tree_model.specs.declared.events.Input.{Input}
 use Rattle.tree_model.specs.declared.events.Input.TheVariants.{Act as ActInput, Message as MessageInput}
 use Rattle.tree_model.specs.declared.records.Branch.TheVariants.{Case as CaseBranch}
@@ -20,8 +21,8 @@ use Rattle.tree_model.specs.declared.records.Record.TheVariants.{Opened, Collect
 use Rattle.tree_model.specs.declared.standings.Vote.TheVariants.{Yes as VoteYes}
 use Rattle.tree_model.specs.Names.{root_case, child_case}
 use Rattle.tree_model.specs.Nodes.{Heard, ReadsOnly, Written, no_effect, after}
-use Rattle.tree_model.specs.Plays.{Play, Acts, Delivers}
-use Rattle.tree_model.specs.Rows.{process, txn, ticket, tree_a, tree_b}
+use Rattle.tree_model.specs.Plays.{Play, Acts, Delivers, Restarts, Trims}
+use Rattle.tree_model.specs.Rows.{process, txn, ticket, tree_a, tree_b, tree_c}
 use Rattle.tree_wrong.specs.WrongSteps.{WrongStep}
 
 -- What the runs share.
@@ -100,36 +101,68 @@ cascade_is_asked p =
     ∷ Delivers 7
     ∷ []
 
+-- The same with manager 4 below the root: the child of coordinator 2 votes YES by message 12.
+abbrev pub two_ways_asked : List Play
+two_ways_asked =
+    Acts (Begin PresumeAbort)
+    ∷ Acts (Join (top PresumeAbort) (process 2))
+    ∷ Acts (Join (top PresumeAbort) (process 4))
+    ∷ Delivers 1
+    ∷ Delivers 2
+    ∷ Delivers 3
+    ∷ Delivers 4
+    ∷ Acts (Join (case_at PresumeAbort second) (process 3))
+    ∷ Delivers 5
+    ∷ Delivers 6
+    ∷ Acts (Work (case_at PresumeAbort second) (process 3) (Put (codes "x") (codes "1")))
+    ∷ Acts (Work (top PresumeAbort) (process 4) (Put (codes "y") (codes "2")))
+    ∷ Delivers 7
+    ∷ Delivers 8
+    ∷ Acts (CommitAct (txn 1 1 PresumeAbort))
+    ∷ Delivers 9
+    ∷ Delivers 11
+    ∷ []
+
 -- The wrong bodies.
 
 -- The root forgets after the first ACK: manager 2 has obeyed, and End is written while the ACK of manager 3 is owed.
+-- Manager 3 asks then, is told that the transaction aborted, and rolls back.
 abbrev pub forgets_after_first_ack : WrongStep
 forgets_after_first_ack = record {
   tree = tree_a;
   events = two_are_asked PresumeAbort ++ Delivers 7 ∷ Delivers 8 ∷ Delivers 9 ∷ Delivers 10 ∷ Delivers 11 ∷ [];
   process = process 1;
+  happening = Handles (MessageInput 13 (Ack (case_at PresumeAbort second) CommittedOutcome));
   leaves = λ n. after n (heard (MessageInput 13 (Ack (case_at PresumeAbort second) CommittedOutcome)))
       (record no_effect { written = plain (End (top PresumeAbort)) ∷ [] });
   sends = [];
+  behind = Acts (Ask (case_at PresumeAbort third)) ∷ Delivers 14 ∷ Delivers 15 ∷ [];
 }
 
--- PREPARE goes out behind a Collecting that is not forced.
+-- PREPARE goes out behind a Collecting that is not forced. The manager promises, the root loses its Collecting in a
+-- crash, and the manager, which asks, is told that the transaction committed.
 abbrev pub prepare_before_collecting : WrongStep
 prepare_before_collecting = record {
   tree = tree_a;
-  events = one_has_joined PresumeCommit;
+  events = one_has_joined PresumeCommit ++
+      Acts (Work (top PresumeCommit) (process 2) (Put (codes "x") (codes "1"))) ∷ Delivers 3 ∷ [];
   process = process 1;
+  happening = Handles (ActInput (CommitAct (txn 1 1 PresumeCommit)));
   leaves = λ n. after n (heard (ActInput (CommitAct (txn 1 1 PresumeCommit))))
       (record no_effect { written = plain (Collecting (top PresumeCommit) (second ∷ [])) ∷ [] });
-  sends = post 1 2 (Prepare (case_at PresumeCommit second) 0) ∷ [];
+  sends = post 1 2 (Prepare (case_at PresumeCommit second) 1) ∷ [];
+  behind = Delivers 4 ∷ Restarts (process 1) 0 ∷ Acts (Ask (case_at PresumeCommit second)) ∷ Delivers 6 ∷ Delivers 7 ∷ [];
 }
 
--- A restart gives out the last boot again, in which a ticket was given.
+-- A restart gives out the last boot again, in which a ticket was given. Its branch has committed, and a trim has dropped
+-- it; JOIN, WORK and PREPARE come a second time, the ticket is given again, and promises again; it asks, is told that the
+-- transaction aborted, and rolls back.
 abbrev pub boot_reused : WrongStep
 boot_reused = record {
   tree = tree_a;
-  events = one_has_joined PresumeAbort;
+  events = one_is_told PresumeAbort ++ Delivers 6 ∷ Delivers 7 ∷ Trims (process 2) ∷ [];
   process = process 2;
+  happening = Restart 0;
   leaves = λ n. record n {
     forced = n.forced ++ Opened 1 ∷ [];
     unforced = [];
@@ -138,17 +171,28 @@ boot_reused = record {
     durable = Opened 1 ∷ (n.forced ++ n.durable);
   };
   sends = [];
+  behind = Delivers 1 ∷ Delivers 3 ∷ Delivers 4 ∷ Acts (Ask (case_at PresumeAbort second)) ∷ Delivers 10 ∷ Delivers 11 ∷ [];
 }
 
--- A cascaded coordinator says READ, and keeps nothing, although its child voted YES.
+-- A cascaded coordinator says READ, and keeps nothing, although its child voted YES. The root commits with the other
+-- child; the coordinator restarts, its child asks, is told that the transaction aborted, and rolls back.
 abbrev pub reads_over_a_yes : WrongStep
 reads_over_a_yes = record {
-  tree = tree_b;
-  events = cascade_is_asked PresumeAbort;
+  tree = tree_c;
+  events = two_ways_asked;
   process = process 2;
-  leaves = λ n. after n (heard (MessageInput 8 (Yes (case_at PresumeAbort third))))
+  happening = Handles (MessageInput 12 (Yes (case_at PresumeAbort third)));
+  leaves = λ n. after n (heard (MessageInput 12 (Yes (case_at PresumeAbort third))))
       (record no_effect { counts = (case_at PresumeAbort second, (third, VoteYes)) ∷ [] });
   sends = post 2 1 (Read (case_at PresumeAbort second)) ∷ [];
+  behind = Delivers 13
+      ∷ Delivers 10
+      ∷ Delivers 14
+      ∷ Restarts (process 2) 0
+      ∷ Acts (Ask (case_at PresumeAbort third))
+      ∷ Delivers 16
+      ∷ Delivers 17
+      ∷ [];
 }
 
 -- A cascaded coordinator has promised, asked, and obeyed an ABORT; the root has forgotten, so that the late answer to the
@@ -164,21 +208,25 @@ obeys_contradicting_commit = record {
       ∷ Delivers 10
       ∷ [];
   process = process 2;
+  happening = Handles (MessageInput 14 (Commit (case_at PresumeCommit second)));
   leaves = λ n. after n (heard (MessageInput 14 (Commit (case_at PresumeCommit second))))
       (record no_effect { written = plain (CommitRecord (case_at PresumeCommit second) []) ∷ [] });
   sends = post 2 3 (Commit (case_at PresumeCommit third)) ∷ [];
+  behind = [];
 }
 
--- A trim drops the Commit of a case and keeps its Collecting.
+-- A trim drops the Commit of a case and keeps its Collecting. The root restarts, and aborts what it committed.
 abbrev pub trim_drops_commit : WrongStep
 trim_drops_commit = record {
   tree = tree_a;
   events = one_is_told PresumeCommit;
   process = process 1;
+  happening = Trim;
   leaves = λ n.
       let new = Opened 1 ∷ Collecting (top PresumeCommit) (second ∷ []) ∷ [] in
       record n { forced = new; unforced = []; durable = new ++ n.durable };
   sends = [];
+  behind = Restarts (process 1) 0 ∷ [];
 }
 
 -- The operator of a manager has rolled the branch back; as it is told to commit, its log has Told in place of the
@@ -188,6 +236,7 @@ told_drops_decision = record {
   tree = tree_a;
   events = one_is_told PresumeAbort ++ Acts (Decide (case_at PresumeAbort second) AbortedOutcome) ∷ [];
   process = process 2;
+  happening = Handles (MessageInput 6 (Commit (case_at PresumeAbort second)));
   leaves = λ n.
       let told = ToldRecord (CaseBranch (case_at PresumeAbort second)) CommittedOutcome in
       record n {
@@ -197,6 +246,7 @@ told_drops_decision = record {
         durable = told ∷ (n.forced ++ n.durable);
       };
   sends = post 2 1 (Ack (case_at PresumeAbort second) CommittedOutcome) ∷ [];
+  behind = [];
 }
 
 -- The root commits on the votes that have come: that of manager 3 has not.
@@ -205,6 +255,7 @@ commits_on_votes_so_far = record {
   tree = tree_a;
   events = two_are_asked PresumeAbort ++ Delivers 7 ∷ [];
   process = process 1;
+  happening = Handles (MessageInput 9 (Yes (case_at PresumeAbort second)));
   leaves = λ n. after n (heard (MessageInput 9 (Yes (case_at PresumeAbort second))))
       (record no_effect {
         written = forced (CommitRecord (top PresumeAbort) (second ∷ [])) ∷ [];
@@ -212,4 +263,5 @@ commits_on_votes_so_far = record {
         counts = (top PresumeAbort, (second, VoteYes)) ∷ [];
       });
   sends = post 1 2 (Commit (case_at PresumeAbort second)) ∷ [];
+  behind = [];
 }
