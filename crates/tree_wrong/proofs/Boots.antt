@@ -1,4 +1,5 @@
--- The restart that gives out the last boot again: the ticket that was given in it is not behind what is given next.
+-- The restart that gives out the last boot again: the ticket that was given in it is not behind what is
+-- given next.
 use Rattle.std.proofs.Common.{◌≡◌, inl, inr, ℕ, true, false, List, refl, arith}
 use Rattle.tree_model.specs.declared.names.Presumption.TheVariants.{PresumeAbort}
 use Rattle.tree_model.specs.declared.names.ProcessId.{ProcessId}
@@ -65,10 +66,11 @@ given_now = refl
 
 falls : WorldHolds tree_a (left_by wrong.boot_reused) → ⊥
 falls holds =
-    let issues = leaf_issues (role_of tree_a (process 2)) (process 1) place (left_by wrong.boot_reused).net restarted
-    second_role (holds.nodes (process 2) second_listed).role in
-    not_given_out (boot_of (kept restarted)) (memory_of place restarted (some_case place)).given boot_now given_now
-    (issues.given_once is_up (top PresumeAbort) second refl was_joined)
+    let node = holds.nodes (process 2) second_listed in
+    let issues = leaf_issues (role_of tree_a (process 2)) (process 1) place (left_by wrong.boot_reused).net
+    restarted second_role node.role in
+    not_given_out (boot_of (kept restarted)) (memory_of place restarted (some_case place)).given boot_now
+    given_now (issues.given_once is_up (top PresumeAbort) second refl was_joined)
 
 pub boot_reused : Breaks wrong.boot_reused
 boot_reused = by_world wrong.boot_reused reused_goes refl tree_a_is_tree tt falls

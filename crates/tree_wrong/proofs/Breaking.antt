@@ -36,8 +36,10 @@ by_world s go single tree stands falls = record {
 }
 
 -- the same, where the step breaks a pair
-pub by_pair : (s : WrongStep) (c : Case) (t : Ticket) → goes_on (play_of s) ≡ true → are_single s.events ≡ true
-    → IsTree s.tree → Stands (reached s).net s.process s.happening → IsPair s.tree c t → IsFree (left_by s).net c t → (PairHolds s.tree (left_by s) c t → ⊥)
+pub by_pair : (s : WrongStep) (c : Case) (t : Ticket) → goes_on (play_of s) ≡ true
+    → are_single s.events ≡ true
+    → IsTree s.tree → Stands (reached s).net s.process s.happening → IsPair s.tree c t
+    → IsFree (left_by s).net c t → (PairHolds s.tree (left_by s) c t → ⊥)
     → Breaks s
 by_pair s c t go single tree stands pair free falls =
     by_world s go single tree stands (λ holds. falls (holds.pairs c t pair free))

@@ -48,7 +48,8 @@ not_aborted w x e f = by_test (is_commit_outcome w x) e f
     by_test true g h = absurd (cc)
     by_test false g h = absurd (cc)
 
-pub not_committed : (w : World) (x : Txn) → is_commit_outcome w x ≡ false → CommittedOutcome ≡ outcome_of w x → ⊥
+pub not_committed : (w : World) (x : Txn) → is_commit_outcome w x ≡ false
+    → CommittedOutcome ≡ outcome_of w x → ⊥
 not_committed w x e f = by_test (is_commit_outcome w x) e f
   where
     by_test : (b : Bool) → b ≡ false → CommittedOutcome ≡ (if b then CommittedOutcome else AbortedOutcome) → ⊥
@@ -57,13 +58,15 @@ not_committed w x e f = by_test (is_commit_outcome w x) e f
 
 -- Agreement.
 
-leaf_ends : (tree : List TreeEntry) (w : World) (x : Txn) (t : Ticket) (o : Outcome) (r : Role) (p : ProcessId)
-    → r ≡ AtLeaf p → manager_ends (w.at t.child) (child_case x t) o ≡ true → EndsIn r tree w x t o
+leaf_ends : (tree : List TreeEntry) (w : World) (x : Txn) (t : Ticket) (o : Outcome) (r : Role)
+    (p : ProcessId) → r ≡ AtLeaf p → manager_ends (w.at t.child) (child_case x t) o ≡ true
+    → EndsIn r tree w x t o
 leaf_ends tree w x t o (AtLeaf q) p e f = inl f
 leaf_ends tree w x t o _ p e f = absurd (cc)
 
-below_ends : (tree : List TreeEntry) (w : World) (x : Txn) (t : Ticket) (o : Outcome) (r : Role) (p : ProcessId)
-    → r ≡ Below p → cascaded_ends (w.at t.child) (child_case x t) o ≡ true → EndsIn r tree w x t o
+below_ends : (tree : List TreeEntry) (w : World) (x : Txn) (t : Ticket) (o : Outcome) (r : Role)
+    (p : ProcessId) → r ≡ Below p → cascaded_ends (w.at t.child) (child_case x t) o ≡ true
+    → EndsIn r tree w x t o
 below_ends tree w x t o (Below q) p e f = f
 below_ends tree w x t o _ p e f = absurd (cc)
 
@@ -103,6 +106,7 @@ pub lost_fails : (tree : List TreeEntry) (w : World) (c : Case) (o : Outcome)
     → has (is_forgot c) (w.at (process_of c)).life ≡ false → Fails tree w
 lost_fails tree w c o ever lost not_forgotten es h = falls (h.standing_mismatches.decisions_stand c o ever)
   where
-    falls : DecisionStands (w.at (process_of c)) c o ⊎ (has (is_forgot c) (w.at (process_of c)).life ≡ true) → ⊥
+    falls : DecisionStands (w.at (process_of c)) c o
+        ⊎ (has (is_forgot c) (w.at (process_of c)).life ≡ true) → ⊥
     falls (inl f) = absurd (cc (lost, f.is_forced))
     falls (inr f) = absurd (cc not_forgotten)

@@ -21,7 +21,8 @@ forgets_goes : goes_on (play_of wrong.forgets_after_first_ack) ≡ true
 unfolding computing
 forgets_goes = refl
 
-forgets_goes_on : goes_on (plays_behind wrong.forgets_after_first_ack (reached wrong.forgets_after_first_ack)) ≡ true
+forgets_goes_on : goes_on (plays_behind wrong.forgets_after_first_ack
+    (reached wrong.forgets_after_first_ack)) ≡ true
 unfolding computing
 forgets_goes_on = refl
 
@@ -42,7 +43,8 @@ forgets_outcome = refl
 
 pub forgets_after_first_ack : Harms wrong.forgets_after_first_ack
 forgets_after_first_ack = by_later wrong.forgets_after_first_ack forgets_goes refl forgets_goes_on refl
-    (leaf_fails tree_a forgets_later (txn 1 1 PresumeAbort) third AbortedOutcome (process 1) forgets_role forgets_ends
+    (leaf_fails tree_a forgets_later (txn 1 1 PresumeAbort) third AbortedOutcome (process 1)
+    forgets_role forgets_ends
     (not_aborted forgets_later (txn 1 1 PresumeAbort) forgets_outcome))
 
 -- Manager 2 commits what the root has lost.
@@ -51,7 +53,8 @@ asks_goes : goes_on (play_of wrong.prepare_before_collecting) ≡ true
 unfolding computing
 asks_goes = refl
 
-asks_goes_on : goes_on (plays_behind wrong.prepare_before_collecting (reached wrong.prepare_before_collecting)) ≡ true
+asks_goes_on : goes_on (plays_behind wrong.prepare_before_collecting
+    (reached wrong.prepare_before_collecting)) ≡ true
 unfolding computing
 asks_goes_on = refl
 
@@ -72,7 +75,8 @@ asks_outcome = refl
 
 pub prepare_before_collecting : Harms wrong.prepare_before_collecting
 prepare_before_collecting = by_later wrong.prepare_before_collecting asks_goes refl asks_goes_on refl
-    (leaf_fails tree_a asks_later (txn 1 1 PresumeCommit) second CommittedOutcome (process 1) asks_role asks_ends
+    (leaf_fails tree_a asks_later (txn 1 1 PresumeCommit) second CommittedOutcome (process 1)
+    asks_role asks_ends
     (not_committed asks_later (txn 1 1 PresumeCommit) asks_outcome))
 
 -- Manager 2 rolls back what it has committed before.
@@ -102,7 +106,8 @@ reused_outcome = refl
 
 pub boot_reused : Harms wrong.boot_reused
 boot_reused = by_later wrong.boot_reused reused_goes refl reused_goes_on refl
-    (leaf_fails tree_a reused_later (txn 1 1 PresumeAbort) second AbortedOutcome (process 1) reused_role reused_ends
+    (leaf_fails tree_a reused_later (txn 1 1 PresumeAbort) second AbortedOutcome (process 1)
+    reused_role reused_ends
     (not_aborted reused_later (txn 1 1 PresumeAbort) reused_outcome))
 
 -- Manager 3 rolls back what committed.
@@ -132,7 +137,8 @@ reads_outcome = refl
 
 pub reads_over_a_yes : Harms wrong.reads_over_a_yes
 reads_over_a_yes = by_later wrong.reads_over_a_yes reads_goes refl reads_goes_on refl
-    (leaf_fails tree_c reads_later (txn 1 1 PresumeAbort) third AbortedOutcome (process 2) reads_role reads_ends
+    (leaf_fails tree_c reads_later (txn 1 1 PresumeAbort) third AbortedOutcome (process 2)
+    reads_role reads_ends
     (not_aborted reads_later (txn 1 1 PresumeAbort) reads_outcome))
 
 -- Coordinator 2 commits what was aborted.
@@ -141,7 +147,8 @@ obeys_goes : goes_on (play_of wrong.obeys_contradicting_commit) ≡ true
 unfolding computing
 obeys_goes = refl
 
-obeys_goes_on : goes_on (plays_behind wrong.obeys_contradicting_commit (reached wrong.obeys_contradicting_commit)) ≡ true
+obeys_goes_on : goes_on (plays_behind wrong.obeys_contradicting_commit
+    (reached wrong.obeys_contradicting_commit)) ≡ true
 unfolding computing
 obeys_goes_on = refl
 
@@ -152,7 +159,8 @@ obeys_role : role_of tree_b second.child ≡ Below (process 1)
 unfolding computing
 obeys_role = refl
 
-obeys_ends : cascaded_ends (obeys_later.at second.child) (case_at PresumeCommit second) CommittedOutcome ≡ true
+obeys_ends : cascaded_ends (obeys_later.at second.child)
+    (case_at PresumeCommit second) CommittedOutcome ≡ true
 unfolding computing
 obeys_ends = refl
 
@@ -162,7 +170,8 @@ obeys_outcome = refl
 
 pub obeys_contradicting_commit : Harms wrong.obeys_contradicting_commit
 obeys_contradicting_commit = by_later wrong.obeys_contradicting_commit obeys_goes refl obeys_goes_on refl
-    (below_fails tree_b obeys_later (txn 1 1 PresumeCommit) second CommittedOutcome (process 1) obeys_role obeys_ends
+    (below_fails tree_b obeys_later (txn 1 1 PresumeCommit) second CommittedOutcome (process 1)
+    obeys_role obeys_ends
     (not_committed obeys_later (txn 1 1 PresumeCommit) obeys_outcome))
 
 -- The root aborts what it has committed.
@@ -208,11 +217,13 @@ told_goes_on = refl
 abbrev told_later : World
 told_later = later_of wrong.told_drops_decision
 
-told_ever : has (is_decided (case_at PresumeAbort second) AbortedOutcome) (told_later.at (process 2)).durable ≡ true
+told_ever : has (is_decided (case_at PresumeAbort second) AbortedOutcome) (told_later.at
+    (process 2)).durable ≡ true
 unfolding computing
 told_ever = refl
 
-told_lost : has (is_decided (case_at PresumeAbort second) AbortedOutcome) (told_later.at (process 2)).forced ≡ false
+told_lost : has (is_decided (case_at PresumeAbort second) AbortedOutcome) (told_later.at
+    (process 2)).forced ≡ false
 unfolding computing
 told_lost = refl
 
@@ -230,7 +241,8 @@ commits_goes : goes_on (play_of wrong.commits_on_votes_so_far) ≡ true
 unfolding computing
 commits_goes = refl
 
-commits_goes_on : goes_on (plays_behind wrong.commits_on_votes_so_far (reached wrong.commits_on_votes_so_far)) ≡ true
+commits_goes_on : goes_on (plays_behind wrong.commits_on_votes_so_far
+    (reached wrong.commits_on_votes_so_far)) ≡ true
 unfolding computing
 commits_goes_on = refl
 
@@ -251,4 +263,5 @@ commits_unheard = refl
 
 pub commits_on_votes_so_far : Harms wrong.commits_on_votes_so_far
 commits_on_votes_so_far = by_later wrong.commits_on_votes_so_far commits_goes refl commits_goes_on refl
-    (unvoted_fails tree_a commits_later (txn 1 1 PresumeAbort) third commits_outcome commits_accepted commits_unheard)
+    (unvoted_fails tree_a commits_later
+    (txn 1 1 PresumeAbort) third commits_outcome commits_accepted commits_unheard)

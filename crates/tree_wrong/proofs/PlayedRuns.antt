@@ -35,7 +35,8 @@ sent_stands net (suc j) e f =
     let less : suc j - 1 ≡ j = omega arith in
     record { sender = e.from; counted = omega arith; stands = ap (slice_get net) less ∙ f }
 
-makes_by : (tree : List TreeEntry) (start : World) (p : Player) (m : Move) (delivered : List ℕ) (b : Bool) (s : Stepped)
+makes_by : (tree : List TreeEntry) (start : World) (p : Player) (m : Move) (delivered : List ℕ) (b : Bool)
+    (s : Stepped)
     → is_listed tree m.step.process ≡ b
     → node_makes (place_of tree m.step.process) (p.world.at m.step.process) m ≡ s
     → Stands p.world.net m.step.process m.step.happening → IsPlayed tree start p
@@ -53,7 +54,8 @@ plays_one tree start p m delivered stands run =
     makes_by tree start p m delivered (is_listed tree m.step.process)
     (node_makes (place_of tree m.step.process) (p.world.at m.step.process) m) refl refl stands run
 
-delivers_one : (tree : List TreeEntry) (start : World) (p : Player) (k : ℕ) (o : Option Envelope) → sent_as p.world.net k ≡ o
+delivers_one : (tree : List TreeEntry) (start : World) (p : Player) (k : ℕ) (o : Option Envelope)
+    → sent_as p.world.net k ≡ o
     → IsPlayed tree start p → IsPlayed tree start (player_of (delivers tree p k o))
 delivers_one tree start p k None e run = run
 delivers_one tree start p k (Some l) e run =
@@ -79,7 +81,8 @@ both true true e = (refl, refl)
 both true false e = absurd (cc)
 both false b e = absurd (cc)
 
-event_runs : (tree : List TreeEntry) (start : World) (root : ProcessId) (p : Player) (e : Play) → is_single e ≡ true
+event_runs : (tree : List TreeEntry) (start : World) (root : ProcessId) (p : Player) (e : Play)
+    → is_single e ≡ true
     → IsPlayed tree start p → IsPlayed tree start (player_of (plays tree root p e))
 event_runs tree start root p (Acts a) f run =
     let q = process_of_act root a in
@@ -90,12 +93,14 @@ event_runs tree start root p Settles f run = absurd (cc)
 event_runs tree start root p (Restarts q k) f run = plays_one tree start p _ p.delivered tt run
 event_runs tree start root p (Trims q) f run = plays_one tree start p _ p.delivered tt run
 
-on_runs : (tree : List TreeEntry) (start : World) (root : ProcessId) (d : Played) (e : Play) → is_single e ≡ true
+on_runs : (tree : List TreeEntry) (start : World) (root : ProcessId) (d : Played) (e : Play)
+    → is_single e ≡ true
     → IsPlayed tree start (player_of d) → IsPlayed tree start (player_of (plays_on tree root d e))
 on_runs tree start root (Goes p) e f run = event_runs tree start root p e f run
 on_runs tree start root (Stops x p) e f run = run
 
-all_run : (tree : List TreeEntry) (start : World) (root : ProcessId) (d : Played) (es : List Play) → are_single es ≡ true
+all_run : (tree : List TreeEntry) (start : World) (root : ProcessId) (d : Played) (es : List Play)
+    → are_single es ≡ true
     → IsPlayed tree start (player_of d) → IsPlayed tree start (player_of (fold (plays_on tree root) d es))
 all_run tree start root d [] f run = run
 all_run tree start root d (e ∷ es) f run =
@@ -111,7 +116,8 @@ continues tree start root ks es f =
     all_run tree start root (Goes (record { world = start; moves = []; delivered = ks })) es f stays
 
 -- what leads on from the opened world is a run
-from_opened : (tree : List TreeEntry) (es : List Made) (w : World) → Continues tree opened_world es w → IsRun tree es w
+from_opened : (tree : List TreeEntry) (es : List Made) (w : World) → Continues tree opened_world es w
+    → IsRun tree es w
 from_opened tree _ _ stays = opens
 from_opened tree _ _ (steps_on es w m e w' run stands made) =
     makes es w m e w' (from_opened tree es w run) stands made

@@ -19,7 +19,9 @@ forgets_goes : goes_on (play_of wrong.forgets_after_first_ack) ≡ true
 unfolding computing
 forgets_goes = refl
 
-forgets_stands : Stands (reached wrong.forgets_after_first_ack).net wrong.forgets_after_first_ack.process wrong.forgets_after_first_ack.happening
+forgets_stands : Stands
+    (reached wrong.forgets_after_first_ack).net wrong.forgets_after_first_ack.process
+    wrong.forgets_after_first_ack.happening
 unfolding computing
 forgets_stands = record { sender = process 2; counted = omega arith; stands = refl }
 
@@ -42,7 +44,8 @@ forgets_says = record {
 }
 
 pub forgets_after_first_ack : Breaks wrong.forgets_after_first_ack
-forgets_after_first_ack = by_pair wrong.forgets_after_first_ack (top PresumeAbort) third forgets_goes refl tree_a_is_tree forgets_stands
+forgets_after_first_ack = by_pair wrong.forgets_after_first_ack
+    (top PresumeAbort) third forgets_goes refl tree_a_is_tree forgets_stands
     (root_and_third PresumeAbort) forgets_free (ended_early forgets_reading forgets_says)
 
 -- The coordinator that says READ.
@@ -51,7 +54,8 @@ reads_goes : goes_on (play_of wrong.reads_over_a_yes) ≡ true
 unfolding computing
 reads_goes = refl
 
-reads_stands : Stands (reached wrong.reads_over_a_yes).net wrong.reads_over_a_yes.process wrong.reads_over_a_yes.happening
+reads_stands : Stands
+    (reached wrong.reads_over_a_yes).net wrong.reads_over_a_yes.process wrong.reads_over_a_yes.happening
 unfolding computing
 reads_stands = record { sender = process 3; counted = omega arith; stands = refl }
 
@@ -71,7 +75,8 @@ reads_says = record {
 }
 
 pub reads_over_a_yes : Breaks wrong.reads_over_a_yes
-reads_over_a_yes = by_pair wrong.reads_over_a_yes (case_at PresumeAbort second) third reads_goes refl tree_c_is_tree reads_stands
+reads_over_a_yes = by_pair wrong.reads_over_a_yes
+    (case_at PresumeAbort second) third reads_goes refl tree_c_is_tree reads_stands
     (second_and_third_of_c PresumeAbort) reads_free (read_over_a_vote reads_reading reads_says)
 
 -- The manager that drops its operator's decision.
@@ -80,7 +85,9 @@ told_goes : goes_on (play_of wrong.told_drops_decision) ≡ true
 unfolding computing
 told_goes = refl
 
-told_stands : Stands (reached wrong.told_drops_decision).net wrong.told_drops_decision.process wrong.told_drops_decision.happening
+told_stands : Stands
+    (reached wrong.told_drops_decision).net wrong.told_drops_decision.process
+    wrong.told_drops_decision.happening
 unfolding computing
 told_stands = record { sender = process 1; counted = omega arith; stands = refl }
 
@@ -100,7 +107,8 @@ told_says = record {
 }
 
 pub told_drops_decision : Breaks wrong.told_drops_decision
-told_drops_decision = by_pair wrong.told_drops_decision (top PresumeAbort) second told_goes refl tree_a_is_tree told_stands
+told_drops_decision = by_pair wrong.told_drops_decision
+    (top PresumeAbort) second told_goes refl tree_a_is_tree told_stands
     (root_and_second PresumeAbort) told_free (decision_lost told_reading told_says)
 
 -- The root that does not wait for all votes.
@@ -109,7 +117,9 @@ commits_goes : goes_on (play_of wrong.commits_on_votes_so_far) ≡ true
 unfolding computing
 commits_goes = refl
 
-commits_stands : Stands (reached wrong.commits_on_votes_so_far).net wrong.commits_on_votes_so_far.process wrong.commits_on_votes_so_far.happening
+commits_stands : Stands
+    (reached wrong.commits_on_votes_so_far).net wrong.commits_on_votes_so_far.process
+    wrong.commits_on_votes_so_far.happening
 unfolding computing
 commits_stands = record { sender = process 2; counted = omega arith; stands = refl }
 
@@ -130,5 +140,6 @@ commits_says = record {
 }
 
 pub commits_on_votes_so_far : Breaks wrong.commits_on_votes_so_far
-commits_on_votes_so_far = by_pair wrong.commits_on_votes_so_far (top PresumeAbort) third commits_goes refl tree_a_is_tree commits_stands
+commits_on_votes_so_far = by_pair wrong.commits_on_votes_so_far
+    (top PresumeAbort) third commits_goes refl tree_a_is_tree commits_stands
     (root_and_third PresumeAbort) commits_free (unvoted commits_reading commits_says)

@@ -19,7 +19,9 @@ asks_goes : goes_on (play_of wrong.prepare_before_collecting) ≡ true
 unfolding computing
 asks_goes = refl
 
-asks_stands : Stands (reached wrong.prepare_before_collecting).net wrong.prepare_before_collecting.process wrong.prepare_before_collecting.happening
+asks_stands : Stands
+    (reached wrong.prepare_before_collecting).net wrong.prepare_before_collecting.process
+    wrong.prepare_before_collecting.happening
 unfolding computing
 asks_stands = tt
 
@@ -40,7 +42,8 @@ asks_says = record {
 }
 
 pub prepare_before_collecting : Breaks wrong.prepare_before_collecting
-prepare_before_collecting = by_pair wrong.prepare_before_collecting (top PresumeCommit) second asks_goes refl tree_a_is_tree asks_stands
+prepare_before_collecting = by_pair wrong.prepare_before_collecting
+    (top PresumeCommit) second asks_goes refl tree_a_is_tree asks_stands
     (root_and_second PresumeCommit) asks_free (asked_early asks_reading asks_says)
 
 -- The coordinator that obeys a commit behind an abort.
@@ -49,7 +52,9 @@ obeys_goes : goes_on (play_of wrong.obeys_contradicting_commit) ≡ true
 unfolding computing
 obeys_goes = refl
 
-obeys_stands : Stands (reached wrong.obeys_contradicting_commit).net wrong.obeys_contradicting_commit.process wrong.obeys_contradicting_commit.happening
+obeys_stands : Stands
+    (reached wrong.obeys_contradicting_commit).net wrong.obeys_contradicting_commit.process
+    wrong.obeys_contradicting_commit.happening
 unfolding computing
 obeys_stands = record { sender = process 1; counted = omega arith; stands = refl }
 
@@ -58,7 +63,8 @@ unfolding computing
 obeys_free = refl
 
 abbrev obeys_reading : Reading
-obeys_reading = pair_reading tree_b (left_by wrong.obeys_contradicting_commit) (case_at PresumeCommit second) third
+obeys_reading = pair_reading tree_b (left_by wrong.obeys_contradicting_commit)
+    (case_at PresumeCommit second) third
 
 obeys_says : IsContradicted obeys_reading
 unfolding computing
@@ -68,7 +74,8 @@ obeys_says = record {
 }
 
 pub obeys_contradicting_commit : Breaks wrong.obeys_contradicting_commit
-obeys_contradicting_commit = by_pair wrong.obeys_contradicting_commit (case_at PresumeCommit second) third obeys_goes refl tree_b_is_tree obeys_stands
+obeys_contradicting_commit = by_pair wrong.obeys_contradicting_commit
+    (case_at PresumeCommit second) third obeys_goes refl tree_b_is_tree obeys_stands
     (second_and_third PresumeCommit) obeys_free (contradicted obeys_reading obeys_says)
 
 -- The trim that drops a Commit.
@@ -77,7 +84,8 @@ trims_goes : goes_on (play_of wrong.trim_drops_commit) ≡ true
 unfolding computing
 trims_goes = refl
 
-trims_stands : Stands (reached wrong.trim_drops_commit).net wrong.trim_drops_commit.process wrong.trim_drops_commit.happening
+trims_stands : Stands
+    (reached wrong.trim_drops_commit).net wrong.trim_drops_commit.process wrong.trim_drops_commit.happening
 unfolding computing
 trims_stands = tt
 
@@ -97,5 +105,6 @@ trims_says = record {
 }
 
 pub trim_drops_commit : Breaks wrong.trim_drops_commit
-trim_drops_commit = by_pair wrong.trim_drops_commit (top PresumeCommit) second trims_goes refl tree_a_is_tree trims_stands
+trim_drops_commit = by_pair wrong.trim_drops_commit
+    (top PresumeCommit) second trims_goes refl tree_a_is_tree trims_stands
     (root_and_second PresumeCommit) trims_free (decision_dropped trims_reading trims_says)

@@ -1,5 +1,5 @@
--- Wrong bodies, each close to a right one, and where each breaks the invariant: the events of the run, and the wrong
--- step behind it, written out.
+-- Wrong bodies, each close to a right one, and where each breaks the invariant: the events of the run, and
+-- the wrong step behind it, written out.
 use Rattle.std.specs.Prelude.{ℕ, true, false, Some, List, [], ◌∷◌, ◌++◌, take, codes}
 use Rattle.tree_model.specs.declared.names.Case.{Case}
 use Rattle.tree_model.specs.declared.names.Outcome.TheVariants.{Committed as CommittedOutcome, Aborted as AbortedOutcome}
@@ -88,7 +88,8 @@ one_is_told p =
     ∷ Delivers 5
     ∷ []
 
--- root 1, coordinator 2 and manager 3 below it: all are asked for their votes, and manager 3 votes YES by message 8
+-- root 1, coordinator 2 and manager 3 below it: all are asked for their votes, and manager 3 votes YES by
+-- message 8
 abbrev pub cascade_is_asked : Presumption → List Play
 cascade_is_asked p =
     one_has_joined p ++ Acts (Join (case_at p second) (process 3))
@@ -125,12 +126,17 @@ two_ways_asked =
 
 -- The wrong bodies.
 
--- The root forgets after the first ACK: manager 2 has obeyed, and End is written while the ACK of manager 3 is owed.
--- Manager 3 asks then, is told that the transaction aborted, and rolls back.
+-- The root forgets after the first ACK: manager 2 has obeyed, and End is written while the ACK of manager 3
+-- is owed. Manager 3 asks then, is told that the transaction aborted, and rolls back.
 abbrev pub forgets_after_first_ack : WrongStep
 forgets_after_first_ack = record {
   tree = tree_a;
-  events = two_are_asked PresumeAbort ++ Delivers 7 ∷ Delivers 8 ∷ Delivers 9 ∷ Delivers 10 ∷ Delivers 11 ∷ [];
+  events = two_are_asked PresumeAbort ++ Delivers 7
+      ∷ Delivers 8
+      ∷ Delivers 9
+      ∷ Delivers 10
+      ∷ Delivers 11
+      ∷ [];
   process = process 1;
   happening = Handles (MessageInput 13 (Ack (case_at PresumeAbort second) CommittedOutcome));
   leaves = λ n. after n (heard (MessageInput 13 (Ack (case_at PresumeAbort second) CommittedOutcome)))
@@ -139,8 +145,8 @@ forgets_after_first_ack = record {
   behind = Acts (Ask (case_at PresumeAbort third)) ∷ Delivers 14 ∷ Delivers 15 ∷ [];
 }
 
--- PREPARE goes out behind a Collecting that is not forced. The manager promises, the root loses its Collecting in a
--- crash, and the manager, which asks, is told that the transaction committed.
+-- PREPARE goes out behind a Collecting that is not forced. The manager promises, the root loses its
+-- Collecting in a crash, and the manager, which asks, is told that the transaction committed.
 abbrev pub prepare_before_collecting : WrongStep
 prepare_before_collecting = record {
   tree = tree_a;
@@ -151,12 +157,17 @@ prepare_before_collecting = record {
   leaves = λ n. after n (heard (ActInput (CommitAct (txn 1 1 PresumeCommit))))
       (record no_effect { written = plain (Collecting (top PresumeCommit) (second ∷ [])) ∷ [] });
   sends = post 1 2 (Prepare (case_at PresumeCommit second) 1) ∷ [];
-  behind = Delivers 4 ∷ Restarts (process 1) 0 ∷ Acts (Ask (case_at PresumeCommit second)) ∷ Delivers 6 ∷ Delivers 7 ∷ [];
+  behind = Delivers 4
+      ∷ Restarts (process 1) 0
+      ∷ Acts (Ask (case_at PresumeCommit second))
+      ∷ Delivers 6
+      ∷ Delivers 7
+      ∷ [];
 }
 
--- A restart gives out the last boot again, in which a ticket was given. Its branch has committed, and a trim has dropped
--- it; JOIN, WORK and PREPARE come a second time, the ticket is given again, and promises again; it asks, is told that the
--- transaction aborted, and rolls back.
+-- A restart gives out the last boot again, in which a ticket was given. Its branch has committed, and a
+-- trim has dropped it; JOIN, WORK and PREPARE come a second time, the ticket is given again, and promises
+-- again; it asks, is told that the transaction aborted, and rolls back.
 abbrev pub boot_reused : WrongStep
 boot_reused = record {
   tree = tree_a;
@@ -171,11 +182,18 @@ boot_reused = record {
     durable = Opened 1 ∷ (n.forced ++ n.durable);
   };
   sends = [];
-  behind = Delivers 1 ∷ Delivers 3 ∷ Delivers 4 ∷ Acts (Ask (case_at PresumeAbort second)) ∷ Delivers 10 ∷ Delivers 11 ∷ [];
+  behind = Delivers 1
+      ∷ Delivers 3
+      ∷ Delivers 4
+      ∷ Acts (Ask (case_at PresumeAbort second))
+      ∷ Delivers 10
+      ∷ Delivers 11
+      ∷ [];
 }
 
--- A cascaded coordinator says READ, and keeps nothing, although its child voted YES. The root commits with the other
--- child; the coordinator restarts, its child asks, is told that the transaction aborted, and rolls back.
+-- A cascaded coordinator says READ, and keeps nothing, although its child voted YES. The root commits with
+-- the other child; the coordinator restarts, its child asks, is told that the transaction aborted, and
+-- rolls back.
 abbrev pub reads_over_a_yes : WrongStep
 reads_over_a_yes = record {
   tree = tree_c;
@@ -195,8 +213,9 @@ reads_over_a_yes = record {
       ∷ [];
 }
 
--- A cascaded coordinator has promised, asked, and obeyed an ABORT; the root has forgotten, so that the late answer to the
--- question, message 14, presumes a commit; and the coordinator obeys that too, against its own Abort.
+-- A cascaded coordinator has promised, asked, and obeyed an ABORT; the root has forgotten, so that the late
+-- answer to the question, message 14, presumes a commit; and the coordinator obeys that too, against its
+-- own Abort.
 abbrev pub obeys_contradicting_commit : WrongStep
 obeys_contradicting_commit = record {
   tree = tree_b;
@@ -215,7 +234,8 @@ obeys_contradicting_commit = record {
   behind = [];
 }
 
--- A trim drops the Commit of a case and keeps its Collecting. The root restarts, and aborts what it committed.
+-- A trim drops the Commit of a case and keeps its Collecting. The root restarts, and aborts what it
+-- committed.
 abbrev pub trim_drops_commit : WrongStep
 trim_drops_commit = record {
   tree = tree_a;
@@ -229,8 +249,8 @@ trim_drops_commit = record {
   behind = Restarts (process 1) 0 ∷ [];
 }
 
--- The operator of a manager has rolled the branch back; as it is told to commit, its log has Told in place of the
--- operator's decision, its third record.
+-- The operator of a manager has rolled the branch back; as it is told to commit, its log has Told in place
+-- of the operator's decision, its third record.
 abbrev pub told_drops_decision : WrongStep
 told_drops_decision = record {
   tree = tree_a;

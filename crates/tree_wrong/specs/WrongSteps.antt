@@ -1,4 +1,5 @@
--- A wrong body, at work in a world that a run reaches: what its step makes of that world, and what comes of it.
+-- A wrong body, at work in a world that a run reaches: what its step makes of that world, and what comes of
+-- it.
 use Rattle.std.specs.Prelude.{◌≡◌, List, [], ◌++◌, fold}
 use Rattle.tree_model.specs.declared.names.ProcessId.{ProcessId}
 use Rattle.tree_model.specs.declared.messages.Envelope.{Envelope}
@@ -29,8 +30,8 @@ pub record WrongStep : Type 0 where
 abbrev pub wrongly_left : WrongStep → World → World
 wrongly_left s w = record { at = put_at s.process (s.leaves (w.at s.process)) w.at; net = w.net ++ s.sends }
 
--- The list is a tree, none of the events is refused, and they are a run; what happens next stands in the net, where it is
--- a message; and the world behind the wrong step does not have the invariant any more.
+-- The list is a tree, none of the events is refused, and they are a run; what happens next stands in the
+-- net, where it is a message; and the world behind the wrong step does not have the invariant any more.
 pub record Breaks (s : WrongStep) : Type 0 where
   pub player : Player
   pub played_out : plays_all s.tree (process 1) s.events ≡ Goes player
@@ -47,7 +48,8 @@ player_at w = record { world = w; moves = []; delivered = [] }
 abbrev pub plays_behind : WrongStep → World → Played
 plays_behind s w = fold (plays_on s.tree (process 1)) (Goes (player_at (wrongly_left s w))) s.behind
 
--- Behind the wrong step of a run, right steps lead to a world that does not have the headline, whatever the moves.
+-- Behind the wrong step of a run, right steps lead to a world that does not have the headline, whatever the
+-- moves.
 pub record Harms (s : WrongStep) : Type 0 where
   pub player : Player
   pub later : Player
