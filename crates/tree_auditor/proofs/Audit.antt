@@ -23,6 +23,7 @@ use Rattle.tree_headline.proofs.Parts.{case_parts}
 use Rattle.tree_auditor.specs.Audits.{AllUp, AuditsAreTrue, audited, has_line, has_line_in, has_place, is_case_at, logs_of_world, outcome_within}
 use Rattle.tree_auditor.proofs.Climb.{climb_says, none_so}
 use Rattle.tree_auditor.proofs.Mismatches.{shown_stands, standing_shows}
+use Rattle.tree_auditor.proofs.Sinces.{line_same}
 use Rattle.tree_auditor.proofs.RootLines.{root_says}
 
 -- Lines of cases with tickets.
@@ -81,7 +82,9 @@ module _ (tree : List TreeEntry) (es : List Made) (w : World) (is_tree : IsTree 
     line_of c e =
         let f = both _ _ e in
         let g = both (is_case_at tree (process_of c) c) _ f.1 in
-        record { listed = f.0; fits = (both _ _ (both _ _ g.0).0).1; shows = g.1 }
+        let same = line_same (role_of tree (process_of c)) (w.at (process_of c)) c
+        (h.nodes (process_of c) f.0).lasts (role_of tree (process_of c)) in
+        record { listed = f.0; fits = (both _ _ (both _ _ g.0).0).1; shows = sym same ∙ g.1 }
 
     abbrev Tells : Case → Type 0
     Tells c = audited tree (logs_of_world w) c ≡ outcome_of w c.txn

@@ -36,6 +36,7 @@ use Rattle.tree_headline.proofs.Pairs.{joined_pair}
 use Rattle.tree_headline.proofs.Parts.{case_parts}
 use Rattle.tree_auditor.specs.Audits.{AllUp, Logs, asked_above, decided_or, decision_by, is_abort_learnt, logs_of_world, naming_case, outcome_within, own_decision, said_above}
 use Rattle.tree_auditor.proofs.Naming.{named_is, named_none, naming_tells}
+use Rattle.tree_auditor.proofs.Sinces.{own_same}
 use Rattle.tree_auditor.proofs.RootLines.{learnt_abort, learnt_commit}
 
 -- What a pair says, by its presumption.
@@ -229,6 +230,17 @@ module _ (tree : List TreeEntry) (w : World) (h : WorldHolds tree w) (up : AllUp
     no_branch_record = coordinators_none (role_of tree (process_of c)) n c c.ticket pair.parent.role
         (h.nodes (process_of c) pair.parent.listed).lasts
 
+    parent_own : own_decision c (kept (w.at (process_of c)))
+        ≡ decision_by (has (is_learnt_commit c) (kept (w.at (process_of c))))
+        (has (is_abort_learnt c) (kept (w.at (process_of c)))) (has (is_promise c) (kept (w.at (process_of c))))
+    parent_own = own_same (role_of tree (process_of c)) n c (h.nodes (process_of c) pair.parent.listed).lasts
+
+    child_own : own_decision (child_case c.txn t) (kept (w.at t.child))
+        ≡ decision_by (has (is_learnt_commit (child_case c.txn t)) (kept (w.at t.child)))
+        (has (is_abort_learnt (child_case c.txn t)) (kept (w.at t.child)))
+        (has (is_promise (child_case c.txn t)) (kept (w.at t.child)))
+    child_own = own_same (role_of tree t.child) k d (h.nodes t.child pair.listed).lasts
+
     named_so : (b : Bool) → has (is_naming c t) (kept (w.at (process_of c))) ≡ b
         → (has (is_collecting_naming c t) (kept (w.at (process_of c)))
         || has (is_prepare_naming c t) (kept (w.at (process_of c)))
@@ -267,7 +279,9 @@ module _ (tree : List TreeEntry) (w : World) (h : WorldHolds tree w) (up : AllUp
         unpromised_says : (j : ℕ) → has (is_promise c) (kept (w.at (process_of c))) ≡ false
             → outcome_within (suc j) tree (logs_of_world w) c ≡ outcome_of w c.txn
         unpromised_says j e =
-            by_own w c.txn (has (is_learnt_commit c) (kept n)) (has (is_abort_learnt c) (kept n))
+            ap (λ (o : Option Outcome). decided_or o
+            (asked_above (outcome_within j tree logs) tree logs c.txn c.ticket)) parent_own
+            ∙ by_own w c.txn (has (is_learnt_commit c) (kept n)) (has (is_abort_learnt c) (kept n))
             (has (is_promise c) (kept n)) if_commit if_abort e _
 
         -- the root promises nobody
@@ -276,10 +290,11 @@ module _ (tree : List TreeEntry) (w : World) (h : WorldHolds tree w) (up : AllUp
         root_says j f =
             ap (λ (o : Option Ticket). decided_or (own_decision c (kept n))
             (asked_above (outcome_within j tree logs) tree logs c.txn o)) f
+            ∙ (ap (λ (o : Option Outcome). decided_or o Aborted) parent_own
             ∙ by_own_or_abort w c.txn (has (is_learnt_commit c) (kept n)) (has (is_abort_learnt c) (kept n))
             (has (is_promise c) (kept n)) if_commit if_abort
             (λ e. if_undecided e ((common_of c.txn.presumption r holds).root_promises_nobody
-            (ap (λ (o : Option Ticket). is_root o) f)).0)
+            (ap (λ (o : Option Ticket). is_root o) f)).0))
           where
             is_root : Option Ticket → Bool
             is_root None = true
@@ -373,8 +388,10 @@ module _ (tree : List TreeEntry) (w : World) (h : WorldHolds tree w) (up : AllUp
         child_says : (j : ℕ) → Says j → is_none (level_within (suc j) tree t.child) ≡ false
             → outcome_within (suc j) tree (logs_of_world w) (child_case c.txn t) ≡ outcome_of w c.txn
         child_says j says level =
-            by_tests (has (is_learnt_commit d) (kept k)) (has (is_abort_learnt d) (kept k)) (has (is_promise d) (kept k))
-            refl refl promised
+            ap (λ (o : Option Outcome). decided_or o
+            (asked_above (outcome_within j tree logs) tree logs c.txn (Some t))) child_own
+            ∙ by_tests (has (is_learnt_commit d) (kept k)) (has (is_abort_learnt d) (kept k))
+            (has (is_promise d) (kept k)) refl refl promised
           where
             by_tests : (a b p : Bool) → has (is_learnt_commit (child_case c.txn t)) (kept (w.at t.child)) ≡ a
                 → has (is_abort_learnt (child_case c.txn t)) (kept (w.at t.child)) ≡ b → p ≡ true

@@ -1,3 +1,4 @@
+pub mod Sinces
 pub mod RootCommits
 pub mod RootLines
 pub mod Naming

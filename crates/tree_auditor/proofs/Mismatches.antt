@@ -32,7 +32,8 @@ use Rattle.tree_nodes.proofs.Worlds.{has_other}
 use Rattle.tree_headline.proofs.Ends.{has_either, issues_in}
 use Rattle.tree_headline.proofs.Pairs.{joined_pair}
 use Rattle.tree_headline.proofs.Parts.{case_parts}
-use Rattle.tree_auditor.specs.Audits.{AllUp, has_line, has_line_in, has_place, is_case_at, is_root_role, logs_of_world}
+use Rattle.tree_auditor.specs.Audits.{AllUp, has_line, has_line_in, has_place, is_case_at, is_root_role, logs_of_world, since_promise}
+use Rattle.tree_auditor.proofs.Sinces.{line_same, of_decided, reads_same}
 use Rattle.tree_auditor.proofs.Decisions.{decided_once, heuristic_of, never_forgotten}
 
 -- Who decides: a manager.
@@ -242,28 +243,47 @@ module _ (tree : List TreeEntry) (w : World) (h : WorldHolds tree w) (up : AllUp
           (subst (λ (n : Node). has (is_decided c o) (kept n) ≡ true) (h.unlisted (process_of c) f) e)
           (never_opened c o)
 
+  -- a line, and a decision, from the last Prepared on
+
+  line_since : (c : Case) → is_listed tree (process_of c) ≡ true
+      → has_line_in (role_of tree (process_of c)) c (since_promise c (kept (w.at (process_of c))))
+      ≡ has_line_in (role_of tree (process_of c)) c (kept (w.at (process_of c)))
+  line_since c listed =
+      line_same (role_of tree (process_of c)) (w.at (process_of c)) c (h.nodes (process_of c) listed).lasts
+      (role_of tree (process_of c))
+
+  decided_since : (c : Case) (o : Outcome) → is_listed tree (process_of c) ≡ true
+      → has (is_decided c o) (since_promise c (kept (w.at (process_of c))))
+      ≡ has (is_decided c o) (kept (w.at (process_of c)))
+  decided_since c o listed =
+      reads_same (role_of tree (process_of c)) (w.at (process_of c)) c (h.nodes (process_of c) listed).lasts
+      (is_decided c o) (of_decided c o)
+
   -- a line of a manager's case
   pub has_branch_line : (c : Case) (o : Outcome) → Found c o → is_listed tree (process_of c) ≡ true
       → has (is_forgot c) (kept (w.at (process_of c))) ≡ false → has_line tree (logs_of_world w) c ≡ true
   has_branch_line c o f listed none =
       and _ _ listed (and _ _ f.case_at
-      (subst (λ (r : Role). has_line_in r c (kept (w.at (process_of c))) ≡ true) (sym f.leaf)
+      (line_since c listed ∙ subst (λ (r : Role). has_line_in r c (kept (w.at (process_of c))) ≡ true) (sym f.leaf)
       (and _ _ f.prepared (so_not (has (is_forgot c) (kept (w.at (process_of c)))) none))))
 
   pub branch_line_forgets_not : (c : Case) (o : Outcome) → Found c o → has_line tree (logs_of_world w) c ≡ true
       → has (is_forgot c) (kept (w.at (process_of c))) ≡ false
   branch_line_forgets_not c o f line =
-      let shows = (both (is_case_at tree (process_of c) c) _ (both (is_listed tree (process_of c)) _ line).1).1 in
+      let g = both (is_listed tree (process_of c)) _ line in
+      let shows = sym (line_since c g.0) ∙ (both (is_case_at tree (process_of c) c) _ g.1).1 in
       not_so (has (is_forgot c) (kept (w.at (process_of c))))
       (both (has (is_prepared c) (kept (w.at (process_of c)))) _
       (subst (λ (r : Role). has_line_in r c (kept (w.at (process_of c))) ≡ true) f.leaf shows)).1
 
   -- the decision that a line shows stands
   pub shown_stands : (c : Case) (o : Outcome) → has_line tree (logs_of_world w) c ≡ true
-      → has (is_decided c o) (kept (w.at (process_of c))) ≡ true
+      → has (is_decided c o) (since_promise c (kept (w.at (process_of c)))) ≡ true
       → (has (is_decided c o) (w.at (process_of c)).durable ≡ true) × DecisionStands (w.at (process_of c)) c o
-  shown_stands c o line decided =
-      let f = found c o (both (is_listed tree (process_of c)) _ line).0 decided in
+  shown_stands c o line shown =
+      let listed = (both (is_listed tree (process_of c)) _ line).0 in
+      let decided = sym (decided_since c o listed) ∙ shown in
+      let f = found c o listed decided in
       let rs = kept (w.at (process_of c)) in (
         f.durable,
         record {
@@ -278,12 +298,12 @@ module _ (tree : List TreeEntry) (w : World) (h : WorldHolds tree w) (up : AllUp
   -- and one that stands has a line
   pub standing_shows : (c : Case) (o : Outcome) → DecisionStands (w.at (process_of c)) c o
       → (has_line tree (logs_of_world w) c ≡ true)
-      × (has (is_decided c o) (kept (w.at (process_of c))) ≡ true)
+      × (has (is_decided c o) (since_promise c (kept (w.at (process_of c)))) ≡ true)
   standing_shows c o s =
       let n = w.at (process_of c) in
       let decided = in_first (is_decided c o) n.forced n.unforced s.is_forced in
       let listed = listed_so c o decided in
       let f = found c o listed decided in (
         has_branch_line c o f listed (never_forgotten c o Unmarked (kept n) f.in_order s.not_forgotten),
-        decided,
+        decided_since c o listed ∙ decided,
       )

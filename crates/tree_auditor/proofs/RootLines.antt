@@ -1,5 +1,5 @@
 -- The root's lines: what it decided, by itself.
-use Rattle.std.proofs.Common.{◌≡◌, ◌∙◌, ◌⊎◌, inl, inr, Bool, true, false, List, refl, arith, if◌then◌else◌}
+use Rattle.std.proofs.Common.{◌≡◌, ◌∙◌, ◌⊎◌, inl, inr, Bool, true, false, Option, List, refl, ap, arith, if◌then◌else◌}
 use Rattle.tree_model.specs.declared.names.Case.{Case}
 use Rattle.tree_model.specs.declared.names.Outcome.{Outcome}
 use Rattle.tree_model.specs.declared.names.Outcome.TheVariants.{Committed, Aborted}
@@ -21,6 +21,7 @@ use Rattle.tree_nodes.proofs.Tests.{both, either, in_either, in_first, not_both}
 use Rattle.tree_nodes.proofs.Worlds.{all_last, has_other}
 use Rattle.tree_headline.proofs.Ends.{has_either}
 use Rattle.tree_auditor.specs.Audits.{decided_or, decision_by, has_line_in, is_abort_learnt, own_decision}
+use Rattle.tree_auditor.proofs.Sinces.{own_same}
 use Rattle.tree_auditor.proofs.RootCommits.{commits_forced}
 
 -- What a coordinator's own records say.
@@ -154,6 +155,9 @@ module _ (tree : List TreeEntry) (es : List Made) (w : World) (run : IsRun tree 
     pub root_says : has_line_in AtRoot (root_case x) (kept (w.at x.root)) ≡ true
         → Says (decided_or (own_decision (root_case x) (kept (w.at x.root))) Aborted)
     root_says line =
-        by_records (has (is_learnt_commit c) (kept n)) (has (is_abort_learnt c) (kept n)) (has (is_promise c) (kept n))
+        ap (λ (o : Option Outcome). decided_or o Aborted)
+        (own_same (role_of tree x.root) n c (all_last tree es w run x.root))
+        ∙ by_records (has (is_learnt_commit c) (kept n)) (has (is_abort_learnt c) (kept n))
+        (has (is_promise c) (kept n))
         (λ e. kept_commit (learnt_commit c (kept n) none_of_branch e))
         (λ e. undecided line (no_commit (has (is_learnt_commit c) (kept n)) refl e))

@@ -1,5 +1,5 @@
 -- The audit: what a tree and the kept lists of its processes say of each case, and that it is true.
-use Rattle.std.specs.Prelude.{◌≡◌, ◌≢◌, ℕ, zero, suc, Bool, true, false, not, ◌&&◌, ◌||◌, Option, Some, None, List, find, length}
+use Rattle.std.specs.Prelude.{◌≡◌, ◌≢◌, ℕ, zero, suc, Bool, true, false, not, ◌&&◌, ◌||◌, Option, Some, None, List, [], ◌∷◌, find, if◌then◌else◌, length}
 use Rattle.tree_model.specs.declared.names.Case.{Case}
 use Rattle.tree_model.specs.declared.names.Outcome.{Outcome}
 use Rattle.tree_model.specs.declared.names.Outcome.TheVariants.{Committed, Aborted}
@@ -55,9 +55,16 @@ decision_by false true _ = Some Aborted
 decision_by false false true = None
 decision_by false false false = Some Aborted
 
+-- the records from a manager's last Prepared of the case on, or all where there is none
+abbrev pub since_promise : Case → List Record → List Record
+since_promise c [] = []
+since_promise c (r ∷ rs) = if has (is_prepared c) rs then since_promise c rs else r ∷ rs
+
 -- the case's own decision, or what it was told; none where it is in doubt
 abbrev pub own_decision : Case → List Record → Option Outcome
-own_decision c rs = decision_by (has (is_learnt_commit c) rs) (has (is_abort_learnt c) rs) (has (is_promise c) rs)
+own_decision c rs =
+    decision_by (has (is_learnt_commit c) (since_promise c rs)) (has (is_abort_learnt c) (since_promise c rs))
+    (has (is_promise c) (since_promise c rs))
 
 -- The recursion upward.
 
@@ -108,12 +115,12 @@ has_line_in (AtLeaf p) c rs = has (is_prepared c) rs && not (has (is_forgot c) r
 abbrev pub has_line : List TreeEntry → Logs → Case → Bool
 has_line tree logs c =
     is_listed tree (process_of c) && (is_case_at tree (process_of c) c
-    && has_line_in (role_of tree (process_of c)) c (logs (process_of c)))
+    && has_line_in (role_of tree (process_of c)) c (since_promise c (logs (process_of c))))
 
 -- its line shows an operator's decision by this outcome, and a mismatch
 pub record ShowsMismatch (tree : List TreeEntry) (logs : Logs) (c : Case) (o : Outcome) : Type 0 where
   pub line : has_line tree logs c ≡ true
-  pub decided : has (is_decided c o) (logs (process_of c)) ≡ true
+  pub decided : has (is_decided c o) (since_promise c (logs (process_of c))) ≡ true
   pub differs : o ≢ audited tree logs c
 
 -- What is true of an audit of a world: each line's outcome is the transaction's, and the mismatches that it shows are
