@@ -23,7 +23,8 @@ use Rattle.tree_auditor.specs.Audits.{decision_by, has_line_in, is_abort_learnt,
 abbrev pub IsOf : Case → (Record → Bool) → Type 0
 IsOf d q = (x : Record) → q x ≡ true → (is_branch_record d x ≡ true) ⊎ (is_coordinators x ≡ true)
 
-none_so : (q r : Record → Bool) (rs : List Record) → ((x : Record) → q x ≡ true → r x ≡ true) → has r rs ≡ false
+none_so : (q r : Record → Bool) (rs : List Record) → ((x : Record) → q x ≡ true → r x ≡ true) → has r rs
+    ≡ false
     → has q rs ≡ false
 none_so q r rs f e = by_test (has q rs) refl
   where
@@ -42,7 +43,8 @@ prepares d (Prepared b ws) e = same_is d b ∙ e
 prepares d r e = absurd (cc)
 
 -- in a manager's log only records of other branches are left out
-same_since : (d : Case) (q : Record → Bool) → IsOf d q → (rs : List Record) → in_order_from d Unmarked rs ≡ true
+same_since : (d : Case) (q : Record → Bool) → IsOf d q → (rs : List Record) → in_order_from d Unmarked rs
+    ≡ true
     → has is_coordinators rs ≡ false → has q (since_promise d rs) ≡ has q rs
 unfolding has in_order_from
 same_since d q of [] e f = refl
@@ -57,7 +59,8 @@ same_since d q of (r ∷ rs) e f =
       where
         by_branch : (b : Bool) → is_branch_record d r ≡ b → is_branch_record d r ≡ false
         by_branch false k = k
-        by_branch true k = not_both (prepares_branch (CaseBranch d)) (has (prepares_branch (CaseBranch d)) rs)
+        by_branch true k = not_both (prepares_branch (CaseBranch d)) (has (prepares_branch
+            (CaseBranch d)) rs)
             (has_other (is_prepared d) (prepares_branch (CaseBranch d)) rs (prepares d) g)
             (none_promised d (mark_after (CaseBranch d) Unmarked r) rs (marks d Unmarked r k) order_left)
 
@@ -81,7 +84,8 @@ same_since d q of (r ∷ rs) e f =
         → has q (if b then since_promise d rs else r ∷ rs) ≡ has q (r ∷ rs)
     by_test false g rest = refl
     by_test true g rest =
-        rest (subst (λ (m : Mark). in_order_from d m rs ≡ true) (other_leaves d Unmarked r (other g)) order_left)
+        rest (subst (λ (m : Mark). in_order_from d m rs
+        ≡ true) (other_leaves d Unmarked r (other g)) order_left)
         (second_false (is_coordinators r) (has is_coordinators rs) f)
         ∙ drops (q r) (has q rs) (left_out g)
 
@@ -89,7 +93,8 @@ prepared_of : (d : Case) (r : Record) → is_prepared d r ≡ true → is_branch
 prepared_of d r e = grind arith
 
 -- At a process of any role.
-pub reads_same : (role : Role) (n : Node) (d : Case) → Lasts role (logs_of n) → (q : Record → Bool) → IsOf d q
+pub reads_same : (role : Role) (n : Node) (d : Case) → Lasts role (logs_of n) → (q : Record → Bool)
+    → IsOf d q
     → has q (since_promise d (kept n)) ≡ has q (kept n)
 reads_same (AtLeaf p) n d l q of =
     same_since d q of (kept n) (l.by_role.in_order d) (none_kept (has is_coordinators (kept n)) refl)
@@ -143,7 +148,8 @@ of_decided d AbortedOutcome r e = grind arith
 
 module _ (role : Role) (n : Node) (d : Case) (l : Lasts role (logs_of n)) where
   pub own_same : own_decision d (kept n)
-      ≡ decision_by (has (is_learnt_commit d) (kept n)) (has (is_abort_learnt d) (kept n)) (has (is_promise d) (kept n))
+      ≡ decision_by (has (is_learnt_commit d) (kept n)) (has (is_abort_learnt d) (kept n)) (has
+      (is_promise d) (kept n))
   own_same =
       rw (
         reads_same role n d l (is_learnt_commit d) (of_commit d),

@@ -47,8 +47,8 @@ is_case_at tree q c =
 abbrev pub is_abort_learnt : Case → Record → Bool
 is_abort_learnt c r = is_learnt_abort c r || is_abort c r
 
--- by whether a commit is decided or told, an abort is, and a promise stands: a case that neither decided nor promised
--- will abort; one that promised, and no more, asks its parent
+-- by whether a commit is decided or told, an abort is, and a promise stands: a case that neither decided
+-- nor promised will abort; one that promised, and no more, asks its parent
 abbrev pub decision_by : Bool → Bool → Bool → Option Outcome
 decision_by true _ _ = Some Committed
 decision_by false true _ = Some Aborted
@@ -63,8 +63,8 @@ since_promise c (r ∷ rs) = if has (is_prepared c) rs then since_promise c rs e
 -- the case's own decision, or what it was told; none where it is in doubt
 abbrev pub own_decision : Case → List Record → Option Outcome
 own_decision c rs =
-    decision_by (has (is_learnt_commit c) (since_promise c rs)) (has (is_abort_learnt c) (since_promise c rs))
-    (has (is_promise c) (since_promise c rs))
+    let kept_of = since_promise c rs in
+    decision_by (has (is_learnt_commit c) kept_of) (has (is_abort_learnt c) kept_of) (has (is_promise c) kept_of)
 
 -- The recursion upward.
 
@@ -78,7 +78,8 @@ abbrev pub said_above : (Case → Outcome) → Presumption → Option Case → O
 said_above says p None = presumed p
 said_above says p (Some c) = says c
 
--- what the parent says of a case with this ticket; the root has no parent, and aborts what it has not decided
+-- what the parent says of a case with this ticket; the root has no parent, and aborts what it has not
+-- decided
 abbrev pub asked_above : (Case → Outcome) → List TreeEntry → Logs → Txn → Option Ticket → Outcome
 asked_above says tree logs x None = Aborted
 asked_above says tree logs x (Some t) =
@@ -103,8 +104,8 @@ audited tree logs c = outcome_within (length tree) tree logs c
 
 -- The lines.
 
--- which cases have a line: the root's with a decision, or with a Collecting that did not end; a cascaded coordinator's
--- that promised; a manager's that promised and was not forgotten
+-- which cases have a line: the root's with a decision, or with a Collecting that did not end; a cascaded
+-- coordinator's that promised; a manager's that promised and was not forgotten
 abbrev pub has_line_in : Role → Case → List Record → Bool
 has_line_in AtRoot c rs =
     (has (is_commit c) rs || has (is_abort c) rs) || (has (is_collecting c) rs && not (has (is_end c) rs))
@@ -123,8 +124,8 @@ pub record ShowsMismatch (tree : List TreeEntry) (logs : Logs) (c : Case) (o : O
   pub decided : has (is_decided c o) (since_promise c (logs (process_of c))) ≡ true
   pub differs : o ≢ audited tree logs c
 
--- What is true of an audit of a world: each line's outcome is the transaction's, and the mismatches that it shows are
--- just those that stand.
+-- What is true of an audit of a world: each line's outcome is the transaction's, and the mismatches that
+-- it shows are just those that stand.
 
 -- the kept lists of a world
 abbrev pub logs_of_world : World → Logs
