@@ -21,8 +21,10 @@ use Rattle.tree_nodes.proofs.Tests.{both}
 use Rattle.tree_nodes.proofs.Worlds.{has_other}
 use Rattle.tree_headline.proofs.Parts.{case_parts}
 use Rattle.tree_auditor.specs.Audits.{AllUp, AuditsAreTrue, audited, has_line, has_line_in, has_place, is_case_at, logs_of_world, outcome_within}
-use Rattle.tree_auditor.proofs.Climb.{climb_says, none_so}
+use Rattle.tree_auditor.proofs.Climb.{climb_says}
+use Rattle.tree_auditor.proofs.Verdicts.{none_so}
 use Rattle.tree_auditor.proofs.Mismatches.{shown_stands, standing_shows}
+use Rattle.tree_auditor.proofs.Sinces.{line_same}
 use Rattle.tree_auditor.proofs.RootLines.{root_says}
 
 -- Lines of cases with tickets.
@@ -68,7 +70,8 @@ root_by_ticket AtRoot e = refl
 root_by_ticket (Below p) e = absurd (cc)
 root_by_ticket (AtLeaf p) e = absurd (cc)
 
-module _ (tree : List TreeEntry) (es : List Made) (w : World) (is_tree : IsTree tree) (run : IsRun tree es w)
+module _ (tree : List TreeEntry) (es : List Made) (w : World) (is_tree : IsTree tree)
+    (run : IsRun tree es w)
     (h : WorldHolds tree w) (up : AllUp tree w)
   where
     -- what a line says of where its case stands
@@ -81,7 +84,9 @@ module _ (tree : List TreeEntry) (es : List Made) (w : World) (is_tree : IsTree 
     line_of c e =
         let f = both _ _ e in
         let g = both (is_case_at tree (process_of c) c) _ f.1 in
-        record { listed = f.0; fits = (both _ _ (both _ _ g.0).0).1; shows = g.1 }
+        let same = line_same (role_of tree (process_of c)) (w.at (process_of c)) c
+        (h.nodes (process_of c) f.0).lasts (role_of tree (process_of c)) in
+        record { listed = f.0; fits = (both _ _ (both _ _ g.0).0).1; shows = sym same ∙ g.1 }
 
     abbrev Tells : Case → Type 0
     Tells c = audited tree (logs_of_world w) c ≡ outcome_of w c.txn
@@ -89,10 +94,12 @@ module _ (tree : List TreeEntry) (es : List Made) (w : World) (is_tree : IsTree 
     ticket_line : (c : Case) (t : Ticket) → c.ticket ≡ Some t → Line c → Tells c
     unfolding audited
     ticket_line c t f l =
-        subst (λ (d : Case). Line d → outcome_within (length tree) tree (logs_of_world w) d ≡ outcome_of w d.txn)
+        subst (λ (d : Case). Line d → outcome_within (length tree) tree (logs_of_world w) d
+        ≡ outcome_of w d.txn)
         (sym (case_parts c c.txn (Some t) refl f)) (λ k.
         let i = issuer_by_ticket (role_of tree t.child) t k.fits in
-        let p = line_promised (role_of tree t.child) (w.at t.child) (child_case c.txn t) i (h.nodes t.child k.listed).lasts
+        let p = line_promised (role_of tree t.child) (w.at t.child) (child_case c.txn t) i
+        (h.nodes t.child k.listed).lasts
         k.shows in
         climb_says tree w h up (length tree) c.txn t k.listed i p.promised p.standing
         (climbs tree is_tree t.child k.listed)) l
@@ -100,7 +107,8 @@ module _ (tree : List TreeEntry) (es : List Made) (w : World) (is_tree : IsTree 
     root_line : (c : Case) → c.ticket ≡ None → Line c → Tells c
     unfolding audited
     root_line c f l =
-        subst (λ (d : Case). Line d → outcome_within (length tree) tree (logs_of_world w) d ≡ outcome_of w d.txn)
+        subst (λ (d : Case). Line d → outcome_within (length tree) tree (logs_of_world w) d
+        ≡ outcome_of w d.txn)
         (sym (case_parts c c.txn None refl f)) (λ k.
         let x = c.txn in
         let role = root_by_ticket (role_of tree x.root) k.fits in
@@ -109,11 +117,13 @@ module _ (tree : List TreeEntry) (es : List Made) (w : World) (is_tree : IsTree 
         ∙ root_says tree es w run x role (up x.root k.listed)
         (subst (λ (r : Role). has_line_in r (root_case x) (kept (w.at x.root)) ≡ true) role k.shows)) l
 
-    pub line_tells : (c : Case) → has_line tree (logs_of_world w) c ≡ true → audited tree (logs_of_world w) c
+    pub line_tells : (c : Case) → has_line tree (logs_of_world w) c ≡ true
+        → audited tree (logs_of_world w) c
         ≡ outcome_of w c.txn
     line_tells c e = by_ticket c.ticket refl
       where
-        by_ticket : (o : Option Ticket) → c.ticket ≡ o → audited tree (logs_of_world w) c ≡ outcome_of w c.txn
+        by_ticket : (o : Option Ticket) → c.ticket ≡ o → audited tree (logs_of_world w) c
+            ≡ outcome_of w c.txn
         by_ticket None f = root_line c f (line_of c e)
         by_ticket (Some t) f = ticket_line c t f (line_of c e)
 

@@ -2,186 +2,36 @@
 use Rattle.std.proofs.Common.{◌≡◌, ◌∙◌, ◌⊎◌, inl, inr, ◌||◌, ◌&&◌, ℕ, zero, suc, Bool, true, false, Option, Some, None, is_none, List, refl, sym, ap, subst, arith}
 use Rattle.tree_model.specs.declared.names.Case.{Case}
 use Rattle.tree_model.specs.declared.names.Outcome.{Outcome}
-use Rattle.tree_model.specs.declared.names.Outcome.TheVariants.{Committed, Aborted}
-use Rattle.tree_model.specs.declared.names.Presumption.{Presumption}
-use Rattle.tree_model.specs.declared.names.Presumption.TheVariants.{PresumeAbort, PresumeCommit}
+use Rattle.tree_model.specs.declared.names.Outcome.TheVariants.{Aborted}
 use Rattle.tree_model.specs.declared.names.ProcessId.{ProcessId}
 use Rattle.tree_model.specs.declared.names.Ticket.{Ticket}
 use Rattle.tree_model.specs.declared.names.Txn.{Txn}
-use Rattle.tree_model.specs.declared.records.Record.{Record}
 use Rattle.tree_model.specs.declared.trees.TreeEntry.{TreeEntry}
-use Rattle.tree_model.specs.Names.{child_case, presumed, process_of}
+use Rattle.tree_model.specs.Names.{child_case, process_of}
 use Rattle.tree_model.specs.Records.{has, is_abort, is_commit, is_forgot, is_prepare}
-use Rattle.tree_model.specs.Nodes.{Role, AtRoot, Below, AtLeaf, Node, is_listed, kept, place_of, role_of}
+use Rattle.tree_model.specs.Nodes.{Node, is_listed, kept, place_of, role_of}
 use Rattle.tree_model.specs.Outcomes.{is_commit_outcome, is_joined_message, outcome_of, sent}
 use Rattle.tree_model.specs.Trees.{level_within}
 use Rattle.tree_model.specs.World.{World}
-use Rattle.tree_pairs.specs.Promises.{AuditedOutcome, Presumes, SaysAbort, SaysCommit, said_by}
+use Rattle.tree_pairs.specs.Promises.{AuditedOutcome}
 use Rattle.tree_pairs.specs.Reading.{Reading}
 use Rattle.tree_pairs.specs.Standing.{IsInDoubt}
-use Rattle.tree_pairs.proofs.Audited.{abort_audited, commit_audited}
 use Rattle.tree_readings.specs.ReadingOf.{is_collecting_naming, is_decision_naming, is_learnt_abort, is_learnt_commit, is_prepare_naming, is_promise}
-use Rattle.tree_turns.specs.Written.{is_coordinators}
-use Rattle.tree_nodes.specs.Lasts.{Lasts, logs_of}
 use Rattle.tree_nodes.specs.Marks.{is_branch_record}
 use Rattle.tree_nodes.specs.Numbers.{IsIssuer}
-use Rattle.tree_nodes.specs.WorldHolds.{InvariantOf, IsChildRole, IsPair, IsParentRole, PairHolds, WorldHolds, is_naming, is_record_of, pair_reading, parent_in}
-use Rattle.tree_nodes.proofs.ChildOf.{no_branch}
+use Rattle.tree_nodes.specs.WorldHolds.{InvariantOf, IsPair, IsParentRole, PairHolds, WorldHolds, is_naming, is_record_of, pair_reading}
 use Rattle.tree_nodes.proofs.Levels.{parent_climbs}
 use Rattle.tree_nodes.proofs.PairOf.{common_of, given}
-use Rattle.tree_nodes.proofs.Tests.{and, left, not_both, right}
+use Rattle.tree_nodes.proofs.Tests.{and, left, right}
 use Rattle.tree_nodes.proofs.Worlds.{has_other}
 use Rattle.tree_headline.proofs.Ends.{has_either, issues_in}
 use Rattle.tree_headline.proofs.Pairs.{joined_pair}
 use Rattle.tree_headline.proofs.Parts.{case_parts}
 use Rattle.tree_auditor.specs.Audits.{AllUp, Logs, asked_above, decided_or, decision_by, is_abort_learnt, logs_of_world, naming_case, outcome_within, own_decision, said_above}
 use Rattle.tree_auditor.proofs.Naming.{named_is, named_none, naming_tells}
+use Rattle.tree_auditor.proofs.Sinces.{own_same}
 use Rattle.tree_auditor.proofs.RootLines.{learnt_abort, learnt_commit}
-
--- What a pair says, by its presumption.
-
-abbrev pub is_presumed_commit : Presumption → Bool
-is_presumed_commit PresumeAbort = false
-is_presumed_commit PresumeCommit = true
-
-pair_audited : (p : Presumption) → AuditedOutcome (InvariantOf p) (is_presumed_commit p)
-pair_audited PresumeAbort = abort_audited
-pair_audited PresumeCommit = commit_audited
-
-says_presumed : (w : World) (x : Txn) (p : Presumption) → is_commit_outcome w x ≡ is_presumed_commit p
-    → presumed p ≡ outcome_of w x
-says_presumed w x PresumeAbort e = rw e refl
-says_presumed w x PresumeCommit e = rw e refl
-
-says_commit : (w : World) (x : Txn) → is_commit_outcome w x ≡ true → Committed ≡ outcome_of w x
-says_commit w x e = rw e refl
-
-says_abort : (w : World) (x : Txn) → is_commit_outcome w x ≡ false → Aborted ≡ outcome_of w x
-says_abort w x e = rw e refl
-
--- Lists of records.
-
--- what finds no more than another test finds nothing where that one finds nothing
-pub none_so : (q r : Record → Bool) (rs : List Record) → ((x : Record) → q x ≡ true → r x ≡ true) → has r rs ≡ false
-    → has q rs ≡ false
-none_so q r rs f e = by_test (has q rs) refl
-  where
-    by_test : (b : Bool) → has q rs ≡ b → has q rs ≡ false
-    by_test false g = g
-    by_test true g = not_both r (has r rs) (has_other q r rs f g) e
-
-commit_learns : (d : Case) (r : Record) → is_commit d r ≡ true → is_learnt_commit d r ≡ true
-commit_learns d r e = grind arith
-
-own_abort_learns : (d : Case) (r : Record) → is_abort d r ≡ true → is_abort_learnt d r ≡ true
-own_abort_learns d r e = grind arith
-
-abort_learns : (d : Case) (r : Record) → is_learnt_abort d r ≡ true → is_abort_learnt d r ≡ true
-abort_learns d r e = grind arith
-
-abort_either : (d : Case) (r : Record) → is_abort_learnt d r ≡ true
-    → (is_learnt_abort d r ≡ true) ⊎ (is_abort d r ≡ true)
-abort_either d r e = grind arith
-
-promise_either : (d : Case) (r : Record) → is_promise d r ≡ true
-    → (is_prepare d r ≡ true) ⊎ (is_branch_record d r ≡ true)
-promise_either d r e = grind arith
-
-prepare_promises : (d : Case) (r : Record) → is_prepare d r ≡ true → is_promise d r ≡ true
-prepare_promises d r e = grind arith
-
-promise_record : (d : Case) (r : Record) → is_promise d r ≡ true → is_record_of d r ≡ true
-promise_record d r e = grind arith
-
-abort_coordinators : (d : Case) (r : Record) → is_abort d r ≡ true → is_coordinators r ≡ true
-abort_coordinators d r e = grind arith
-
-forgot_of_branch : (d : Case) (r : Record) → is_forgot d r ≡ true → is_branch_record d r ≡ true
-forgot_of_branch d r e = grind arith
-
--- a coordinator's promise is a Prepare
-promise_prepares : (d : Case) (rs : List Record) → has (is_branch_record d) rs ≡ false → has (is_promise d) rs ≡ true
-    → has (is_prepare d) rs ≡ true
-promise_prepares d rs none e = elim (has_either (is_promise d) (is_prepare d) (is_branch_record d) rs (promise_either d) e) [
-  | inl f ↦ f
-  | inr f ↦ not_both (is_branch_record d) (has (is_branch_record d) rs) f none
-]
-
--- an Abort that stands with a promise is a coordinator's, with its Prepare
-abort_with_promise : (role : Role) (n : Node) (d : Case) → IsIssuer role → Lasts role (logs_of n)
-    → has (is_abort d) (kept n) ≡ true → has (is_promise d) (kept n) ≡ true → has (is_prepare d) (kept n) ≡ true
-abort_with_promise (Below p) n d i l a e = promise_prepares d (kept n) (no_branch d n l.nested l.by_role).kept_none e
-abort_with_promise (AtLeaf p) n d i l a e =
-    not_both is_coordinators (has is_coordinators n.life)
-    (has_other (is_abort d) is_coordinators n.life (abort_coordinators d)
-    (l.nested.kept_was_written (is_abort d) (λ k. refl) a)) l.by_role.no_coordinators_record
-abort_with_promise AtRoot n d i l a e = absurd (i)
-
--- a coordinator keeps no manager's record
-pub coordinators_none : (role : Role) (n : Node) (d : Case) (o : Option Ticket) → IsParentRole role o
-    → Lasts role (logs_of n) → has (is_branch_record d) (kept n) ≡ false
-coordinators_none AtRoot n d o i l = (no_branch d n l.nested l.by_role).kept_none
-coordinators_none (Below p) n d o i l = (no_branch d n l.nested l.by_role).kept_none
-coordinators_none (AtLeaf p) n d o i l = absurd (i)
-
-parent_at : (role : Role) (q p : ProcessId) → IsChildRole role p → parent_in role q ≡ p
-parent_at (Below r) q p h = h
-parent_at (AtLeaf r) q p h = h
-parent_at AtRoot q p h = absurd (h)
-
-issuer_of_child : (role : Role) (p : ProcessId) → IsChildRole role p → IsIssuer role
-issuer_of_child (Below r) p h = tt
-issuer_of_child (AtLeaf r) p h = tt
-issuer_of_child AtRoot p h = absurd (h)
-
-issuer_of_parent : (role : Role) (u : Ticket) → IsParentRole role (Some u) → IsIssuer role
-issuer_of_parent (Below p) u h = tt
-issuer_of_parent AtRoot u h = absurd (h)
-issuer_of_parent (AtLeaf p) u h = absurd (h)
-
--- What the parent's case says.
-
-commits_so : (named : Bool) (commit abort promise : Bool) → named ≡ true → commit ≡ true
-    → said_by named commit abort promise ≡ SaysCommit
-commits_so named commit abort promise e f = rw (e, f) refl
-
-aborts_so : (named : Bool) (commit abort promise : Bool) → named ≡ true → commit ≡ false → abort ≡ true
-    → said_by named commit abort promise ≡ SaysAbort
-aborts_so named commit abort promise e f g = rw (e, f, g) refl
-
-undecided_so : (named : Bool) (commit abort promise : Bool) → named ≡ true → commit ≡ false → promise ≡ false
-    → said_by named commit abort promise ≡ SaysAbort
-undecided_so named commit true promise e f g = rw (e, f) refl
-undecided_so named commit false promise e f g = rw (e, f, g) refl
-
-presumes_so : (named : Bool) (commit abort promise : Bool) → named ≡ false
-    → said_by named commit abort promise ≡ Presumes
-presumes_so named commit abort promise e = rw e refl
-
--- a parent that has not promised decided, or will abort
-module _ (w : World) (x : Txn) (commit abort promise : Bool)
-    (if_commit : commit ≡ true → is_commit_outcome w x ≡ true)
-    (if_abort : commit ≡ false → (abort ≡ true) ⊎ (promise ≡ false) → is_commit_outcome w x ≡ false)
-  where
-    pub by_own : promise ≡ false → (o : Outcome) → decided_or (decision_by commit abort promise) o ≡ outcome_of w x
-    by_own none o = by_tests commit abort promise refl refl none
-      where
-        by_tests : (a b p : Bool) → commit ≡ a → abort ≡ b → p ≡ false
-            → decided_or (decision_by a b p) o ≡ outcome_of w x
-        by_tests true b p e f g = says_commit w x (if_commit e)
-        by_tests false true p e f g = says_abort w x (if_abort e (inl f))
-        by_tests false false true e f g = absurd (cc)
-        by_tests false false false e f g = says_abort w x (if_abort e (inr none))
-
-    pub by_own_or_abort : (commit ≡ false → is_commit_outcome w x ≡ false)
-        → decided_or (decision_by commit abort promise) Aborted ≡ outcome_of w x
-    by_own_or_abort never = by_tests commit abort promise refl
-      where
-        by_tests : (a b p : Bool) → commit ≡ a → decided_or (decision_by a b p) Aborted ≡ outcome_of w x
-        by_tests true b p e = says_commit w x (if_commit e)
-        by_tests false true p e = says_abort w x (never e)
-        by_tests false false true e = says_abort w x (never e)
-        by_tests false false false e = says_abort w x (never e)
+use Rattle.tree_auditor.proofs.Verdicts.{abort_either, abort_learns, abort_with_promise, aborts_so, by_own, by_own_or_abort, commit_learns, commits_so, coordinators_none, forgot_of_branch, is_presumed_commit, issuer_of_child, issuer_of_parent, none_so, own_abort_learns, pair_audited, parent_at, prepare_promises, presumes_so, promise_record, says_abort, says_commit, says_presumed, undecided_so}
 
 -- The climb.
 
@@ -229,6 +79,19 @@ module _ (tree : List TreeEntry) (w : World) (h : WorldHolds tree w) (up : AllUp
     no_branch_record = coordinators_none (role_of tree (process_of c)) n c c.ticket pair.parent.role
         (h.nodes (process_of c) pair.parent.listed).lasts
 
+    parent_own : own_decision c (kept (w.at (process_of c)))
+        ≡ decision_by (has (is_learnt_commit c) (kept (w.at (process_of c))))
+        (has (is_abort_learnt c) (kept (w.at (process_of c)))) (has (is_promise c) (kept (w.at
+        (process_of c))))
+    parent_own = own_same (role_of tree (process_of c)) n c (h.nodes
+        (process_of c) pair.parent.listed).lasts
+
+    child_own : own_decision (child_case c.txn t) (kept (w.at t.child))
+        ≡ decision_by (has (is_learnt_commit (child_case c.txn t)) (kept (w.at t.child)))
+        (has (is_abort_learnt (child_case c.txn t)) (kept (w.at t.child)))
+        (has (is_promise (child_case c.txn t)) (kept (w.at t.child)))
+    child_own = own_same (role_of tree t.child) k d (h.nodes t.child pair.listed).lasts
+
     named_so : (b : Bool) → has (is_naming c t) (kept (w.at (process_of c))) ≡ b
         → (has (is_collecting_naming c t) (kept (w.at (process_of c)))
         || has (is_prepare_naming c t) (kept (w.at (process_of c)))
@@ -240,7 +103,8 @@ module _ (tree : List TreeEntry) (w : World) (h : WorldHolds tree w) (up : AllUp
     module _ (doubt : IsInDoubt (pair_reading tree w c t))
         (named : has (is_naming c t) (kept (w.at (process_of c))) ≡ true)
       where
-        if_commit : has (is_learnt_commit c) (kept (w.at (process_of c))) ≡ true → is_commit_outcome w c.txn ≡ true
+        if_commit : has (is_learnt_commit c) (kept (w.at (process_of c))) ≡ true
+            → is_commit_outcome w c.txn ≡ true
         if_commit e = audit.commit r holds parent_up child_up doubt
             (commits_so _ _ (has (is_abort c) (kept n)) (has (is_prepare c) (kept n)) (named_so true named)
             (learnt_commit c (kept n) no_branch_record e))
@@ -261,13 +125,16 @@ module _ (tree : List TreeEntry) (w : World) (h : WorldHolds tree w) (up : AllUp
         if_abort e (inl f) = audit.abort r holds parent_up child_up doubt
             (aborts_so _ _ _ (has (is_prepare c) (kept n)) (named_so true named) (none_committed e)
             (learnt_abort c (kept n) no_branch_record f))
-        if_abort e (inr f) = if_undecided e (none_so (is_prepare c) (is_promise c) (kept n) (prepare_promises c) f)
+        if_abort e (inr f) = if_undecided e (none_so (is_prepare c) (is_promise c) (kept n)
+            (prepare_promises c) f)
 
         -- one that has not promised answers by itself
         unpromised_says : (j : ℕ) → has (is_promise c) (kept (w.at (process_of c))) ≡ false
             → outcome_within (suc j) tree (logs_of_world w) c ≡ outcome_of w c.txn
         unpromised_says j e =
-            by_own w c.txn (has (is_learnt_commit c) (kept n)) (has (is_abort_learnt c) (kept n))
+            ap (λ (o : Option Outcome). decided_or o
+            (asked_above (outcome_within j tree logs) tree logs c.txn c.ticket)) parent_own
+            ∙ by_own w c.txn (has (is_learnt_commit c) (kept n)) (has (is_abort_learnt c) (kept n))
             (has (is_promise c) (kept n)) if_commit if_abort e _
 
         -- the root promises nobody
@@ -276,10 +143,11 @@ module _ (tree : List TreeEntry) (w : World) (h : WorldHolds tree w) (up : AllUp
         root_says j f =
             ap (λ (o : Option Ticket). decided_or (own_decision c (kept n))
             (asked_above (outcome_within j tree logs) tree logs c.txn o)) f
+            ∙ (ap (λ (o : Option Outcome). decided_or o Aborted) parent_own
             ∙ by_own_or_abort w c.txn (has (is_learnt_commit c) (kept n)) (has (is_abort_learnt c) (kept n))
             (has (is_promise c) (kept n)) if_commit if_abort
             (λ e. if_undecided e ((common_of c.txn.presumption r holds).root_promises_nobody
-            (ap (λ (o : Option Ticket). is_root o) f)).0)
+            (ap (λ (o : Option Ticket). is_root o) f)).0))
           where
             is_root : Option Ticket → Bool
             is_root None = true
@@ -295,8 +163,10 @@ module _ (tree : List TreeEntry) (w : World) (h : WorldHolds tree w) (up : AllUp
             let at : process_of c ≡ u.child = ap process_of same in
             ap (outcome_within j tree logs) same ∙ says c.txn u
             (subst (λ (q : ProcessId). is_listed tree q ≡ true) at pair.parent.listed)
-            (issuer_of_parent (role_of tree u.child) u (subst (λ (q : ProcessId). IsParentRole (role_of tree q) (Some u)) at
-            (subst (λ (o : Option Ticket). IsParentRole (role_of tree (process_of c)) o) f pair.parent.role)))
+            (issuer_of_parent (role_of tree u.child) u (subst (λ (q : ProcessId). IsParentRole
+            (role_of tree q) (Some u)) at
+            (subst (λ (o : Option Ticket). IsParentRole (role_of tree
+            (process_of c)) o) f pair.parent.role)))
             (subst (λ (b : Case). has (is_promise b) (kept (w.at (process_of b))) ≡ true) same e)
             (subst (λ (b : Case). has (is_forgot b) (kept (w.at (process_of b))) ≡ false) same
             (none_so (is_forgot c) (is_branch_record c) (kept n) (forgot_of_branch c) no_branch_record))
@@ -307,7 +177,8 @@ module _ (tree : List TreeEntry) (w : World) (h : WorldHolds tree w) (up : AllUp
         parent_says zero says level = absurd (cc)
         parent_says (suc j) says level = by_promise (has (is_promise c) (kept n)) refl c.ticket refl
           where
-            by_promise : (b : Bool) → has (is_promise c) (kept (w.at (process_of c))) ≡ b → (o : Option Ticket)
+            by_promise : (b : Bool) → has (is_promise c) (kept (w.at (process_of c))) ≡ b
+                → (o : Option Ticket)
                 → c.ticket ≡ o → outcome_within (suc j) tree (logs_of_world w) c ≡ outcome_of w c.txn
             by_promise false e o f = unpromised_says j e
             by_promise true e None f = root_says j f
@@ -339,7 +210,8 @@ module _ (tree : List TreeEntry) (w : World) (h : WorldHolds tree w) (up : AllUp
 
         has_aborted : has (is_abort_learnt (child_case c.txn t)) (kept (w.at t.child)) ≡ true
             → is_commit_outcome w c.txn ≡ false
-        has_aborted e = audit.own_abort r holds (elim (has_either (is_abort_learnt d) (is_learnt_abort d) (is_abort d)
+        has_aborted e = audit.own_abort r holds (elim (has_either (is_abort_learnt d) (is_learnt_abort d)
+            (is_abort d)
             (kept k) (abort_either d) e) [
               | inl f ↦ left _ _ f
               | inr f ↦ right (has (is_learnt_abort d) (kept k)) _ (and _ _ f
@@ -362,24 +234,32 @@ module _ (tree : List TreeEntry) (w : World) (h : WorldHolds tree w) (up : AllUp
                 → said_above (outcome_within j tree (logs_of_world w)) c.txn.presumption
                 (naming_case tree (process_of c) c.txn t (kept (w.at (process_of c)))) ≡ outcome_of w c.txn
             by_naming true e =
-                ap (said_above (outcome_within j tree logs) c.txn.presumption) (named_is tree w h c t joined e)
+                ap (said_above (outcome_within j tree logs) c.txn.presumption)
+                (named_is tree w h c t joined e)
                 ∙ parent_says doubt e j says (parent_climbs tree j t.child (process_of c) pair.child level)
             by_naming false e =
-                ap (said_above (outcome_within j tree logs) c.txn.presumption) (named_none tree w h c t joined e)
-                ∙ says_presumed w c.txn c.txn.presumption (audit.presumption r holds parent_up child_up doubt
-                (presumes_so _ (has (is_commit c) (kept n)) (has (is_abort c) (kept n)) (has (is_prepare c) (kept n))
+                ap (said_above (outcome_within j tree logs) c.txn.presumption)
+                (named_none tree w h c t joined e)
+                ∙ says_presumed w c.txn c.txn.presumption
+                (audit.presumption r holds parent_up child_up doubt
+                (presumes_so _ (has (is_commit c) (kept n)) (has (is_abort c) (kept n)) (has
+                (is_prepare c) (kept n))
                 (named_so false e)))
 
         child_says : (j : ℕ) → Says j → is_none (level_within (suc j) tree t.child) ≡ false
             → outcome_within (suc j) tree (logs_of_world w) (child_case c.txn t) ≡ outcome_of w c.txn
         child_says j says level =
-            by_tests (has (is_learnt_commit d) (kept k)) (has (is_abort_learnt d) (kept k)) (has (is_promise d) (kept k))
-            refl refl promised
+            ap (λ (o : Option Outcome). decided_or o
+            (asked_above (outcome_within j tree logs) tree logs c.txn (Some t))) child_own
+            ∙ by_tests (has (is_learnt_commit d) (kept k)) (has (is_abort_learnt d) (kept k))
+            (has (is_promise d) (kept k)) refl refl promised
           where
-            by_tests : (a b p : Bool) → has (is_learnt_commit (child_case c.txn t)) (kept (w.at t.child)) ≡ a
+            by_tests : (a b p : Bool) → has (is_learnt_commit (child_case c.txn t)) (kept (w.at t.child))
+                ≡ a
                 → has (is_abort_learnt (child_case c.txn t)) (kept (w.at t.child)) ≡ b → p ≡ true
                 → decided_or (decision_by a b p)
-                (asked_above (outcome_within j tree (logs_of_world w)) tree (logs_of_world w) c.txn (Some t))
+                (asked_above (outcome_within j tree (logs_of_world w)) tree (logs_of_world w) c.txn
+                (Some t))
                 ≡ outcome_of w c.txn
             by_tests true b p e f g = says_commit w c.txn (audit.own_commit r holds e)
             by_tests false true p e f g = says_abort w c.txn (has_aborted f)

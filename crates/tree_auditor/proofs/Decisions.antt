@@ -76,7 +76,8 @@ decides_not d m (End c) k e = refl
 decides_not d m (Base n) k e = refl
 decides_not d m (Pair j v) k e = refl
 
-still_past : (d : Case) (m : Mark) (r : Record) → IsPast m → Fits d m r → IsPast (mark_after (CaseBranch d) m r)
+still_past : (d : Case) (m : Mark) (r : Record) → IsPast m → Fits d m r
+    → IsPast (mark_after (CaseBranch d) m r)
 still_past d m (Prepared b ws) k e =
     rw (same_is d b ∙ first_not (is_branch d b) _ (promises_not m b ws k) e) k
 still_past d m (Committed b) k e = by_if _ Finished m tt k
@@ -104,12 +105,14 @@ none_past d m (r ∷ rs) k e =
     neither _ _ (decides_not d m r k b.0)
     (none_past d (mark_after (CaseBranch d) m r) rs (still_past d m r k b.0) b.1)
 
-decides_past : (d : Case) (m : Mark) (r : Record) → is_heuristic d r ≡ true → IsPast (mark_after (CaseBranch d) m r)
+decides_past : (d : Case) (m : Mark) (r : Record) → is_heuristic d r ≡ true
+    → IsPast (mark_after (CaseBranch d) m r)
 decides_past d m (HeurCommit b) e = rw (same_is d b ∙ e) tt
 decides_past d m (HeurRollback b) e = rw (same_is d b ∙ e) tt
 decides_past d m r e = absurd (cc)
 
-forgets_past : (d : Case) (m : Mark) (r : Record) → is_forgot d r ≡ true → IsPast (mark_after (CaseBranch d) m r)
+forgets_past : (d : Case) (m : Mark) (r : Record) → is_forgot d r ≡ true
+    → IsPast (mark_after (CaseBranch d) m r)
 forgets_past d m (Forgot b) e = rw (same_is d b ∙ e) tt
 forgets_past d m r e = absurd (cc)
 
@@ -167,5 +170,6 @@ never_forgotten d o m (r ∷ rs) e f =
     by_forgot false g k l = g
     by_forgot true g k l =
         not_both (is_heuristic d) (has (is_heuristic d) rs)
-        (has_other (is_decided d o) (is_heuristic d) rs (heuristic_of d o) (last_is (is_decided d o) (is_forgot d) rs l))
+        (has_other (is_decided d o) (is_heuristic d) rs (heuristic_of d o) (last_is (is_decided d o)
+        (is_forgot d) rs l))
         (none_past d (mark_after (CaseBranch d) m r) rs (forgets_past d m r g) k)

@@ -1,7 +1,9 @@
+pub mod Sinces
 pub mod RootCommits
 pub mod RootLines
 pub mod Naming
+pub mod Verdicts
 pub mod Climb
+pub mod Decisions
 pub mod Mismatches
 pub mod Audit
-pub mod Decisions

@@ -32,7 +32,8 @@ use Rattle.tree_nodes.proofs.Worlds.{has_other}
 use Rattle.tree_headline.proofs.Ends.{has_either, issues_in}
 use Rattle.tree_headline.proofs.Pairs.{joined_pair}
 use Rattle.tree_headline.proofs.Parts.{case_parts}
-use Rattle.tree_auditor.specs.Audits.{AllUp, has_line, has_line_in, has_place, is_case_at, is_root_role, logs_of_world}
+use Rattle.tree_auditor.specs.Audits.{AllUp, has_line, has_line_in, has_place, is_case_at, is_root_role, logs_of_world, since_promise}
+use Rattle.tree_auditor.proofs.Sinces.{line_same, of_decided, reads_same}
 use Rattle.tree_auditor.proofs.Decisions.{decided_once, heuristic_of, never_forgotten}
 
 -- Who decides: a manager.
@@ -55,7 +56,8 @@ no_opened : (d : Case) (o : Outcome) (k : ℕ) → is_decided d o (Opened k) ≡
 no_opened d CommittedOutcome k = refl
 no_opened d AbortedOutcome k = refl
 
-no_coordinator : {A : Type 0} (n : Node) (d : Case) (o : Outcome) → Nested (logs_of n) → Coordinates (logs_of n)
+no_coordinator : {A : Type 0} (n : Node) (d : Case) (o : Outcome) → Nested (logs_of n)
+    → Coordinates (logs_of n)
     → has (is_decided d o) (kept n) ≡ true → A
 no_coordinator n d o nested l e =
     not_both is_managers (has is_managers n.life)
@@ -91,10 +93,11 @@ gives_none x (Inquire d) = refl
 none_given : {A : Type 0} (x : Txn) (net : List Envelope) → sent (gives_case (root_case x)) net ≡ true → A
 unfolding sent
 none_given x [] e = absurd (cc)
-none_given x (l ∷ ls) e = elim (either (gives_case (root_case x) l.message) (sent (gives_case (root_case x)) ls) e) [
-  | inl now ↦ absurd (let y = sym (gives_none x l.message) ∙ now in cc)
-  | inr rest ↦ none_given x ls rest
-]
+none_given x (l ∷ ls) e = elim (either (gives_case (root_case x) l.message) (sent (gives_case
+    (root_case x)) ls) e) [
+      | inl now ↦ absurd (let y = sym (gives_none x l.message) ∙ now in cc)
+      | inr rest ↦ none_given x ls rest
+    ]
 
 -- Records.
 
@@ -102,7 +105,8 @@ record_of : (d : Case) (o : Outcome) (r : Record) → is_decided d o r ≡ true 
 record_of d CommittedOutcome r e = grind arith
 record_of d AbortedOutcome r e = grind arith
 
-promise_by : (d : Case) (r : Record) → is_promise d r ≡ true → (is_prepared d r ≡ true) ⊎ (is_coordinators r ≡ true)
+promise_by : (d : Case) (r : Record) → is_promise d r ≡ true → (is_prepared d r ≡ true)
+    ⊎ (is_coordinators r ≡ true)
 promise_by d r e = grind arith
 
 same_process_itself : (q : ProcessId) → same_process q q ≡ true
@@ -179,11 +183,13 @@ module _ (tree : List TreeEntry) (w : World) (h : WorldHolds tree w) (up : AllUp
           (λ e. (common.heuristic_stands_behind e).0) heuristic
 
       prepared : has (is_prepared (child_case x t)) (kept (w.at t.child)) ≡ true
-      prepared = elim (has_either (is_promise d) (is_prepared d) is_coordinators (kept n) (promise_by d) promised) [
-        | inl e ↦ e
-        | inr e ↦ not_both is_coordinators (has is_coordinators n.life)
-            (lasts.nested.kept_was_written is_coordinators (λ k. refl) e) manager.manager.no_coordinators_record
-      ]
+      prepared = elim (has_either (is_promise d) (is_prepared d) is_coordinators (kept n)
+          (promise_by d) promised) [
+            | inl e ↦ e
+            | inr e ↦ not_both is_coordinators (has is_coordinators n.life)
+                (lasts.nested.kept_was_written is_coordinators
+                (λ k. refl) e) manager.manager.no_coordinators_record
+          ]
 
       decided_forced : has (is_decided (child_case x t) o) (w.at t.child).forced ≡ true
       decided_forced = elim (in_either (is_decided d o) n.forced n.unforced decided) [
@@ -198,10 +204,12 @@ module _ (tree : List TreeEntry) (w : World) (h : WorldHolds tree w) (up : AllUp
         forced = decided_forced;
         durable = lasts.nested.forced_is_old (is_decided d o) decided_forced;
         prepared = prepared;
-        case_at = and _ _ (and _ _ (same_process_itself t.child) (placed (role_of tree t.child) manager.parent t
+        case_at = and _ _ (and _ _ (same_process_itself t.child) (placed
+            (role_of tree t.child) manager.parent t
             manager.leaf))
             (and _ _ (ap (λ (y : Txn). is_listed tree y.root) (sym g.same) ∙ pair.parent.top_listed)
-            (ap (λ (y : Txn). is_root_role (role_of tree y.root)) (sym g.same) ∙ ap is_root_role pair.parent.top));
+            (ap (λ (y : Txn). is_root_role (role_of tree y.root)) (sym g.same)
+            ∙ ap is_root_role pair.parent.top));
         parent = manager.parent;
         leaf = manager.leaf;
         in_order = manager.manager.in_order d;
@@ -218,7 +226,8 @@ module _ (tree : List TreeEntry) (w : World) (h : WorldHolds tree w) (up : AllUp
           let n = w.at q in
           let node = h.nodes q listed in
           let manager = by_manager (role_of tree q) n c o node.lasts decided in
-          ((issues_in (role_of tree q) (place_of tree q) w.net n (issues_there (role_of tree q) manager.parent manager.leaf)
+          ((issues_in (role_of tree q) (place_of tree q) w.net n (issues_there
+          (role_of tree q) manager.parent manager.leaf)
           node.role).recorded_is_given c (has_other (is_decided c o) (is_record_of c) n.life (record_of c o)
           (node.lasts.nested.kept_was_written (is_decided c o) (no_opened c o) decided))).1
 
@@ -228,7 +237,8 @@ module _ (tree : List TreeEntry) (w : World) (h : WorldHolds tree w) (up : AllUp
           (case_parts c c.txn None refl f) given_so)
       by_ticket (Some t) f =
           subst (λ (a : Case). is_listed tree (process_of a) ≡ true
-          → has (is_decided a o) (kept (w.at (process_of a))) ≡ true → sent (gives_case a) w.net ≡ true → Found a o)
+          → has (is_decided a o) (kept (w.at (process_of a))) ≡ true → sent (gives_case a) w.net ≡ true
+          → Found a o)
           (sym (case_parts c c.txn (Some t) refl f)) (found_branch c.txn t o) listed decided given_so
 
   -- an unlisted process decided nothing
@@ -242,28 +252,50 @@ module _ (tree : List TreeEntry) (w : World) (h : WorldHolds tree w) (up : AllUp
           (subst (λ (n : Node). has (is_decided c o) (kept n) ≡ true) (h.unlisted (process_of c) f) e)
           (never_opened c o)
 
+  -- a line, and a decision, from the last Prepared on
+
+  line_since : (c : Case) → is_listed tree (process_of c) ≡ true
+      → has_line_in (role_of tree (process_of c)) c (since_promise c (kept (w.at (process_of c))))
+      ≡ has_line_in (role_of tree (process_of c)) c (kept (w.at (process_of c)))
+  line_since c listed =
+      line_same (role_of tree (process_of c)) (w.at (process_of c)) c (h.nodes (process_of c) listed).lasts
+      (role_of tree (process_of c))
+
+  decided_since : (c : Case) (o : Outcome) → is_listed tree (process_of c) ≡ true
+      → has (is_decided c o) (since_promise c (kept (w.at (process_of c))))
+      ≡ has (is_decided c o) (kept (w.at (process_of c)))
+  decided_since c o listed =
+      reads_same (role_of tree (process_of c)) (w.at (process_of c)) c (h.nodes (process_of c) listed).lasts
+      (is_decided c o) (of_decided c o)
+
   -- a line of a manager's case
   pub has_branch_line : (c : Case) (o : Outcome) → Found c o → is_listed tree (process_of c) ≡ true
       → has (is_forgot c) (kept (w.at (process_of c))) ≡ false → has_line tree (logs_of_world w) c ≡ true
   has_branch_line c o f listed none =
       and _ _ listed (and _ _ f.case_at
-      (subst (λ (r : Role). has_line_in r c (kept (w.at (process_of c))) ≡ true) (sym f.leaf)
+      (line_since c listed ∙ subst (λ (r : Role). has_line_in r c (kept (w.at (process_of c)))
+      ≡ true) (sym f.leaf)
       (and _ _ f.prepared (so_not (has (is_forgot c) (kept (w.at (process_of c)))) none))))
 
-  pub branch_line_forgets_not : (c : Case) (o : Outcome) → Found c o → has_line tree (logs_of_world w) c ≡ true
+  pub branch_line_forgets_not : (c : Case) (o : Outcome) → Found c o → has_line tree (logs_of_world w) c
+      ≡ true
       → has (is_forgot c) (kept (w.at (process_of c))) ≡ false
   branch_line_forgets_not c o f line =
-      let shows = (both (is_case_at tree (process_of c) c) _ (both (is_listed tree (process_of c)) _ line).1).1 in
+      let g = both (is_listed tree (process_of c)) _ line in
+      let shows = sym (line_since c g.0) ∙ (both (is_case_at tree (process_of c) c) _ g.1).1 in
       not_so (has (is_forgot c) (kept (w.at (process_of c))))
       (both (has (is_prepared c) (kept (w.at (process_of c)))) _
       (subst (λ (r : Role). has_line_in r c (kept (w.at (process_of c))) ≡ true) f.leaf shows)).1
 
   -- the decision that a line shows stands
   pub shown_stands : (c : Case) (o : Outcome) → has_line tree (logs_of_world w) c ≡ true
-      → has (is_decided c o) (kept (w.at (process_of c))) ≡ true
-      → (has (is_decided c o) (w.at (process_of c)).durable ≡ true) × DecisionStands (w.at (process_of c)) c o
-  shown_stands c o line decided =
-      let f = found c o (both (is_listed tree (process_of c)) _ line).0 decided in
+      → has (is_decided c o) (since_promise c (kept (w.at (process_of c)))) ≡ true
+      → (has (is_decided c o) (w.at (process_of c)).durable ≡ true)
+      × DecisionStands (w.at (process_of c)) c o
+  shown_stands c o line shown =
+      let listed = (both (is_listed tree (process_of c)) _ line).0 in
+      let decided = sym (decided_since c o listed) ∙ shown in
+      let f = found c o listed decided in
       let rs = kept (w.at (process_of c)) in (
         f.durable,
         record {
@@ -278,12 +310,12 @@ module _ (tree : List TreeEntry) (w : World) (h : WorldHolds tree w) (up : AllUp
   -- and one that stands has a line
   pub standing_shows : (c : Case) (o : Outcome) → DecisionStands (w.at (process_of c)) c o
       → (has_line tree (logs_of_world w) c ≡ true)
-      × (has (is_decided c o) (kept (w.at (process_of c))) ≡ true)
+      × (has (is_decided c o) (since_promise c (kept (w.at (process_of c)))) ≡ true)
   standing_shows c o s =
       let n = w.at (process_of c) in
       let decided = in_first (is_decided c o) n.forced n.unforced s.is_forced in
       let listed = listed_so c o decided in
       let f = found c o listed decided in (
         has_branch_line c o f listed (never_forgotten c o Unmarked (kept n) f.in_order s.not_forgotten),
-        decided,
+        decided_since c o listed ∙ decided,
       )

@@ -104,26 +104,31 @@ module _ (tree : List TreeEntry) (w : World) (h : WorldHolds tree w) (c : Case) 
     only d e =
         let holds = h.nodes (process_of c) pair.parent.listed in
         let now : has_accepted n d t ≡ true =
-        (coordinates_in (role_of tree (process_of c)) (place_of tree (process_of c)) w.net n c pair.parent.role
-        holds.role).named_accepted d t (holds.lasts.nested.kept_was_written (is_naming d t) (λ k. refl) e) in
+        (coordinates_in (role_of tree (process_of c)) (place_of tree
+        (process_of c)) w.net n c pair.parent.role
+        holds.role).named_accepted d t (holds.lasts.nested.kept_was_written (is_naming d t)
+        (λ k. refl) e) in
         let also = (accepts tree w (standing_world tree w h) (process_of c) d t now).1 in
         case_is d c (h.joined_once d c t also joined)
 
     itself : has (is_naming c t) (kept (w.at (process_of c))) ≡ true → passes c ≡ true
     itself e = and _ _ (and _ _ (same_txn-refl c.txn) e) (and _ _
-        (and _ _ (same_process_itself (process_of c)) (fits (role_of tree (process_of c)) c pair.parent.role))
+        (and _ _ (same_process_itself (process_of c)) (fits (role_of tree
+        (process_of c)) c pair.parent.role))
         (and _ _ pair.parent.top_listed (ap is_root_role pair.parent.top)))
 
     pub named_is : has (is_naming c t) (kept (w.at (process_of c))) ≡ true
         → naming_case tree (process_of c) c.txn t (kept (w.at (process_of c))) ≡ Some c
     named_is e =
         find_only passes c (cases_in (kept n)) (λ d f. only d (both _ _ (both _ _ f).0).1) (itself e)
-        (recorded_case c (kept n) (has_other (is_naming c t) (is_record_of c) (kept n) (naming_records c t) e))
+        (recorded_case c (kept n) (has_other (is_naming c t) (is_record_of c) (kept n)
+        (naming_records c t) e))
 
     pub named_none : has (is_naming c t) (kept (w.at (process_of c))) ≡ false
         → naming_case tree (process_of c) c.txn t (kept (w.at (process_of c))) ≡ None
     named_none e =
         find_none passes (cases_in (kept n)) (λ d f.
         let g = (both _ _ (both _ _ f).0).1 in
-        let k = subst (λ (x : Case). has (is_naming x t) (kept (w.at (process_of c))) ≡ true) (only d g) g in
+        let k = subst (λ (x : Case). has (is_naming x t) (kept (w.at (process_of c)))
+        ≡ true) (only d g) g in
         not_both (is_naming c t) (has (is_naming c t) (kept n)) k e)

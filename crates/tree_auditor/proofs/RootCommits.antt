@@ -108,7 +108,8 @@ module _ (me : ProcessId) (tree : List TreeEntry) (n : Node) (old : CommitsForce
 abbrev at : ProcessId → List TreeEntry → Role → Place
 at q tree r = record { me = q; role = r; tree = tree }
 
-pub commits_forced : (tree : List TreeEntry) (es : List Made) (w : World) → IsRun tree es w → (q : ProcessId)
+pub commits_forced : (tree : List TreeEntry) (es : List Made) (w : World) → IsRun tree es w
+    → (q : ProcessId)
     → role_of tree q ≡ AtRoot → CommitsForced (logs_of (w.at q))
 commits_forced tree _ _ opens q role = λ up c. none_left c
 commits_forced tree _ _ (makes es w m e w' run stands step) q role =

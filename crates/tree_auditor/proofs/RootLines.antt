@@ -1,5 +1,5 @@
 -- The root's lines: what it decided, by itself.
-use Rattle.std.proofs.Common.{◌≡◌, ◌∙◌, ◌⊎◌, inl, inr, Bool, true, false, List, refl, arith, if◌then◌else◌}
+use Rattle.std.proofs.Common.{◌≡◌, ◌∙◌, ◌⊎◌, inl, inr, Bool, true, false, Option, List, refl, ap, arith, if◌then◌else◌}
 use Rattle.tree_model.specs.declared.names.Case.{Case}
 use Rattle.tree_model.specs.declared.names.Outcome.{Outcome}
 use Rattle.tree_model.specs.declared.names.Outcome.TheVariants.{Committed, Aborted}
@@ -21,6 +21,7 @@ use Rattle.tree_nodes.proofs.Tests.{both, either, in_either, in_first, not_both}
 use Rattle.tree_nodes.proofs.Worlds.{all_last, has_other}
 use Rattle.tree_headline.proofs.Ends.{has_either}
 use Rattle.tree_auditor.specs.Audits.{decided_or, decision_by, has_line_in, is_abort_learnt, own_decision}
+use Rattle.tree_auditor.proofs.Sinces.{own_same}
 use Rattle.tree_auditor.proofs.RootCommits.{commits_forced}
 
 -- What a coordinator's own records say.
@@ -36,18 +37,20 @@ aborts_or d r e = grind arith
 -- a coordinator that learnt a commit has a Commit
 pub learnt_commit : (d : Case) (rs : List Record) → has (is_branch_record d) rs ≡ false
     → has (is_learnt_commit d) rs ≡ true → has (is_commit d) rs ≡ true
-learnt_commit d rs none e = elim (has_either (is_learnt_commit d) (is_commit d) (is_branch_record d) rs (commits_or d) e) [
-  | inl f ↦ f
-  | inr f ↦ not_both (is_branch_record d) (has (is_branch_record d) rs) f none
-]
+learnt_commit d rs none e = elim (has_either (is_learnt_commit d) (is_commit d) (is_branch_record d) rs
+    (commits_or d) e) [
+      | inl f ↦ f
+      | inr f ↦ not_both (is_branch_record d) (has (is_branch_record d) rs) f none
+    ]
 
 -- one that learnt an abort has an Abort
 pub learnt_abort : (d : Case) (rs : List Record) → has (is_branch_record d) rs ≡ false
     → has (is_abort_learnt d) rs ≡ true → has (is_abort d) rs ≡ true
-learnt_abort d rs none e = elim (has_either (is_abort_learnt d) (is_abort d) (is_branch_record d) rs (aborts_or d) e) [
-  | inl f ↦ f
-  | inr f ↦ not_both (is_branch_record d) (has (is_branch_record d) rs) f none
-]
+learnt_abort d rs none e = elim (has_either (is_abort_learnt d) (is_abort d) (is_branch_record d) rs
+    (aborts_or d) e) [
+      | inl f ↦ f
+      | inr f ↦ not_both (is_branch_record d) (has (is_branch_record d) rs) f none
+    ]
 
 commit_learns : (d : Case) (r : Record) → is_commit d r ≡ true → is_learnt_commit d r ≡ true
 commit_learns d r e = grind arith
@@ -56,15 +59,18 @@ abort_learns : (d : Case) (r : Record) → is_abort d r ≡ true → is_abort_le
 abort_learns d r e = grind arith
 
 -- a Commit is learnt, and so is an Abort
-pub has_learnt_commit : (d : Case) (rs : List Record) → has (is_commit d) rs ≡ true → has (is_learnt_commit d) rs ≡ true
+pub has_learnt_commit : (d : Case) (rs : List Record) → has (is_commit d) rs ≡ true
+    → has (is_learnt_commit d) rs ≡ true
 has_learnt_commit d rs e = has_other (is_commit d) (is_learnt_commit d) rs (commit_learns d) e
 
-pub has_learnt_abort : (d : Case) (rs : List Record) → has (is_abort d) rs ≡ true → has (is_abort_learnt d) rs ≡ true
+pub has_learnt_abort : (d : Case) (rs : List Record) → has (is_abort d) rs ≡ true
+    → has (is_abort_learnt d) rs ≡ true
 has_learnt_abort d rs e = has_other (is_abort d) (is_abort_learnt d) rs (abort_learns d) e
 
 -- What a decision of the root is.
 
-coordinates_in : (role : Role) (n : Node) → role ≡ AtRoot → RoleLasts role (logs_of n) → Coordinates (logs_of n)
+coordinates_in : (role : Role) (n : Node) → role ≡ AtRoot → RoleLasts role (logs_of n)
+    → Coordinates (logs_of n)
 coordinates_in AtRoot n e l = l
 coordinates_in role n e l = absurd (cc)
 
@@ -86,18 +92,23 @@ module _ (tree : List TreeEntry) (es : List Made) (w : World) (run : IsRun tree 
 
     pub none_of_branch : has (is_branch_record (root_case x)) (kept (w.at x.root)) ≡ false
     none_of_branch =
-        (no_branch c n nested (coordinates_in (role_of tree x.root) n role (all_last tree es w run x.root).by_role)).kept_none
+        (no_branch c n nested (coordinates_in (role_of tree x.root) n role
+        (all_last tree es w run x.root).by_role)).kept_none
 
     -- a Commit that it keeps is the outcome
-    pub kept_commit : has (is_commit (root_case x)) (kept (w.at x.root)) ≡ true → is_commit_outcome w x ≡ true
+    pub kept_commit : has (is_commit (root_case x)) (kept (w.at x.root)) ≡ true → is_commit_outcome w x
+        ≡ true
     unfolding is_commit_outcome
-    kept_commit e = nested.forced_is_old (is_commit c) (elim (in_either (is_commit c) n.forced n.unforced e) [
-      | inl f ↦ f
-      | inr f ↦ not_both (is_commit c) (has (is_commit c) n.unforced) f (commits_forced tree es w run x.root role up c)
-    ])
+    kept_commit e = nested.forced_is_old (is_commit c) (elim (in_either
+        (is_commit c) n.forced n.unforced e) [
+          | inl f ↦ f
+          | inr f ↦ not_both (is_commit c) (has (is_commit c) n.unforced) f
+              (commits_forced tree es w run x.root role up c)
+        ])
 
     -- with an Abort it never commits
-    pub kept_abort : has (is_abort (root_case x)) (kept (w.at x.root)) ≡ true → is_commit_outcome w x ≡ false
+    pub kept_abort : has (is_abort (root_case x)) (kept (w.at x.root)) ≡ true → is_commit_outcome w x
+        ≡ false
     unfolding is_commit_outcome
     kept_abort e = ((all_never tree es w run x.root role).dead c
         (by_abort (nested.kept_was_written (is_abort c) (λ k. refl) e))).none_ever
@@ -111,7 +122,8 @@ module _ (tree : List TreeEntry) (es : List Made) (w : World) (run : IsRun tree 
         by_test : (b : Bool) → has (is_commit c) n.durable ≡ b → has (is_commit c) n.durable ≡ false
         by_test false f = f
         by_test true f = elim ((all_never tree es w run x.root role).stand c f) [
-          | inl g ↦ not_both (is_commit c) (has (is_commit c) (kept n)) (in_first (is_commit c) n.forced n.unforced g) none
+          | inl g ↦ not_both (is_commit c) (has (is_commit c) (kept n)) (in_first
+              (is_commit c) n.forced n.unforced g) none
           | inr g ↦ not_both (is_collecting c) (has (is_collecting c) (kept n)) e g
         ]
 
@@ -139,7 +151,8 @@ module _ (tree : List TreeEntry) (es : List Made) (w : World) (run : IsRun tree 
       where
         by_test : (a : Bool) → has (is_commit c) (kept n) ≡ a → has (is_commit c) (kept n) ≡ false
         by_test false g = g
-        by_test true g = not_both (is_commit c) (has (is_learnt_commit c) (kept n)) (has_learnt_commit c (kept n) g) (e ∙ f)
+        by_test true g = not_both (is_commit c) (has (is_learnt_commit c) (kept n)) (has_learnt_commit c
+            (kept n) g) (e ∙ f)
 
     undecided : has_line_in AtRoot (root_case x) (kept (w.at x.root)) ≡ true
         → has (is_commit (root_case x)) (kept (w.at x.root)) ≡ false → is_commit_outcome w x ≡ false
@@ -154,6 +167,9 @@ module _ (tree : List TreeEntry) (es : List Made) (w : World) (run : IsRun tree 
     pub root_says : has_line_in AtRoot (root_case x) (kept (w.at x.root)) ≡ true
         → Says (decided_or (own_decision (root_case x) (kept (w.at x.root))) Aborted)
     root_says line =
-        by_records (has (is_learnt_commit c) (kept n)) (has (is_abort_learnt c) (kept n)) (has (is_promise c) (kept n))
+        ap (λ (o : Option Outcome). decided_or o Aborted)
+        (own_same (role_of tree x.root) n c (all_last tree es w run x.root))
+        ∙ by_records (has (is_learnt_commit c) (kept n)) (has (is_abort_learnt c) (kept n))
+        (has (is_promise c) (kept n))
         (λ e. kept_commit (learnt_commit c (kept n) none_of_branch e))
         (λ e. undecided line (no_commit (has (is_learnt_commit c) (kept n)) refl e))

@@ -1,5 +1,5 @@
 -- The audit: what a tree and the kept lists of its processes say of each case, and that it is true.
-use Rattle.std.specs.Prelude.{◌≡◌, ◌≢◌, ℕ, zero, suc, Bool, true, false, not, ◌&&◌, ◌||◌, Option, Some, None, List, find, length}
+use Rattle.std.specs.Prelude.{◌≡◌, ◌≢◌, ℕ, zero, suc, Bool, true, false, not, ◌&&◌, ◌||◌, Option, Some, None, List, [], ◌∷◌, find, if◌then◌else◌, length}
 use Rattle.tree_model.specs.declared.names.Case.{Case}
 use Rattle.tree_model.specs.declared.names.Outcome.{Outcome}
 use Rattle.tree_model.specs.declared.names.Outcome.TheVariants.{Committed, Aborted}
@@ -47,17 +47,24 @@ is_case_at tree q c =
 abbrev pub is_abort_learnt : Case → Record → Bool
 is_abort_learnt c r = is_learnt_abort c r || is_abort c r
 
--- by whether a commit is decided or told, an abort is, and a promise stands: a case that neither decided nor promised
--- will abort; one that promised, and no more, asks its parent
+-- by whether a commit is decided or told, an abort is, and a promise stands: a case that neither decided
+-- nor promised will abort; one that promised, and no more, asks its parent
 abbrev pub decision_by : Bool → Bool → Bool → Option Outcome
 decision_by true _ _ = Some Committed
 decision_by false true _ = Some Aborted
 decision_by false false true = None
 decision_by false false false = Some Aborted
 
+-- the records from a manager's last Prepared of the case on, or all where there is none
+abbrev pub since_promise : Case → List Record → List Record
+since_promise c [] = []
+since_promise c (r ∷ rs) = if has (is_prepared c) rs then since_promise c rs else r ∷ rs
+
 -- the case's own decision, or what it was told; none where it is in doubt
 abbrev pub own_decision : Case → List Record → Option Outcome
-own_decision c rs = decision_by (has (is_learnt_commit c) rs) (has (is_abort_learnt c) rs) (has (is_promise c) rs)
+own_decision c rs =
+    let kept_of = since_promise c rs in
+    decision_by (has (is_learnt_commit c) kept_of) (has (is_abort_learnt c) kept_of) (has (is_promise c) kept_of)
 
 -- The recursion upward.
 
@@ -71,7 +78,8 @@ abbrev pub said_above : (Case → Outcome) → Presumption → Option Case → O
 said_above says p None = presumed p
 said_above says p (Some c) = says c
 
--- what the parent says of a case with this ticket; the root has no parent, and aborts what it has not decided
+-- what the parent says of a case with this ticket; the root has no parent, and aborts what it has not
+-- decided
 abbrev pub asked_above : (Case → Outcome) → List TreeEntry → Logs → Txn → Option Ticket → Outcome
 asked_above says tree logs x None = Aborted
 asked_above says tree logs x (Some t) =
@@ -96,8 +104,8 @@ audited tree logs c = outcome_within (length tree) tree logs c
 
 -- The lines.
 
--- which cases have a line: the root's with a decision, or with a Collecting that did not end; a cascaded coordinator's
--- that promised; a manager's that promised and was not forgotten
+-- which cases have a line: the root's with a decision, or with a Collecting that did not end; a cascaded
+-- coordinator's that promised; a manager's that promised and was not forgotten
 abbrev pub has_line_in : Role → Case → List Record → Bool
 has_line_in AtRoot c rs =
     (has (is_commit c) rs || has (is_abort c) rs) || (has (is_collecting c) rs && not (has (is_end c) rs))
@@ -108,16 +116,16 @@ has_line_in (AtLeaf p) c rs = has (is_prepared c) rs && not (has (is_forgot c) r
 abbrev pub has_line : List TreeEntry → Logs → Case → Bool
 has_line tree logs c =
     is_listed tree (process_of c) && (is_case_at tree (process_of c) c
-    && has_line_in (role_of tree (process_of c)) c (logs (process_of c)))
+    && has_line_in (role_of tree (process_of c)) c (since_promise c (logs (process_of c))))
 
 -- its line shows an operator's decision by this outcome, and a mismatch
 pub record ShowsMismatch (tree : List TreeEntry) (logs : Logs) (c : Case) (o : Outcome) : Type 0 where
   pub line : has_line tree logs c ≡ true
-  pub decided : has (is_decided c o) (logs (process_of c)) ≡ true
+  pub decided : has (is_decided c o) (since_promise c (logs (process_of c))) ≡ true
   pub differs : o ≢ audited tree logs c
 
--- What is true of an audit of a world: each line's outcome is the transaction's, and the mismatches that it shows are
--- just those that stand.
+-- What is true of an audit of a world: each line's outcome is the transaction's, and the mismatches that
+-- it shows are just those that stand.
 
 -- the kept lists of a world
 abbrev pub logs_of_world : World → Logs
