@@ -1,0 +1,2 @@
+-- The branches that a restart takes up, one after the other.
+use Rattle.std.proofs.Common.{◌≡◌}
