@@ -1,6 +1,6 @@
 -- A call's answer, from what its two tables say.
 use Rattle.std.proofs.Common.{◌≡◌, ◌≢◌, ℕ, Bool, true, false, Result, Ok, Err, refl, sym, ◌∙◌, subst, rules, arith, inl, inr}
-use Rattle.std.specs.Prelude.{◌⊎◌, ◌||◌, not, Option, Some, None, is_some, unwrap_or, MatchResult, IfOk, IfErr, Contains}
+use Rattle.std.specs.Prelude.{◌⊎◌, ◌||◌, not, Option, Some, None, is_some, unwrap_or, IfOk, IfErr, Contains}
 use Rattle.xa_codes.specs.declared.code.Code.{Code}
 use Rattle.xa_codes.specs.declared.code.Code.TheVariants as code
 use Rattle.xa_tables.specs.Tables.{branch_rows}
@@ -14,9 +14,7 @@ use Rattle.std.specs.Map.{lookup}
 use Rattle.xa_branch.specs.Names.{same}
 use Rattle.xa_branch.specs.Branches.{BranchList, Moves, Stays, is_known}
 use Rattle.xa_states.specs.declared.states.States.{States}
-use Rattle.xa_tables.specs.Calls.{legal}
-use Rattle.xa_tables.specs.declared.call.Verb.{Verb}
-use Rattle.xa_states.specs.Answers.{Reacts, Finishes, Does, Checked, Refuses, Answers, state_at}
+use Rattle.xa_states.specs.Answers.{Reacts, state_at}
 use Rattle.xa_states.specs.Reacting.{IsAt, resumed, left_by, suspend_call, end_call}
 
 pub stays : (old new : BranchList) → new ≡ old → Stays old new

@@ -113,7 +113,8 @@ abbrev pub Wanted : Type 0
 Wanted = Call → Code × BranchState
 
 -- a prepare, commit, rollback or forget for which the manager takes this row: NotA, then Proto, come first
-pub record Finishes (old new : States) (x : Xid) (call : Call) (wanted : Code × BranchState) (answer : Code) : Type 0 where
+pub record Finishes (old new : States) (x : Xid) (call : Call) (wanted : Code × BranchState)
+    (answer : Code) : Type 0 where
   pub unknown : is_known old.branches.branches x ≡ false → Refuses old new answer code.NotA
   pub held : is_known old.branches.branches x ≡ true → is_held old.associations x ≡ true
       → Refuses old new answer code.Proto
@@ -169,7 +170,8 @@ Does wanted old new call.EndFail t x answer = Ends old new t x false answer
 Does wanted old new c t x answer = Finishes old new x c (wanted c) answer
 
 -- the checks before a call on a branch, in their order: not open, then the null name
-pub record Checked (wanted : Wanted) (old new : States) (c : Call) (t : ℕ) (x : Xid) (answer : Code) : Type 0 where
+pub record Checked (wanted : Wanted) (old new : States) (c : Call) (t : ℕ) (x : Xid)
+    (answer : Code) : Type 0 where
   pub closed : old.init ≡ R0 → Refuses old new answer code.Proto
   pub null : old.init ≡ R1 → x ≡ null_xid → Refuses old new answer code.Inval
   pub does : old.init ≡ R1 → (x ≡ null_xid → ⊥) → Does wanted old new c t x answer

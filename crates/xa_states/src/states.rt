@@ -1,6 +1,8 @@
 //! The tables of a resource manager, and the calls that walk their rows.
 
-use crate::reacting::{end_call, has_rows, is_failed, is_refusal, resumed, state_left, suspend_call};
+use crate::reacting::{
+    end_call, has_rows, is_failed, is_refusal, resumed, state_left, suspend_call,
+};
 use std::alloc::{AllocError, Global};
 use xa_assoc::Associations;
 use xa_branch::Branches;
@@ -45,10 +47,7 @@ impl States {
     /// The tables behind a restart: a manager that is not open, without associations and scans, and these branches
     /// in doubt, in this order: prepared (in S3), or where the second is true decided by an operator (in S5).
     /// RmErr: they are more than 1,024. DupId: one of them stands there twice.
-    pub fn restored(
-        alloc: Global,
-        left: &[(Xid, bool)],
-    ) -> Result<Result<Self, Code>, AllocError>
+    pub fn restored(alloc: Global, left: &[(Xid, bool)]) -> Result<Result<Self, Code>, AllocError>
         ensures { IfOk result (λ made. MatchResult made
             (λ states. (restore_refusal left.now ≡ None) × Restored left.now states)
             (λ refusal. restore_refusal left.now ≡ Some refusal)) }
@@ -63,15 +62,11 @@ impl States {
                 return Ok(Err(code));
             }
         }
-        Ok(
-            Ok(
-                States {
-                    init: InitState::R0,
-                    branches,
-                    associations: Associations::new(alloc, true),
-                },
-            ),
-        )
+        Ok(Ok(States {
+            init: InitState::R0,
+            branches,
+            associations: Associations::new(alloc, true),
+        }))
     }
 
     /// Whether the manager is open.
