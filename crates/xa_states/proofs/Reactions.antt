@@ -1,6 +1,6 @@
 -- A call's answer, from what its two tables say.
 use Rattle.std.proofs.Common.{◌≡◌, ◌≢◌, ℕ, Bool, true, false, Result, Ok, Err, refl, sym, ◌∙◌, subst, rules, arith, inl, inr}
-use Rattle.std.specs.Prelude.{◌⊎◌, ◌||◌, not, Option, Some, None, is_some, unwrap_or, MatchResult, IfOk, IfErr, Contains}
+use Rattle.std.specs.Prelude.{◌⊎◌, ◌||◌, not, Option, Some, None, is_some, unwrap_or, IfOk, IfErr, Contains}
 use Rattle.xa_codes.specs.declared.code.Code.{Code}
 use Rattle.xa_codes.specs.declared.code.Code.TheVariants as code
 use Rattle.xa_tables.specs.Tables.{branch_rows}
@@ -13,11 +13,9 @@ use Rattle.xa_assoc.specs.Associations.{AssocList, Row, Steps, start_plan, resum
 use Rattle.std.specs.Map.{lookup}
 use Rattle.xa_branch.specs.Names.{same}
 use Rattle.xa_branch.specs.Branches.{BranchList, Moves, Stays, is_known}
-use Rattle.xa_engine.specs.declared.manager.Manager.{Manager}
-use Rattle.xa_tables.specs.Calls.{legal}
-use Rattle.xa_tables.specs.declared.call.Verb.{Verb}
-use Rattle.xa_engine.specs.Manager.{Reacts, Finishes, Does, Checked, Refuses, Answers, state_at}
-use Rattle.xa_engine.specs.Reacting.{IsAt, resumed, left_by, suspend_call, end_call}
+use Rattle.xa_states.specs.declared.states.States.{States}
+use Rattle.xa_states.specs.Answers.{Reacts, state_at}
+use Rattle.xa_states.specs.Reacting.{IsAt, resumed, left_by, suspend_call, end_call}
 
 pub stays : (old new : BranchList) → new ≡ old → Stays old new
 stays old new e = subst (λ (b : BranchList). Stays old b) (sym e) (record { branches = refl; scans = refl; room = omega arith })
@@ -38,7 +36,7 @@ answer_is old new t x P (Err e) answer plan holds steps p q =
     absurd (elim plan.refuses [ inl is ↦ p (steps.0 ∙ is) | inr is ↦ q (steps.0 ∙ is) ])
 
 -- a row was made, of the associations and then of the branches
-pub made : (old new : Manager) (t : ℕ) (x : Xid) (c : Call) (plan : Result Row Code) (to : BranchState) (by answer : Code)
+pub made : (old new : States) (t : ℕ) (x : Xid) (c : Call) (plan : Result Row Code) (to : BranchState) (by answer : Code)
     → IsPlan plan → Steps old.associations new.associations t x plan by → by ≢ code.Proto → by ≢ code.RmErr
     → Contains (branch_rows (state_at old x) c) (by, to) → answer ≡ by → Moves old.branches new.branches x to → new.init ≡ old.init
     → Reacts old new t x c plan to answer
@@ -53,11 +51,11 @@ known_by false None h = absurd h
 known_by lost (Some s) h = refl
 
 -- a branch at work is known
-pub known_at : (lost : Bool) (m : Manager) (x : Xid) → IsAt lost (state_at m x) → is_known m.branches.branches x ≡ true
+pub known_at : (lost : Bool) (m : States) (x : Xid) → IsAt lost (state_at m x) → is_known m.branches.branches x ≡ true
 known_at lost m x h = known_by lost (lookup (same x) m.branches.branches) h
 
 -- the same of a branch at work or lost, by what a step of it ensures
-pub made_step : (old new : Manager) (t : ℕ) (x : Xid) (c made_call : Call) (plan : Result Row Code) (to made_state : BranchState) (by answer : Code) (lost : Bool)
+pub made_step : (old new : States) (t : ℕ) (x : Xid) (c made_call : Call) (plan : Result Row Code) (to made_state : BranchState) (by answer : Code) (lost : Bool)
     → IsPlan plan → Steps old.associations new.associations t x plan by → by ≢ code.Proto → by ≢ code.RmErr
     → IfOk plan (λ r. Contains (branch_rows (state_at old x) c) (r.1, to)) → IsAt lost (state_at old x) → made_call ≡ c → made_state ≡ to
     → (is_known old.branches.branches x ≡ true → Contains (branch_rows (state_at old x) made_call) (by, made_state) → (answer ≡ by) × Moves old.branches new.branches x made_state)
@@ -70,7 +68,7 @@ made_step old new t x c made_call plan to made_state by answer lost is_plan step
     made old new t x c plan to by answer is_plan steps p q listed moved.0 moved.1 init
 
 -- a call was refused by the associations
-pub refused : (old new : Manager) (t : ℕ) (x : Xid) (c : Call) (plan : Result Row Code) (to : BranchState) (answer : Code)
+pub refused : (old new : States) (t : ℕ) (x : Xid) (c : Call) (plan : Result Row Code) (to : BranchState) (answer : Code)
     → IsPlan plan → Steps old.associations new.associations t x plan answer → (answer ≡ code.Proto) ⊎ (answer ≡ code.RmErr)
     → new.branches ≡ old.branches → new.init ≡ old.init → Reacts old new t x c plan to answer
 refused old new t x c (Ok r) to answer plan steps is branches init =
@@ -187,23 +185,3 @@ end_listed true true active s a t x h = let listed = failed_listed s true true h
 end_listed true false active s a t x h = let listed = failed_listed s true false h refl in search rules
 end_listed false false active s a t x h = let listed = failed_listed s false false h refl in search rules
 end_listed false true active s a t x h = let listed = done_listed s active h in search rules
-
--- a call that is neither a start nor an end nor a prepare
-pub finishes : (old new : Manager) (c : Call) (t : ℕ) (x : Xid) (answer : Code) → c ≢ call.Start → c ≢ call.StartJoin → c ≢ call.StartResume
-    → c ≢ call.EndSuspend → c ≢ call.EndMigrate → c ≢ call.EndSuccess → c ≢ call.EndFail → c ≢ call.Prepare
-    → Finishes old new x c code.Ok answer → Does old new c t x answer
-finishes old new call.Start t x answer s1 s2 s3 s4 s5 s6 s7 s8 f = absurd (s1 refl)
-finishes old new call.StartJoin t x answer s1 s2 s3 s4 s5 s6 s7 s8 f = absurd (s2 refl)
-finishes old new call.StartResume t x answer s1 s2 s3 s4 s5 s6 s7 s8 f = absurd (s3 refl)
-finishes old new call.EndSuspend t x answer s1 s2 s3 s4 s5 s6 s7 s8 f = absurd (s4 refl)
-finishes old new call.EndMigrate t x answer s1 s2 s3 s4 s5 s6 s7 s8 f = absurd (s5 refl)
-finishes old new call.EndSuccess t x answer s1 s2 s3 s4 s5 s6 s7 s8 f = absurd (s6 refl)
-finishes old new call.EndFail t x answer s1 s2 s3 s4 s5 s6 s7 s8 f = absurd (s7 refl)
-finishes old new call.Prepare t x answer s1 s2 s3 s4 s5 s6 s7 s8 f = absurd (s8 refl)
-finishes old new _ t x answer s1 s2 s3 s4 s5 s6 s7 s8 f = f
-
--- legal flags, and the checks behind them
-pub answered : (old new : Manager) (v : Verb) (t : ℕ) (x : Xid) (flags : ℕ) (c : Call) (answer : Code) → legal v flags ≡ Ok c
-    → Checked old new c t x answer → Answers old new v t x flags answer
-answered old new v t x flags c answer e checked =
-    subst (λ (r : Result Call Code). MatchResult r (λ d. Checked old new d t x answer) (λ refusal. Refuses old new answer refusal)) (sym e) checked
