@@ -11,7 +11,7 @@ use xa_states::States;
 use xa_tables::{BranchState, Call, Verb};
 use xa_xid::Xid;
 
-/// The row of a call that finishes a branch: there is nothing to prepare, and each other call ends the branch.
+/// The row of a call that finishes a branch: there is nothing to prepare, and all other calls end the branch.
 fn row_of(call: Call) -> (Code, BranchState)
     ensures { result ≡ plain_rows call }
 {

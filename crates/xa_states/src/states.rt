@@ -44,9 +44,9 @@ impl States {
         }
     }
 
-    /// The tables behind a restart: a manager that is not open, without associations and scans, and these branches
-    /// in doubt, in this order: prepared (in S3), or where the second is true decided by an operator (in S5).
-    /// RmErr: they are more than 1,024. DupId: one of them stands there twice.
+    /// The tables behind a restart: a manager that is not open, without associations and scans, and these
+    /// branches in doubt, in this order: prepared (in S3), or where the second is true decided by an operator
+    /// (in S5). RmErr: they are more than 1,024. DupId: one of them stands there twice.
     pub fn restored(alloc: Global, left: &[(Xid, bool)]) -> Result<Result<Self, Code>, AllocError>
         ensures { IfOk result (λ made. MatchResult made
             (λ states. (restore_refusal left.now ≡ None) × Restored left.now states)
@@ -125,9 +125,10 @@ impl States {
         Code::Ok
     }
 
-    /// A start or an end of a thread's work in a branch, whole. Inval, Async: the flags. Proto: the manager is not
-    /// open, or no row applies. Inval: the null XID. DupId, NotA: the branch is known, or is not. RmErr: 1,024
-    /// branches, 256 threads with associations or 2^64 - 1 migrations of the branch. A refusal changes nothing.
+    /// A start or an end of a thread's work in a branch, whole. Inval, Async: the flags. Proto: the manager is
+    /// not open, or no row applies. Inval: the null XID. DupId, NotA: the branch is known, or is not. RmErr:
+    /// 1,024 branches, 256 threads with associations or 2^64 - 1 migrations of the branch. A refusal changes
+    /// nothing.
     pub fn work_call(
         &mut self,
         verb: Verb,
@@ -162,8 +163,8 @@ impl States {
     }
 
     /// The call that a prepare, commit, rollback or forget makes where it comes to a row of the table. Inval,
-    /// Async: the flags. Proto: the manager is not open. Inval: the null XID. NotA: the branch is not known. Proto:
-    /// it is held, or the table has no row for its state.
+    /// Async: the flags. Proto: the manager is not open. Inval: the null XID. NotA: the branch is not known.
+    /// Proto: it is held, or the table has no row for its state.
     pub fn ready(&self, verb: Verb, xid: &Xid, flags: Flags) -> Result<Call, Code>
         ensures { result ≡ ready self.now verb xid.now flags.0 }
     {
@@ -183,24 +184,29 @@ impl States {
         Ok(call)
     }
 
-    /// Takes the row of a call that finishes a branch, which `ready` let through: its answer, and the state behind
-    /// it. It takes no memory. NotA: the branch is not known. Proto (at a start DupId): the table has no such row.
-    /// A refusal changes nothing.
+    /// Takes the row of a call that finishes a branch, which `ready` let through: its answer, and the state
+    /// behind it. It takes no memory. NotA: the branch is not known. Proto (at a start DupId): the table has no
+    /// such row. A refusal changes nothing.
     pub fn finish(&mut self, xid: &Xid, call: Call, row: (Code, BranchState)) -> Code
         ensures row { is_known self.old.branches.branches xid.now ≡ true
-            → Contains (branch_rows (state_at self.old xid.now) call) row → (result ≡ row.0) × Takes self.old self.new xid.now row.1 }
+            → Contains (branch_rows (state_at self.old xid.now) call) row
+            → (result ≡ row.0) × Takes self.old self.new xid.now row.1 }
         ensures off { is_known self.old.branches.branches xid.now ≡ true
-            → (Contains (branch_rows (state_at self.old xid.now) call) row → ⊥) → Refuses self.old self.new result (off_row call) }
-        ensures unknown { is_known self.old.branches.branches xid.now ≡ false → Refuses self.old self.new result Code.NotA }
+            → (Contains (branch_rows (state_at self.old xid.now) call) row → ⊥)
+            → Refuses self.old self.new result (off_row call) }
+        ensures unknown { is_known self.old.branches.branches xid.now ≡ false
+            → Refuses self.old self.new result Code.NotA }
     {
         self.branches.step(xid, call, row)
     }
 
-    /// An operator's decision about a prepared branch, which leads it from S3 to S5; the manager need not be open.
-    /// False: it is not in S3, and nothing changes.
+    /// An operator's decision about a prepared branch, which leads it from S3 to S5; the manager need not be
+    /// open. False: it is not in S3, and nothing changes.
     pub fn decided(&mut self, xid: &Xid) -> bool
-        ensures decided { result ≡ true → (state_at self.old xid.now ≡ BranchState.S3) × Takes self.old self.new xid.now BranchState.S5 }
-        ensures refused { result ≡ false → (state_at self.old xid.now ≢ BranchState.S3) × (self.new ≡ self.old) }
+        ensures decided { result ≡ true → (state_at self.old xid.now ≡ BranchState.S3)
+            × Takes self.old self.new xid.now BranchState.S5 }
+        ensures refused { result ≡ false
+            → (state_at self.old xid.now ≢ BranchState.S3) × (self.new ≡ self.old) }
     {
         self.branches.decided(xid)
     }
@@ -212,7 +218,8 @@ impl States {
         count: u32,
         flags: Flags,
     ) -> Result<Result<Vec<Xid>, Code>, AllocError>
-        ensures answer { IfOk result (λ answer. Recovers self.old self.new thread count flags.0 (map_ok answer)) }
+        ensures answer { IfOk result
+            (λ answer. Recovers self.old self.new thread count flags.0 (map_ok answer)) }
         ensures err { OnErr result (Same self.old self.new) }
     {
         let call = match legal_call(Verb::Recover, flags) {
@@ -227,7 +234,9 @@ impl States {
 
     /// A start of a new branch.
     fn start(&mut self, thread: u32, xid: &Xid) -> Result<Code, AllocError>
-        ensures answer { IfOk result (Reacts self.old self.new thread xid.now call.Start (start_reaction self.old thread xid.now) BranchState.S1) }
+        ensures answer { IfOk result
+            (Reacts self.old self.new thread xid.now call.Start
+            (start_reaction self.old thread xid.now) BranchState.S1) }
         ensures err { OnErr result (Same self.old self.new) }
     {
         if self.branches.is_known(xid) {
@@ -249,7 +258,9 @@ impl States {
 
     /// A start TMJOIN.
     fn join(&mut self, thread: u32, xid: &Xid) -> Result<Code, AllocError>
-        ensures answer { IfOk result (Reacts self.old self.new thread xid.now call.StartJoin (join_reaction self.old thread xid.now) BranchState.S1) }
+        ensures answer { IfOk result
+            (Reacts self.old self.new thread xid.now call.StartJoin
+            (join_reaction self.old thread xid.now) BranchState.S1) }
         ensures err { OnErr result (Same self.old self.new) }
     {
         match self.branches.state(xid) {
@@ -261,7 +272,9 @@ impl States {
 
     fn join_work(&mut self, thread: u32, xid: &Xid) -> Result<Code, AllocError>
         requires { IsAt false (state_at self.old xid.now) }
-        ensures answer { IfOk result (Reacts self.old self.new thread xid.now call.StartJoin (start_plan self.old.associations thread xid.now) BranchState.S1) }
+        ensures answer { IfOk result
+            (Reacts self.old self.new thread xid.now call.StartJoin
+            (start_plan self.old.associations thread xid.now) BranchState.S1) }
         ensures err { OnErr result (Same self.old self.new) }
     {
         let code = self.associations.start(thread, xid)?;
@@ -325,7 +338,8 @@ impl States {
     ) -> Result<Code, AllocError>
         requires { IsAt lost (state_at self.old xid.now) }
         ensures answer { IfOk result (Reacts self.old self.new thread xid.now (suspend_call migrate)
-            (suspend_plan self.old.associations thread xid.now lost migrate) (left_state self.new xid.now lost)) }
+            (suspend_plan self.old.associations thread xid.now lost migrate)
+            (left_state self.new xid.now lost)) }
         ensures err { OnErr result (Same self.old self.new) }
     {
         let code = self.associations.suspend(thread, xid, lost, migrate)?;
@@ -351,7 +365,8 @@ impl States {
     fn end_work(&mut self, thread: u32, xid: &Xid, lost: bool, succeeds: bool) -> Code
         requires { IsAt lost (state_at self.old xid.now) }
         ensures { Reacts self.old self.new thread xid.now (end_call succeeds)
-            (end_plan self.old.associations thread xid.now lost succeeds) (left_state self.new xid.now (lost || not succeeds)) result }
+            (end_plan self.old.associations thread xid.now lost succeeds)
+            (left_state self.new xid.now (lost || not succeeds)) result }
     {
         let code = self.associations.end(thread, xid, lost, succeeds);
         if is_refusal(code) {

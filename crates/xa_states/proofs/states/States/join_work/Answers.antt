@@ -17,7 +17,11 @@ returns-clause-answer c =
     let plan = start_plan old.associations t x in
     let not_proto : c.in_ok-code.code ≢ code.Proto = search rules in
     let not_limit : c.in_ok-code.code ≢ code.RmErr = search rules in
-    let listed = answer_is old.associations c.start.new.self t x (λ a. Contains (branch_rows (state_at old x) call.StartJoin) (a, S1)) plan c.in_ok-code.code
-    (start_is_plan old.associations t x) (start_listed (state_at old x) old.associations t x c.requires) c.in_ok-code.ensures.answer not_proto not_limit in
+    let listed = answer_is old.associations c.start.new.self t x
+    (λ a. Contains (branch_rows (state_at old x) call.StartJoin) (a, S1)) plan c.in_ok-code.code
+    (start_is_plan old.associations t x) (start_listed (state_at old x) old.associations t x c.requires)
+    c.in_ok-code.ensures.answer not_proto not_limit in
     let moved = c.step.ensures.row (known_at false old x c.requires) listed in
-    made old _ t x call.StartJoin plan S1 c.in_ok-code.code c.step.result (start_is_plan old.associations t x) c.in_ok-code.ensures.answer not_proto not_limit listed moved.0 moved.1 refl
+    made old _ t x call.StartJoin plan S1 c.in_ok-code.code c.step.result
+    (start_is_plan old.associations t x) c.in_ok-code.ensures.answer not_proto not_limit listed moved.0
+    moved.1 refl
