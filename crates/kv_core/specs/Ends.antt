@@ -1,5 +1,5 @@
 -- The calls that finish a branch.
-use Rattle.std.specs.Prelude.{◌≡◌, ℕ, Bool, true, false, not, List, [], Result, Ok, Err, Contains}
+use Rattle.std.specs.Prelude.{◌≡◌, ℕ, Bool, true, false, List, [], ◌∷◌, Ok, Err, Contains, MatchBool}
 use Rattle.xa_codes.specs.declared.code.Code.{Code}
 use Rattle.xa_tables.specs.declared.call.Call.{Call}
 use Rattle.xa_tables.specs.declared.call.Verb.{Verb}
@@ -13,7 +13,7 @@ use Rattle.xa_states.specs.Ready.{ready}
 use Rattle.log_text.specs.Parts.{name_in}
 use Rattle.tree_model.specs.declared.records.Write.{Write}
 use Rattle.kv_locks.specs.Locks.{Releases}
-use Rattle.kv_store.specs.Versions.{Publishes, Stages}
+use Rattle.kv_store.specs.Versions.{Publishes, SameData, Stages}
 use Rattle.kv_writes.specs.Writes.{Leaves, writes_of}
 use Rattle.kv_turns.specs.declared.turns.Turn.{Turn}
 use Rattle.kv_turns.specs.Turns.{presumption_of, turn_of}
@@ -51,6 +51,13 @@ pub record StagesWrites (old new : KeySight) (x : Xid) : Type 0 where
   pub writes : new.writes ≡ old.writes
   pub locks : new.locks ≡ old.locks
 
+-- nothing of the data changes, nor anything else
+pub record SameButData (old new : KeySight) : Type 0 where
+  pub versions : SameData old.versions new.versions
+  pub tables : new.tables ≡ old.tables
+  pub writes : new.writes ≡ old.writes
+  pub locks : new.locks ≡ old.locks
+
 -- the staged writes are data now, and nothing else changes
 pub record PublishesWrites (old new : KeySight) : Type 0 where
   pub versions : Publishes old.versions new.versions
@@ -58,10 +65,16 @@ pub record PublishesWrites (old new : KeySight) : Type 0 where
   pub writes : new.writes ≡ old.writes
   pub locks : new.locks ≡ old.locks
 
--- a branch that comes to S0 lets its writes and its locks go, and one that promises keeps them
+-- a branch is ended in this state
+abbrev pub ends : BranchState → Bool
+ends S0 = true
+ends _ = false
+
+-- a branch that is ended lets its writes and its locks go, and one that promises keeps them
 abbrev pub LetsGo : KeySight → KeySight → Xid → BranchState → Type 0
-LetsGo old new x S0 = Leaves old.writes new.writes x [] × Releases old.locks new.locks x
-LetsGo old new x _ = (new.writes ≡ old.writes) × (new.locks ≡ old.locks)
+LetsGo old new x to = MatchBool (ends to)
+    (Leaves old.writes new.writes x [] × Releases old.locks new.locks x)
+    ((new.writes ≡ old.writes) × (new.locks ≡ old.locks))
 
 -- a branch took a turn; the data are not part of it
 pub record TakesTurn (old new : KeySight) (x : Xid) (turn : Turn) : Type 0 where

@@ -1,7 +1,7 @@
 -- Reads and writes of a thread in the branch that it is active in.
 use Rattle.std.specs.Prelude.{◌≡◌, ℕ, Bool, true, false, ◌==◌, ◌||◌, nat_lt, if◌then◌else◌, find, List, length, Option, Some, None}
 use Rattle.xa_tables.specs.declared.states.BranchState.{BranchState}
-use Rattle.xa_tables.specs.declared.states.BranchState.TheVariants.{S4}
+use Rattle.xa_tables.specs.declared.states.BranchState.TheVariants.{S1, S4}
 use Rattle.xa_xid.specs.declared.xid.Xid.{Xid}
 use Rattle.xa_assoc.specs.Associations.{active_of}
 use Rattle.xa_manager.specs.declared.errors.WorkError.{WorkError}
@@ -15,9 +15,19 @@ use Rattle.kv_store.specs.Versions.{value_at}
 use Rattle.kv_writes.specs.Writes.{Leaves, is_of, is_within_limit, writes_of}
 use Rattle.kv_core.specs.Stores.{KeySight, SameStore, state_of}
 
--- the branch that a thread works for
+-- a branch that a thread is active in is at work (in S1), or its work failed (in S4)
+abbrev pub working : BranchState → Xid → Option Xid
+working S1 x = Some x
+working S4 x = Some x
+working _ x = None
+
+-- the branch that a thread works for: the one that it is active in
+abbrev pub worker_of : KeySight → Option Xid → Option Xid
+worker_of s None = None
+worker_of s (Some x) = working (state_of s x) x
+
 abbrev pub at_work : KeySight → ℕ → Option Xid
-at_work s t = active_of s.tables.associations t
+at_work s t = worker_of s (active_of s.tables.associations t)
 
 -- What refuses work: the first check that applies.
 

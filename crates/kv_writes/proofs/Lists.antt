@@ -68,7 +68,7 @@ with_write_each (w ∷ ws) k v sound all = by_test (same_bytes w.key k) (with_wr
     by_test true h = (sound, all.1)
     by_test false h = (all.0, h)
 
-with_write_names : (ws : List Write) (k l : List ℕ) (v : Option (List ℕ)) → names_key ws l ≡ false → same_bytes k l ≡ false
+pub with_write_names : (ws : List Write) (k l : List ℕ) (v : Option (List ℕ)) → names_key ws l ≡ false → same_bytes k l ≡ false
     → names_key (with_write ws k v) l ≡ false
 unfolding names_key
 with_write_names [] k l v none other = grind (arith, common_steps)

@@ -129,7 +129,7 @@ finishes wanted old new call.EndSuccess t x answer w f = absurd cc
 finishes wanted old new call.EndFail t x answer w f = absurd cc
 finishes wanted old new _ t x answer w f = f
 
-off_is : (c : Call) → is_work c ≡ false → off_row c ≡ code.Proto
+pub off_is : (c : Call) → is_work c ≡ false → off_row c ≡ code.Proto
 off_is call.Start w = absurd cc
 off_is _ w = refl
 
