@@ -1,0 +1,17 @@
+use Rattle.std.proofs.Common.{rules, ◌≡◌}
+use Rattle.xa_states.specs.Answers.{Recovers, map_ok}
+use Rattle.kv_core.specs.Stores.{MovesTables, SameStore}
+use Rattle.kv_core.proofs.Moves.{recovers_keep}
+use Rattle.kv_manager.specs.Sights.{KvSight}
+use Rattle.kv_manager.proofs.Keeping.{KeepsPromises, either_way, is_prepared, kept_by, moved_promises, same_promises}
+use Rattle.kv_manager.proofs.manager.KvManager.recover.Goals as goal
+
+pub invariant_of-self : goal.invariant_of-self
+invariant_of-self g c =
+    let s : KvSight = record { store = c.self.inside.store; log = c.self.inside.log; boot = c.self.inside.boot } in
+    kept_by s c.recover.new.self c.self.invariant
+    (either_way (λ answer. MovesTables c.self.inside.store c.recover.new.self (λ old new. Recovers old new c.args.thread c.args.count c.args.flags.0 (map_ok answer)))
+    (λ e. SameStore c.self.inside.store c.recover.new.self)
+    (KeepsPromises c.self.inside.store c.recover.new.self) c.recover.result c.recover.ensures.answer c.recover.ensures.err
+    (λ answer made. moved_promises c.self.inside.store c.recover.new.self (recovers_keep is_prepared _ _ c.args.thread c.args.count c.args.flags.0 (map_ok answer) made.tables) made.writes made.versions)
+    (λ e stays. same_promises c.self.inside.store c.recover.new.self stays))

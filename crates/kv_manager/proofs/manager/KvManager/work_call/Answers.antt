@@ -1,0 +1,39 @@
+use Rattle.std.proofs.Common.{rules, ◌≡◌, refl, true, false, sym, ◌∙◌, subst, IfOk}
+use Rattle.xa_codes.specs.declared.code.Code.TheVariants as code
+use Rattle.xa_tables.specs.declared.states.BranchState.TheVariants.{S0}
+use Rattle.xa_states.specs.Answers.{Answers, Wanted}
+use Rattle.kv_core.specs.Stores.{MovesTables, SameStore}
+use Rattle.kv_core.proofs.Moves.{works_keep}
+use Rattle.kv_manager.specs.Sights.{KvSight}
+use Rattle.kv_manager.specs.Turns.{Calls}
+use Rattle.kv_manager.proofs.Keeping.{KeepsPromises, either_way, is_prepared, kept_by, map_ok, moved_promises, same_promises}
+use Rattle.kv_manager.proofs.manager.KvManager.work_call.Goals as goal
+
+pub invariant_of-self : goal.invariant_of-self
+invariant_of-self g c =
+    let s : KvSight = record { store = c.self.inside.store; log = c.self.inside.log; boot = c.self.inside.boot } in
+    kept_by s c.work_call.new.self c.self.invariant
+    (either_way (λ answer. (wanted : Wanted) → MovesTables c.self.inside.store c.work_call.new.self (λ old new. Answers wanted old new c.args.verb c.args.thread c.args.xid.now c.args.flags.0 answer))
+    (λ e. SameStore c.self.inside.store c.work_call.new.self)
+    (KeepsPromises c.self.inside.store c.work_call.new.self) c.work_call.result c.work_call.ensures.answer c.work_call.ensures.err
+    (λ answer made. moved_promises c.self.inside.store c.work_call.new.self
+    (works_keep is_prepared (λ k. (code.Proto, S0)) _ _ c.args.verb c.args.thread c.args.xid.now c.args.flags.0 answer (record { one = refl; two = refl; four = refl }) c.requires (made (λ k. (code.Proto, S0))).tables)
+    (made (λ k. (code.Proto, S0))).writes (made (λ k. (code.Proto, S0))).versions)
+    (λ e stays. same_promises c.self.inside.store c.work_call.new.self stays))
+
+pub returns-clause-answer : goal.returns-clause-answer
+returns-clause-answer g c =
+    let s : KvSight = record { store = c.self.inside.store; log = c.self.inside.log; boot = c.self.inside.boot } in
+    let after : KvSight = record { store = c.work_call.new.self; log = c.self.inside.log; boot = c.self.inside.boot } in
+    let works : s.log.sight.failed ≡ false = search rules in
+    subst (λ v. IfOk c.work_call.result (λ answer. (wanted : Wanted) → Calls v after (answer ≡ code.RmFail)
+    (λ before behind. MovesTables before behind (λ old new. Answers wanted old new c.args.verb c.args.thread c.args.xid.now c.args.flags.0 answer)))) c.self.view_is
+    (map_ok (λ answer. (wanted : Wanted) → MovesTables s.store after.store (λ old new. Answers wanted old new c.args.verb c.args.thread c.args.xid.now c.args.flags.0 answer))
+    (λ answer. (wanted : Wanted) → Calls s after (answer ≡ code.RmFail) (λ before behind. MovesTables before behind (λ old new. Answers wanted old new c.args.verb c.args.thread c.args.xid.now c.args.flags.0 answer)))
+    c.work_call.result c.work_call.ensures.answer
+    (λ answer made wanted. record {
+      failed = λ no_more. absurd (let never : true ≡ false = sym no_more ∙ works in cc);
+      works = λ stands. made wanted;
+      log = refl;
+      boot = refl;
+    }))

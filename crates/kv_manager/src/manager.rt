@@ -1,0 +1,152 @@
+//! A key store with a log, as an XA manager.
+
+ghost use Rattle.std.specs.Prelude.{◌≡◌, ◌<◌, ◌+◌, ◌^◌, false, true, IfOk, IfErr, OnOk, OnErr, Err, Some, None};
+ghost use Rattle.kv_locks.specs.declared.holders.Mode.TheVariants as mode;
+ghost use Rattle.kv_core.specs.Stores.{MovesTables, state_of};
+ghost use Rattle.kv_core.specs.Works.{Reads, Writes, work_refusal};
+ghost use Rattle.kv_core.specs.Ends.{IsDue};
+ghost use Rattle.xa_states.specs.Answers.{Answers, Closes, Opens, Recovers, Wanted, map_ok};
+ghost use Rattle.xa_states.specs.Ready.{is_work_verb};
+ghost use Rattle.kv_manager.specs.Sights.{IsLogged, SameManager};
+ghost use Rattle.kv_manager.specs.Turns.{Calls, Fails, Finishes, Makes, Refuses};
+
+use crate::log::write;
+use kv_core::KeyStore;
+use kv_turns::{Entry, Turn};
+use log_store::LogStore;
+use rec_log::RecLog;
+use std::alloc::{AllocError, Global};
+use std::marker::Model;
+use tree_model::Bytes;
+use xa_codes::{Code, Flags};
+use xa_manager::WorkError;
+use xa_tables::{BranchState, Call, Verb};
+use xa_xid::Xid;
+
+/// A key store with a log, as an XA manager.
+#[derive(Drop)]
+pub struct KvManager<L: LogStore> {
+    alloc: Global,
+    log: RecLog<L>,
+    boot: u64,
+    store: KeyStore,
+}
+
+impl<L: LogStore> Model for KvManager<L> {
+    ghost use Rattle.kv_manager.specs.Sights.{IsKept, KvSight};
+
+    ghost Value = { KvSight };
+
+    ghost view = { λ m. record { store = m.store; log = m.log; boot = m.boot } };
+
+    ghost invariant = { λ m. IsKept (record { store = m.store; log = m.log; boot = m.boot }) };
+}
+
+impl<L: LogStore> KvManager<L> {
+    /// How often the manager opened.
+    pub fn boot(&self) -> u64
+        ensures { result ≡ self.now.boot }
+    {
+        self.boot
+    }
+
+    /// The state of a branch: S0 where it is not known.
+    pub fn state(&self, xid: &Xid) -> BranchState
+        ensures { result ≡ state_of self.now.store xid.now }
+    {
+        self.store.state(xid)
+    }
+
+    /// Reads a key for a thread's branch, which holds it from then on, at least shared. RmFail, NotAssociated,
+    /// RollbackOnly, TooLong, Locked, in this order. A refusal changes nothing.
+    pub fn get(&mut self, thread: u32, key: &[u8]) -> Result<Option<Bytes>, WorkError>
+        ensures ok { IfOk result (λ found. Calls self.old self.new ⊥ (λ before behind. Reads before behind thread key.now found)) }
+        ensures err { IfErr result (λ e. Refuses self.old self.new (work_refusal self.old.store thread key.now None mode.Shared) e) }
+    {
+        if self.log.failed() {
+            return Err(WorkError::RmFail);
+        }
+        self.store.get(thread, key)
+    }
+
+    /// Opens the manager, which migrates associations or not. RmFail: it has failed.
+    pub fn open(&mut self, flags: Flags, migrates: bool) -> Code
+        ensures { Calls self.old self.new (result ≡ Code.RmFail)
+            (λ before behind. MovesTables before behind (λ old new. Opens old new flags.0 migrates result)) }
+    {
+        if self.log.failed() {
+            return Code::RmFail;
+        }
+        self.store.open(flags, migrates)
+    }
+
+    /// Writes a value at a key for a thread's branch. RmFail, NotAssociated, RollbackOnly, TooLong, Locked,
+    /// TooManyWrites, in this order. A refusal changes nothing.
+    pub fn put(&mut self, thread: u32, key: &[u8], value: &[u8]) -> Result<(), WorkError>
+        ensures ok { OnOk result (Calls self.old self.new ⊥ (λ before behind. Writes before behind thread key.now (Some value.now))) }
+        ensures err { IfErr result (λ e. Refuses self.old self.new (work_refusal self.old.store thread key.now (Some value.now) mode.Exclusive) e) }
+    {
+        if self.log.failed() {
+            return Err(WorkError::RmFail);
+        }
+        self.store.put(thread, key, value)
+    }
+
+    /// Deletes a key for a thread's branch, with the refusals of `put`.
+    pub fn delete(&mut self, thread: u32, key: &[u8]) -> Result<(), WorkError>
+        ensures ok { OnOk result (Calls self.old self.new ⊥ (λ before behind. Writes before behind thread key.now None)) }
+        ensures err { IfErr result (λ e. Refuses self.old self.new (work_refusal self.old.store thread key.now None mode.Exclusive) e) }
+    {
+        if self.log.failed() {
+            return Err(WorkError::RmFail);
+        }
+        self.store.delete(thread, key)
+    }
+
+    /// Closes the manager. RmFail: it has failed. Proto: there is an association.
+    pub fn close(&mut self, flags: Flags) -> Code
+        ensures { Calls self.old self.new (result ≡ Code.RmFail)
+            (λ before behind. MovesTables before behind (λ old new. Closes old new flags.0 result)) }
+    {
+        if self.log.failed() {
+            return Code::RmFail;
+        }
+        self.store.close(flags)
+    }
+
+    /// A start or an end of a thread's work in a branch.
+    fn work_call(
+        &mut self,
+        verb: Verb,
+        thread: u32,
+        xid: &Xid,
+        flags: Flags,
+    ) -> Result<Code, AllocError>
+        requires { is_work_verb verb ≡ true }
+        ensures answer { IfOk result (λ answer. (wanted : Wanted) → Calls self.old self.new (answer ≡ Code.RmFail)
+            (λ before behind. MovesTables before behind (λ old new. Answers wanted old new verb thread xid.now flags.0 answer))) }
+        ensures err { OnErr result (SameManager self.old self.new) }
+    {
+        if self.log.failed() {
+            return Ok(Code::RmFail);
+        }
+        self.store.work_call(verb, thread, xid, flags)
+    }
+
+    /// A scan of the branches in doubt. RmFail: the manager has failed.
+    pub fn recover(
+        &mut self,
+        thread: u32,
+        count: u32,
+        flags: Flags,
+    ) -> Result<Result<Vec<Xid>, Code>, AllocError>
+        ensures answer { IfOk result (λ answer. Calls self.old self.new (map_ok answer ≡ Err Code.RmFail)
+            (λ before behind. MovesTables before behind (λ old new. Recovers old new thread count flags.0 (map_ok answer)))) }
+        ensures err { OnErr result (SameManager self.old self.new) }
+    {
+        if self.log.failed() {
+            return Ok(Err(Code::RmFail));
+        }
+        self.store.recover(thread, count, flags)
+    }
+}
