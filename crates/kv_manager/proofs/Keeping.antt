@@ -10,9 +10,12 @@ use Rattle.xa_assoc.proofs.Sound.{same_is}
 use Rattle.xa_branch.specs.Names.{same}
 use Rattle.xa_manager.specs.declared.errors.WorkError.{WorkError}
 use Rattle.xa_manager.specs.declared.errors.WorkError.TheVariants.{Memory, NotAssociated, Locked, TooLong, TooManyWrites, RmFail, RollbackOnly}
+use Rattle.tree_model.specs.Store.{Data}
+use Rattle.kv_store.specs.Versions.{SameData, VersionTable, value_at}
 use Rattle.kv_replay.specs.Folds.{AreData}
 use Rattle.kv_writes.specs.Writes.{writes_of}
 use Rattle.kv_core.specs.Stores.{KeySight, MovesTables, SameStore, state_of}
+use Rattle.kv_core.specs.Ends.{SameButData}
 use Rattle.kv_core.specs.Works.{IsRefused, Writes}
 use Rattle.kv_core.proofs.Moves.{Keeps, same_keeps}
 use Rattle.kv_core.proofs.Working.{works_apart}
@@ -33,15 +36,27 @@ prepared_is S5 e = absurd (cc)
 
 -- the data stay, and a branch that is prepared was, with the same writes
 pub record KeepsPromises (old new : KeySight) : Type 0 where
-  pub versions : new.versions ≡ old.versions
+  pub versions : SameData old.versions new.versions
   pub prepared : (x : Xid) → state_of new x ≡ S3 → state_of old x ≡ S3
   pub writes : (x : Xid) → state_of new x ≡ S3 → writes_of new.writes x ≡ writes_of old.writes x
+
+pub data_stay : (v v' : VersionTable) (d : Data) → SameData v v' → AreData v d → AreData v' d
+data_stay v v' d stays are = record {
+  count = stays.count ∙ are.count;
+  unstaged = stays.is_staged ∙ are.unstaged;
+  values = λ k. ap (λ n. value_at v' n k) stays.count ∙ stays.values v.count k ∙ are.values k;
+}
+
+-- data that are the same say the same
+pub one_data : (v v' : VersionTable) → v' ≡ v → SameData v v'
+one_data v v' one = subst (λ w. SameData v w) (sym one) (record { base = refl; count = refl; is_staged = refl; values = λ n k. refl })
 
 pub kept_by : (s : KvSight) (store : KeySight) → IsKept s → KeepsPromises s.store store → IsKept (record s { store = store })
 kept_by s store kept keeps = record {
   kind = kept.kind;
   stands = λ works. record {
-    are_data = subst (λ v. AreData v (logged s)) (sym keeps.versions) (kept.stands works).are_data;
+    are_data = data_stay s.store.versions store.versions (logged s) keeps.versions (kept.stands works).are_data;
+    rise = (kept.stands works).rise;
     promises = λ x is. keeps.writes x is ∙ (kept.stands works).promises x (keeps.prepared x is);
   };
 }
@@ -55,7 +70,7 @@ prepared_by old new keeps s s' is_old is_new x is =
 
 pub same_promises : (old new : KeySight) → SameStore old new → KeepsPromises old new
 same_promises old new stays = record {
-  versions = stays.versions;
+  versions = one_data old.versions new.versions stays.versions;
   prepared = prepared_by old.tables new.tables (same_keeps is_prepared old.tables new.tables stays.tables) old new refl refl;
   writes = λ x is. stays.writes x;
 }
@@ -63,7 +78,7 @@ same_promises old new stays = record {
 pub moved_promises : (old new : KeySight) → Keeps is_prepared old.tables new.tables → new.writes ≡ old.writes
     → new.versions ≡ old.versions → KeepsPromises old new
 moved_promises old new keeps writes versions = record {
-  versions = versions;
+  versions = one_data old.versions new.versions versions;
   prepared = prepared_by old.tables new.tables keeps old new refl refl;
   writes = λ x is. ap (λ w. writes_of w x) writes;
 }
@@ -79,7 +94,7 @@ refused_same old new refusal RollbackOnly h = h.1
 
 pub wrote_promises : (old new : KeySight) (t : ℕ) (k : List ℕ) (v : Option (List ℕ)) → Writes old new t k v → KeepsPromises old new
 wrote_promises old new t k v wrote = record {
-  versions = wrote.versions;
+  versions = one_data old.versions new.versions wrote.versions;
   prepared = λ x is. ap (λ s. state_of (record old { tables = s }) x) (sym wrote.tables) ∙ is;
   writes = λ x is. writes x (ap (λ s. state_of (record old { tables = s }) x) (sym wrote.tables) ∙ is) (same wrote.branch x) refl;
 }
@@ -99,3 +114,11 @@ either_way P Q X (Err e) ok err made refused = refused e err
 pub map_ok : {A E : Type 0} (P Q : A → Type 0) (r : Result A E) → IfOk r P → ((a : A) → P a → Q a) → IfOk r Q
 map_ok P Q (Ok a) ok each = each a ok
 map_ok P Q (Err e) ok each = tt
+
+-- what was staged is taken back
+pub data_only : (old new : KeySight) → SameButData old new → KeepsPromises old new
+data_only old new stays = record {
+  versions = stays.versions;
+  prepared = λ x is. ap (λ s. state_of (record old { tables = s }) x) (sym stays.tables) ∙ is;
+  writes = λ x is. ap (λ w. writes_of w x) stays.writes;
+}

@@ -1,2 +1,3 @@
 pub mod Keeping
 pub mod Logs
+pub mod Turns

@@ -1,14 +1,17 @@
 -- A key store with its log, as an XA manager.
-use Rattle.std.specs.Prelude.{◌≡◌, ℕ, false}
+use Rattle.std.specs.Prelude.{◌≡◌, ℕ, true, false}
 use Rattle.xa_tables.specs.declared.states.BranchState.TheVariants.{S3}
 use Rattle.xa_xid.specs.declared.xid.Xid.{Xid}
 use Rattle.tree_model.specs.declared.names.Kind.TheVariants.{Manager}
 use Rattle.tree_model.specs.declared.records.Branch.TheVariants.{Foreign}
 use Rattle.tree_model.specs.Store.{Data, writes_of as promised_of}
 use Rattle.rec_log.specs.Sights.{LogState, records_of}
+use Rattle.kv_store.specs.Pairs.{keys_rise}
 use Rattle.kv_replay.specs.Folds.{AreData, data_of}
-use Rattle.kv_writes.specs.Writes.{writes_of}
-use Rattle.kv_core.specs.Stores.{KeySight, SameStore, state_of}
+use Rattle.kv_store.specs.Versions.{SameData}
+use Rattle.kv_writes.specs.Writes.{SameWrites, writes_of}
+use Rattle.xa_states.specs.Answers.{Same}
+use Rattle.kv_core.specs.Stores.{KeySight, state_of}
 
 -- what a contract sees: the key store, its log, and how often it opened
 pub record KvSight : Type 0 where
@@ -20,9 +23,10 @@ pub record KvSight : Type 0 where
 abbrev pub logged : KvSight → Data
 logged s = data_of (records_of s.log.sight.kept)
 
--- the data are those that the log's records make, and each prepared branch has the writes that its record promised
+-- the data are those that the log's records make, their keys rising, and each prepared branch has the writes that its record promised
 pub record IsLogged (s : KvSight) : Type 0 where
   pub are_data : AreData s.store.versions (logged s)
+  pub rise : keys_rise (logged s).pairs ≡ true
   pub promises : (x : Xid) → state_of s.store x ≡ S3 → writes_of s.store.writes x ≡ promised_of (Foreign x) (logged s).promised
 
 -- what a manager keeps: the log is a manager's, and while it has not failed the data are those of its records
@@ -30,8 +34,11 @@ pub record IsKept (s : KvSight) : Type 0 where
   pub kind : s.log.kind ≡ Manager
   pub stands : s.log.sight.failed ≡ false → IsLogged s
 
--- nothing changes but room
+-- nothing changes but room; what each key was behind each commit stays
 pub record SameManager (old new : KvSight) : Type 0 where
-  pub store : SameStore old.store new.store
+  pub tables : Same old.store.tables new.store.tables
+  pub writes : SameWrites old.store.writes new.store.writes
+  pub locks : new.store.locks ≡ old.store.locks
+  pub versions : SameData old.store.versions new.store.versions
   pub log : new.log.sight ≡ old.log.sight
   pub boot : new.boot ≡ old.boot

@@ -1,16 +1,19 @@
 -- The calls on a key store with a log.
-use Rattle.std.specs.Prelude.{◌≡◌, ℕ, Bool, true, false, List, [], ◌∷◌, Option, Some, None, MatchBool}
+use Rattle.std.specs.Prelude.{◌≡◌, ⊤, ℕ, Bool, true, false, List, [], ◌∷◌, ◌++◌, Option, Some, None, MatchBool}
 use Rattle.xa_codes.specs.declared.code.Code.{Code}
 use Rattle.xa_codes.specs.declared.code.Code.TheVariants as code
 use Rattle.xa_tables.specs.declared.call.Call.{Call}
 use Rattle.xa_tables.specs.declared.call.Verb.{Verb}
 use Rattle.xa_xid.specs.declared.xid.Xid.{Xid}
 use Rattle.xa_states.specs.declared.states.States.{States}
-use Rattle.xa_states.specs.Answers.{Takes}
+use Rattle.xa_branch.specs.Branches.{is_known}
+use Rattle.xa_states.specs.Answers.{Takes as TakesRow}
 use Rattle.tree_model.specs.declared.records.LogRecord.{LogRecord}
-use Rattle.rec_log.specs.Sights.{Appended, Breaks, Forced, LogState}
+use Rattle.tree_model.specs.declared.records.Write.{Write}
+use Rattle.rec_log.specs.Sights.{Breaks, LogSight, LogState, records_of}
 use Rattle.kv_store.specs.Versions.{Applies}
 use Rattle.kv_turns.specs.declared.entries.Entry.{Entry}
+use Rattle.kv_turns.specs.declared.entries.Entry.TheVariants.{Prepared, Direct}
 use Rattle.kv_turns.specs.declared.turns.Turn.{Turn}
 use Rattle.kv_turns.specs.Turns.{applies, entry_record}
 use Rattle.kv_writes.specs.Writes.{writes_of}
@@ -18,27 +21,38 @@ use Rattle.xa_manager.specs.declared.errors.WorkError.{WorkError}
 use Rattle.xa_manager.specs.declared.errors.WorkError.TheVariants.{RmFail}
 use Rattle.kv_core.specs.Stores.{KeySight, MovesTables}
 use Rattle.kv_core.specs.Works.{IsRefused}
-use Rattle.kv_core.specs.Ends.{IsDue, IsOff, LetsGo}
+use Rattle.kv_core.specs.Ends.{IsDue, IsListed, IsOff, LetsGo, turn_for, wrote_some}
 use Rattle.kv_manager.specs.Sights.{KvSight, SameManager}
 
 -- One record in a log.
 
--- a record stands behind the others, and all of them are forced
-pub record ForcedBehind (old new : LogState) (l : LogRecord) : Type 0 where
-  pub between : LogState
-  pub appended : Appended old between l
-  pub forced : Forced between new
+-- a log with one record more, not forced; or all of them forced
+abbrev pub wrote : LogSight → LogRecord → Bool → LogSight
+wrote s l false = record {
+  kept = record { forced = s.kept.forced; unforced = s.kept.unforced ++ l ∷ [] };
+  behind = s.behind;
+  failed = false;
+  failures = s.failures;
+}
+wrote s l true = record {
+  kept = record { forced = records_of s.kept ++ l ∷ []; unforced = [] };
+  behind = 0;
+  failed = false;
+  failures = s.failures;
+}
 
--- a record was written, forced or not
-abbrev pub Wrote : LogState → LogState → LogRecord → Bool → Type 0
-Wrote old new l is_forced = MatchBool is_forced (ForcedBehind old new l) (Appended old new l)
+-- a record was written into a log
+pub record Writes (old new : LogState) (l : LogRecord) (is_forced : Bool) : Type 0 where
+  pub sight : new.sight ≡ wrote old.sight l is_forced
+  pub kind : new.kind ≡ old.kind
 
 -- What a turn makes of a manager.
 
 -- the record of a turn, if it has one, is written
 abbrev pub Logs : KvSight → KvSight → Xid → Bool → Option Entry → Type 0
 Logs old new x is_forced None = new.log.sight ≡ old.log.sight
-Logs old new x is_forced (Some e) = Wrote old.log new.log (entry_record e x (writes_of old.store.writes x)) is_forced
+Logs old new x is_forced (Some e) =
+    new.log.sight ≡ wrote old.log.sight (entry_record e x (writes_of old.store.writes x)) is_forced
 
 -- a turn that commits makes the branch's writes data
 abbrev pub commits : Option Entry → Bool
@@ -47,7 +61,7 @@ commits (Some e) = applies e
 
 -- a branch took a turn
 pub record Makes (old new : KvSight) (x : Xid) (turn : Turn) : Type 0 where
-  pub tables : Takes old.store.tables new.store.tables x turn.to
+  pub tables : TakesRow old.store.tables new.store.tables x turn.to
   pub keeps : LetsGo old.store new.store x turn.to
   pub versions : MatchBool (commits turn.entry) (Applies old.store.versions new.store.versions (writes_of old.store.writes x))
       (new.store.versions ≡ old.store.versions)
@@ -64,16 +78,39 @@ pub record Fails (old new : KvSight) (x : Xid) (turn : Turn) : Type 0 where
   pub locks : new.store.locks ≡ old.store.locks
   pub boot : new.boot ≡ old.boot
 
+-- what a turn that is due makes of a manager: the branch takes it, or the device fails
+pub data Takes (old new : KvSight) (x : Xid) (turn : Turn) (answer : Code) : Type 0 where
+  Made : answer ≡ turn.code → Makes old new x turn → Takes old new x turn answer
+  Broke : answer ≡ code.RmFail → Fails old new x turn → Takes old new x turn answer
+
 -- what a prepare, commit, rollback or forget answers and does: a failed manager refuses it, then the first check, and
--- else the branch takes its turn, or the device fails
+-- else its turn is taken
 pub data Finishes (old new : KvSight) (v : Verb) (x : Xid) (flags : ℕ) (answer : Code) : Type 0 where
   Failed : old.log.sight.failed ≡ true → answer ≡ code.RmFail → SameManager old new → Finishes old new v x flags answer
   Refused : old.log.sight.failed ≡ false → IsOff old.store v x flags answer → SameManager old new
       → Finishes old new v x flags answer
-  Made : old.log.sight.failed ≡ false → (due : Call × Turn) → IsDue old.store v x flags due → answer ≡ due.1.code
-      → Makes old new x due.1 → Finishes old new v x flags answer
-  Broke : old.log.sight.failed ≡ false → (due : Call × Turn) → IsDue old.store v x flags due → answer ≡ code.RmFail
-      → Fails old new x due.1 → Finishes old new v x flags answer
+  Taken : old.log.sight.failed ≡ false → (due : Call × Turn) → IsDue old.store v x flags due
+      → Takes old new x due.1 answer → Finishes old new v x flags answer
+
+-- the turn of a call on a known branch, which is a row of the table; the log stands
+pub record IsDueTurn (s : KvSight) (x : Xid) (c : Call) (turn : Turn) : Type 0 where
+  pub works : s.log.sight.failed ≡ false
+  pub known : is_known s.store.tables.branches.branches x ≡ true
+  pub due : turn ≡ turn_for s.store x c
+  pub listed : IsListed s.store x c turn
+
+-- a record that has writes has some
+abbrev pub HasWrites : Entry → List Write → Type 0
+HasWrites Prepared ws = wrote_some ws ≡ true
+HasWrites Direct ws = wrote_some ws ≡ true
+HasWrites _ ws = ⊤
+
+-- nothing changes but the log's room
+pub record OnlyRoom (old new : KvSight) : Type 0 where
+  pub store : new.store ≡ old.store
+  pub sight : new.log.sight ≡ old.log.sight
+  pub kind : new.log.kind ≡ old.log.kind
+  pub boot : new.boot ≡ old.boot
 
 -- The other calls.
 

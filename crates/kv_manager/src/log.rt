@@ -4,7 +4,7 @@ ghost use Rattle.std.specs.Prelude.{◌≡◌, ◌≤◌, ◌∷◌, [], false, 
 ghost use Rattle.log_text.specs.Made.{frame_record};
 ghost use Rattle.log_text.specs.Payloads.{record_text};
 ghost use Rattle.rec_log.specs.Sights.{Breaks, IsRecord};
-ghost use Rattle.kv_manager.specs.Turns.{Wrote};
+ghost use Rattle.kv_manager.specs.Turns.{Writes};
 
 use log_store::LogStore;
 use log_text::Frame;
@@ -19,7 +19,7 @@ pub(crate) fn write<L: LogStore>(
     requires room { length (record_text (frame_record frame.now)) ≤ log.old.room }
     requires works { log.old.sight.failed ≡ false }
     requires sound { IsRecord log.old.kind (frame_record frame.now) }
-    ensures ok { OnOk result (Wrote log.old log.new (frame_record frame.now) is_forced) }
+    ensures ok { OnOk result (Writes log.old log.new (frame_record frame.now) is_forced) }
     ensures err { IfErr result (λ e. (e ≡ LogError.Device) × Breaks log.old log.new (frame_record frame.now ∷ [])) }
 {
     log.append(frame)?;

@@ -1,6 +1,6 @@
 //! A key store with a log, as an XA manager.
 
-ghost use Rattle.std.specs.Prelude.{◌≡◌, ◌<◌, ◌+◌, ◌^◌, false, true, IfOk, IfErr, OnOk, OnErr, Err, Some, None};
+ghost use Rattle.std.specs.Prelude.{◌≡◌, ◌<◌, ◌≤◌, ◌+◌, ◌^◌, length, false, true, IfOk, IfErr, OnOk, OnErr, Err, Some, None};
 ghost use Rattle.kv_locks.specs.declared.holders.Mode.TheVariants as mode;
 ghost use Rattle.kv_core.specs.Stores.{MovesTables, state_of};
 ghost use Rattle.kv_core.specs.Works.{Reads, Writes, work_refusal};
@@ -8,12 +8,19 @@ ghost use Rattle.kv_core.specs.Ends.{IsDue};
 ghost use Rattle.xa_states.specs.Answers.{Answers, Closes, Opens, Recovers, Wanted, map_ok};
 ghost use Rattle.xa_states.specs.Ready.{is_work_verb};
 ghost use Rattle.kv_manager.specs.Sights.{IsLogged, SameManager};
-ghost use Rattle.kv_manager.specs.Turns.{Calls, Fails, Finishes, Makes, Refuses};
+ghost use Rattle.log_text.specs.Made.{frame_record};
+ghost use Rattle.log_text.specs.Payloads.{record_text};
+ghost use Rattle.rec_log.specs.Sights.{IsRecord};
+ghost use Rattle.tree_model.specs.declared.names.Kind.TheVariants as kind;
+ghost use Rattle.kv_writes.specs.Writes.{writes_of};
+ghost use Rattle.kv_turns.specs.Turns.{applies, entry_record};
+ghost use Rattle.kv_manager.specs.Turns.{Calls, Finishes, HasWrites, IsDueTurn, OnlyRoom, Refuses, Takes};
 
 use crate::log::write;
 use kv_core::KeyStore;
 use kv_turns::{Entry, Turn};
 use log_store::LogStore;
+use log_text::Frame;
 use rec_log::RecLog;
 use std::alloc::{AllocError, Global};
 use std::marker::Model;
@@ -148,5 +155,91 @@ impl<L: LogStore> KvManager<L> {
             return Ok(Err(Code::RmFail));
         }
         self.store.recover(thread, count, flags)
+    }
+
+    /// The record of a branch, with room for it in the log: all the memory that the log needs.
+    fn frame(&mut self, xid: &Xid, entry: Entry) -> Result<Frame, AllocError>
+        requires { HasWrites entry (writes_of self.old.store.writes xid.now) }
+        ensures record { IfOk result (λ frame. frame_record frame ≡ entry_record entry xid.now (writes_of self.old.store.writes xid.now)) }
+        ensures room { IfOk result (λ frame. length (record_text (frame_record frame)) ≤ self.new.log.room) }
+        ensures sound { IfOk result (λ frame. IsRecord kind.Manager (frame_record frame)) }
+        ensures stays { OnlyRoom self.old self.new }
+    {
+        let frame = entry.frame(xid, self.store.writes(xid), self.alloc)?;
+        self.log.reserve(frame.bytes().len())?;
+        Ok(frame)
+    }
+
+    /// A branch takes a turn whose record leaves the data as they are.
+    fn take_noted(&mut self, xid: &Xid, call: Call, turn: Turn, entry: Entry) -> Result<Code, AllocError>
+        requires due { IsDueTurn self.old xid.now call turn }
+        requires entry { turn.entry ≡ Some entry }
+        requires data { applies entry ≡ false }
+        ensures answer { IfOk result (Takes self.old self.new xid.now turn) }
+        ensures err { OnErr result (SameManager self.old self.new) }
+    {
+        let frame = self.frame(xid, entry)?;
+        match write(&mut self.log, &frame, turn.is_forced) {
+            Ok(()) => {
+                self.store.finish(xid, call, turn);
+                Ok(turn.code)
+            }
+            Err(_) => Ok(Code::RmFail),
+        }
+    }
+
+    /// A branch takes a turn that makes its writes data. They are staged before the record is written, and published
+    /// behind it.
+    fn take_committed(&mut self, xid: &Xid, call: Call, turn: Turn, entry: Entry) -> Result<Code, AllocError>
+        requires due { IsDueTurn self.old xid.now call turn }
+        requires entry { turn.entry ≡ Some entry }
+        requires data { applies entry ≡ true }
+        requires fits { self.old.store.versions.count + 1 < 2 ^ 63 }
+        ensures answer { IfOk result (Takes self.old self.new xid.now turn) }
+        ensures err { OnErr result (SameManager self.old self.new) }
+    {
+        let frame = self.frame(xid, entry)?;
+        self.store.stage(xid)?;
+        match write(&mut self.log, &frame, turn.is_forced) {
+            Ok(()) => {
+                self.store.publish();
+                self.store.finish(xid, call, turn);
+                Ok(turn.code)
+            }
+            Err(_) => Ok(Code::RmFail),
+        }
+    }
+
+    /// A branch takes the turn of a call that no check refuses.
+    fn take(&mut self, xid: &Xid, call: Call, turn: Turn) -> Result<Code, AllocError>
+        requires due { IsDueTurn self.old xid.now call turn }
+        requires fits { self.old.store.versions.count + 1 < 2 ^ 63 }
+        ensures answer { IfOk result (Takes self.old self.new xid.now turn) }
+        ensures err { OnErr result (SameManager self.old self.new) }
+    {
+        match turn.entry {
+            None => {
+                self.store.finish(xid, call, turn);
+                Ok(turn.code)
+            }
+            Some(entry) if entry.applies() => self.take_committed(xid, call, turn, entry),
+            Some(entry) => self.take_noted(xid, call, turn, entry),
+        }
+    }
+
+    /// A prepare, commit, rollback or forget.
+    fn finish(&mut self, verb: Verb, xid: &Xid, flags: Flags) -> Result<Code, AllocError>
+        requires verb { is_work_verb verb ≡ false }
+        requires fits { self.old.store.versions.count + 1 < 2 ^ 63 }
+        ensures answer { IfOk result (Finishes self.old self.new verb xid.now flags.0) }
+        ensures err { OnErr result (SameManager self.old self.new) }
+    {
+        if self.log.failed() {
+            return Ok(Code::RmFail);
+        }
+        match self.store.due(verb, xid, flags) {
+            Ok((call, turn)) => self.take(xid, call, turn),
+            Err(refusal) => Ok(refusal),
+        }
     }
 }

@@ -1,0 +1,23 @@
+use Rattle.std.proofs.Common.{rules, ◌≡◌, subst, sym}
+use Rattle.tree_model.specs.declared.names.Kind.TheVariants.{Manager}
+use Rattle.log_text.specs.Made.{frame_record}
+use Rattle.log_sound.specs.Sound.{IsSound}
+use Rattle.log_sound.proofs.Records.{records_read_back}
+use Rattle.log_sound.proofs.Sizes.{records_fit_frames}
+use Rattle.rec_log.specs.Sights.{IsRecord}
+use Rattle.kv_turns.specs.Turns.{IsEntry, entry_record}
+use Rattle.kv_writes.specs.Writes.{AreWrites, writes_of}
+use Rattle.kv_manager.specs.Turns.{HasWrites}
+use Rattle.kv_manager.proofs.Turns.{is_entry}
+use Rattle.kv_manager.proofs.manager.KvManager.frame.Goals as goal
+
+pub frame-requires : goal.frame-requires
+frame-requires g c =
+    let has : HasWrites c.args.entry c.writes.result.now = search rules in
+    is_entry c.args.entry c.writes.result.now has c.writes.ensures.limits
+
+pub returns-clause-sound : goal.returns-clause-sound
+returns-clause-sound g c =
+    let sound : IsSound Manager (frame_record c.in_ok-frame.frame) = search rules in
+    let is : IsRecord Manager (frame_record c.in_ok-frame.frame) = record { fits = records_fit_frames Manager _ sound; again = records_read_back Manager _ sound } in
+    search rules

@@ -1,0 +1,15 @@
+use Rattle.std.proofs.Common.{rules, ◌≡◌, None, sym, subst}
+use Rattle.kv_core.specs.Ends.{TakesTurn}
+use Rattle.kv_manager.specs.Sights.{KvSight}
+use Rattle.kv_manager.specs.Turns.{IsDueTurn}
+use Rattle.kv_manager.proofs.Keeping.{kept_by}
+use Rattle.kv_manager.proofs.Turns.{due_ends, silent_promises}
+use Rattle.kv_manager.proofs.manager.KvManager.take.Goals as goal
+
+pub invariant_of-self : goal.invariant_of-self
+invariant_of-self g c =
+    let s : KvSight = record { store = c.self.inside.store; log = c.self.inside.log; boot = c.self.inside.boot } in
+    let due : IsDueTurn s c.args.xid.now c.args.call c.args.turn = subst (λ v. IsDueTurn v c.args.xid.now c.args.call c.args.turn) (sym c.self.view_is) c.requires.due in
+    let silent : c.args.turn.entry ≡ None = search rules in
+    let takes : TakesTurn s.store c.finish.new.self c.args.xid.now c.args.turn = search rules in
+    kept_by s c.finish.new.self c.self.invariant (silent_promises s.store c.finish.new.self c.args.xid.now c.args.turn takes (due_ends s c.args.xid.now c.args.call c.args.turn due silent))

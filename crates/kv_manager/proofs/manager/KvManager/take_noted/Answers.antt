@@ -1,0 +1,25 @@
+use Rattle.std.proofs.Common.{rules, ◌≡◌, ◌∷◌, [], refl, sym, subst}
+use Rattle.rec_log.specs.Sights.{Breaks}
+use Rattle.kv_turns.specs.Turns.{entry_record}
+use Rattle.kv_writes.specs.Writes.{writes_of}
+use Rattle.kv_core.specs.Ends.{TakesTurn}
+use Rattle.kv_manager.specs.Sights.{KvSight}
+use Rattle.kv_manager.specs.Turns.{Broke, HasWrites, IsDueTurn, OnlyRoom, Writes}
+use Rattle.kv_manager.proofs.Turns.{due_has, due_same, fails_by, kept_broken, kept_noted}
+use Rattle.kv_manager.proofs.manager.KvManager.take_noted.Goals as goal
+
+pub invariant_of-self : goal.invariant_of-self
+invariant_of-self g c =
+    let s : KvSight = record { store = c.self.inside.store; log = c.self.inside.log; boot = c.self.inside.boot } in
+    let room : OnlyRoom c.args.self.now s = subst (OnlyRoom c.args.self.now) (sym c.self.view_is) c.frame.ensures.stays in
+    let takes : TakesTurn s.store c.finish.new.self c.args.xid.now c.args.turn = search rules in
+    let made : Writes s.log c.write.new.log (entry_record c.args.entry c.args.xid.now (writes_of s.store.writes c.args.xid.now)) c.args.turn.is_forced = search rules in
+    kept_noted s _ c.args.xid.now c.args.call c.args.turn c.args.entry c.self.invariant
+    (due_same c.args.self.now s c.args.xid.now c.args.call c.args.turn room c.requires.due) c.requires.entry c.requires.data takes made
+
+pub returns-clause-answer : goal.returns-clause-answer
+returns-clause-answer g c =
+    let s : KvSight = record { store = c.self.inside.store; log = c.self.inside.log; boot = c.self.inside.boot } in
+    let room : OnlyRoom c.args.self.now s = subst (OnlyRoom c.args.self.now) (sym c.self.view_is) c.frame.ensures.stays in
+    let broke : Breaks s.log c.write.new.log (entry_record c.args.entry c.args.xid.now (writes_of s.store.writes c.args.xid.now) ∷ []) = search rules in
+    Broke refl (fails_by c.args.self.now s _ c.args.xid.now c.args.turn c.args.entry room c.requires.entry broke refl refl refl refl)
