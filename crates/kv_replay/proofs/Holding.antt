@@ -1,5 +1,7 @@
 -- The keys of a branch's writes are locked one by one.
-use Rattle.std.proofs.Common.{rules, ◌≡◌, ◌<◌, ◌⊎◌, ⊎_elim, inl, inr, ℕ, Bool, true, false, not, ◌&&◌, ◌||◌, cond, Option, Some, None, option_map, List, [], ◌∷◌, length, map, refl, sym, ap, subst, ◌∙◌, arith}
+use Rattle.std.proofs.Common.{rules, ◌≡◌, ◌<◌, ◌⊎◌, ⊎_elim, inl, inr, ℕ, ◌+◌, Bool, true, false, not, ◌&&◌, ◌||◌, cond, Option, Some, None, option_map, List, [], ◌∷◌, length, get_or, drop, map, refl, sym, ap, subst, ◌∙◌, arith}
+use Rattle.std.proofs.Math.Numerals.{add-one}
+use Rattle.std.proofs.Math.Seq.{drop-cons}
 use Rattle.std.specs.Map.{lookup}
 use Rattle.xa_xid.specs.declared.xid.Xid.{Xid}
 use Rattle.tree_model.specs.declared.records.Write.{Write}
@@ -86,6 +88,13 @@ never_held old now new x ws w rest locking e y is refuses =
     absurd (cc)
 
 -- The branches that are left are given back one by one.
+
+-- the item that a loop is at, and those behind it
+pub item_and_rest : {A : Type 0} (xs : List A) (i : ℕ) (x : A) → i < length xs → x ≡ get_or xs i x
+    → drop i xs ≡ x ∷ drop (i + 1) xs
+item_and_rest xs i x within is =
+    let first : drop i xs ≡ get_or xs i x ∷ drop (i + 1) xs = rw (add-one, drop-cons xs i x) refl in
+    first ∙ ap (λ y. y ∷ drop (i + 1) xs) (sym is)
 
 -- a branch is among these
 abbrev pub is_among : Xid → List (Xid × Bool) → Bool

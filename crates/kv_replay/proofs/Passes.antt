@@ -1,5 +1,8 @@
 -- The pass over the records.
-use Rattle.std.proofs.Common.{rules, ◌≡◌, ◌≤◌, ◌^◌, ◌⊎◌, inl, inr, ℕ, false, List, [], ◌∷◌, ◌++◌, Option, Some, None, map, fold, refl, sym, ap, subst, ◌∙◌, append_assoc, append-nil}
+use Rattle.std.proofs.Common.{rules, ◌≡◌, ◌≤◌, ◌^◌, ◌⊎◌, inl, inr, ℕ, false, List, [], ◌∷◌, ◌++◌, Option, Some, None, Result, Ok, Err, IfErr, map, fold, refl, sym, ap, subst, ◌∙◌, append_assoc, append-nil}
+use Rattle.std.specs.Result.{IsErrAnd}
+use Rattle.log_text.specs.declared.records.ReadFault.{ReadFault}
+use Rattle.log_text.specs.declared.records.ReadFault.TheVariants as fault
 use Rattle.tree_model.specs.declared.records.LogRecord.{LogRecord}
 use Rattle.tree_model.specs.Store.{Data, no_data, stored, stored_after}
 use Rattle.log_order.specs.Orders.{SeenLog, after, nothing_seen}
@@ -7,7 +10,7 @@ use Rattle.kv_store.specs.Versions.{VersionTable, value_by}
 use Rattle.kv_replay.specs.declared.fault.ReplayError.{ReplayError}
 use Rattle.kv_replay.specs.declared.fault.ReplayError.TheVariants.{Memory, Malformed, Exhausted}
 use Rattle.kv_replay.specs.Folds.{AreData, by_xid, data_of}
-use Rattle.kv_replay.specs.Replays.{CountTooFar, Fails, Reads, TakeFails, Takes, seen_after, seen_of}
+use Rattle.kv_replay.specs.Replays.{CountTooFar, Fails, Reads, TakeFails, Takes, error_of, seen_after, seen_of}
 use Rattle.kv_replay.proofs.Lawful.{lawful_of}
 
 -- a front of the records has been read
@@ -83,8 +86,24 @@ module _ (ls : List LogRecord) (l : LogRecord) (rest : List LogRecord) (s : Seen
   reading_fails Malformed fails = inl (malformed fails)
   reading_fails Exhausted fails = exhausted fails
 
+  pub reading_is_refused : (f : ReadFault) → (f ≡ fault.Malformed → after s l ≡ None) → Fails ls (error_of f)
+  reading_is_refused fault.Memory never = tt
+  reading_is_refused fault.Malformed never = inl (malformed (never refl))
+
 pub reading_ends : (ls : List LogRecord) (s : SeenLog) (v : VersionTable) → IsReading ls [] s v → Reads ls s v
 reading_ends ls s v reading = record {
   read = ap seen_of (reading.parts ∙ append-nil reading.done) ∙ reading.read;
   stored = subst (λ ks. AreData v (data_of ks)) (sym (reading.parts ∙ append-nil reading.done)) reading.stored;
 }
+
+-- the loop begins with all records, nothing seen and no data
+pub reading_starts : (ls rest : List LogRecord) (s : SeenLog) (v : VersionTable) → rest ≡ ls → s ≡ nothing_seen
+    → v ≡ record { base = 0; count = 0; is_staged = false; versions = [] } → IsReading ls rest s v
+reading_starts ls rest s v all nothing none = subst (λ w. IsReading ls rest s w) (sym none)
+    (subst (λ t. IsReading ls rest t (record { base = 0; count = 0; is_staged = false; versions = [] })) (sym nothing)
+    (subst (λ ks. IsReading ls ks nothing_seen (record { base = 0; count = 0; is_staged = false; versions = [] })) (sym all) (reading_begins ls)))
+
+-- an error that is passed on
+pub passed_on : {T E : Type 0} (r : Result T E) (e : E) (P : E → Type 0) → IsErrAnd r (λ x. x ≡ e) → P e → IfErr r P
+passed_on (Ok t) e P is h = tt
+passed_on (Err x) e P is h = subst P (sym is) h
