@@ -1,5 +1,5 @@
 -- The keys of a branch's writes are locked one by one.
-use Rattle.std.proofs.Common.{rules, ◌≡◌, ◌<◌, ◌⊎◌, ⊎_elim, inl, inr, ℕ, ◌+◌, Bool, true, false, not, ◌&&◌, ◌||◌, cond, Option, Some, None, option_map, List, [], ◌∷◌, length, get_or, drop, map, refl, sym, ap, subst, ◌∙◌, arith}
+use Rattle.std.proofs.Common.{◌≡◌, ◌<◌, ◌⊎◌, ⊎_elim, inl, inr, ℕ, ◌+◌, Bool, true, false, not, ◌&&◌, ◌||◌, cond, Option, Some, None, option_map, List, [], ◌∷◌, length, get_or, drop, map, refl, sym, ap, subst, ◌∙◌, arith}
 use Rattle.std.proofs.Math.Numerals.{add-one}
 use Rattle.std.proofs.Math.Seq.{drop-cons}
 use Rattle.std.specs.Map.{lookup}
@@ -59,16 +59,20 @@ locking_goes_on old now next x ws w rest locking gives = record {
   where
     apart : (k : List ℕ) → same_bytes w.key k ≡ false → holders_of next k ≡ holders_of now k
     apart k e = gives.made.others k (bytes_are_same w.key k ∙ e)
+
     here : (k : List ℕ) → same_bytes w.key k ≡ true → holders_of next k ≡ held_by x
     here k e = ap (holders_of next) (sym (key_is w.key k e)) ∙ gives.made.own
+
     free_by : (k : List ℕ) → names_key rest k ≡ true → (b : Bool) → same_bytes w.key k ≡ b → blocked_by (holders_of next k) x Exclusive ≡ None
     free_by k names true e = ap (λ hs. blocked_by hs x Exclusive) (here k e) ∙ own_free x
     free_by k names false e = ap (λ hs. blocked_by hs x Exclusive) (apart k e) ∙ locking.free k (names_first w rest k false e ∙ names)
+
     own_by : (new : LockTable) → LocksKeys next new x rest → (k : List ℕ) → names_key (w ∷ rest) k ≡ true
         → (b : Bool) → same_bytes w.key k ≡ b → (c : Bool) → names_key rest k ≡ c → holders_of new k ≡ held_by x
     own_by new locks k names b e true f = locks.own k f
     own_by new locks k names true e false f = locks.others k f ∙ here k e
     own_by new locks k names false e false f = true_is_false (sym names ∙ names_first w rest k false e ∙ f)
+
     others_by : (new : LockTable) → LocksKeys next new x rest → (k : List ℕ) → names_key (w ∷ rest) k ≡ false
         → (b : Bool) → same_bytes w.key k ≡ b → holders_of new k ≡ holders_of now k
     others_by new locks k names true e = true_is_false (sym (names_first w rest k true e) ∙ names)
@@ -158,6 +162,7 @@ module _ (s : SeenLog) (orderly : IsOrderly s) (e : Xid × Bool) (rest : List (X
       none : names_key (writes_of t e.0) k ≡ false → (x : Xid) (b : Bool) → same e.0 x ≡ b → names_key (writes_of t x) k ≡ false
       none h x true is = ap (λ y. names_key (writes_of t y) k) (sym (same_is e.0 x is)) ∙ h
       none h x false is = not_other x k is names
+
       by_test : (b : Bool) → names_key (writes_of t e.0) k ≡ b → blocked_by (holders_of locks k) e.0 Exclusive ≡ None
       by_test true h = ap (λ hs. blocked_by hs e.0 Exclusive) (restoring.held e.0 k h) ∙ own_free e.0
       by_test false h = ap (λ hs. blocked_by hs e.0 Exclusive) (restoring.free k (λ x. none h x (same e.0 x) refl))
@@ -176,10 +181,12 @@ module _ (s : SeenLog) (orderly : IsOrderly s) (e : Xid × Bool) (rest : List (X
       each_by : (x : Xid) (b : Bool) → same e.0 x ≡ b → (writes_of u x ≡ promised s x) ⊎ (writes_of u x ≡ [])
       each_by x true is = inl (subst (λ y. writes_of u y ≡ promised s y) (same_is e.0 x is) leaves.own)
       each_by x false is = subst (λ ws. (ws ≡ promised s x) ⊎ (ws ≡ [])) (sym (leaves.others x is)) (restoring.each x)
+
       done_by : (x : Xid) → is_among x rest ≡ false → (b : Bool) → same e.0 x ≡ b → writes_of u x ≡ promised s x
       done_by x none true is = subst (λ y. writes_of u y ≡ promised s y) (same_is e.0 x is) leaves.own
       done_by x none false is = leaves.others x is
           ∙ restoring.done x (ap (λ b. b || is_among x rest) (apart_turns e.0 x is) ∙ none)
+
       held_by_test : (x : Xid) (k : List ℕ) → names_key (writes_of u x) k ≡ true → (b : Bool) → same e.0 x ≡ b
           → (c : Bool) → names_key (promised s e.0) k ≡ c → holders_of next k ≡ held_by x
       held_by_test x k names true is c own =
@@ -190,6 +197,7 @@ module _ (s : SeenLog) (orderly : IsOrderly s) (e : Xid × Bool) (rest : List (X
           true_is_false (sym names ∙ ap (λ ws. names_key ws k) (leaves.others x is) ∙ not_other x k is own)
       held_by_test x k names false is false own =
           keys.others k own ∙ restoring.held x k (ap (λ ws. names_key ws k) (sym (leaves.others x is)) ∙ names)
+
       free_by : (k : List ℕ) → ((x : Xid) → names_key (writes_of u x) k ≡ false) → names_key (promised s e.0) k ≡ false
           → (x : Xid) (b : Bool) → same e.0 x ≡ b → names_key (writes_of t x) k ≡ false
       free_by k none own x true is = names_nothing (promised s x) (writes_of t x) k (restoring.each x)
@@ -207,8 +215,10 @@ module _ (s : SeenLog) (orderly : IsOrderly s) (e : Xid × Bool) (rest : List (X
       nothing : (o : Option Promise) → is_open o ≡ false → promised_by o ≡ []
       nothing None h = refl
       nothing (Some p) h = ap (λ b. cond b p.writes []) h
+
       both_nothing : (x : Xid) → promised s x ≡ [] → (writes_of t x ≡ promised s x) ⊎ (writes_of t x ≡ []) → writes_of t x ≡ promised s x
       both_nothing x h either = ⊎_elim (λ g. g) (λ g. g ∙ sym h) either
+
       done_by : (x : Xid) → is_among x rest ≡ false → (b : Bool) → same e.0 x ≡ b → writes_of t x ≡ promised s x
       done_by x none true is =
           both_nothing x (subst (λ y. promised s y ≡ []) (same_is e.0 x is) (nothing (found s e.0) closed)) (restoring.each x)

@@ -1,8 +1,7 @@
 -- What the records have said and the fold over them go together, record by record.
-use Rattle.std.proofs.Common.{rules, ◌≡◌, ◌+◌, ℕ, Bool, true, false, not, ◌&&◌, ◌||◌, cond, List, [], ◌∷◌, ◌++◌, Option, Some, None, map, fold, refl, sym, ap, subst, ◌∙◌, arith, is_some, nat_lt, length}
-use Rattle.std.proofs.lemmas.Grind.{common_steps}
+use Rattle.std.proofs.Common.{◌≡◌, ℕ, Bool, true, false, not, ◌&&◌, ◌||◌, cond, List, [], ◌∷◌, Option, Some, None, map, fold, refl, sym, ap, subst, ◌∙◌, is_some, nat_lt, length}
 use Rattle.std.specs.List.{IsDistinct}
-use Rattle.std.specs.Map.{keys_of, lookup}
+use Rattle.std.specs.Map.{lookup}
 use Rattle.xa_xid.specs.declared.xid.Xid.{Xid}
 use Rattle.tree_model.specs.declared.names.ProcessId.{ProcessId}
 use Rattle.tree_model.specs.declared.records.Branch.{Branch}
@@ -19,7 +18,7 @@ use Rattle.log_order.specs.declared.seen.Mark.{Mark}
 use Rattle.log_order.specs.declared.seen.Mark.TheVariants.{Open, Decided, Told}
 use Rattle.log_order.specs.declared.seen.Promise.{Promise}
 use Rattle.log_order.specs.Orders.{SeenLog, after, boot_rises, followed, found, is_heuristic, is_open, is_opened, is_untold, keys_free, keys_once, names_key, nothing_seen, opens, promised, promised_by, promises, rank_in, rises, same, with_promise, without_promise}
-use Rattle.kv_store.specs.Pairs.{WritesPairs, keys_rise}
+use Rattle.kv_store.specs.Pairs.{keys_rise}
 use Rattle.kv_store.specs.Versions.{pair_write}
 use Rattle.kv_store.proofs.Pairs.{writes_pairs}
 use Rattle.kv_replay.specs.Folds.{by_xid, data_of, renamed_by}
@@ -93,6 +92,7 @@ tied_mark s x m d e closed fold rise l = record {
   where
     p : Promise
     p = record { mark = m; writes = [] }
+
     tied_by : (y : Xid) (b : Bool) → is_open (cond b (Some p) (found s y)) ≡ true
         → writes_promised (Foreign y) d.promised ≡ promised_by (cond b (Some p) (found s y))
     tied_by y true is_so = true_is_false (sym is_so ∙ closed)
@@ -132,6 +132,7 @@ lawful_promise s x ws d once free l = record {
   where
     p : Promise
     p = record { mark = Open; writes = ws }
+
     tied_by : (y : Xid) (b : Bool) → same y x ≡ b → is_open (cond b (Some p) (found s y)) ≡ true
         → writes_promised (Foreign y) ((Foreign x, ws) ∷ d.promised) ≡ promised_by (cond b (Some p) (found s y))
     tied_by y true e is_so = promised_first x y ws d.promised true (one_branch x y e)

@@ -1,7 +1,6 @@
 -- What each record makes of the data, in versions and in the fold.
-use Rattle.std.proofs.Common.{rules, ◌≡◌, ◌+◌, ◌≤◌, ◌^◌, ◌⊎◌, ⊎_elim, ℕ, Bool, true, false, ◌||◌, cond, List, [], ◌∷◌, Option, Some, None, refl, sym, ap, subst, ◌∙◌, arith, is_some}
+use Rattle.std.proofs.Common.{◌≡◌, ◌+◌, ◌⊎◌, ⊎_elim, ℕ, Bool, true, false, ◌||◌, cond, List, [], ◌∷◌, Some, None, refl, sym, ap, subst, ◌∙◌, is_some}
 use Rattle.xa_xid.specs.declared.xid.Xid.{Xid}
-use Rattle.tree_model.specs.declared.names.ProcessId.{ProcessId}
 use Rattle.tree_model.specs.declared.records.Branch.{Branch}
 use Rattle.tree_model.specs.declared.records.Branch.TheVariants.{Foreign}
 use Rattle.tree_model.specs.declared.records.LogRecord.{LogRecord}
@@ -16,7 +15,7 @@ use Rattle.log_order.specs.declared.seen.Mark.TheVariants.{Decided}
 use Rattle.kv_store.specs.Pairs.{keys_rise}
 use Rattle.kv_store.specs.Versions.{Applies, Sets, VersionTable, pair_write, value_at, value_by, written}
 use Rattle.kv_store.proofs.Pairs.{writes_pairs}
-use Rattle.kv_replay.specs.Folds.{AreData, by_xid, renamed_by}
+use Rattle.kv_replay.specs.Folds.{AreData, renamed_by}
 use Rattle.kv_replay.specs.Replays.{IsTied, Takes}
 
 -- a commit
@@ -70,6 +69,7 @@ takes_promise s l x b old new entry name is made = ⊎_elim (λ h. subst Made (s
   where
     Made : Record → Type 0
     Made r = (d : Data) → IsTied s d → AreData old d → AreData new (stored_after d (renamed_by l.parent (record_branch r) r))
+
     own : (d : Data) → IsTied s d → AreData old d → AreData new (commits (writes_promised (Foreign (name_xid l.parent b)) d.promised) d)
     own d tied are = subst (λ y. AreData new (commits (writes_promised (Foreign y) d.promised) d)) name
         (promise_data s x old new d is made tied are)

@@ -1,6 +1,5 @@
 -- Each branch stands once, and no key is promised twice: each change keeps it.
-use Rattle.std.proofs.Common.{rules, ◌≡◌, ℕ, Bool, true, false, not, ◌&&◌, ◌||◌, cond, List, [], ◌∷◌, Option, Some, None, map, refl, sym, ap, subst, ◌∙◌, arith}
-use Rattle.std.proofs.lemmas.Grind.{common_steps}
+use Rattle.std.proofs.Common.{◌≡◌, ℕ, Bool, true, false, not, ◌&&◌, ◌||◌, cond, List, [], ◌∷◌, Some, None, map, refl, sym, ap, subst, ◌∙◌}
 use Rattle.std.specs.List.{IsDistinct}
 use Rattle.std.specs.Map.{keys_of, lookup}
 use Rattle.xa_xid.specs.declared.xid.Xid.{Xid}
@@ -45,6 +44,7 @@ orderly_put s x p once apart o = record {
     once_by : (y : Xid) (b : Bool) → keys_once (promised_by (cond b (Some p) (found s y))) ≡ true
     once_by y true = once
     once_by y false = o.once y
+
     apart_by : (y z : Xid) (k : List ℕ) (a b : Bool) → same y x ≡ a → same z x ≡ b → same y z ≡ false
         → names_key (promised_by (cond a (Some p) (found s y))) k ≡ true
         → names_key (promised_by (cond b (Some p) (found s z))) k ≡ false
@@ -69,6 +69,7 @@ orderly_out s x o = record {
     once_by : (y : Xid) (b : Bool) → keys_once (promised_by (cond b None (found s y))) ≡ true
     once_by y true = refl
     once_by y false = o.once y
+
     apart_by : (y z : Xid) (k : List ℕ) (a b : Bool) → same y z ≡ false
         → names_key (promised_by (cond a None (found s y))) k ≡ true
         → names_key (promised_by (cond b None (found s z))) k ≡ false
@@ -118,6 +119,7 @@ closed_key (e ∷ es) y k closed =
     names_none : (b : Bool) (ws : List Write) → (b && names_key ws k) ≡ false → names_key (cond b ws []) k ≡ false
     names_none true ws h = h
     names_none false ws h = refl
+
     by_test : (b : Bool) → names_key (promised_by (Some e.1)) k ≡ false → names_key (promised_by (lookup (same y) es)) k ≡ false
         → names_key (promised_by (cond b (Some e.1) (lookup (same y) es))) k ≡ false
     by_test true own rest = own
@@ -137,6 +139,7 @@ orderly_mark s x m closed o = orderly_put s x (record { mark = m; writes = [] })
     once_by : (b : Bool) → keys_once (cond b [] []) ≡ true
     once_by true = refl
     once_by false = refl
+
     none_by : (b : Bool) (k : List ℕ) → names_key (cond b [] []) k ≡ false
     none_by true k = refl
     none_by false k = refl

@@ -1,8 +1,7 @@
-use Rattle.std.proofs.Common.{rules, ◌≡◌, true, false, OnOk, refl, sym, ap, subst, ◌∙◌}
+use Rattle.std.proofs.Common.{rules, ◌≡◌, true, sym, subst, ◌∙◌}
 use Rattle.indexmap.proofs.MapLemmas.{OnOk-map}
 use Rattle.kv_store.specs.Versions.{Applies}
-use Rattle.log_order.specs.Orders.{is_open, found, promised}
-use Rattle.kv_replay.specs.Replays.{TakeFails, Takes}
+use Rattle.log_order.specs.Orders.{is_open, found}
 use Rattle.kv_replay.proofs.Making.{never_settles, takes_base, takes_direct, takes_pair, takes_promise}
 use Rattle.kv_replay.proofs.data.take.Goals as goal
 

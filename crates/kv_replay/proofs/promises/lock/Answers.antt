@@ -1,4 +1,4 @@
-use Rattle.std.proofs.Common.{rules, ◌≡◌, subst}
+use Rattle.std.proofs.Common.{rules, subst}
 use Rattle.key_tables.proofs.Lists.{first_and_rest}
 use Rattle.kv_locks.specs.declared.holders.Mode.TheVariants.{Exclusive}
 use Rattle.kv_locks.specs.Locks.{Gives, Refuses}

@@ -1,7 +1,7 @@
-use Rattle.std.proofs.Common.{rules, ◌≡◌, ◌∷◌, ◌+◌, ◌<◌, false, [], length, drop, sym, ap, subst, ◌∙◌, arith}
+use Rattle.std.proofs.Common.{◌∷◌, ◌+◌, ◌<◌, [], length, drop, sym, subst, ◌∙◌, arith}
 use Rattle.std.proofs.lemmas.List.{drop_all}
 use Rattle.kv_writes.specs.Writes.{Leaves}
-use Rattle.log_order.specs.Orders.{found, is_open, left_by, promised}
+use Rattle.log_order.specs.Orders.{left_by, promised}
 use Rattle.kv_replay.specs.Replays.{AreFree, LocksKeys}
 use Rattle.kv_replay.proofs.Holding.{IsRestoring, item_and_rest, restoring_begins, restoring_ends, restoring_goes_on, restoring_is_free, restoring_passes}
 use Rattle.kv_replay.proofs.promises.restore.Goals as goal
@@ -29,18 +29,18 @@ loop-xid-preserved c =
     let restoring : IsRestoring c.args.seen.now (c.loop-xid-item.result ∷ drop (c.loop-xid.xid-index + 1) c.args.left.now) c.loop-xid.writes c.loop-xid.locks =
     subst (λ es. IsRestoring c.args.seen.now es c.loop-xid.writes c.loop-xid.locks) here c.loop-xid.invariant in
     elim c.if-is_open.branch [
-      then-is_open+in_ok-give_back w ↦
-        let writes : Leaves c.loop-xid.writes w.give_back.new.writes c.loop-xid-item.result.0 (promised c.args.seen.now c.loop-xid-item.result.0) =
-        subst (Leaves c.loop-xid.writes w.give_back.new.writes c.loop-xid-item.result.0) w.promised.ensures (w.in_ok-give_back.ensures {u = tt}).writes in
-        let locks : LocksKeys c.loop-xid.locks w.give_back.new.locks c.loop-xid-item.result.0 (promised c.args.seen.now c.loop-xid-item.result.0) =
-        subst (LocksKeys c.loop-xid.locks w.give_back.new.locks c.loop-xid-item.result.0) w.promised.ensures (w.in_ok-give_back.ensures {u = tt}).locks in
-        subst (λ t. IsRestoring c.args.seen.now (drop (c.loop-xid.xid-index + 1) c.args.left.now) t c.if-is_open.locks) (sym w.writes-is)
-        (subst (IsRestoring c.args.seen.now (drop (c.loop-xid.xid-index + 1) c.args.left.now) w.give_back.new.writes) (sym w.locks-is)
-        (restoring_goes_on c.args.seen.now c.requires.orderly c.loop-xid-item.result _ _ _ restoring w.give_back.new.writes w.give_back.new.locks writes locks))
+      | then-is_open+in_ok-give_back w ↦
+          let writes : Leaves c.loop-xid.writes w.give_back.new.writes c.loop-xid-item.result.0 (promised c.args.seen.now c.loop-xid-item.result.0) =
+          subst (Leaves c.loop-xid.writes w.give_back.new.writes c.loop-xid-item.result.0) w.promised.ensures (w.in_ok-give_back.ensures {u = tt}).writes in
+          let locks : LocksKeys c.loop-xid.locks w.give_back.new.locks c.loop-xid-item.result.0 (promised c.args.seen.now c.loop-xid-item.result.0) =
+          subst (LocksKeys c.loop-xid.locks w.give_back.new.locks c.loop-xid-item.result.0) w.promised.ensures (w.in_ok-give_back.ensures {u = tt}).locks in
+          subst (λ t. IsRestoring c.args.seen.now (drop (c.loop-xid.xid-index + 1) c.args.left.now) t c.if-is_open.locks) (sym w.writes-is)
+          (subst (IsRestoring c.args.seen.now (drop (c.loop-xid.xid-index + 1) c.args.left.now) w.give_back.new.writes) (sym w.locks-is)
+          (restoring_goes_on c.args.seen.now c.requires.orderly c.loop-xid-item.result _ _ _ restoring w.give_back.new.writes w.give_back.new.locks writes locks))
       | else-is_open w ↦
-        subst (λ t. IsRestoring c.args.seen.now (drop (c.loop-xid.xid-index + 1) c.args.left.now) t c.if-is_open.locks) (sym w.writes-is)
-        (subst (IsRestoring c.args.seen.now (drop (c.loop-xid.xid-index + 1) c.args.left.now) c.loop-xid.writes) (sym w.locks-is)
-        (restoring_passes c.args.seen.now c.requires.orderly c.loop-xid-item.result _ _ _ restoring (sym c.is_open.ensures ∙ w.if-is_open.false)))
+          subst (λ t. IsRestoring c.args.seen.now (drop (c.loop-xid.xid-index + 1) c.args.left.now) t c.if-is_open.locks) (sym w.writes-is)
+          (subst (IsRestoring c.args.seen.now (drop (c.loop-xid.xid-index + 1) c.args.left.now) c.loop-xid.writes) (sym w.locks-is)
+          (restoring_passes c.args.seen.now c.requires.orderly c.loop-xid-item.result _ _ _ restoring (sym c.is_open.ensures ∙ w.if-is_open.false)))
     ]
 
 pub returns-clause-ok : goal.returns-clause-ok

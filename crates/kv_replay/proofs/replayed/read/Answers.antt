@@ -1,6 +1,5 @@
-use Rattle.std.proofs.Common.{rules, ◌≡◌, ◌∷◌, OnOk, refl, subst}
-use Rattle.log_order.specs.Orders.{after}
-use Rattle.kv_replay.specs.Replays.{Fails, Takes, error_of}
+use Rattle.std.proofs.Common.{rules, ◌≡◌, ◌∷◌, subst}
+use Rattle.kv_replay.specs.Replays.{Fails, error_of}
 use Rattle.kv_replay.proofs.Passes.{IsReading, passed_on, reading_fails, reading_goes_on, reading_is_refused, reading_starts}
 use Rattle.kv_replay.proofs.replayed.read.Goals as goal
 

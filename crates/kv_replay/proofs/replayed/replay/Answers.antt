@@ -1,4 +1,3 @@
-use Rattle.std.proofs.Common.{rules, ◌≡◌}
 use Rattle.kv_replay.proofs.Lawful.{lawful_of}
 use Rattle.kv_replay.proofs.replayed.replay.Goals as goal
 
