@@ -69,6 +69,19 @@ is_heuristic (Some p) = not (opens p.mark)
 abbrev pub found : SeenLog → Xid → Option Promise
 found s x = lookup (same x) s.live
 
+-- the writes that a branch promised, where it is open still
+abbrev pub promised_by : Option Promise → List Write
+promised_by None = []
+promised_by (Some p) = if opens p.mark then p.writes else []
+
+-- the writes that a branch promised that is open still
+abbrev pub promised : SeenLog → Xid → List Write
+promised s x = promised_by (found s x)
+
+-- the branches that are open or heuristic, in the order of their promises, and whether an operator decided them
+abbrev pub left_by : SeenLog → List (Xid × Bool)
+left_by s = map (λ e. (e.0, not (opens e.1.mark))) s.live
+
 -- a write of this key is in the list
 unfoldable pub names_key : List Write → List ℕ → Bool
 names_key [] k = false

@@ -12,14 +12,18 @@ ghost use Rattle.log_order.specs.Orders.{
   found,
   forgot,
   holds,
+  is_open,
   key_open,
   keys_free,
   keys_once,
+  left_by,
   names_key,
   nothing_seen,
   opened,
+  opens,
   paired,
   prepared,
+  promised,
   promises,
   ranked,
   settled,
@@ -29,7 +33,7 @@ ghost use Rattle.log_order.specs.Orders.{
 
 use indexmap::IndexMap;
 use log_text::{ReadFault, name_xid};
-use std::alloc::Global;
+use std::alloc::{AllocError, Global};
 use std::marker::Model;
 use tree_model::{Branch, Bytes, LogRecord, ProcessId, Record, Sequence, Write, Writes};
 use xa_xid::Xid;
@@ -139,6 +143,14 @@ fn key_below(one: &[u8], other: &[u8]) -> bool
     }
 }
 
+impl Mark {
+    fn is_open(self) -> bool
+        ensures { result ≡ opens self }
+    {
+        matches!(self, Mark::Open)
+    }
+}
+
 impl Promise {
     /// Whether it is open, with a write of this key.
     fn holds(&self, key: &[u8]) -> bool
@@ -160,6 +172,44 @@ impl Seen {
             ranks: IndexMap::new(alloc),
             live: IndexMap::new(alloc),
         }
+    }
+
+    /// The last boot, if there was one.
+    pub fn boot(&self) -> Option<u64>
+        ensures { result ≡ self.now.boot }
+    {
+        self.boot
+    }
+
+    /// Whether a branch is open: it promised, and neither it nor an operator has decided.
+    pub fn is_open(&self, xid: &Xid) -> bool
+        ensures { result ≡ is_open (found self.now xid.now) }
+    {
+        match self.live.get(xid) {
+            None => false,
+            Some(promise) => promise.mark.is_open(),
+        }
+    }
+
+    /// What an open branch promised: nothing where the branch is not open.
+    pub fn promised(&self, xid: &Xid) -> &[Write]
+        ensures { result.now ≡ promised self.now xid.now }
+    {
+        match self.live.get(xid) {
+            Some(promise) if promise.mark.is_open() => promise.writes.as_slice(),
+            _ => &[],
+        }
+    }
+
+    /// The branches that are open or heuristic, in the order of their promises, and whether an operator decided them.
+    pub fn left(&self) -> Result<Vec<(Xid, bool)>, AllocError>
+        ensures { IfOk result (λ left. left.items ≡ left_by self.now) }
+    {
+        let mut left = Vec::new(self.alloc);
+        for (xid, promise) in &self.live {
+            left.push((*xid, !promise.mark.is_open()))?;
+        }
+        Ok(left)
     }
 
     /// Whether an open branch promised a write of this key.

@@ -1,0 +1,65 @@
+//! The pass over the records of a log.
+
+ghost use Rattle.std.specs.Prelude.{◌≡◌, IfOk, IfErr};
+ghost use Rattle.kv_replay.specs.Replays.{Fails, Leaves, Reads};
+
+use crate::data;
+use crate::fault::ReplayError;
+use crate::promises::restore;
+use kv_locks::Locks;
+use kv_store::Versions;
+use kv_writes::BranchWrites;
+use log_order::Seen;
+use std::alloc::Global;
+use tree_model::LogRecord;
+use xa_xid::Xid;
+
+/// What the records of a log leave of a key store.
+#[derive(Drop)]
+pub struct Replayed {
+    /// The last boot; none where there are no records.
+    pub boot: Option<u64>,
+    /// The branches in doubt, in the order of their promises, and whether an operator decided them.
+    pub left: Vec<(Xid, bool)>,
+    /// What the commits left, behind the last Base.
+    pub data: Versions,
+    /// What each open branch promised.
+    pub writes: BranchWrites,
+    /// The keys of these writes, each held exclusively.
+    pub locks: Locks,
+}
+
+/// What all records have said, and the data that they make.
+fn read(records: Vec<LogRecord>, alloc: Global) -> Result<(Seen, Versions), ReplayError>
+    ensures ok { IfOk result (λ made. Reads records.items made.0 made.1) }
+    ensures err { IfErr result (Fails records.items) }
+{
+    let mut seen = Seen::new(alloc);
+    let mut data = Versions::new(alloc, 0);
+    for record in records {
+        data::take(&mut data, &seen, &record, alloc)?;
+        seen.take(record)?;
+    }
+    Ok((seen, data))
+}
+
+/// What the records of a log leave of a key store. It goes through them once.
+///
+/// Malformed: a record may not follow those before it, or a branch that is open behind the last record promised more than 64
+/// writes, a key that has not 1 to 64 bytes, or a value above 256. Exhausted: some records in front count 2^63 commits or
+/// more.
+pub fn replay(records: Vec<LogRecord>, alloc: Global) -> Result<Replayed, ReplayError>
+    ensures ok { IfOk result (λ r. Leaves records.items r.boot r.left.items r.data r.writes r.locks) }
+    ensures err { IfErr result (Fails records.items) }
+{
+    let (seen, data) = read(records, alloc)?;
+    let left = seen.left()?;
+    let (writes, locks) = restore(&seen, &left, alloc)?;
+    Ok(Replayed {
+        boot: seen.boot(),
+        left,
+        data,
+        writes,
+        locks,
+    })
+}
