@@ -15,5 +15,5 @@ returns-in-Ok-clause-answer g c =
 pub returns-in-Err-clause-answer : goal.returns-in-Err-clause-answer
 returns-in-Err-clause-answer g c =
     let works : c.args.self.now.log.sight.failed ≡ false = search rules in
-    let off : IsOff c.self.inside.store c.args.verb c.args.xid.now c.args.flags.0 c.in-Err.refusal = search rules in
+    let off : IsOff c.self.inside.store c.args.verb c.args.xid.now c.args.flags.0 c.in-Err.refusal = c.in-Err.ensures.err in
     Refused works (subst (λ (v : KvSight). IsOff v.store c.args.verb c.args.xid.now c.args.flags.0 c.in-Err.refusal) c.self.view_is off) (same_self c.args.self.now)
