@@ -1,10 +1,11 @@
 -- A key store behind XA, without its log.
-use Rattle.std.specs.Prelude.{◌≡◌, ℕ, Bool, true, false, List, [], ◌∷◌}
+use Rattle.std.specs.Prelude.{◌≡◌, ◌-◌, ◌^◌, nat_lt, ℕ, Bool, true, false, List, [], ◌∷◌}
 use Rattle.xa_tables.specs.declared.states.BranchState.{BranchState}
 use Rattle.xa_tables.specs.declared.states.BranchState.TheVariants.{S0, S5}
 use Rattle.xa_xid.specs.declared.xid.Xid.{Xid}
 use Rattle.xa_states.specs.declared.states.States.{States}
 use Rattle.xa_states.specs.Answers.{Same, state_at}
+use Rattle.xa_states.specs.Restored.{Restored}
 use Rattle.log_order.specs.Orders.{names_key}
 use Rattle.kv_locks.specs.declared.holders.Mode.TheVariants.{Exclusive}
 use Rattle.kv_locks.specs.Locks.{LockTable, holders_of, holds}
@@ -48,3 +49,14 @@ pub record MovesTables (old new : KeySight) (Moves : States → States → Type 
   pub writes : new.writes ≡ old.writes
   pub locks : new.locks ≡ old.locks
   pub versions : new.versions ≡ old.versions
+
+-- one commit more can be counted
+abbrev pub has_numbers : KeySight → Bool
+has_numbers s = nat_lt s.versions.count (2 ^ 63 - 1)
+
+-- the store behind a restart, with these branches in doubt
+pub record Rebuilt (s : KeySight) (left : List (Xid × Bool)) (writes : WriteTable) (locks : LockTable) (versions : VersionTable) : Type 0 where
+  pub tables : Restored left s.tables
+  pub writes_left : s.writes ≡ writes
+  pub locks_left : s.locks ≡ locks
+  pub data_left : s.versions ≡ versions

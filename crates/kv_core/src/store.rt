@@ -1,12 +1,14 @@
 //! A key store behind XA, without its log.
 
-ghost use Rattle.std.specs.Prelude.{◌≡◌, ◌<◌, ◌+◌, ◌^◌, ◌↔◌, not, IsTrue, Contains, IfOk, IfErr, OnOk, OnErr, Some, None, option_map, true, false};
+ghost use Rattle.std.specs.Prelude.{◌≡◌, ◌<◌, ◌+◌, ◌^◌, ◌↔◌, not, IsTrue, Contains, MatchResult, IfOk, IfErr, OnOk, OnErr, Some, None, option_map, true, false};
 ghost use Rattle.kv_locks.specs.declared.holders.Mode.TheVariants as mode;
 ghost use Rattle.kv_writes.specs.Writes.{AreWrites, writes_of};
 ghost use Rattle.xa_states.specs.Answers.{Answers, Closes, Opens, Recovers, Wanted, map_ok};
 ghost use Rattle.xa_states.specs.Ready.{is_closed, is_work_verb};
-ghost use Rattle.xa_branch.specs.Branches.{is_known};
-ghost use Rattle.kv_core.specs.Stores.{IsTidy, MovesTables, SameStore, state_of};
+ghost use Rattle.xa_branch.specs.Branches.{in_doubt, is_known};
+ghost use Rattle.xa_states.specs.declared.states.States.{States as AnyStates};
+ghost use Rattle.xa_states.specs.Restored.{Restored, restore_refusal};
+ghost use Rattle.kv_core.specs.Stores.{IsTidy, MovesTables, Rebuilt, SameStore, has_numbers, state_of};
 ghost use Rattle.kv_core.specs.Works.{IsRefused, Reads, Writes, at_work, branch_refusal, is_too_long, refusal_by, value_for, work_refusal};
 ghost use Rattle.kv_core.specs.Ends.{IsDue, IsListed, IsOff, PublishesWrites, SameButData, StagesWrites, TakesTurn, ends, turn_for, wrote_some};
 
@@ -27,6 +29,9 @@ use xa_xid::Xid;
 const KEY: usize = 64;
 
 const VALUE: usize = 256;
+
+/// The most commits that are counted.
+const COMMITS: u64 = 0x7fff_ffff_ffff_ffff;
 
 /// The tables of calls, what each branch at work has written, the locks and the data.
 #[derive(Drop)]
@@ -99,6 +104,46 @@ fn copied(bytes: Option<&[u8]>, alloc: Global) -> Result<Option<Bytes>, AllocErr
 }
 
 impl KeyStore {
+    /// The store behind a restart: a manager that is not open, with these branches in doubt, in this order: prepared (in
+    /// S3), or where the second is true decided by an operator (in S5). RmErr: they are more than 1,024. DupId: one of
+    /// them stands there twice.
+    pub fn restored(
+        alloc: Global,
+        left: &[(Xid, bool)],
+        writes: BranchWrites,
+        locks: Locks,
+        versions: Versions,
+    ) -> Result<Result<Self, Code>, AllocError>
+        requires { (t : AnyStates) → Restored left.now t → IsTidy (record { tables = t; writes = writes; locks = locks; versions = versions }) }
+        ensures { IfOk result (λ made. MatchResult made (λ store. Rebuilt store left.now writes locks versions)
+            (λ refusal. restore_refusal left.now ≡ Some refusal)) }
+    {
+        match States::restored(alloc, left)? {
+            Ok(states) => Ok(Ok(KeyStore {
+                alloc,
+                states,
+                writes,
+                locks,
+                versions,
+            })),
+            Err(refusal) => Ok(Err(refusal)),
+        }
+    }
+
+    /// Whether one commit more can be counted: fewer than 2^63 - 1 were made.
+    pub fn has_numbers(&self) -> bool
+        ensures { result ≡ has_numbers self.now }
+    {
+        self.versions.count() < COMMITS
+    }
+
+    /// The branches in doubt (in S3 and S5), in order of beginning.
+    pub fn in_doubt(&self) -> Result<Vec<Xid>, AllocError>
+        ensures { IfOk result (λ v. v.items ≡ in_doubt self.now.tables.branches.branches) }
+    {
+        self.states.in_doubt()
+    }
+
     /// Whether the manager is open.
     pub fn is_open(&self) -> bool
         ensures { result ≡ not (is_closed self.now.tables.init) }

@@ -1,3 +1,4 @@
 pub mod Keeping
 pub mod Logs
+pub mod Restoring
 pub mod Turns

@@ -1,2 +1,3 @@
 pub mod Sights
 pub mod Turns
+pub mod Restarts

@@ -3,5 +3,7 @@
 
 mod log;
 mod manager;
+mod restart;
 
 pub use manager::KvManager;
+pub use restart::RestartError;

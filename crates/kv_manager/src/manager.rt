@@ -2,7 +2,9 @@
 
 ghost use Rattle.std.specs.Prelude.{◌≡◌, ◌<◌, ◌≤◌, ◌+◌, ◌^◌, length, false, true, IfOk, IfErr, OnOk, OnErr, Err, Some, None};
 ghost use Rattle.kv_locks.specs.declared.holders.Mode.TheVariants as mode;
-ghost use Rattle.kv_core.specs.Stores.{MovesTables, state_of};
+ghost use Rattle.kv_core.specs.Stores.{MovesTables, has_numbers, state_of};
+ghost use Rattle.xa_branch.specs.Branches.{in_doubt};
+ghost use Rattle.kv_manager.specs.Restarts.{NotRestarted, RestartsManager};
 ghost use Rattle.kv_core.specs.Works.{Reads, Writes, work_refusal};
 ghost use Rattle.kv_core.specs.Ends.{IsDue};
 ghost use Rattle.xa_states.specs.Answers.{Answers, Closes, Opens, Recovers, Wanted, map_ok};
@@ -17,11 +19,12 @@ ghost use Rattle.kv_turns.specs.Turns.{applies, entry_record};
 ghost use Rattle.kv_manager.specs.Turns.{Calls, Finishes, HasWrites, IsDueTurn, OnlyRoom, Refuses, Takes};
 
 use crate::log::write;
+use crate::restart::{RestartError, opened, rebuilt};
 use kv_core::KeyStore;
 use kv_turns::{Entry, Turn};
 use log_store::LogStore;
 use log_text::Frame;
-use rec_log::RecLog;
+use rec_log::{LogError, RecLog};
 use std::alloc::{AllocError, Global};
 use std::marker::Model;
 use tree_model::Bytes;
@@ -240,6 +243,91 @@ impl<L: LogStore> KvManager<L> {
         match self.store.due(verb, xid, flags) {
             Ok((call, turn)) => self.take(xid, call, turn),
             Err(refusal) => Ok(refusal),
+        }
+    }
+
+    /// Whether one commit more can be counted: fewer than 2^63 - 1 were made.
+    pub fn has_numbers(&self) -> bool
+        ensures { result ≡ has_numbers self.now.store }
+    {
+        self.store.has_numbers()
+    }
+
+    /// A branch promises, with what it has written; one that wrote nothing is ended. RmFail: the manager has failed, or
+    /// its device fails now. The thread is not looked at.
+    pub fn prepare(&mut self, _thread: u32, xid: &Xid, flags: Flags) -> Result<Code, AllocError>
+        requires { has_numbers self.old.store ≡ true }
+        ensures answer { IfOk result (Finishes self.old self.new Verb.Prepare xid.now flags.0) }
+        ensures err { OnErr result (SameManager self.old self.new) }
+    {
+        self.finish(Verb::Prepare, xid, flags)
+    }
+
+    /// A prepared branch commits, or with TMONEPHASE one that is not prepared. RmFail as at `prepare`.
+    pub fn commit(&mut self, _thread: u32, xid: &Xid, flags: Flags) -> Result<Code, AllocError>
+        requires { has_numbers self.old.store ≡ true }
+        ensures answer { IfOk result (Finishes self.old self.new Verb.Commit xid.now flags.0) }
+        ensures err { OnErr result (SameManager self.old self.new) }
+    {
+        self.finish(Verb::Commit, xid, flags)
+    }
+
+    /// A branch rolls back. RmFail as at `prepare`.
+    pub fn rollback(&mut self, _thread: u32, xid: &Xid, flags: Flags) -> Result<Code, AllocError>
+        requires { has_numbers self.old.store ≡ true }
+        ensures answer { IfOk result (Finishes self.old self.new Verb.Rollback xid.now flags.0) }
+        ensures err { OnErr result (SameManager self.old self.new) }
+    {
+        self.finish(Verb::Rollback, xid, flags)
+    }
+
+    /// An operator's decision about a branch is forgotten. RmFail as at `prepare`.
+    pub fn forget(&mut self, _thread: u32, xid: &Xid, flags: Flags) -> Result<Code, AllocError>
+        requires { has_numbers self.old.store ≡ true }
+        ensures answer { IfOk result (Finishes self.old self.new Verb.Forget xid.now flags.0) }
+        ensures err { OnErr result (SameManager self.old self.new) }
+    {
+        self.finish(Verb::Forget, xid, flags)
+    }
+
+    /// A thread begins work in a branch, or takes it up again. RmFail: the manager has failed.
+    pub fn start(&mut self, thread: u32, xid: &Xid, flags: Flags) -> Result<Code, AllocError>
+        ensures answer { IfOk result (λ answer. (wanted : Wanted) → Calls self.old self.new (answer ≡ Code.RmFail)
+            (λ before behind. MovesTables before behind (λ old new. Answers wanted old new Verb.Start thread xid.now flags.0 answer))) }
+        ensures err { OnErr result (SameManager self.old self.new) }
+    {
+        self.work_call(Verb::Start, thread, xid, flags)
+    }
+
+    /// A thread ends its work in a branch, or suspends it. RmFail: the manager has failed.
+    pub fn end(&mut self, thread: u32, xid: &Xid, flags: Flags) -> Result<Code, AllocError>
+        ensures answer { IfOk result (λ answer. (wanted : Wanted) → Calls self.old self.new (answer ≡ Code.RmFail)
+            (λ before behind. MovesTables before behind (λ old new. Answers wanted old new Verb.End thread xid.now flags.0 answer))) }
+        ensures err { OnErr result (SameManager self.old self.new) }
+    {
+        self.work_call(Verb::End, thread, xid, flags)
+    }
+
+    /// A crash that keeps so many unforced bytes of the log, and the manager behind it: not open, with the branches in
+    /// doubt, which it gives in the order of their promises, and the next boot. All memory is taken before the crash.
+    /// Memory, Damaged, Exhausted: nothing changed. Device: the manager has failed until another restart.
+    pub fn restart(&mut self, keep: usize) -> Result<Vec<Xid>, RestartError>
+        ensures ok { IfOk result (λ xids. RestartsManager self.old self.new keep
+            × (xids.items ≡ in_doubt self.new.store.tables.branches.branches)) }
+        ensures err { IfErr result (NotRestarted self.old self.new keep) }
+    {
+        let records = self.log.kept(keep, self.alloc)?;
+        let (store, boot) = rebuilt(records, self.alloc)?;
+        let xids = store.in_doubt()?;
+        let opened = opened(boot, self.alloc)?;
+        match self.log.restart(keep, &[opened], self.alloc) {
+            Ok(()) => {
+                self.store = store;
+                self.boot = boot;
+                Ok(xids)
+            }
+            Err(LogError::Memory) => Err(RestartError::Memory),
+            Err(LogError::Device) => Err(RestartError::Device),
         }
     }
 }
