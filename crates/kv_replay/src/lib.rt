@@ -12,6 +12,7 @@
 
 mod data;
 mod fault;
+pub mod law;
 mod promises;
 mod replayed;
 

@@ -14,6 +14,7 @@ loop-record-preserved c =
     subst (λ ks. IsReading c.args.records.items ks c.loop-record.seen c.loop-record.data) next c.loop-record.invariant in
     reading_goes_on c.args.records.items c.in-Some.record c.next.new.self.rest.items c.loop-record.seen c.loop-record.data reading
     c.take-in-loop-record.new.self c.take.new.versions (search rules) c.in_ok-take.ensures.ok
+    c.in_ok-take.ensures.before
 
 pub returns-in_err-take-clause-err : goal.returns-in_err-take-clause-err
 returns-in_err-take-clause-err c =
