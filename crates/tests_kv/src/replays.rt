@@ -1,160 +1,189 @@
 //! Logs replayed: commits and deletions, branches in doubt behind them, data behind a trim, and records that leave nothing.
 
 use crate::version_calls::{bytes_of, writes_of};
-use kv_locks::LockError;
-use kv_replay::{ReplayError, replay};
+use kv_locks::Mode;
+use kv_replay::{ReplayError, Replayed, replay};
 use std::alloc::{AllocError, Global};
 use std::test::Fail;
-use tree_model::{Branch, LogRecord, Record, Sequence};
+use tree_model::{Branch, LogRecord, Record, Sequence, Writes};
 use xa_xid::Xid;
 
-fn in_log(entry: Record) -> LogRecord {
-    LogRecord {
-        entry,
-        parent: None,
+/// A record of a log, whose keys and values have one byte each.
+#[derive(Clone, Copy)]
+enum Line {
+    Opened(u64),
+    Prepared(Xid, u8, u8),
+    Committed(Xid),
+    RolledBack(Xid),
+    Direct(Xid, u8, Option<u8>),
+    HeurCommit(Xid),
+    HeurRollback(Xid),
+    Base(u64),
+    Pair(u8, u8),
+}
+
+/// The write of a key: a value, or a deletion.
+fn write_of(alloc: Global, key: u8, value: Option<u8>) -> Result<Writes, AllocError> {
+    let writes = match value {
+        None => writes_of(alloc, &[key], None)?,
+        Some(value) => writes_of(alloc, &[key], Some(&[value]))?,
+    };
+    Ok(Sequence::from_vec(writes))
+}
+
+fn record_of(alloc: Global, line: Line) -> Result<Record, AllocError> {
+    Ok(match line {
+        Line::Opened(boot) => Record::Opened(boot),
+        Line::Prepared(xid, key, value) => {
+            Record::Prepared(Branch::Foreign(xid), write_of(alloc, key, Some(value))?)
+        }
+        Line::Committed(xid) => Record::Committed(Branch::Foreign(xid)),
+        Line::RolledBack(xid) => Record::RolledBack(Branch::Foreign(xid)),
+        Line::Direct(xid, key, value) => {
+            Record::Direct(Branch::Foreign(xid), write_of(alloc, key, value)?)
+        }
+        Line::HeurCommit(xid) => Record::HeurCommit(Branch::Foreign(xid)),
+        Line::HeurRollback(xid) => Record::HeurRollback(Branch::Foreign(xid)),
+        Line::Base(count) => Record::Base(count),
+        Line::Pair(key, value) => {
+            Record::Pair(bytes_of(alloc, &[key])?, bytes_of(alloc, &[value])?)
+        }
+    })
+}
+
+fn records_of(alloc: Global, lines: &[Line]) -> Result<Vec<LogRecord>, AllocError> {
+    let mut records = Vec::new(alloc);
+    for line in lines {
+        let entry = record_of(alloc, *line)?;
+        records.push(LogRecord {
+            entry,
+            parent: None,
+        })?;
     }
+    Ok(records)
 }
 
-fn prepared(alloc: Global, xid: Xid, key: &[u8], value: &[u8]) -> Result<LogRecord, AllocError> {
-    let writes = Sequence::from_vec(writes_of(alloc, key, Some(value))?);
-    Ok(in_log(Record::Prepared(Branch::Foreign(xid), writes)))
+fn replayed(alloc: Global, lines: &[Line]) -> Result<Replayed, ReplayError> {
+    replay(records_of(alloc, lines)?, alloc)
 }
 
-fn direct(
-    alloc: Global,
-    xid: Xid,
-    key: &[u8],
-    value: Option<&[u8]>,
-) -> Result<LogRecord, AllocError> {
-    let writes = Sequence::from_vec(writes_of(alloc, key, value)?);
-    Ok(in_log(Record::Direct(Branch::Foreign(xid), writes)))
-}
-
-fn pair(alloc: Global, key: &[u8], value: &[u8]) -> Result<LogRecord, AllocError> {
-    Ok(in_log(Record::Pair(bytes_of(alloc, key)?, bytes_of(alloc, value)?)))
-}
-
-/// The error of these records, if there is one.
-fn error_of(records: Vec<LogRecord>, alloc: Global) -> Option<ReplayError> {
-    match replay(records, alloc) {
+/// Why these records leave nothing, if they do.
+fn error_of(alloc: Global, lines: &[Line]) -> Option<ReplayError> {
+    match replayed(alloc, lines) {
         Ok(_) => None,
         Err(error) => Some(error),
     }
 }
 
+/// The byte that a key was behind so many commits.
+fn byte_at(left: &Replayed, count: u64, key: u8) -> Option<u8> {
+    match left.data.read_at(count, &[key]) {
+        Ok(Some([byte])) => Some(*byte),
+        _ => None,
+    }
+}
+
+/// What the keys a, b and c are.
+fn bytes_now(left: &Replayed) -> [Option<u8>; 3] {
+    let count = left.data.count();
+    [
+        byte_at(left, count, b'a'),
+        byte_at(left, count, b'b'),
+        byte_at(left, count, b'c'),
+    ]
+}
+
+/// Who is in the way of a branch that would write the keys a, b and c.
+fn blockers(left: &Replayed, xid: &Xid) -> [Option<Xid>; 3] {
+    let blocker = |key| left.locks.blocker(xid, &[key], Mode::Exclusive);
+    [blocker(b'a'), blocker(b'b'), blocker(b'c')]
+}
+
 #[test]
 fn commits_and_deletes(rt: HostRuntime) -> Result<(), Fail> {
-    let alloc = rt.alloc();
     let first = Xid::new(7, &[1], &[]).expect(&rt, "a name");
     let second = Xid::new(7, &[2], &[]).expect(&rt, "a name");
-    let records = vec![in alloc;
-        in_log(Record::Opened(1)),
-        prepared(alloc, first, b"a", b"1")?,
-        direct(alloc, second, b"b", Some(b"2"))?,
-        in_log(Record::Committed(Branch::Foreign(first))),
-        direct(alloc, first, b"b", None)?,
-        prepared(alloc, second, b"c", b"3")?,
-        in_log(Record::RolledBack(Branch::Foreign(second))),
-    ]?;
-    let mut left = replay(records, alloc).expect(&rt, "what the records leave");
-    assert!(rt; left.boot == Some(1));
-    assert!(rt; left.left.is_empty());
-    assert_eq!(rt; left.data.count(), 3);
-    assert!(rt; left.data.read(b"a") == Some(b"1"));
-    assert_eq!(rt; left.data.read(b"b"), None);
-    assert_eq!(rt; left.data.read(b"c"), None);
-    assert!(rt; left.data.read_at(1, b"b") == Ok(Some(b"2")));
-    assert!(rt; left.data.read_at(1, b"a") == Ok(None));
-    assert!(rt; left.writes.of(&first).is_empty() && left.writes.of(&second).is_empty());
-    assert_eq!(rt; left.locks.exclusive(&first, b"c"), Ok(()));
+    let lines = [
+        Line::Opened(1),
+        Line::Prepared(first, b'a', b'1'),
+        Line::Direct(second, b'b', Some(b'2')),
+        Line::Committed(first),
+        Line::Direct(first, b'b', None),
+        Line::Prepared(second, b'c', b'3'),
+        Line::RolledBack(second),
+    ];
+    let left = replayed(rt.alloc(), &lines).expect(&rt, "what the records leave");
+    assert!(rt; left.boot == Some(1) && left.left.is_empty());
+    assert!(rt; left.data.count() == 3 && bytes_now(&left) == [Some(b'1'), None, None]);
+    assert!(rt; byte_at(&left, 1, b'b') == Some(b'2') && byte_at(&left, 1, b'a').is_none());
+    assert!(rt; left.writes.of(&second).is_empty() && blockers(&left, &first) == [None; 3]);
     Ok(())
 }
 
 #[test]
-fn branches_in_doubt_keep_their_locks(rt: HostRuntime) -> Result<(), Fail> {
-    let alloc = rt.alloc();
+fn branches_in_doubt(rt: HostRuntime) -> Result<(), Fail> {
     let first = Xid::new(7, &[1], &[]).expect(&rt, "a name");
     let second = Xid::new(7, &[2], &[]).expect(&rt, "a name");
     let third = Xid::new(7, &[3], &[]).expect(&rt, "a name");
-    let records = vec![in alloc;
-        in_log(Record::Opened(1)),
-        direct(alloc, first, b"a", Some(b"1"))?,
-        prepared(alloc, second, b"b", b"2")?,
-        prepared(alloc, first, b"a", b"3")?,
-        prepared(alloc, third, b"c", b"4")?,
-        in_log(Record::HeurCommit(Branch::Foreign(second))),
-        in_log(Record::Opened(2)),
-        in_log(Record::HeurRollback(Branch::Foreign(third))),
-    ]?;
-    let mut left = replay(records, alloc).expect(&rt, "what the records leave");
-    assert!(rt; left.boot == Some(2));
-    assert!(rt; left.left.as_slice() == [(second, true), (first, false), (third, true)].as_slice());
-    assert_eq!(rt; left.data.count(), 2);
-    assert!(rt; left.data.read(b"a") == Some(b"1"));
-    assert!(rt; left.data.read(b"b") == Some(b"2"));
-    assert_eq!(rt; left.data.read(b"c"), None);
-    assert_eq!(rt; left.writes.of(&first).len(), 1);
-    assert!(rt; left.writes.find(&first, b"a").is_some());
-    assert!(rt; left.writes.of(&second).is_empty() && left.writes.of(&third).is_empty());
-    assert_eq!(rt;
-        left.locks.shared(&second, b"a"),
-        Err(LockError::Held(first))
-    );
-    assert_eq!(rt; left.locks.exclusive(&third, b"b"), Ok(()));
-    assert_eq!(rt; left.locks.exclusive(&second, b"c"), Ok(()));
+    let lines = [
+        Line::Opened(1),
+        Line::Direct(first, b'a', Some(b'1')),
+        Line::Prepared(second, b'b', b'2'),
+        Line::Prepared(first, b'a', b'3'),
+        Line::Prepared(third, b'c', b'4'),
+        Line::HeurCommit(second),
+        Line::Opened(2),
+        Line::HeurRollback(third),
+    ];
+    let left = replayed(rt.alloc(), &lines).expect(&rt, "what the records leave");
+    let doubts = [(second, true), (first, false), (third, true)];
+    assert!(rt; left.boot == Some(2) && left.left.as_slice() == doubts.as_slice());
+    assert!(rt; left.data.count() == 2 && bytes_now(&left) == [Some(b'1'), Some(b'2'), None]);
+    assert!(rt; left.writes.find(&first, b"a").is_some() && left.writes.of(&second).is_empty());
+    assert!(rt; blockers(&left, &second) == [Some(first), None, None]);
     Ok(())
 }
 
 #[test]
 fn a_base_with_pairs(rt: HostRuntime) -> Result<(), Fail> {
-    let alloc = rt.alloc();
     let first = Xid::new(7, &[1], &[]).expect(&rt, "a name");
-    let records = vec![in alloc;
-        in_log(Record::Opened(3)),
-        direct(alloc, first, b"c", Some(b"0"))?,
-        in_log(Record::Base(7)),
-        pair(alloc, b"a", b"1")?,
-        pair(alloc, b"b", b"2")?,
-        direct(alloc, first, b"a", Some(b"3"))?,
-    ]?;
-    let left = replay(records, alloc).expect(&rt, "what the records leave");
-    assert!(rt; left.boot == Some(3));
-    assert_eq!(rt; (left.data.base(), left.data.count()), (7, 8));
-    assert!(rt; left.data.read(b"a") == Some(b"3"));
-    assert!(rt; left.data.read(b"b") == Some(b"2"));
-    assert_eq!(rt; left.data.read(b"c"), None);
-    assert!(rt; left.data.read_at(7, b"a") == Ok(Some(b"1")));
+    let lines = [
+        Line::Opened(3),
+        Line::Direct(first, b'c', Some(b'0')),
+        Line::Base(7),
+        Line::Pair(b'a', b'1'),
+        Line::Pair(b'b', b'2'),
+        Line::Direct(first, b'a', Some(b'3')),
+    ];
+    let left = replayed(rt.alloc(), &lines).expect(&rt, "what the records leave");
+    assert!(rt; left.boot == Some(3) && left.data.base() == 7 && left.data.count() == 8);
+    assert!(rt; bytes_now(&left) == [Some(b'3'), Some(b'2'), None]);
+    assert!(rt; byte_at(&left, 7, b'a') == Some(b'1'));
     Ok(())
 }
 
 #[test]
 fn records_that_leave_nothing(rt: HostRuntime) -> Result<(), Fail> {
-    let alloc = rt.alloc();
     let first = Xid::new(7, &[1], &[]).expect(&rt, "a name");
-    let never_promised = vec![in alloc;
-        in_log(Record::Opened(1)),
-        in_log(Record::Committed(Branch::Foreign(first))),
-    ]?;
+    let unpromised = [Line::Opened(1), Line::Committed(first)];
     assert_eq!(rt;
-        error_of(never_promised, alloc),
+        error_of(rt.alloc(), &unpromised),
         Some(ReplayError::Malformed)
     );
-    let no_key = vec![in alloc;
-        in_log(Record::Opened(1)),
-        prepared(alloc, first, b"", b"1")?,
-    ]?;
-    assert_eq!(rt; error_of(no_key, alloc), Some(ReplayError::Malformed));
-    let last_count = vec![in alloc;
-        in_log(Record::Opened(1)),
-        in_log(Record::Base((1 << 63) - 2)),
-        direct(alloc, first, b"a", Some(b"1"))?,
-    ]?;
-    assert_eq!(rt; error_of(last_count, alloc), None);
-    let too_far = vec![in alloc;
-        in_log(Record::Opened(1)),
-        in_log(Record::Base((1 << 63) - 1)),
-        direct(alloc, first, b"a", Some(b"1"))?,
-    ]?;
-    assert_eq!(rt; error_of(too_far, alloc), Some(ReplayError::Exhausted));
+    let last = [
+        Line::Opened(1),
+        Line::Base((1 << 63) - 2),
+        Line::Direct(first, b'a', None),
+    ];
+    assert_eq!(rt; error_of(rt.alloc(), &last), None);
+    let too_far = [
+        Line::Opened(1),
+        Line::Base((1 << 63) - 1),
+        Line::Direct(first, b'a', None),
+    ];
+    assert_eq!(rt;
+        error_of(rt.alloc(), &too_far),
+        Some(ReplayError::Exhausted)
+    );
     Ok(())
 }
