@@ -127,7 +127,8 @@ AreFree t x ws = (k : List ℕ) → names_key ws k ≡ true → blocked_by (hold
 
 -- a branch holds the keys of its writes exclusively, and the others are held as they were
 pub record LocksKeys (old new : LockTable) (x : Xid) (ws : List Write) : Type 0 where
-  pub own : (k : List ℕ) → names_key ws k ≡ true → holders_of new k ≡ record { xid = x; mode = Exclusive } ∷ []
+  pub own : (k : List ℕ) → names_key ws k ≡ true
+      → holders_of new k ≡ record { xid = x; mode = Exclusive } ∷ []
   pub others : (k : List ℕ) → names_key ws k ≡ false → holders_of new k ≡ holders_of old k
 
 -- why a branch is not given back what it promised
