@@ -11,7 +11,8 @@ returns-then-not-is_open-clause-err c =
     (sym c.is_open.ensures ∙ c.if-not-is_open.true)
 
 pub returns-in-Direct-clause-ok : goal.returns-in-Direct-clause-ok
-returns-in-Direct-clause-ok c = OnOk-map c.commit.result (Applies c.args.versions.now c.commit.new.versions c.as_slice.result.now) _
+returns-in-Direct-clause-ok c = OnOk-map c.commit.result
+    (Applies c.args.versions.now c.commit.new.versions c.as_slice.result.now) _
     (λ made. takes_direct c.args.seen.now c.args.next.now c.in-Direct.field-0 c.in-Direct.writes _ _ c.in-Direct.is
     (subst (Applies c.args.versions.now c.commit.new.versions) c.as_slice.ensures made)) c.commit.ensures.ok
 
@@ -25,13 +26,15 @@ returns-in_ok-set-in-Pair-clause-ok c =
 
 pub returns-else-not-is_open-clause-ok : goal.returns-else-not-is_open-clause-ok
 returns-else-not-is_open-clause-ok c =
-    let is : is_open (found c.args.seen.now c.name_xid-xid.result) ≡ true = sym c.is_open.ensures ∙ c.if-not-is_open.false in
+    let is : is_open (found c.args.seen.now c.name_xid-xid.result) ≡ true = sym c.is_open.ensures
+    ∙ c.if-not-is_open.false in
     OnOk-map c.commit-in-Committed.result (Applies c.args.versions.now c.commit-in-Committed.new.versions c.promised.result.now) _
     (λ made. takes_promise c.args.seen.now c.args.next.now c.name_xid-xid.result c.in-Committed.branch _ _ c.in-Committed.is c.name_xid-xid.ensures is
     (subst (Applies c.args.versions.now c.commit-in-Committed.new.versions) c.promised.ensures made)) c.commit-in-Committed.ensures.ok
 
 pub returns-in-Direct-clause-before : goal.returns-in-Direct-clause-before
-returns-in-Direct-clause-before c = OnOk-map c.commit.result (Applies c.args.versions.now c.commit.new.versions c.as_slice.result.now) _
+returns-in-Direct-clause-before c = OnOk-map c.commit.result
+    (Applies c.args.versions.now c.commit.new.versions c.as_slice.result.now) _
     (λ made. keeps_direct c.args.next.now c.in-Direct.field-0 c.in-Direct.writes _ _ _ c.in-Direct.is made) c.commit.ensures.ok
 
 pub returns-in-Base-clause-before : goal.returns-in-Base-clause-before
