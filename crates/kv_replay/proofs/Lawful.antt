@@ -46,14 +46,17 @@ some_is a b h = cc
 
 -- No branch changes.
 
-lawful_stays : (s t : SeenLog) (d e : Data) → t.live ≡ s.live → e.promised ≡ d.promised → keys_rise e.pairs ≡ true
+lawful_stays : (s t : SeenLog) (d e : Data) → t.live ≡ s.live → e.promised ≡ d.promised
+    → keys_rise e.pairs ≡ true
     → IsLawful s d → IsLawful t e
 lawful_stays s t d e live fold rise l = record {
   orderly = orderly_stays s t live l.orderly;
   tied = record {
     rise = rise;
-    tied = λ x. subst (λ es. is_open (lookup (same x) es) ≡ true → writes_promised (Foreign x) e.promised ≡ promised_by (lookup (same x) es)) (sym live)
-        (subst (λ ps. is_open (found s x) ≡ true → writes_promised (Foreign x) ps ≡ promised s x) (sym fold) (l.tied.tied x));
+    tied = λ x. subst (λ es. is_open (lookup (same x) es) ≡ true
+        → writes_promised (Foreign x) e.promised ≡ promised_by (lookup (same x) es)) (sym live)
+        (subst (λ ps. is_open (found s x) ≡ true → writes_promised (Foreign x) ps ≡ promised s x) (sym fold)
+        (l.tied.tied x));
   };
 }
 
@@ -65,8 +68,10 @@ tied_out s x d e fold rise l = record {
   orderly = orderly_out s x l.orderly;
   tied = record {
     rise = rise;
-    tied = λ y. subst (λ q. is_open q ≡ true → writes_promised (Foreign y) e.promised ≡ promised_by q) (sym (found_out x y s.live l.orderly.distinct))
-        (subst (λ ps. is_open (cond (same x y) None (found s y)) ≡ true → writes_promised (Foreign y) ps ≡ promised_by (cond (same x y) None (found s y))) (sym fold)
+    tied = λ y. subst (λ q. is_open q ≡ true → writes_promised (Foreign y) e.promised ≡ promised_by q)
+        (sym (found_out x y s.live l.orderly.distinct))
+        (subst (λ ps. is_open (cond (same x y) None (found s y)) ≡ true
+        → writes_promised (Foreign y) ps ≡ promised_by (cond (same x y) None (found s y))) (sym fold)
         (tied_by y (same x y)));
   };
 }
@@ -79,13 +84,16 @@ tied_out s x d e fold rise l = record {
 -- A branch is open no longer.
 
 tied_mark : (s : SeenLog) (x : Xid) (m : Mark) (d e : Data) → opens m ≡ false → e.promised ≡ d.promised
-    → keys_rise e.pairs ≡ true → IsLawful s d → IsLawful (with_promise s x (record { mark = m; writes = [] })) e
+    → keys_rise e.pairs ≡ true → IsLawful s d → IsLawful
+    (with_promise s x (record { mark = m; writes = [] })) e
 tied_mark s x m d e closed fold rise l = record {
   orderly = orderly_mark s x m closed l.orderly;
   tied = record {
     rise = rise;
-    tied = λ y. subst (λ q. is_open q ≡ true → writes_promised (Foreign y) e.promised ≡ promised_by q) (sym (found_put x y p s.live))
-        (subst (λ ps. is_open (cond (same y x) (Some p) (found s y)) ≡ true → writes_promised (Foreign y) ps ≡ promised_by (cond (same y x) (Some p) (found s y))) (sym fold)
+    tied = λ y. subst (λ q. is_open q ≡ true → writes_promised (Foreign y) e.promised ≡ promised_by q)
+        (sym (found_put x y p s.live))
+        (subst (λ ps. is_open (cond (same y x) (Some p) (found s y)) ≡ true
+        → writes_promised (Foreign y) ps ≡ promised_by (cond (same y x) (Some p) (found s y))) (sym fold)
         (tied_by y (same y x)));
   };
 }
@@ -120,12 +128,14 @@ promised_first x y ws ps b e = ap (λ t. cond t ws (writes_promised (Foreign y) 
 
 lawful_promise : (s : SeenLog) (x : Xid) (ws : List Write) (d : Data) → keys_once ws ≡ true
     → keys_free (promises s) ws ≡ true → IsLawful s d
-    → IsLawful (with_promise s x (record { mark = Open; writes = ws })) (record d { promised = (Foreign x, ws) ∷ d.promised })
+    → IsLawful (with_promise s x (record { mark = Open; writes = ws }))
+    (record d { promised = (Foreign x, ws) ∷ d.promised })
 lawful_promise s x ws d once free l = record {
   orderly = orderly_put s x p once (apart_where_free s x ws free) l.orderly;
   tied = record {
     rise = l.tied.rise;
-    tied = λ y. subst (λ q. is_open q ≡ true → writes_promised (Foreign y) ((Foreign x, ws) ∷ d.promised) ≡ promised_by q) (sym (found_put x y p s.live))
+    tied = λ y. subst (λ q. is_open q ≡ true → writes_promised (Foreign y)
+        ((Foreign x, ws) ∷ d.promised) ≡ promised_by q) (sym (found_put x y p s.live))
         (tied_by y (same y x) refl);
   };
 }
@@ -134,9 +144,11 @@ lawful_promise s x ws d once free l = record {
     p = record { mark = Open; writes = ws }
 
     tied_by : (y : Xid) (b : Bool) → same y x ≡ b → is_open (cond b (Some p) (found s y)) ≡ true
-        → writes_promised (Foreign y) ((Foreign x, ws) ∷ d.promised) ≡ promised_by (cond b (Some p) (found s y))
+        → writes_promised (Foreign y) ((Foreign x, ws) ∷ d.promised) ≡ promised_by
+        (cond b (Some p) (found s y))
     tied_by y true e is_so = promised_first x y ws d.promised true (one_branch x y e)
-    tied_by y false e is_so = promised_first x y ws d.promised false (two_branches x y e) ∙ l.tied.tied y is_so
+    tied_by y false e is_so = promised_first x y ws d.promised false (two_branches x y e)
+        ∙ l.tied.tied y is_so
 
 -- The data.
 
@@ -183,9 +195,12 @@ lawful_followed s t q (End c) d l h =
     lawful_stays s t d d (ap (λ u. u.live) (sym is)) refl l.tied.rise l
 lawful_followed s t q (Prepared b ws) d l h =
     let x = name_xid q b in
-    let made = taken (not (is_some (found s x)) && nat_lt (length s.live) 1024 && keys_once ws && keys_free (promises s) ws) _ t h in
-    let parts = three (not (is_some (found s x))) (nat_lt (length s.live) 1024) (keys_once ws) (keys_free (promises s) ws) made.0 in
-    subst (λ u. IsLawful u (record d { promised = (Foreign x, ws) ∷ d.promised })) made.1 (lawful_promise s x ws d parts.0 parts.1 l)
+    let made = taken (not (is_some (found s x)) && nat_lt (length s.live) 1024 && keys_once ws && keys_free
+    (promises s) ws) _ t h in
+    let parts = three (not (is_some (found s x))) (nat_lt (length s.live) 1024) (keys_once ws)
+    (keys_free (promises s) ws) made.0 in
+    subst (λ u. IsLawful u (record d { promised = (Foreign x, ws) ∷ d.promised })) made.1
+    (lawful_promise s x ws d parts.0 parts.1 l)
 lawful_followed s t q (Committed b) d l h =
     let x = name_xid q b in
     let ws = writes_promised (Foreign x) d.promised in
@@ -204,25 +219,30 @@ lawful_followed s t q (HeurCommit b) d l h =
     (tied_mark s x Decided d (commits ws d) refl refl (rise_written d ws l.tied.rise) l)
 lawful_followed s t q (HeurRollback b) d l h =
     let x = name_xid q b in
-    subst (λ u. IsLawful u d) (taken (is_open (found s x)) _ t h).1 (tied_mark s x Decided d d refl refl l.tied.rise l)
+    subst (λ u. IsLawful u d) (taken (is_open (found s x)) _ t h).1
+    (tied_mark s x Decided d d refl refl l.tied.rise l)
 lawful_followed s t q (ToldRecord b o) d l h =
     let x = name_xid q b in
-    subst (λ u. IsLawful u d) (taken (is_untold (found s x)) _ t h).1 (tied_mark s x Told d d refl refl l.tied.rise l)
+    subst (λ u. IsLawful u d) (taken (is_untold (found s x)) _ t h).1
+    (tied_mark s x Told d d refl refl l.tied.rise l)
 lawful_followed s t q (Forgot b) d l h =
     let x = name_xid q b in
     subst (λ u. IsLawful u d) (taken (is_heuristic (found s x)) _ t h).1 (tied_out s x d d refl l.tied.rise l)
 lawful_followed s t q (BaseRecord n) d l h =
-    lawful_stays s t d (record d { count = n; pairs = [] }) (ap (λ u. u.live) (sym (some_is _ t h))) refl rise_nothing l
+    lawful_stays s t d (record d { count = n; pairs = [] })
+    (ap (λ u. u.live) (sym (some_is _ t h))) refl rise_nothing l
 lawful_followed s t q (PairRecord k v) d l h =
     let is = (taken (rises s.before k) _ t h).1 in
-    lawful_stays s t d (stored_after d (PairRecord k v)) (ap (λ u. u.live) (sym is)) refl (rise_paired d k v l.tied.rise) l
+    lawful_stays s t d (stored_after d (PairRecord k v)) (ap (λ u. u.live) (sym is)) refl
+    (rise_paired d k v l.tied.rise) l
 
 pub lawful_after : (s t : SeenLog) (l : LogRecord) (d : Data) → IsLawful s d → after s l ≡ Some t
     → IsLawful t (stored_after d (by_xid l))
 unfolding after
 lawful_after s t l d lawful h = by_test (is_some s.boot) (is_opened l.entry) h
   where
-    by_test : (a b : Bool) → cond (a || b) (followed s l.parent l.entry) None ≡ Some t → IsLawful t (stored_after d (by_xid l))
+    by_test : (a b : Bool) → cond (a || b) (followed s l.parent l.entry) None ≡ Some t
+        → IsLawful t (stored_after d (by_xid l))
     by_test true b h = lawful_followed s t l.parent l.entry d lawful h
     by_test false true h = lawful_followed s t l.parent l.entry d lawful h
     by_test false false h = absurd (cc)
@@ -233,14 +253,16 @@ unfolding seen_after
 never_seen [] t e = absurd (cc)
 never_seen (k ∷ ks) t e = absurd (cc)
 
-lawful_from : (ls : List LogRecord) (s t : SeenLog) (d : Data) → IsLawful s d → seen_after (Some s) ls ≡ Some t
+lawful_from : (ls : List LogRecord) (s t : SeenLog) (d : Data) → IsLawful s d
+    → seen_after (Some s) ls ≡ Some t
     → IsLawful t (fold stored_after d (map by_xid ls))
 unfolding seen_after
 lawful_from [] s t d l h = subst (λ u. IsLawful u d) (some_is s t h) l
 lawful_from (r ∷ ls) s t d l h = by_after (after s r) refl h (λ u e. lawful_from ls u t e)
   where
     by_after : (o : Option SeenLog) → after s r ≡ o → seen_after o ls ≡ Some t
-        → ((u : SeenLog) (e : Data) → IsLawful u e → seen_after (Some u) ls ≡ Some t → IsLawful t (fold stored_after e (map by_xid ls)))
+        → ((u : SeenLog) (e : Data) → IsLawful u e → seen_after (Some u) ls ≡ Some t
+        → IsLawful t (fold stored_after e (map by_xid ls)))
         → IsLawful t (fold stored_after (stored_after d (by_xid r)) (map by_xid ls))
     by_after None e g more = absurd (never_seen ls t g)
     by_after (Some u) e g more = more u (stored_after d (by_xid r)) (lawful_after s u r d l e) g

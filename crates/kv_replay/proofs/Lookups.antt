@@ -37,7 +37,8 @@ put_twice : (b : Bool) (v w o : Option Promise) → cond b v o ≡ cond b v (con
 put_twice true v w o = refl
 put_twice false v w o = refl
 
-put_in_turn : (a b : Bool) (v w o : Option Promise) → (a ≡ true → b ≡ true → ⊥) → cond b w (cond a v o) ≡ cond a v (cond b w o)
+put_in_turn : (a b : Bool) (v w o : Option Promise) → (a ≡ true → b ≡ true → ⊥)
+    → cond b w (cond a v o) ≡ cond a v (cond b w o)
 put_in_turn true true v w o h = absurd (h refl refl)
 put_in_turn true false v w o h = refl
 put_in_turn false true v w o h = refl
@@ -45,10 +46,12 @@ put_in_turn false false v w o h = refl
 
 put_by : (x y : Xid) (p : Promise) (e : Xid × Promise) (es more : Live) (b : Bool) → same x e.0 ≡ b
     → lookup (same y) more ≡ cond (same y x) (Some p) (lookup (same y) es)
-    → lookup (same y) (cond b ((e.0, p) ∷ es) (e ∷ more)) ≡ cond (same y x) (Some p) (lookup (same y) (e ∷ es))
+    → lookup (same y) (cond b ((e.0, p) ∷ es) (e ∷ more)) ≡ cond (same y x) (Some p)
+    (lookup (same y) (e ∷ es))
 put_by x y p e es more true s h =
     let is : e.0 ≡ x = sym (same_is x e.0 s) in
-    ap (λ z. cond (same y z) (Some p) (lookup (same y) es)) is ∙ put_twice (same y x) (Some p) (Some e.1) (lookup (same y) es)
+    ap (λ z. cond (same y z) (Some p) (lookup (same y) es)) is
+    ∙ put_twice (same y x) (Some p) (Some e.1) (lookup (same y) es)
     ∙ ap (λ z. cond (same y x) (Some p) (cond (same y z) (Some e.1) (lookup (same y) es))) (sym is)
 put_by x y p e es more false s h =
     ap (λ o. cond (same y e.0) (Some e.1) o) h
@@ -85,7 +88,8 @@ distinct_put x p (e ∷ es) d = by_test (same x e.0) refl (distinct_put x p es d
 
 pub found_out : (x y : Xid) (es : Live) → IsDistinct same (keys_of es)
     → lookup (same y) (remove_entry (same x) es) ≡ cond (same x y) None (lookup (same y) es)
-found_out x y es d = lookup-remove_entry same_laws (same x) (λ a b h. ap (λ z. same z b) (same_is x a h)) y es d
+found_out x y es d = lookup-remove_entry same_laws (same x)
+    (λ a b h. ap (λ z. same z b) (same_is x a h)) y es d
 
 all_out : (P : Xid → Type 0) (x : Xid) (es : Live) → AllByRecursion P (keys_of es)
     → AllByRecursion P (keys_of (remove_entry (same x) es))

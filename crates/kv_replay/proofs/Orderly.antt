@@ -24,14 +24,16 @@ orderly_stays s t h o = record {
 
 -- no other branch promised a key of this promise
 abbrev pub IsApart : SeenLog → Xid → Promise → Type 0
-IsApart s x p = (y : Xid) (k : List ℕ) → same x y ≡ false → names_key (promised_by (Some p)) k ≡ true → names_key (promised s y) k ≡ false
+IsApart s x p = (y : Xid) (k : List ℕ) → same x y ≡ false → names_key (promised_by (Some p)) k ≡ true
+    → names_key (promised s y) k ≡ false
 
 no_key : (a b : Bool) → (a ≡ true → b ≡ false) → b ≡ true → a ≡ false
 no_key false b h e = refl
 no_key true b h e = true_is_false (sym e ∙ h refl)
 
 -- a branch has this promise now
-pub orderly_put : (s : SeenLog) (x : Xid) (p : Promise) → keys_once (promised_by (Some p)) ≡ true → IsApart s x p
+pub orderly_put : (s : SeenLog) (x : Xid) (p : Promise) → keys_once (promised_by (Some p)) ≡ true
+    → IsApart s x p
     → IsOrderly s → IsOrderly (with_promise s x p)
 orderly_put s x p once apart o = record {
   distinct = distinct_put x p s.live o.distinct;
@@ -52,7 +54,8 @@ orderly_put s x p once apart o = record {
         true_is_false (sym (same_itself y) ∙ ap (same y) (same_is y x e ∙ sym (same_is z x f)) ∙ other)
     apart_by y z k true false e f other names = apart z k (apart_turns z x f) names
     apart_by y z k false true e f other names =
-        no_key (names_key (promised_by (Some p)) k) (names_key (promised s y) k) (apart y k (apart_turns y x e)) names
+        no_key (names_key (promised_by (Some p)) k) (names_key (promised s y) k)
+        (apart y k (apart_turns y x e)) names
     apart_by y z k false false e f other names = o.apart y z k other names
 
 -- a branch is gone
@@ -116,11 +119,13 @@ closed_key (e ∷ es) y k closed =
     let parts = neither (holds e.1 k) (key_open (map (λ e. e.1) es) k) closed in
     by_test (same y e.0) (names_none (opens e.1.mark) e.1.writes parts.0) (closed_key es y k parts.1)
   where
-    names_none : (b : Bool) (ws : List Write) → (b && names_key ws k) ≡ false → names_key (cond b ws []) k ≡ false
+    names_none : (b : Bool) (ws : List Write) → (b && names_key ws k) ≡ false
+        → names_key (cond b ws []) k ≡ false
     names_none true ws h = h
     names_none false ws h = refl
 
-    by_test : (b : Bool) → names_key (promised_by (Some e.1)) k ≡ false → names_key (promised_by (lookup (same y) es)) k ≡ false
+    by_test : (b : Bool) → names_key (promised_by (Some e.1)) k ≡ false
+        → names_key (promised_by (lookup (same y) es)) k ≡ false
         → names_key (promised_by (cond b (Some e.1) (lookup (same y) es))) k ≡ false
     by_test true own rest = own
     by_test false own rest = rest

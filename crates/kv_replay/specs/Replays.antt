@@ -1,10 +1,11 @@
 -- What the records of a log leave of a key store.
-use Rattle.std.specs.Prelude.{◌≡◌, ◌≤◌, ◌+◌, ◌^◌, ◌⊎◌, ⊤, ℕ, Bool, true, false, List, [], ◌∷◌, ◌++◌, Option, Some, None}
+use Rattle.std.specs.Prelude.{◌≡◌, ◌≤◌, ◌<◌, ◌+◌, ◌^◌, ◌⊎◌, ⊤, ℕ, Bool, true, false, List, [], ◌∷◌, ◌++◌, Option, Some, None}
 use Rattle.std.specs.List.{IsDistinct}
 use Rattle.std.specs.Map.{keys_of}
 use Rattle.xa_xid.specs.declared.xid.Xid.{Xid}
 use Rattle.tree_model.specs.declared.records.Branch.TheVariants.{Foreign}
 use Rattle.tree_model.specs.declared.records.LogRecord.{LogRecord}
+use Rattle.tree_model.specs.declared.records.Record.{Record}
 use Rattle.tree_model.specs.declared.records.Write.{Write}
 use Rattle.tree_model.specs.Store.{Data, stored_after, writes_of as writes_promised}
 use Rattle.log_text.specs.declared.records.ReadFault.{ReadFault}
@@ -14,10 +15,10 @@ use Rattle.kv_locks.specs.declared.holders.Mode.TheVariants.{Exclusive}
 use Rattle.kv_locks.specs.Locks.{LockTable, blocked_by, holders_of}
 use Rattle.kv_writes.specs.Writes.{AreWrites, WriteTable, writes_of}
 use Rattle.kv_store.specs.Pairs.{keys_rise}
-use Rattle.kv_store.specs.Versions.{VersionTable}
+use Rattle.kv_store.specs.Versions.{VersionTable, value_at}
 use Rattle.kv_replay.specs.declared.fault.ReplayError.{ReplayError}
 use Rattle.kv_replay.specs.declared.fault.ReplayError.TheVariants.{Memory, Malformed, Exhausted}
-use Rattle.kv_replay.specs.Folds.{AreData, by_xid, data_of}
+use Rattle.kv_replay.specs.Folds.{AreData, GoBack, base_after, by_xid, data_of}
 
 -- what has been seen behind some more records; none where one of them may not follow
 unfoldable pub seen_after : Option SeenLog → List LogRecord → Option SeenLog
@@ -43,6 +44,7 @@ pub record Leaves (ls : List LogRecord) (boot : Option ℕ) (left : List (Xid ×
   pub boots : boot ≡ seen.boot
   pub in_doubt : left ≡ left_by seen
   pub stored : AreData versions (data_of ls)
+  pub history : GoBack versions ls
   pub promises : (x : Xid) → writes_of writes x ≡ promised seen x
   pub locks_held : HoldPromises seen locks
 
@@ -79,6 +81,7 @@ error_of fault.Malformed = Malformed
 pub record Reads (ls : List LogRecord) (s : SeenLog) (versions : VersionTable) : Type 0 where
   pub read : seen_of ls ≡ Some s
   pub stored : AreData versions (data_of ls)
+  pub history : GoBack versions ls
 
 -- the open branches' writes are those that the fold has, and its keys rise
 pub record IsTied (s : SeenLog) (d : Data) : Type 0 where
@@ -92,9 +95,19 @@ pub record IsOrderly (s : SeenLog) : Type 0 where
   pub apart : (x y : Xid) (k : List ℕ) → same x y ≡ false → names_key (promised s x) k ≡ true
       → names_key (promised s y) k ≡ false
 
+-- what records have said is orderly, and the fold over them has its promises
+abbrev pub AreLawful : Type 0
+AreLawful = (ls : List LogRecord) (s : SeenLog) → seen_of ls ≡ Some s → IsOrderly s × IsTied s (data_of ls)
+
 -- the data take a record: where they were those of the records so far, they are those with it
 abbrev pub Takes : SeenLog → LogRecord → VersionTable → VersionTable → Type 0
 Takes s l old new = (d : Data) → IsTied s d → AreData old d → AreData new (stored_after d (by_xid l))
+
+-- a record leaves what each key was behind each commit before, back to its base
+pub record KeepsBefore (old new : VersionTable) (r : Record) : Type 0 where
+  pub base : new.base ≡ base_after old.base r
+  pub before : (n : ℕ) → new.base ≤ n → n < new.count
+      → (old.base ≤ n) × (n ≤ old.count) × ((k : List ℕ) → value_at new n k ≡ value_at old n k)
 
 -- why the data do not take a record
 abbrev pub TakeFails : SeenLog → LogRecord → VersionTable → ReplayError → Type 0
@@ -114,7 +127,8 @@ AreFree t x ws = (k : List ℕ) → names_key ws k ≡ true → blocked_by (hold
 
 -- a branch holds the keys of its writes exclusively, and the others are held as they were
 pub record LocksKeys (old new : LockTable) (x : Xid) (ws : List Write) : Type 0 where
-  pub own : (k : List ℕ) → names_key ws k ≡ true → holders_of new k ≡ record { xid = x; mode = Exclusive } ∷ []
+  pub own : (k : List ℕ) → names_key ws k ≡ true
+      → holders_of new k ≡ record { xid = x; mode = Exclusive } ∷ []
   pub others : (k : List ℕ) → names_key ws k ≡ false → holders_of new k ≡ holders_of old k
 
 -- why a branch is not given back what it promised

@@ -2,7 +2,7 @@
 
 ghost use Rattle.std.specs.Prelude.{◌≡◌, false, IfErr, OnOk};
 ghost use Rattle.kv_store.specs.Versions.{Applies, Sets, pair_write};
-ghost use Rattle.kv_replay.specs.Replays.{CommitFails, TakeFails, Takes};
+ghost use Rattle.kv_replay.specs.Replays.{CommitFails, KeepsBefore, TakeFails, Takes};
 
 use crate::fault::ReplayError;
 use kv_store::Versions;
@@ -48,6 +48,7 @@ pub(crate) fn take(
 ) -> Result<(), ReplayError>
     requires { versions.old.is_staged ≡ false }
     ensures ok { OnOk result (Takes seen.now next.now versions.old versions.new) }
+    ensures before { OnOk result (KeepsBefore versions.old versions.new next.now.entry) }
     ensures err { IfErr result (TakeFails seen.now next.now versions.old) }
 {
     match &next.entry {

@@ -10,7 +10,7 @@ pub enum ReplayError {
     /// There was no memory.
     #[error("no memory")]
     Memory,
-    /// A record may not follow those before it, or a branch in doubt promised what no branch can have written.
+    /// A record may not follow those before it, or an open branch promised what no branch can have written.
     #[error("malformed records")]
     Malformed,
     /// The records count 2^63 commits or more.

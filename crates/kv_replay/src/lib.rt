@@ -1,5 +1,5 @@
-//! What the records of a log leave of a key store: the data that they make, and of the branches in doubt their writes and
-//! their locks.
+//! What the records of a log leave of a key store: the data that they make, and of the branches in doubt their
+//! writes and their locks.
 //!
 //! ```text
 //! Opened                   the boot
@@ -12,6 +12,7 @@
 
 mod data;
 mod fault;
+pub mod law;
 mod promises;
 mod replayed;
 

@@ -5,12 +5,16 @@ use std::alloc::{AllocError, Global};
 use std::test::Fail;
 use tree_model::{Bytes, Sequence, Write};
 
-fn bytes_of(alloc: Global, bytes: &[u8]) -> Result<Bytes, AllocError> {
+pub(crate) fn bytes_of(alloc: Global, bytes: &[u8]) -> Result<Bytes, AllocError> {
     Ok(Sequence::from_vec(Vec::from_slice(alloc, bytes)?))
 }
 
 /// The writes of one key: a value, or a deletion.
-fn writes_of(alloc: Global, key: &[u8], value: Option<&[u8]>) -> Result<Vec<Write>, AllocError> {
+pub(crate) fn writes_of(
+    alloc: Global,
+    key: &[u8],
+    value: Option<&[u8]>,
+) -> Result<Vec<Write>, AllocError> {
     let value = match value {
         None => None,
         Some(value) => Some(bytes_of(alloc, value)?),

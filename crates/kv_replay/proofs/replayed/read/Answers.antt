@@ -9,26 +9,32 @@ loop-record-init c = reading_starts c.args.records.items c.into_iter-record-iter
 
 pub loop-record-preserved : goal.loop-record-preserved
 loop-record-preserved c =
-    let next : c.loop-record.record-iterator.rest.items ≡ c.in-Some.record ∷ c.next.new.self.rest.items = search rules in
+    let next : c.loop-record.record-iterator.rest.items ≡ c.in-Some.record ∷ c.next.new.self.rest.items =
+    search rules in
     let reading : IsReading c.args.records.items (c.in-Some.record ∷ c.next.new.self.rest.items) c.loop-record.seen c.loop-record.data =
     subst (λ ks. IsReading c.args.records.items ks c.loop-record.seen c.loop-record.data) next c.loop-record.invariant in
     reading_goes_on c.args.records.items c.in-Some.record c.next.new.self.rest.items c.loop-record.seen c.loop-record.data reading
     c.take-in-loop-record.new.self c.take.new.versions (search rules) c.in_ok-take.ensures.ok
+    c.in_ok-take.ensures.before
 
 pub returns-in_err-take-clause-err : goal.returns-in_err-take-clause-err
 returns-in_err-take-clause-err c =
-    let next : c.loop-record.record-iterator.rest.items ≡ c.in-Some.record ∷ c.next.new.self.rest.items = search rules in
+    let next : c.loop-record.record-iterator.rest.items ≡ c.in-Some.record ∷ c.next.new.self.rest.items =
+    search rules in
     let reading : IsReading c.args.records.items (c.in-Some.record ∷ c.next.new.self.rest.items) c.loop-record.seen c.loop-record.data =
     subst (λ ks. IsReading c.args.records.items ks c.loop-record.seen c.loop-record.data) next c.loop-record.invariant in
-    passed_on c.from_residual.result c.in_err-take.field-0.0 (Fails c.args.records.items) c.from_residual.ensures.1
+    passed_on c.from_residual.result c.in_err-take.field-0.0
+    (Fails c.args.records.items) c.from_residual.ensures.1
     (reading_fails c.args.records.items c.in-Some.record c.next.new.self.rest.items c.loop-record.seen c.loop-record.data reading
     c.in_err-take.field-0.0 c.in_err-take.ensures.err)
 
 pub returns-in_err-take-2-clause-err : goal.returns-in_err-take-2-clause-err
 returns-in_err-take-2-clause-err c =
-    let next : c.loop-record.record-iterator.rest.items ≡ c.in-Some.record ∷ c.next.new.self.rest.items = search rules in
+    let next : c.loop-record.record-iterator.rest.items ≡ c.in-Some.record ∷ c.next.new.self.rest.items =
+    search rules in
     let reading : IsReading c.args.records.items (c.in-Some.record ∷ c.next.new.self.rest.items) c.loop-record.seen c.loop-record.data =
     subst (λ ks. IsReading c.args.records.items ks c.loop-record.seen c.loop-record.data) next c.loop-record.invariant in
-    passed_on c.from_residual-in_err-take-2.result (error_of c.in_err-take-2.field-0.0) (Fails c.args.records.items) c.from_residual-in_err-take-2.ensures.1
+    passed_on c.from_residual-in_err-take-2.result (error_of c.in_err-take-2.field-0.0)
+    (Fails c.args.records.items) c.from_residual-in_err-take-2.ensures.1
     (reading_is_refused c.args.records.items c.in-Some.record c.next.new.self.rest.items c.loop-record.seen c.loop-record.data reading
     c.in_err-take-2.field-0.0 c.in_err-take-2.ensures.err)
