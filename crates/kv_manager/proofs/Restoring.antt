@@ -21,12 +21,15 @@ use Rattle.kv_store.specs.Pairs.{keys_rise}
 use Rattle.kv_store.specs.Versions.{VersionTable}
 use Rattle.kv_writes.specs.Writes.{WriteTable, writes_of}
 use Rattle.kv_replay.specs.Folds.{AreData, data_of}
-use Rattle.kv_replay.specs.Replays.{HoldPromises, seen_of}
+use Rattle.kv_replay.specs.Replays.{HoldPromises, Leaves, seen_of}
+use Rattle.kv_replay.specs.declared.fault.ReplayError.{ReplayError}
+use Rattle.kv_replay.specs.declared.fault.ReplayError.TheVariants.{Memory, Malformed, Exhausted}
+use Rattle.kv_manager.specs.declared.restart.RestartError.TheVariants.{Device}
 use Rattle.kv_replay.proofs.Lawful.{lawful_of}
 use Rattle.kv_replay.proofs.Lookups.{same_is, same_itself}
 use Rattle.rec_log.specs.Sights.{Restarts, records_of}
-use Rattle.kv_core.specs.Stores.{IsTidy, KeySight, is_let_go, state_of}
-use Rattle.kv_manager.specs.Restarts.{LeavesStore, RestartsManager, opened}
+use Rattle.kv_core.specs.Stores.{IsTidy, KeySight, Rebuilt, is_let_go, state_of}
+use Rattle.kv_manager.specs.Restarts.{LeavesStore, error_of, next_boot, opened}
 use Rattle.kv_manager.specs.Sights.{IsKept, IsLogged, KvSight, logged}
 use Rattle.kv_manager.proofs.Turns.{data_behind}
 
@@ -152,3 +155,22 @@ logged_left s ls left is = record {
       ∙ sym ((lawful_of ls left.seen left.read).tied.tied x (open_by_state (found left.seen x) (sym (restored_state left.seen s.store.tables x left.tables) ∙ here)))
       ∙ ap (λ (d : Data). promised_of (Foreign x) d.promised) (sym is);
 }
+
+-- what replays and what is rebuilt of it
+pub left_store : (ls : List LogRecord) (last : Option ℕ) (left : List (Xid × Bool)) (versions : VersionTable) (writes : WriteTable)
+    (locks : LockTable) (listed : List (Xid × Bool)) (s : KeySight) (boot : ℕ) → Leaves ls last left versions writes locks
+    → listed ≡ left → Rebuilt s listed writes locks versions → next_boot last ≡ Some boot → LeavesStore ls s boot
+left_store ls last left versions writes locks listed s boot leaves is rebuilt next = record {
+  seen = leaves.seen;
+  read = leaves.read;
+  tables = subst (λ l. Restored l s.tables) (is ∙ leaves.in_doubt) rebuilt.tables;
+  stored = subst (λ v. AreData v (data_of ls)) (sym rebuilt.data_left) leaves.stored;
+  promises = λ x. ap (λ w. writes_of w x) rebuilt.writes_left ∙ leaves.promises x;
+  locks_held = subst (HoldPromises leaves.seen) (sym rebuilt.locks_left) leaves.locks_held;
+  next = ap next_boot (sym leaves.boots) ∙ next;
+}
+
+pub never_device : (e : ReplayError) → error_of e ≡ Device → ⊥
+never_device Memory h = let never : true ≡ false = cc in absurd (cc)
+never_device Malformed h = let never : true ≡ false = cc in absurd (cc)
+never_device Exhausted h = let never : true ≡ false = cc in absurd (cc)

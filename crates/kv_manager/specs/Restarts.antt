@@ -7,12 +7,20 @@ use Rattle.tree_model.specs.declared.records.Record.TheVariants.{Opened}
 use Rattle.log_order.specs.Orders.{SeenLog, left_by as in_doubt_by, promised}
 use Rattle.rec_log.specs.Sights.{RestartBreaks, Restarts, left_by}
 use Rattle.kv_writes.specs.Writes.{writes_of}
+use Rattle.kv_replay.specs.declared.fault.ReplayError.{ReplayError}
+use Rattle.kv_replay.specs.declared.fault.ReplayError.TheVariants as replays
 use Rattle.kv_replay.specs.Folds.{AreData, data_of}
 use Rattle.kv_replay.specs.Replays.{HoldPromises, seen_of}
 use Rattle.kv_core.specs.Stores.{KeySight}
 use Rattle.kv_manager.specs.declared.restart.RestartError.{RestartError}
-use Rattle.kv_manager.specs.declared.restart.RestartError.TheVariants.{Device}
+use Rattle.kv_manager.specs.declared.restart.RestartError.TheVariants.{Damaged, Device, Exhausted, Memory}
 use Rattle.kv_manager.specs.Sights.{KvSight, SameManager}
+
+-- why records leave no manager
+abbrev pub error_of : ReplayError → RestartError
+error_of replays.Memory = Memory
+error_of replays.Malformed = Damaged
+error_of replays.Exhausted = Exhausted
 
 -- the boot behind the last one, while it fits a record
 abbrev pub next_boot : Option ℕ → Option ℕ

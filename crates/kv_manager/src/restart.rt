@@ -4,7 +4,7 @@ ghost use Rattle.std.specs.Prelude.{◌≡◌, ◌<◌, ◌^◌, IfOk, IfErr, On
 ghost use Rattle.tree_model.specs.declared.names.Kind.TheVariants as kind;
 ghost use Rattle.log_text.specs.Made.{frame_record};
 ghost use Rattle.rec_log.specs.Sights.{IsRecord};
-ghost use Rattle.kv_manager.specs.Restarts.{LeavesStore, next_boot, opened};
+ghost use Rattle.kv_manager.specs.Restarts.{LeavesStore, error_of, next_boot, opened};
 
 use kv_core::KeyStore;
 use kv_replay::{ReplayError, Replayed, replay};
@@ -42,7 +42,9 @@ impl From<AllocError> for RestartError {
 }
 
 /// The same, for what replays.
-fn replay_error(error: ReplayError) -> RestartError {
+fn replay_error(error: ReplayError) -> RestartError
+    ensures { result ≡ error_of error }
+{
     match error {
         ReplayError::Memory => RestartError::Memory,
         ReplayError::Malformed => RestartError::Damaged,

@@ -1,0 +1,27 @@
+use Rattle.std.proofs.Common.{rules, ◌≡◌, Some, sym, subst, ◌∙◌, ap}
+use Rattle.log_order.specs.Orders.{left_by, promised}
+use Rattle.kv_replay.specs.Folds.{AreData, data_of}
+use Rattle.kv_replay.specs.Replays.{HoldPromises, Leaves}
+use Rattle.kv_writes.specs.Writes.{writes_of}
+use Rattle.xa_states.specs.Restored.{Restored}
+use Rattle.kv_core.specs.Stores.{Rebuilt}
+use Rattle.kv_manager.specs.Restarts.{LeavesStore, next_boot}
+use Rattle.kv_manager.proofs.Restoring.{left_store, never_device, tidy_restored}
+use Rattle.kv_manager.proofs.restart.rebuilt.Goals as goal
+
+pub returns-in-Err-clause-err : goal.returns-in-Err-clause-err
+returns-in-Err-clause-err c = λ device. never_device c.in-Err.error (sym c.replay_error.ensures ∙ device)
+
+pub restored-requires : goal.restored-requires
+restored-requires c =
+    let leaves : Leaves c.args.records.items c.in-Ok.replayed.boot c.in-Ok.replayed.left.items c.in-Ok.replayed.data c.in-Ok.replayed.writes c.in-Ok.replayed.locks = search rules in
+    let left : c.as_slice.result.now ≡ left_by leaves.seen = c.as_slice.ensures.value ∙ leaves.in_doubt in
+    λ t restored. tidy_restored leaves.seen t c.in-Ok.replayed.writes c.in-Ok.replayed.locks c.in-Ok.replayed.data
+    (subst (λ l. Restored l t) left restored) leaves.promises leaves.locks_held
+
+pub returns-in-Ok-2-clause-ok : goal.returns-in-Ok-2-clause-ok
+returns-in-Ok-2-clause-ok c =
+    let leaves : Leaves c.args.records.items c.in-Ok.replayed.boot c.in-Ok.replayed.left.items c.in-Ok.replayed.data c.in-Ok.replayed.writes c.in-Ok.replayed.locks = search rules in
+    let rebuilt : Rebuilt c.in-Ok-2.store c.as_slice.result.now c.in-Ok.replayed.writes c.in-Ok.replayed.locks c.in-Ok.replayed.data = search rules in
+    let next : next_boot c.in-Ok.replayed.boot ≡ Some c.in-Some.boot = search rules in
+    left_store c.args.records.items c.in-Ok.replayed.boot c.in-Ok.replayed.left.items c.in-Ok.replayed.data c.in-Ok.replayed.writes c.in-Ok.replayed.locks c.as_slice.result.now c.in-Ok-2.store c.in-Some.boot leaves c.as_slice.ensures.value rebuilt next
