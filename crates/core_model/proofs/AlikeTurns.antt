@@ -1,5 +1,5 @@
 -- Two processes between which nothing is otherwise meet each input alike.
-use Rattle.std.proofs.Common.{◌≡◌, Bool, true, false, if◌then◌else◌, Option, None, Some, List, [], refl, sym, ap, ◌∙◌}
+use Rattle.std.proofs.Common.{◌≡◌, Bool, true, false, ◌&&◌, ◌||◌, if◌then◌else◌, Option, None, Some, List, [], refl, sym, ap, ◌∙◌}
 use Rattle.tree_model.specs.declared.names.Case.{Case}
 use Rattle.tree_model.specs.declared.names.ProcessId.{ProcessId}
 use Rattle.tree_model.specs.declared.names.Ticket.{Ticket}
@@ -18,7 +18,9 @@ use Rattle.tree_model.specs.declared.events.Input.{Input}
 use Rattle.tree_model.specs.declared.events.Input.TheVariants.{Act as ActInput, Message as MessageInput}
 use Rattle.tree_model.specs.declared.events.StepError.TheVariants.{Failed, NoSuch, NotAChild, NotInDoubt, NothingToForget}
 use Rattle.tree_model.specs.declared.trees.TreeEntry.{TreeEntry}
-use Rattle.tree_model.specs.Names.{root_case}
+use Rattle.tree_model.specs.Names.{root_case, same_txn}
+use Rattle.tree_model.specs.Records.{in_list}
+use Rattle.tree_model.specs.Restarts.{is_known}
 use Rattle.tree_model.specs.Nodes.{Role, AtRoot, Below, AtLeaf, DataAnswer, is_child, is_leaf, role_of}
 use Rattle.tree_model.specs.Memory.{of_ticket, ticket_of_child}
 use Rattle.tree_model.specs.Standings.{CoordinatorView}
@@ -26,7 +28,7 @@ use Rattle.tree_model.specs.CoordinatorRows.{ByAct, Row, Seat, active_join, acti
 use Rattle.tree_model.specs.Reactions.{Does, act_is_listed}
 use Rattle.core_model.specs.Views.{SameRow, SameView}
 use Rattle.core_model.specs.States.{CoreState, SameCore}
-use Rattle.core_model.specs.Turns.{Refuses, Says, Takes, Turn, abort_turn, act_turn, ack_turn, ask_turn, cascaded_turn, child_says, commit_turn, coordinator_act, inquiry_turn, join_turn, live_turn, message_turn, reacted, seat_in, turn_of, up_turn, vote_turn, work_for_turn, work_turn}
+use Rattle.core_model.specs.Turns.{Finds, Refuses, Says, Takes, Turn, abort_turn, act_turn, ack_turn, ask_turn, cascaded_turn, child_says, commit_turn, coordinator_act, inquiry_turn, is_case_of, join_turn, live_turn, message_turn, reacted, seat_in, turn_of, up_turn, vote_turn, work_for_turn, work_turn}
 use Rattle.core_model.proofs.Alike.{active_abort-same, active_commit-same, active_join-same, active_work-same, collecting_abort-same, on_abort-same, on_ack-same, on_commit-same, on_inquiry-same, on_joined-same, on_prepare-same, on_vote-same, row_effect-same, sends-same}
 
 -- a row that is the same of both
@@ -211,3 +213,18 @@ showing-is s t same =
 pub same_cores_react : (s t : CoreState) (a : DataAnswer) (found : Option Case) (i : Input) → SameCore s t → reacted (turn_of s a found i) ≡ reacted (turn_of t a found i)
 same_cores_react s t a found i same =
     sym (turn-alike s t.view_of s.view_of same.rest.views a found i) ∙ ap (λ u. reacted (turn_of u a found i)) (showing-is s t same)
+
+pub is_case-alike : (s u : CoreState) (x : Txn) (t : Ticket) (c : Case) → SameView (u.view_of c) (s.view_of c) → is_case_of s x t c ≡ is_case_of u x t c
+is_case-alike s u x t c same =
+    sym (λ i. same_txn c.txn x && (is_known (same.standing i) && (in_list (same.accepted i) t || same.named t i)))
+
+pub finds-alike : (s u : CoreState) (asked : Option (Txn × Ticket)) (found : Option Case) → ((c : Case) → SameView (u.view_of c) (s.view_of c))
+    → Finds s asked found → Finds u asked found
+finds-alike s u None found same finds = finds
+finds-alike s u (Some p) (Some c) same finds = sym (is_case-alike s u p.0 p.1 c (same c)) ∙ finds
+finds-alike s u (Some p) None same finds = λ c. sym (is_case-alike s u p.0 p.1 c (same c)) ∙ finds c
+
+-- the same of a process that is up
+pub same_cores_up : (s t : CoreState) (a : DataAnswer) (found : Option Case) (i : Input) → SameCore s t → reacted (up_turn s a found i) ≡ reacted (up_turn t a found i)
+same_cores_up s t a found i same =
+    sym (turn-at s t.view_of s.view_of same.rest.views a found i) ∙ ap (λ u. reacted (up_turn u a found i)) (showing-is s t same)
