@@ -44,7 +44,7 @@ one_of Yes false y n r = refl
 one_of No false y n r = refl
 one_of Read false y n r = refl
 
-has_voted-so : (vs : List (Ticket × Vote)) (t : Ticket) → has_voted vs t ≡ (voted_so Yes vs t || (voted_so No vs t || voted_so Read vs t))
+pub has_voted-so : (vs : List (Ticket × Vote)) (t : Ticket) → has_voted vs t ≡ (voted_so Yes vs t || (voted_so No vs t || voted_so Read vs t))
 unfolding has_voted voted_so
 has_voted-so [] t = refl
 has_voted-so (v ∷ vs) t = ap (λ b. same_ticket v.0 t || b) (has_voted-so vs t) ∙ one_of v.1 (same_ticket v.0 t) (voted_so Yes vs t) (voted_so No vs t) (voted_so Read vs t)
