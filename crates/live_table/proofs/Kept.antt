@@ -135,14 +135,17 @@ module _ {V : Type 0} where
       → ((k : ℕ) → is_key ks k ≡ is_of_txn x (entry_at slots k))
       → ((k : ℕ) (p : Case × V) → is_key ks k ≡ true → entry_at slots k ≡ Some p → answers p.1 false)
       → FindsBy answers slots x None
-  FindsBy-none answers slots x ks keys fails c v live of_txn =
-      let found = live_found slots c v live in
-      let one : found.1 ≡ c = (case_tells found.1 c).0 found.3 in
-      let listed : is_key ks found.0 ≡ true = keys found.0 ∙ ap (is_of_txn x) found.2 ∙ ap (λ d. same_txn d.txn x) one ∙ of_txn in
-      fails found.0 (found.1, v) listed found.2
+  FindsBy-none answers slots x ks keys fails = record { key = none }
+    where
+      none : (c : Case) (v : V) → live_value slots c ≡ Some v → same_txn c.txn x ≡ true → answers v false
+      none c v live of_txn =
+          let found = live_found slots c v live in
+          let one : found.1 ≡ c = (case_tells found.1 c).0 found.3 in
+          let listed : is_key ks found.0 ≡ true = keys found.0 ∙ ap (is_of_txn x) found.2 ∙ ap (λ d. same_txn d.txn x) one ∙ of_txn in
+          fails found.0 (found.1, v) listed found.2
 
   pub FindsBy-some : (answers : V → Bool → Type 0) (slots : List (Option (Case × V))) (x : Txn) (ks : List ℕ) (k : ℕ) (p : Case × V)
       → AreApart slots → ((k : ℕ) → is_key ks k ≡ is_of_txn x (entry_at slots k)) → is_key ks k ≡ true → entry_at slots k ≡ Some p
       → answers p.1 true → FindsBy answers slots x (Some k)
   FindsBy-some answers slots x ks k p apart keys listed at passes =
-      (p, at, live_at slots p.0 k p apart at (same_case-itself p.0), sym (ap (is_of_txn x) at) ∙ sym (keys k) ∙ listed, passes)
+      record { key = (p, at, live_at slots p.0 k p apart at (same_case-itself p.0), sym (ap (is_of_txn x) at) ∙ sym (keys k) ∙ listed, passes) }

@@ -18,6 +18,11 @@ module _ {V : Type 0} where
   value_of None = None
   value_of (Some p) = Some p.1
 
+  -- the case of an entry
+  abbrev pub case_of : Option (Case × V) → Option Case
+  case_of None = None
+  case_of (Some p) = Some p.0
+
   -- the value at a key
   abbrev pub value_at : List (Option (Case × V)) → ℕ → Option V
   value_at slots k = value_of (entry_at slots k)
@@ -89,10 +94,14 @@ module _ {V : Type 0} where
 
   -- A live case of a transaction whose value passes a test, under its key; or there is none. The relation says what the
   -- test may answer of a value.
-  abbrev pub FindsBy : (V → Bool → Type 0) → List (Option (Case × V)) → Txn → Option ℕ → Type 0
-  FindsBy answers slots x None = (c : Case) (v : V) → live_value slots c ≡ Some v → same_txn c.txn x ≡ true → answers v false
-  FindsBy answers slots x (Some k) =
+  abbrev pub FindsIn : (V → Bool → Type 0) → List (Option (Case × V)) → Txn → Option ℕ → Type 0
+  FindsIn answers slots x None = (c : Case) (v : V) → live_value slots c ≡ Some v → same_txn c.txn x ≡ true → answers v false
+  FindsIn answers slots x (Some k) =
       (p : Case × V) × (entry_at slots k ≡ Some p) × (live_value slots p.0 ≡ Some p.1) × (same_txn p.0.txn x ≡ true) × answers p.1 true
+
+  -- the same, as a record
+  pub record FindsBy (answers : V → Bool → Type 0) (slots : List (Option (Case × V))) (x : Txn) (found : Option ℕ) : Type 0 where
+    pub key : FindsIn answers slots x found
 
 -- the key is in the list
 unfoldable pub is_key : List ℕ → ℕ → Bool

@@ -10,6 +10,7 @@ ghost use Rattle.live_table.specs.Tables.{
   FindsBy,
   Inserts,
   Removes,
+  case_of,
   entry_at,
   is_key,
   is_of_case,
@@ -95,6 +96,16 @@ impl<V: Drop> LiveTable<V> {
         }
     }
 
+    /// The case under the key.
+    pub fn case_at(&self, key: usize) -> Option<Case>
+        ensures { result ≡ case_of (entry_at self.now key) }
+    {
+        match self.slots.get(key) {
+            None => None,
+            Some((case, _)) => Some(*case),
+        }
+    }
+
     /// The keys of the transaction's cases.
     #[tactic(auto, unfolding(crate::specs::Tables::is_key))]
     pub fn keys(&self, txn: &Txn) -> &[usize]
@@ -157,6 +168,7 @@ impl<V: Drop> LiveTable<V> {
     pub fn get_mut(&mut self, key: usize) -> Option<&mut V>
         ensures* writes_back { sem 𝓛 (lends_get V.row self.entry key result) }
         ensures value { option_copied_mut result ≡ value_at self.old key }
+        ensures apart { AreApart self.old }
     {
         match self.slots.get_mut(key) {
             Some(entry) => Some(&mut entry.1),
