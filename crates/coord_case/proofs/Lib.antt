@@ -1,0 +1,4 @@
+pub mod Children
+pub mod Held
+pub mod Owing
+pub mod Works

@@ -1,0 +1,16 @@
+//! What a coordinator keeps of a live case.
+//!
+//! ```text
+//! children    each accepted child, in order of acceptance: its ticket, its works, its first vote
+//! promised    the tickets that the case's promise names
+//! named       those that any of its records names
+//! owed        those that owe an acknowledgement
+//! ```
+#![tactic(auto)]
+
+mod child;
+mod lists;
+mod live;
+
+pub use child::Child;
+pub use live::Live;

@@ -1,0 +1,309 @@
+//! A live case of a coordinator.
+
+ghost use Rattle.std.specs.Prelude.{◌≡◌, ◌+◌, ◌<◌, ◌^◌, ◌++◌, ◌∷◌, ◌||◌, [], false, true, None, Some, IfOk, IfSome, OnOk, OnErr, map};
+ghost use Rattle.tree_model.specs.Memory.{
+  all_voted as all_have_voted,
+  has_child as has_child_in,
+  is_counted as counts_in,
+  ticket_of_child as ticket_in,
+  undecided_of as undecided_in,
+  works_of as works_in_list,
+  yes_of as yes_in,
+};
+ghost use Rattle.tree_model.specs.Records.{in_list as is_in, none_of as is_none_of};
+ghost use Rattle.tree_model.specs.CoordinatorRows.{awaits as awaits_view, other_tickets as others_in, post, prepares as prepares_to};
+ghost use Rattle.tree_model.specs.Standings.{unknown_view};
+ghost use Rattle.core_model.specs.Views.{SameView};
+ghost use Rattle.core_model.specs.Makes.{open_view};
+ghost use Rattle.coord_case.specs.Lives.{Uncounts};
+ghost use Rattle.tree_model.specs.Names.{child_case as case_of, root_case};
+
+use crate::child::Child;
+use crate::lists::{
+    Children, all_are, all_cast, has_child, in_list, is_alone, is_awaited, is_known, none_of,
+    set_vote, set_works, strike, ticket_of, tickets_of, undecided_of, works_sent, yes_of,
+};
+use smallvec::SmallVec;
+use std::alloc::{AllocError, Global};
+use std::marker::Model;
+use tree_model::{
+    Case, Envelope, Envelopes, Message, ProcessId, Sequence, Standing, Ticket, Txn, Vote,
+};
+
+/// Where a live case stands: its accepted children, the tickets that its promise and its other records name, and those
+/// that owe an acknowledgement.
+#[derive(Drop)]
+pub struct Live {
+    standing: Standing,
+    children: Children,
+    promised: Vec<Ticket>,
+    named: Vec<Ticket>,
+    owed: Vec<Ticket>,
+}
+
+impl Model for Live {
+    ghost use Rattle.std.specs.Prelude.{◌≡◌, true};
+    ghost use Rattle.tree_model.specs.Standings.{CoordinatorView};
+
+    ghost Value = { CoordinatorView };
+
+    ghost use Rattle.coord_case.specs.Lives.{are_distinct, meant};
+
+    ghost view = { λ l. meant l.standing l.children.items l.promised.items l.named.items l.owed.items };
+
+    ghost invariant = { λ l. are_distinct l.children.items ≡ true };
+}
+
+/// PREPARE to the child, with the number of its works.
+fn prepare_message(me: ProcessId, txn: Txn, child: &Child) -> Envelope
+    ensures { result ≡ post me child.now.ticket.child (Message.Prepare (case_of txn child.now.ticket) child.now.works) }
+{
+    let case = Case {
+        txn,
+        ticket: Some(child.ticket),
+    };
+    Envelope {
+        from: me,
+        to: child.ticket.child,
+        message: Message::Prepare(case, child.works),
+    }
+}
+
+/// PREPARE to each of the children.
+fn prepare_each(
+    alloc: Global,
+    me: ProcessId,
+    txn: Txn,
+    children: &[Child],
+) -> Result<Envelopes, AllocError>
+    ensures { IfOk result (λ messages. messages ≡ map (λ c. post me c.ticket.child (Message.Prepare (case_of txn c.ticket) c.works)) children.now) }
+{
+    let mut messages = Vec::new(alloc);
+    for child in children {
+        messages.push(prepare_message(me, txn, child))?;
+    }
+    Ok(Sequence::from_vec(messages))
+}
+
+impl Live {
+    /// A case that takes children and work, and has none. It takes no memory.
+    pub fn open(alloc: Global) -> Live
+        ensures { result ≡ open_view }
+    {
+        Live {
+            standing: Standing::Active,
+            children: SmallVec::new(alloc),
+            promised: Vec::new(alloc),
+            named: Vec::new(alloc),
+            owed: Vec::new(alloc),
+        }
+    }
+
+    /// Where it stands.
+    pub fn standing(&self) -> Standing
+        ensures { result ≡ self.now.standing }
+    {
+        self.standing
+    }
+
+    /// Whether it has accepted the ticket, or a record of it names the ticket.
+    pub fn knows(&self, ticket: &Ticket) -> bool
+        ensures { result ≡ (is_in self.now.accepted ticket.now || is_in self.now.named ticket.now) }
+    {
+        is_known(self.children.as_slice(), &self.named, ticket)
+    }
+
+    /// Whether a child of the process is accepted.
+    pub fn has_child(&self, child: ProcessId) -> bool
+        ensures { result ≡ has_child_in self.now.accepted child }
+    {
+        has_child(self.children.as_slice(), child)
+    }
+
+    /// The ticket of an accepted child of the process.
+    pub fn child_ticket(&self, child: ProcessId) -> Option<Ticket>
+        ensures { result ≡ ticket_in self.now.accepted child }
+    {
+        ticket_of(self.children.as_slice(), child)
+    }
+
+    /// Whether nobody is accepted.
+    pub fn is_alone(&self) -> bool
+        ensures { result ≡ is_none_of self.now.accepted }
+    {
+        is_alone(self.children.as_slice())
+    }
+
+    /// The accepted tickets, in order of acceptance.
+    pub fn tickets(&self, alloc: Global) -> Result<Vec<Ticket>, AllocError>
+        ensures { IfOk result (λ v. v.items ≡ self.now.accepted) }
+    {
+        tickets_of(alloc, self.children.as_slice())
+    }
+
+    /// A child is accepted. Memory: nothing changed.
+    pub fn accept(&mut self, ticket: Ticket) -> Result<(), AllocError>
+        requires { has_child_in self.old.accepted ticket.child ≡ false }
+        ensures ok { OnOk result (self.new ≡ record self.old { accepted = self.old.accepted ++ ticket ∷ [] }) }
+        ensures err { OnErr result (self.new ≡ self.old) }
+    {
+        self.children.reserve(1)?;
+        self.children.push_reserved(Child {
+            ticket,
+            works: 0,
+            vote: None,
+        });
+        Ok(())
+    }
+
+    /// How many works were sent to the ticket.
+    pub fn works_sent(&self, ticket: &Ticket) -> u64
+        ensures { result ≡ works_in_list self.now.works ticket.now }
+    {
+        works_sent(self.children.as_slice(), ticket)
+    }
+
+    /// One work more is sent to the accepted ticket; so many were sent to it before.
+    pub fn add_work(&mut self, ticket: &Ticket, sent: u64)
+        requires accepted { is_in self.old.accepted ticket.now ≡ true }
+        requires sent { sent ≡ works_in_list self.old.works ticket.now }
+        requires below { sent + 1 < 2 ^ 64 }
+        ensures { SameView self.new (record self.old { works = self.old.works ++ ticket.now ∷ [] }) }
+    {
+        set_works(&mut self.children, ticket, sent + 1);
+    }
+
+    /// PREPARE from this process to the child of each accepted ticket, with the number of works sent to it.
+    pub fn prepares(&self, alloc: Global, me: ProcessId, txn: Txn) -> Result<Envelopes, AllocError>
+        ensures { IfOk result (λ messages. messages ≡ prepares_to (record { me = me; parent = None; own = root_case txn }) self.now) }
+    {
+        prepare_each(alloc, me, txn, self.children.as_slice())
+    }
+
+    /// It collects votes. It takes no memory.
+    pub fn collect(&mut self)
+        ensures { self.new ≡ record self.old { standing = Standing.Collecting } }
+    {
+        self.standing = Standing::Collecting;
+    }
+
+    /// It collects votes behind a record that names these. Memory: nothing changed.
+    pub fn collect_named(&mut self, tickets: &[Ticket]) -> Result<(), AllocError>
+        ensures ok { OnOk result (self.new ≡ record self.old { standing = Standing.Collecting; named = self.old.named ++ tickets.now }) }
+        ensures err { OnErr result (self.new ≡ self.old) }
+    {
+        self.named.extend_from_slice(tickets)?;
+        self.standing = Standing::Collecting;
+        Ok(())
+    }
+
+    /// Whether a vote of the ticket counts: it is accepted, and has not voted.
+    pub fn is_counted(&self, ticket: &Ticket) -> bool
+        ensures { result ≡ counts_in self.now.accepted self.now.votes ticket.now }
+    {
+        is_awaited(self.children.as_slice(), ticket)
+    }
+
+    /// The first vote of a ticket.
+    pub fn count_vote(&mut self, ticket: &Ticket, vote: Vote)
+        requires { counts_in self.old.accepted self.old.votes ticket.now ≡ true }
+        ensures { SameView self.new (record self.old { votes = self.old.votes ++ (ticket.now, vote) ∷ [] }) }
+    {
+        set_vote(&mut self.children, ticket, Some(vote));
+    }
+
+    /// The vote of a ticket is taken back.
+    pub fn uncount_vote(&mut self, ticket: &Ticket)
+        ensures { Uncounts ticket.now self.old self.new }
+    {
+        set_vote(&mut self.children, ticket, None);
+    }
+
+    /// Whether each child has voted.
+    pub fn all_voted(&self) -> bool
+        ensures { result ≡ all_have_voted self.now.accepted self.now.votes }
+    {
+        all_cast(self.children.as_slice())
+    }
+
+    /// The tickets that voted YES, in order of acceptance.
+    pub fn yes(&self, alloc: Global) -> Result<Vec<Ticket>, AllocError>
+        ensures { IfOk result (λ v. v.items ≡ yes_in self.now.accepted self.now.votes) }
+    {
+        yes_of(alloc, self.children.as_slice())
+    }
+
+    /// The tickets that voted neither NO nor READ, in order of acceptance.
+    pub fn undecided(&self, alloc: Global) -> Result<Vec<Ticket>, AllocError>
+        ensures { IfOk result (λ v. v.items ≡ undecided_in self.now.accepted self.now.votes) }
+    {
+        undecided_of(alloc, self.children.as_slice())
+    }
+
+    /// It promised, and these tickets are to be told the outcome. Memory: nothing changed.
+    pub fn promise(&mut self, alloc: Global, tickets: &[Ticket]) -> Result<(), AllocError>
+        ensures ok { OnOk result (self.new ≡ record self.old { standing = Standing.Prepared; promised = self.old.promised ++ tickets.now; named = self.old.named ++ tickets.now }) }
+        ensures err { OnErr result (self.new ≡ self.old) }
+    {
+        let mut promised = Vec::from_slice(alloc, &self.promised)?;
+        promised.extend_from_slice(tickets)?;
+        self.named.extend_from_slice(tickets)?;
+        self.promised = promised;
+        self.standing = Standing::Prepared;
+        Ok(())
+    }
+
+    /// The tickets that its promise names.
+    pub fn promised(&self) -> &[Ticket]
+        ensures { result.now ≡ self.now.promised }
+    {
+        &self.promised
+    }
+
+    /// Whether the ticket owes an acknowledgement.
+    pub fn owes(&self, ticket: &Ticket) -> bool
+        ensures { result ≡ is_in self.now.owed ticket.now }
+    {
+        in_list(&self.owed, ticket)
+    }
+
+    /// Whether no other ticket owes an acknowledgement.
+    pub fn owes_no_other(&self, ticket: &Ticket) -> bool
+        ensures { result ≡ is_none_of (others_in ticket.now self.now.owed) }
+    {
+        all_are(&self.owed, ticket)
+    }
+
+    /// The ticket has acknowledged.
+    pub fn acknowledge(&mut self, ticket: &Ticket)
+        ensures { self.new ≡ record self.old { owed = others_in ticket.now self.old.owed } }
+    {
+        strike(&mut self.owed, *ticket);
+    }
+
+    /// The decided case waits for these acknowledgements; where there are none it is forgotten. Memory: nothing changed.
+    pub fn awaits(&mut self, standing: Standing, tickets: Vec<Ticket>) -> Result<(), AllocError>
+        ensures ok { OnOk result (self.new ≡ awaits_view standing tickets.items self.old) }
+        ensures err { OnErr result (self.new ≡ self.old) }
+    {
+        if none_of(&tickets) {
+            self.forget();
+            return Ok(());
+        }
+        self.named.extend_from_slice(&tickets)?;
+        self.standing = standing;
+        self.owed = tickets;
+        Ok(())
+    }
+
+    /// It is forgotten. It takes no memory.
+    pub fn forget(&mut self)
+        ensures { self.new ≡ unknown_view }
+    {
+        self.standing = Standing::Unknown;
+        self.children.clear();
+        self.promised.clear();
+        self.named.clear();
+        self.owed.clear();
+    }
+}

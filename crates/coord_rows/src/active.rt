@@ -1,0 +1,125 @@
+//! Rows of the reaction table for a case that takes children and work (R*).
+
+ghost use Rattle.std.specs.Prelude.{◌≡◌, true, IfOk, OnErr};
+ghost use Rattle.tree_model.specs.Records.{in_list as is_in};
+ghost use Rattle.tree_model.specs.CoordinatorRows.{
+  active_abort as abort_row,
+  active_commit as commit_row,
+  active_commit_with as commit_with_row,
+  active_join as join_row,
+  active_joined as joined_row,
+  active_work as work_row,
+};
+ghost use Rattle.core_model.specs.Views.{SameView};
+ghost use Rattle.coord_rows.specs.Rows.{Does, seat as seat_meant};
+
+use crate::effect::{RowEffect, Written};
+use crate::seat::{Seat, acknowledge_abort, one_message, tell_each, up};
+use coord_case::Live;
+use std::alloc::{AllocError, Global};
+use tree_model::{
+    Conclusion, Message, Op, Outcome, Presumption, ProcessId, Record, Sequence, Ticket,
+};
+
+/// Active, the join act: a child that is not accepted is invited.
+pub fn active_join(
+    alloc: Global,
+    seat: Seat,
+    child: ProcessId,
+    live: &Live,
+) -> Result<RowEffect, AllocError>
+    ensures { IfOk result (λ effect. Does seat (join_row (seat_meant seat) child live.now) effect live.now) }
+{
+    if live.has_child(child) {
+        return Ok(RowEffect::quiet(alloc));
+    }
+    let messages = one_message(alloc, seat.me, child, Message::Join(seat.case))?;
+    Ok(RowEffect::sends(alloc, messages))
+}
+
+/// Active, JOINED: the first ticket of a child is accepted. Memory: nothing changed.
+pub fn active_joined(
+    alloc: Global,
+    seat: Seat,
+    ticket: Ticket,
+    live: &mut Live,
+) -> Result<RowEffect, AllocError>
+    ensures ok { IfOk result (λ effect. Does seat (joined_row ticket live.old) effect live.new) }
+    ensures err { OnErr result (live.new ≡ live.old) }
+{
+    if !live.has_child(ticket.child) {
+        live.accept(ticket)?;
+    }
+    Ok(RowEffect::quiet(alloc))
+}
+
+/// Active, the work act: the accepted child's next work is sent. Memory, or no number left: nothing changed.
+pub fn active_work(
+    alloc: Global,
+    seat: Seat,
+    ticket: Ticket,
+    op: &Op,
+    live: &mut Live,
+) -> Result<RowEffect, AllocError>
+    requires { is_in live.old.accepted ticket ≡ true }
+    ensures ok { IfOk result (λ effect. Does seat (work_row (seat_meant seat) ticket op.now live.old) effect live.new) }
+    ensures err { OnErr result (live.new ≡ live.old) }
+{
+    let sent = live.works_sent(&ticket);
+    if sent == u64::MAX {
+        return Err(AllocError);
+    }
+    let message = Message::Work(seat.child_case(ticket), sent + 1, op.copied(alloc)?);
+    let messages = one_message(alloc, seat.me, ticket.child, message)?;
+    live.add_work(&ticket, sent);
+    Ok(RowEffect::sends(alloc, messages))
+}
+
+/// Active, the commit act or PREPARE: where nobody takes part the case has read only, else each child is asked for its vote.
+/// Memory: nothing changed.
+pub fn active_commit(alloc: Global, seat: Seat, live: &mut Live) -> Result<RowEffect, AllocError>
+    ensures ok { IfOk result (λ effect. Does seat (commit_row (seat_meant seat) live.old) effect live.new) }
+    ensures err { OnErr result (live.new ≡ live.old) }
+{
+    if !live.is_alone() {
+        return active_commit_with(alloc, seat, live);
+    }
+    let messages = up(alloc, seat, Message::Read(seat.case))?;
+    live.forget();
+    Ok(RowEffect::tells(alloc, seat.told(Conclusion::ReadOnly), messages))
+}
+
+/// Under Presumed Commit the children are named in a forced record before they are asked.
+fn active_commit_with(alloc: Global, seat: Seat, live: &mut Live) -> Result<RowEffect, AllocError>
+    ensures ok { IfOk result (λ effect. Does seat (commit_with_row (seat_meant seat) live.old seat.case.txn.presumption) effect live.new) }
+    ensures err { OnErr result (live.new ≡ live.old) }
+{
+    let messages = live.prepares(alloc, seat.me, seat.case.txn)?;
+    match seat.case.txn.presumption {
+        Presumption::PresumeAbort => {
+            live.collect();
+            Ok(RowEffect::sends(alloc, messages))
+        }
+        Presumption::PresumeCommit => {
+            let tickets = live.tickets(alloc)?;
+            let named = Sequence::from_vec(Vec::from_slice(alloc, &tickets)?);
+            let written = Written::forced(Record::Collecting(seat.case, named));
+            let effect = RowEffect::writes(alloc, written, None, messages)?;
+            live.collect_named(&tickets)?;
+            Ok(effect)
+        }
+    }
+}
+
+/// Active, the abort act or ABORT: the children are told, and nothing is written, since none can have promised. Memory:
+/// nothing changed.
+pub fn active_abort(alloc: Global, seat: Seat, live: &mut Live) -> Result<RowEffect, AllocError>
+    ensures ok { IfOk result (λ effect. Does seat (abort_row (seat_meant seat) live.old) effect live.new) }
+    ensures err { OnErr result (live.new ≡ live.old) }
+{
+    let tickets = live.tickets(alloc)?;
+    let mut messages = acknowledge_abort(alloc, seat)?;
+    tell_each(&mut messages, seat, Outcome::Aborted, &tickets)?;
+    live.forget();
+    Ok(RowEffect::tells(alloc, seat.told(Conclusion::Aborted), messages))
+}

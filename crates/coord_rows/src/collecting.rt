@@ -1,0 +1,204 @@
+//! Rows of the reaction table for a case that collects votes (R*).
+
+ghost use Rattle.std.specs.Prelude.{◌≡◌, IfOk, OnErr};
+ghost use Rattle.tree_model.specs.Records.{none_of as is_none_of};
+ghost use Rattle.tree_model.specs.CoordinatorRows.{
+  cascaded_prepares as promises_row,
+  collecting_abort as abort_row,
+  collecting_abort_by as abort_by_row,
+  collecting_after as after_row,
+  collecting_full as full_row,
+  collecting_read_only as read_only_row,
+  collecting_vote as vote_row,
+  root_commits as commits_row,
+};
+ghost use Rattle.core_model.specs.Views.{SameView};
+ghost use Rattle.coord_rows.specs.Rows.{Does, reason as reason_meant, seat as seat_meant};
+
+use crate::effect::{RowEffect, Written};
+use crate::seat::{Reason, Seat, heard_above, none_of, tell_each, up};
+use coord_case::Live;
+use std::alloc::{AllocError, Global};
+use tree_model::{
+    Conclusion, Message, Outcome, Presumption, Record, Sequence, Standing, Ticket, Told, Vote,
+};
+
+/// Collecting, a vote: the first of an accepted ticket counts. Memory: nothing changed.
+pub fn collecting_vote(
+    alloc: Global,
+    seat: Seat,
+    ticket: Ticket,
+    vote: Vote,
+    live: &mut Live,
+) -> Result<RowEffect, AllocError>
+    ensures ok { IfOk result (λ effect. Does seat (vote_row (seat_meant seat) ticket vote live.old) effect live.new) }
+    ensures err { OnErr result (SameView live.new live.old) }
+{
+    if !live.is_counted(&ticket) {
+        return Ok(RowEffect::quiet(alloc));
+    }
+    live.count_vote(&ticket, vote);
+    match collecting_after(alloc, seat, vote, live) {
+        Ok(effect) => Ok(effect),
+        Err(refusal) => {
+            live.uncount_vote(&ticket);
+            Err(refusal)
+        }
+    }
+}
+
+/// The vote was counted: a NO aborts, and the last vote decides.
+fn collecting_after(
+    alloc: Global,
+    seat: Seat,
+    vote: Vote,
+    live: &mut Live,
+) -> Result<RowEffect, AllocError>
+    ensures ok { IfOk result (λ effect. Does seat (after_row (seat_meant seat) live.old vote) effect live.new) }
+    ensures err { OnErr result (live.new ≡ live.old) }
+{
+    match vote {
+        Vote::No => collecting_abort(alloc, seat, Reason::Vote, live),
+        Vote::Yes | Vote::Read => {
+            if live.all_voted() {
+                collecting_full(alloc, seat, live)
+            } else {
+                Ok(RowEffect::quiet(alloc))
+            }
+        }
+    }
+}
+
+/// Collecting, a NO, the abort act or ABORT: under Presumed Commit the abort is forced and names those that may have
+/// promised. Memory: nothing changed.
+pub fn collecting_abort(
+    alloc: Global,
+    seat: Seat,
+    reason: Reason,
+    live: &mut Live,
+) -> Result<RowEffect, AllocError>
+    ensures ok { IfOk result (λ effect. Does seat (abort_row (seat_meant seat) (reason_meant reason) live.old) effect live.new) }
+    ensures err { OnErr result (live.new ≡ live.old) }
+{
+    let undecided = live.undecided(alloc)?;
+    abort_undecided(alloc, seat, reason, undecided, live)
+}
+
+fn abort_undecided(
+    alloc: Global,
+    seat: Seat,
+    reason: Reason,
+    undecided: Vec<Ticket>,
+    live: &mut Live,
+) -> Result<RowEffect, AllocError>
+    ensures ok { IfOk result (λ effect. Does seat (abort_by_row (seat_meant seat) (reason_meant reason) live.old undecided.items seat.case.txn.presumption) effect live.new) }
+    ensures err { OnErr result (live.new ≡ live.old) }
+{
+    let mut messages = heard_above(alloc, seat, reason)?;
+    tell_each(&mut messages, seat, Outcome::Aborted, &undecided)?;
+    let told = seat.told(Conclusion::Aborted);
+    match seat.case.txn.presumption {
+        Presumption::PresumeAbort => {
+            let written = Written::plain(Record::Abort(seat.case, Sequence::new(alloc)));
+            let effect = RowEffect::writes(alloc, written, told, messages)?;
+            live.forget();
+            Ok(effect)
+        }
+        Presumption::PresumeCommit => {
+            let named = Sequence::from_vec(Vec::from_slice(alloc, &undecided)?);
+            let written = Written::forced(Record::Abort(seat.case, named));
+            let effect = RowEffect::writes(alloc, written, told, messages)?;
+            live.awaits(Standing::Aborting, undecided)?;
+            Ok(effect)
+        }
+    }
+}
+
+/// The last vote, and none was NO: with nobody that promised the case has read only; else the root commits, and a
+/// coordinator below it promises.
+fn collecting_full(alloc: Global, seat: Seat, live: &mut Live) -> Result<RowEffect, AllocError>
+    ensures ok { IfOk result (λ effect. Does seat (full_row (seat_meant seat) live.old) effect live.new) }
+    ensures err { OnErr result (live.new ≡ live.old) }
+{
+    let yes = live.yes(alloc)?;
+    if none_of(&yes) {
+        return collecting_read_only(alloc, seat, live);
+    }
+    match seat.parent {
+        None => root_commits(alloc, seat, yes, live),
+        Some(_) => cascaded_prepares(alloc, seat, &yes, live),
+    }
+}
+
+/// All read only: nothing is decided. Under Presumed Commit the record of the votes' collection is ended.
+fn collecting_read_only(alloc: Global, seat: Seat, live: &mut Live) -> Result<RowEffect, AllocError>
+    ensures ok { IfOk result (λ effect. Does seat (read_only_row (seat_meant seat)) effect live.new) }
+    ensures err { OnErr result (live.new ≡ live.old) }
+{
+    let messages = up(alloc, seat, Message::Read(seat.case))?;
+    let told = seat.told(Conclusion::ReadOnly);
+    match seat.case.txn.presumption {
+        Presumption::PresumeAbort => {
+            live.forget();
+            Ok(RowEffect::tells(alloc, told, messages))
+        }
+        Presumption::PresumeCommit => {
+            let written = Written::plain(Record::End(seat.case));
+            let effect = RowEffect::writes(alloc, written, told, messages)?;
+            live.forget();
+            Ok(effect)
+        }
+    }
+}
+
+/// The root's decision: a forced Commit. Under Presumed Abort it names those that owe an acknowledgement; under Presumed
+/// Commit nobody owes one, and the case is forgotten.
+fn root_commits(
+    alloc: Global,
+    seat: Seat,
+    yes: Vec<Ticket>,
+    live: &mut Live,
+) -> Result<RowEffect, AllocError>
+    ensures ok { IfOk result (λ effect. Does seat (commits_row (seat_meant seat) live.old yes.items seat.case.txn.presumption) effect live.new) }
+    ensures err { OnErr result (live.new ≡ live.old) }
+{
+    let mut messages = Sequence::new(alloc);
+    tell_each(&mut messages, seat, Outcome::Committed, &yes)?;
+    let told = Some(Told {
+        txn: seat.case.txn,
+        conclusion: Conclusion::Committed,
+    });
+    match seat.case.txn.presumption {
+        Presumption::PresumeAbort => {
+            let named = Sequence::from_vec(Vec::from_slice(alloc, &yes)?);
+            let written = Written::forced(Record::Commit(seat.case, named));
+            let effect = RowEffect::writes(alloc, written, told, messages)?;
+            live.awaits(Standing::Committing, yes)?;
+            Ok(effect)
+        }
+        Presumption::PresumeCommit => {
+            let written = Written::forced(Record::Commit(seat.case, Sequence::new(alloc)));
+            let effect = RowEffect::writes(alloc, written, told, messages)?;
+            live.forget();
+            Ok(effect)
+        }
+    }
+}
+
+/// The promise of a coordinator below the root: a forced Prepare that names these, and YES to the parent.
+fn cascaded_prepares(
+    alloc: Global,
+    seat: Seat,
+    yes: &[Ticket],
+    live: &mut Live,
+) -> Result<RowEffect, AllocError>
+    ensures ok { IfOk result (λ effect. Does seat (promises_row (seat_meant seat) live.old yes.now) effect live.new) }
+    ensures err { OnErr result (live.new ≡ live.old) }
+{
+    let messages = up(alloc, seat, Message::Yes(seat.case))?;
+    let named = Sequence::from_vec(Vec::from_slice(alloc, yes)?);
+    let written = Written::forced(Record::Prepare(seat.case, named));
+    let effect = RowEffect::writes(alloc, written, None, messages)?;
+    live.promise(alloc, yes)?;
+    Ok(effect)
+}

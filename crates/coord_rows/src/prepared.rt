@@ -1,0 +1,89 @@
+//! Rows of the reaction table for a case that promised, below the root (R*).
+
+ghost use Rattle.std.specs.Prelude.{◌≡◌, IfOk, OnErr};
+ghost use Rattle.tree_model.specs.CoordinatorRows.{
+  prepared_abort as abort_row,
+  prepared_ask as ask_row,
+  prepared_commit as commit_row,
+  prepared_prepare as prepare_row,
+};
+ghost use Rattle.core_model.specs.Views.{SameView};
+ghost use Rattle.coord_rows.specs.Rows.{Does, seat as seat_meant};
+
+use crate::effect::{RowEffect, Written};
+use crate::seat::{Seat, tell_each, up};
+use coord_case::Live;
+use std::alloc::{AllocError, Global};
+use tree_model::{Message, Outcome, Presumption, Record, Sequence, Standing};
+
+/// Prepared, COMMIT: the promised are told. Under Presumed Abort the decision is forced and acknowledged, and names those
+/// that owe an acknowledgement; under Presumed Commit nobody owes one. Memory: nothing changed.
+pub fn prepared_commit(alloc: Global, seat: Seat, live: &mut Live) -> Result<RowEffect, AllocError>
+    ensures ok { IfOk result (λ effect. Does seat (commit_row (seat_meant seat) live.old) effect live.new) }
+    ensures err { OnErr result (live.new ≡ live.old) }
+{
+    let promised = Vec::from_slice(alloc, live.promised())?;
+    match seat.case.txn.presumption {
+        Presumption::PresumeAbort => {
+            let mut messages = up(alloc, seat, Message::Ack(seat.case, Outcome::Committed))?;
+            tell_each(&mut messages, seat, Outcome::Committed, &promised)?;
+            let named = Sequence::from_vec(Vec::from_slice(alloc, &promised)?);
+            let written = Written::forced(Record::Commit(seat.case, named));
+            let effect = RowEffect::writes(alloc, written, None, messages)?;
+            live.awaits(Standing::Committing, promised)?;
+            Ok(effect)
+        }
+        Presumption::PresumeCommit => {
+            let mut messages = Sequence::new(alloc);
+            tell_each(&mut messages, seat, Outcome::Committed, &promised)?;
+            let written = Written::plain(Record::Commit(seat.case, Sequence::new(alloc)));
+            let effect = RowEffect::writes(alloc, written, None, messages)?;
+            live.forget();
+            Ok(effect)
+        }
+    }
+}
+
+/// Prepared, ABORT: the promised are told. Under Presumed Commit the abort is forced and acknowledged, and names those
+/// that owe an acknowledgement; under Presumed Abort nobody owes one. Memory: nothing changed.
+pub fn prepared_abort(alloc: Global, seat: Seat, live: &mut Live) -> Result<RowEffect, AllocError>
+    ensures ok { IfOk result (λ effect. Does seat (abort_row (seat_meant seat) live.old) effect live.new) }
+    ensures err { OnErr result (live.new ≡ live.old) }
+{
+    let promised = Vec::from_slice(alloc, live.promised())?;
+    match seat.case.txn.presumption {
+        Presumption::PresumeAbort => {
+            let mut messages = Sequence::new(alloc);
+            tell_each(&mut messages, seat, Outcome::Aborted, &promised)?;
+            let written = Written::plain(Record::Abort(seat.case, Sequence::new(alloc)));
+            let effect = RowEffect::writes(alloc, written, None, messages)?;
+            live.forget();
+            Ok(effect)
+        }
+        Presumption::PresumeCommit => {
+            let mut messages = up(alloc, seat, Message::Ack(seat.case, Outcome::Aborted))?;
+            tell_each(&mut messages, seat, Outcome::Aborted, &promised)?;
+            let named = Sequence::from_vec(Vec::from_slice(alloc, &promised)?);
+            let written = Written::forced(Record::Abort(seat.case, named));
+            let effect = RowEffect::writes(alloc, written, None, messages)?;
+            live.awaits(Standing::Aborting, promised)?;
+            Ok(effect)
+        }
+    }
+}
+
+/// Prepared, PREPARE again: YES again.
+pub fn prepared_prepare(alloc: Global, seat: Seat, live: &Live) -> Result<RowEffect, AllocError>
+    ensures { IfOk result (λ effect. Does seat (prepare_row (seat_meant seat) live.now) effect live.now) }
+{
+    let messages = up(alloc, seat, Message::Yes(seat.case))?;
+    Ok(RowEffect::sends(alloc, messages))
+}
+
+/// Prepared, the ask act: the case asks its parent.
+pub fn prepared_ask(alloc: Global, seat: Seat, live: &Live) -> Result<RowEffect, AllocError>
+    ensures { IfOk result (λ effect. Does seat (ask_row (seat_meant seat) live.now) effect live.now) }
+{
+    let messages = up(alloc, seat, Message::Inquire(seat.case))?;
+    Ok(RowEffect::sends(alloc, messages))
+}

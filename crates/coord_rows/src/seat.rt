@@ -1,0 +1,155 @@
+//! A coordinator in one of its cases, and the messages that it sends from there.
+
+ghost use Rattle.std.specs.Prelude.{◌≡◌, ◌++◌, ◌∷◌, [], IfOk, OnOk};
+ghost use Rattle.tree_model.specs.CoordinatorRows.{abort_heard_above, acknowledges_abort, each, post, tells, tells_outcome, to_child, up as up_of};
+ghost use Rattle.tree_model.specs.Names.{presumed as presumed_of};
+ghost use Rattle.tree_model.specs.Reactions.{told_of};
+ghost use Rattle.tree_model.specs.Records.{none_of as is_none_of};
+ghost use Rattle.coord_rows.specs.Rows.{reason as reason_meant, seat as seat_meant};
+
+use std::alloc::{AllocError, Global};
+use tree_model::{
+    Case, Conclusion, Envelope, Envelopes, Message, Outcome, Presumption, ProcessId, Sequence,
+    Ticket, Told,
+};
+
+/// A coordinator in one of its cases; the root has no parent.
+#[derive(Clone, Copy, PartialEq, Eq)]
+pub struct Seat {
+    pub me: ProcessId,
+    pub parent: Option<ProcessId>,
+    pub case: Case,
+}
+
+/// Why a case that collects votes aborts: a vote, the abort act, or ABORT of the parent.
+#[derive(Clone, Copy, PartialEq, Eq)]
+pub enum Reason {
+    Vote,
+    Act,
+    Abort,
+}
+
+impl Seat {
+    /// The child's case of the transaction.
+    pub(crate) fn child_case(self, ticket: Ticket) -> Case
+        ensures { result ≡ record { txn = self.case.txn; ticket = Some ticket } }
+    {
+        Case {
+            txn: self.case.txn,
+            ticket: Some(ticket),
+        }
+    }
+
+    /// What is told of the end of the transaction: the root tells its application, others tell nothing.
+    pub(crate) fn told(self, conclusion: Conclusion) -> Option<Told>
+        ensures { result ≡ told_of self.case.txn (tells (seat_meant self) conclusion) }
+    {
+        match self.parent {
+            None => Some(Told {
+                txn: self.case.txn,
+                conclusion,
+            }),
+            Some(_) => None,
+        }
+    }
+}
+
+/// The message to the parent, where there is one.
+pub(crate) fn up(alloc: Global, seat: Seat, message: Message) -> Result<Envelopes, AllocError>
+    ensures { IfOk result (λ messages. messages ≡ up_of (seat_meant seat) message) }
+{
+    match seat.parent {
+        None => Ok(Sequence::new(alloc)),
+        Some(parent) => one_message(alloc, seat.me, parent, message),
+    }
+}
+
+/// One message.
+pub(crate) fn one_message(
+    alloc: Global,
+    from: ProcessId,
+    to: ProcessId,
+    message: Message,
+) -> Result<Envelopes, AllocError>
+    ensures { IfOk result (λ messages. messages ≡ post from to message ∷ []) }
+{
+    let mut messages = Sequence::new(alloc);
+    messages.push(Envelope { from, to, message })?;
+    Ok(messages)
+}
+
+/// An abort under Presumed Commit is acknowledged; under Presumed Abort nothing is said.
+pub(crate) fn acknowledge_abort(alloc: Global, seat: Seat) -> Result<Envelopes, AllocError>
+    ensures { IfOk result (λ messages. messages ≡ acknowledges_abort (seat_meant seat) seat.case.txn.presumption) }
+{
+    match seat.case.txn.presumption {
+        Presumption::PresumeAbort => Ok(Sequence::new(alloc)),
+        Presumption::PresumeCommit => up(alloc, seat, Message::Ack(seat.case, Outcome::Aborted)),
+    }
+}
+
+/// What the parent hears of an abort.
+pub(crate) fn heard_above(
+    alloc: Global,
+    seat: Seat,
+    reason: Reason,
+) -> Result<Envelopes, AllocError>
+    ensures { IfOk result (λ messages. messages ≡ abort_heard_above (seat_meant seat) (reason_meant reason)) }
+{
+    match reason {
+        Reason::Vote => up(alloc, seat, Message::No(seat.case)),
+        Reason::Act => Ok(Sequence::new(alloc)),
+        Reason::Abort => acknowledge_abort(alloc, seat),
+    }
+}
+
+/// The outcome to the ticket's child.
+pub(crate) fn outcome_message(seat: Seat, outcome: Outcome, ticket: Ticket) -> Envelope
+    ensures { result ≡ to_child (seat_meant seat) (tells_outcome outcome) ticket }
+{
+    let case = seat.child_case(ticket);
+    Envelope {
+        from: seat.me,
+        to: ticket.child,
+        message: match outcome {
+            Outcome::Committed => Message::Commit(case),
+            Outcome::Aborted => Message::Abort(case),
+        },
+    }
+}
+
+/// Behind these messages the outcome to each of the children.
+pub(crate) fn tell_each(
+    messages: &mut Envelopes,
+    seat: Seat,
+    outcome: Outcome,
+    tickets: &[Ticket],
+) -> Result<(), AllocError>
+    ensures { OnOk result (messages.new ≡ messages.old ++ each (seat_meant seat) (tells_outcome outcome) tickets.now) }
+{
+    for ticket in tickets {
+        messages.push(outcome_message(seat, outcome, *ticket))?;
+    }
+    Ok(())
+}
+
+/// The outcome that an inquiry gets where nothing is known.
+pub(crate) fn presumed(presumption: Presumption) -> Outcome
+    ensures { result ≡ presumed_of presumption }
+{
+    match presumption {
+        Presumption::PresumeAbort => Outcome::Aborted,
+        Presumption::PresumeCommit => Outcome::Committed,
+    }
+}
+
+/// Whether there is no ticket.
+#[tactic(auto, unfolding(tree_model::specs::Records::none_of))]
+pub(crate) fn none_of(tickets: &[Ticket]) -> bool
+    ensures { result ≡ is_none_of tickets.now }
+{
+    match tickets {
+        [] => true,
+        [_, ..] => false,
+    }
+}

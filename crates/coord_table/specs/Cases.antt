@@ -1,0 +1,138 @@
+-- What the live cases of a coordinator say: how each case stands, and which tickets are active.
+use Rattle.std.specs.Prelude.{◌≡◌, ◌+◌, ◌&&◌, ◌||◌, ℕ, Bool, true, false, if◌then◌else◌, Option, Some, None, is_some, List, [], ◌∷◌}
+use Rattle.tree_model.specs.declared.names.Case.{Case}
+use Rattle.tree_model.specs.declared.names.Ticket.{Ticket}
+use Rattle.tree_model.specs.declared.names.Txn.{Txn}
+use Rattle.tree_model.specs.Names.{child_case, same_case, same_txn}
+use Rattle.tree_model.specs.Records.{in_list}
+use Rattle.tree_model.specs.Standings.{CoordinatorView, unknown_view}
+use Rattle.tree_model.specs.Restarts.{is_known}
+use Rattle.live_table.specs.Tables.{entry_at, live_count, live_value}
+use Rattle.core_model.specs.Makes.{open_view}
+use Rattle.coord_table.specs.declared.held.Held.{Held}
+
+-- the slots of the table
+abbrev pub Slots : Type 0
+Slots = List (Option (Case × Held))
+
+-- How a case stands.
+
+-- the view of what is held of a case; where nothing is, it is Unknown
+abbrev pub held_view : Option Held → CoordinatorView
+held_view None = unknown_view
+held_view (Some h) = h.live
+
+-- how the case stands
+abbrev pub view_in : Slots → Case → CoordinatorView
+view_in slots c = held_view (live_value slots c)
+
+-- the view is live, and the ticket is accepted in it, or a record names it
+abbrev pub has_child : CoordinatorView → Ticket → Bool
+has_child v t = is_known v.standing && (in_list v.accepted t || in_list v.named t)
+
+-- Tickets.
+
+-- the parent's case is this one
+abbrev pub is_for : Case → Option Case → Bool
+is_for d None = false
+is_for d (Some e) = same_case e d
+
+-- the case's ticket was given for the parent's case d, and is active
+abbrev pub is_given : Case → Option (Case × Held) → Bool
+is_given d None = false
+is_given d (Some p) = is_for d p.1.given_for
+
+-- the ticket of an entry, if it was given for d; else the other
+abbrev pub ticket_if : Case → Option (Case × Held) → Option Ticket → Option Ticket
+ticket_if d None other = other
+ticket_if d (Some p) other = if is_for d p.1.given_for then p.0.ticket else other
+
+-- the active ticket that was given for the parent's case
+unfoldable pub ticket_in : Slots → Case → Option Ticket
+ticket_in [] d = None
+ticket_in (slot ∷ slots) d = ticket_if d slot (ticket_in slots d)
+
+-- A case that was given for one of the parent's has a ticket and is of the same transaction, and no two were given for one
+-- case of the parent.
+pub record FitsGiven (slots : Slots) : Type 0 where
+  pub ticketed : (k : ℕ) (d : Case) (p : Case × Held) → entry_at slots k ≡ Some p → is_for d p.1.given_for ≡ true → is_some p.0.ticket ≡ true
+  pub txns : (k : ℕ) (d : Case) (p : Case × Held) → entry_at slots k ≡ Some p → is_for d p.1.given_for ≡ true → same_txn p.0.txn d.txn ≡ true
+  pub one : (d : Case) (j k : ℕ) → is_given d (entry_at slots j) ≡ true → is_given d (entry_at slots k) ≡ true → j ≡ k
+
+-- What changes.
+
+-- the key is the case's, which stands so
+pub record IsCase (slots : Slots) (c : Case) (key : ℕ) (h : Held) : Type 0 where
+  pub entry : entry_at slots key ≡ Some (c, h)
+  pub view : view_in slots c ≡ h.live
+
+-- the case is live under this key, or it is not live
+abbrev pub FindsCase : Slots → Case → Option ℕ → Type 0
+FindsCase slots c None = live_value slots c ≡ None
+FindsCase slots c (Some k) = (h : Held) × IsCase slots c k h
+
+-- a live case of the transaction has this child, under this key; or none has
+abbrev pub FindsChild : Slots → Txn → Ticket → Option ℕ → Type 0
+FindsChild slots x t None = (c : Case) → same_txn c.txn x ≡ true → has_child (view_in slots c) t ≡ false
+FindsChild slots x t (Some k) =
+    (c : Case) × (h : Held) × IsCase slots c k h × (same_txn c.txn x ≡ true) × (has_child h.live t ≡ true)
+
+-- the live case under a key
+abbrev pub live_of : Option (Case × Held) → Option CoordinatorView
+live_of None = None
+live_of (Some p) = Some p.1.live
+
+-- the live case at a key
+abbrev pub live_at : Slots → ℕ → Option CoordinatorView
+live_at slots k = live_of (entry_at slots k)
+
+-- the ticket of an entry's case
+abbrev pub entry_ticket : Option (Case × Held) → Option Ticket
+entry_ticket None = None
+entry_ticket (Some p) = p.0.ticket
+
+-- one case stands so, and no other moves
+pub record Moves (old new : Slots) (c : Case) (view : CoordinatorView) : Type 0 where
+  pub own : view_in new c ≡ view
+  pub others : (d : Case) → same_case c d ≡ false → view_in new d ≡ view_in old d
+
+-- a case begins, and no active ticket moves
+pub record Begins (old new : Slots) (c : Case) : Type 0 where
+  pub moves : Moves old new c open_view
+  pub tickets : (d : Case) → ticket_in new d ≡ ticket_in old d
+  pub counts : live_count new ≡ live_count old + 1
+
+-- the case of a fresh ticket begins, and the ticket is active for the parent's case
+pub record Gives (old new : Slots) (parent : Case) (t : Ticket) : Type 0 where
+  pub moves : Moves old new (child_case parent.txn t) open_view
+  pub ticket : ticket_in new parent ≡ Some t
+  pub tickets : (d : Case) → same_case parent d ≡ false → ticket_in new d ≡ ticket_in old d
+  pub counts : live_count new ≡ live_count old + 1
+
+-- the key's case stands so in place of how it stood, and no other moves, nor does an active ticket
+pub record Relives (old new : Slots) (key : ℕ) (before behind : CoordinatorView) : Type 0 where
+  pub owner : Case
+  pub stood : view_in old owner ≡ before
+  pub moves : Moves old new owner behind
+  pub tickets : (d : Case) → ticket_in new d ≡ ticket_in old d
+  pub entry : (h : Held) × (entry_at old key ≡ Some (owner, h)) × (entry_at new key ≡ Some (owner, record h { live = behind }))
+
+-- the ticket of the key's case is active no longer; nothing else moves
+pub record Retires (old new : Slots) (key : ℕ) : Type 0 where
+  pub owner : Case
+  pub held : Held
+  pub was : entry_at old key ≡ Some (owner, held)
+  pub is : entry_at new key ≡ Some (owner, record held { given_for = None })
+  pub views : (d : Case) → view_in new d ≡ view_in old d
+  pub retired : (d : Case) → is_for d held.given_for ≡ true → ticket_in new d ≡ None
+  pub tickets : (d : Case) → is_for d held.given_for ≡ false → ticket_in new d ≡ ticket_in old d
+
+-- the case of the key ends, and its ticket with it; no other case and no other ticket moves
+pub record Ends (old new : Slots) (key : ℕ) : Type 0 where
+  pub owner : Case
+  pub held : Held
+  pub was : entry_at old key ≡ Some (owner, held)
+  pub moves : Moves old new owner unknown_view
+  pub retired : (d : Case) → is_for d held.given_for ≡ true → ticket_in new d ≡ None
+  pub tickets : (d : Case) → is_for d held.given_for ≡ false → ticket_in new d ≡ ticket_in old d
+  pub counts : live_count new + 1 ≡ live_count old

@@ -1,0 +1,9 @@
+//! The laws. The functions do nothing: each one's contract is a law.
+
+ghost use Rattle.core_law.specs.Laws.{MeetsAsTheModel};
+
+/// Where a process stands for a process of the model, each input meets at it the row, the refusal or the nothing that it
+/// meets there.
+pub fn inputs_meet_the_models_turns()
+    ensures { MeetsAsTheModel }
+{}

@@ -1,0 +1,2 @@
+pub mod Forces
+pub mod Sound

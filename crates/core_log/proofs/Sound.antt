@@ -1,0 +1,16 @@
+-- A sound record can stand in a log.
+use Rattle.tree_model.specs.declared.names.Kind.{Kind}
+use Rattle.tree_model.specs.declared.records.LogRecord.{LogRecord}
+use Rattle.log_text.specs.Payloads.{FitsFrame}
+use Rattle.log_sound.specs.Sound.{IsSound}
+use Rattle.log_sound.proofs.Records.{records_read_back}
+use Rattle.log_sound.proofs.Sizes.{records_fit_frames}
+use Rattle.rec_log.specs.Sights.{IsRecord}
+
+pub sound_is_record : (p : Kind) (l : LogRecord) → IsSound p l → IsRecord p l
+sound_is_record p l sound = record { fits = records_fit_frames p l sound; again = records_read_back p l sound }
+
+pub sound_fits : (p : Kind) (l : LogRecord) → IsSound p l → FitsFrame l
+sound_fits p l sound = records_fit_frames p l sound
+
+pub ruleset sound_records = (sound_is_record, sound_fits)

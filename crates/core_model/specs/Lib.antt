@@ -1,0 +1,6 @@
+pub mod Views
+pub mod States
+pub mod Turns
+pub mod Makes
+pub mod Restarting
+pub mod Laws
