@@ -1,2 +1,4 @@
 pub mod Expressions
 pub mod TreeText
+pub mod Printed
+pub mod Written
