@@ -1,15 +1,15 @@
 -- Lines of printed characters, and where a text of such lines is cut.
-use Rattle.std.proofs.Common.{◌≡◌, ℕ, zero, suc, ◌+◌, ◌-◌, ◌*◌, ◌/◌, ◌%◌, ◌<◌, ◌≤◌, ◌^◌, true, false, ◌==◌, nat_le, nat_lt, List, [], ◌∷◌, ◌++◌, length, All, codes, decimal, IsAscii, IsUtf8, Option, Some, None, flat_map, slice_index, refl, sym, ap, subst, ◌∙◌, inl, inr, arith, append_assoc, ◌&&◌, option_map}
+use Rattle.std.proofs.Common.{◌≡◌, ℕ, zero, suc, ◌+◌, ◌-◌, ◌%◌, ◌<◌, ◌≤◌, ◌^◌, true, false, ◌==◌, nat_le, nat_lt, List, [], ◌∷◌, ◌++◌, length, All, codes, decimal, IsAscii, IsUtf8, Some, slice_index, refl, ap, ◌∙◌, inl, inr, arith, ◌&&◌}
 use Rattle.std.proofs.lemmas.Bool.Decides.{nat_tests}
 use Rattle.std.proofs.lemmas.Bool.{and_parts}
 use Rattle.std.proofs.lemmas.Fmt.{decimal_by_steps}
 use Rattle.std.proofs.lemmas.List.Elements.{All-head, All-tail}
 use Rattle.std.proofs.lemmas.Str.{IsUtf8-from_ascii}
 use Rattle.std.specs.Char.{IsAsciiAlphabetic}
-use Rattle.std.specs.List.{AllByRecursion, list_all, onto_first, slice_split}
+use Rattle.std.specs.List.{AllByRecursion, list_all}
 use Rattle.std.specs.Str.Lines.{lines_of_parts, strip_carriage_return}
 use Rattle.xa_xid.specs.HexText.{is_lower_digit}
-use Rattle.trace_lines.specs.Trace.{line_text, lines_text}
+use Rattle.trace_lines.specs.Trace.{lines_text}
 use Rattle.link_script.specs.Rules.{pieces, is_rule, rule_or, around_rule}
 
 -- a printed character

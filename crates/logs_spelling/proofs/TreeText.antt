@@ -1,12 +1,11 @@
 -- The text of a tree is the TOML document of its processes.
-use Rattle.std.proofs.Common.{◌≡◌, ℕ, suc, ◌+◌, ◌<◌, ◌^◌, pos, true, false, ◌==◌, List, [], ◌∷◌, ◌++◌, length, codes, decimal, Option, Some, None, option_and_then, flat_map, rules, refl, sym, ap, subst, ◌∙◌, inl, inr, arith, append_assoc, append-nil}
-use Rattle.std.proofs.lemmas.Bool.Decides.{nat_tests}
+use Rattle.std.proofs.Common.{◌≡◌, ℕ, suc, ◌<◌, ◌^◌, pos, false, ◌==◌, List, [], ◌∷◌, ◌++◌, length, codes, decimal, Option, Some, None, option_and_then, flat_map, rules, refl, sym, ap, subst, ◌∙◌, inl, inr, arith, append_assoc, append-nil}
 use Rattle.std.specs.List.{AllByRecursion}
 use Rattle.toml_parser.specs.Lexical.{first}
 use Rattle.toml_writer.specs.Text.{key_text}
 use Rattle.toml.specs.Data.{Data, string, integer, array, table, Items, no_items, item, Members, no_members, member, push_item}
 use Rattle.toml.specs.Tables.{Nodes, no_nodes, node, value, open_array, close, Expression, Document, key_value, array_table, define, along_header, along_dots, at_key}
-use Rattle.toml.specs.Parse.{lines, skip_bom, parse_document}
+use Rattle.toml.specs.Parse.{skip_bom, parse_document}
 use Rattle.toml.proofs.Turns.{document_some}
 use Rattle.toml.proofs.ReadLines.{run, AllPrinted}
 use Rattle.toml.proofs.ReadValues.{item_join, item_join-none, item_join-push}
@@ -17,7 +16,7 @@ use Rattle.tree_model.specs.declared.trees.TreeEntry.{TreeEntry}
 use Rattle.link_script.specs.declared.stage.Stage.TheVariants.{Whole}
 use Rattle.link_script.specs.Documents.{kind_text, AreProcesses, IsProcess, IsTable, IsTreeText}
 use Rattle.logs_script.specs.Trees.{head_lines, info_line, parent_line, process_table, tree_text}
-use Rattle.logs_spelling.specs.Fits.{FitsEntry, FitsInfo, FitsParent, IsNumbered}
+use Rattle.logs_spelling.specs.Fits.{FitsEntry, FitsInfo, FitsParent}
 use Rattle.logs_spelling.proofs.Expressions.{AllPlain, AreLines, all_plain, lines_append, printed_append, quoted_word, read_all}
 
 -- The expressions of a process.
@@ -78,14 +77,13 @@ parent_lines (Some p) fits = number_line (codes "parent") p key_parent fits.1
 
 word_line : (k s : List ℕ) → key_text k ≡ k → AllPlain s
     → AreLines (pair k (string s) ∷ []) (k ++ codes " = \"" ++ s ++ codes "\"\n")
-word_line k s bare plain =
-    (
-      k ++ codes " = \"" ++ s ++ codes "\"\n",
-      [],
-      sym (append-nil _),
-      (codes "\"" ++ s ++ codes "\"", rw bare (simp append_assoc refl), sym (quoted_word s plain)),
-      refl,
-    )
+word_line k s bare plain = (
+  k ++ codes " = \"" ++ s ++ codes "\"\n",
+  [],
+  sym (append-nil _),
+  (codes "\"" ++ s ++ codes "\"", rw bare (simp append_assoc refl), sym (quoted_word s plain)),
+  refl,
+)
 
 info_lines : (info : Option (List ℕ)) → FitsInfo info → AreLines (info_pairs info) (info_line info)
 info_lines None fits = refl
@@ -113,7 +111,7 @@ head_are p kind small =
       refl,
       rw key_process refl,
       lines_append (pair (codes "id") (number p) ∷ []) (pair (codes "kind") (string (kind_text kind)) ∷ []) numbered named
-      (number_line (codes "id") p key_id small) (word_line (codes "kind") (kind_text kind) key_kind (kind_plain kind)),
+          (number_line (codes "id") p key_id small) (word_line (codes "kind") (kind_text kind) key_kind (kind_plain kind)),
     )
 
 process_lines : (e : TreeEntry) → FitsEntry e → AreLines (expressions_of e) (process_table e)
@@ -141,14 +139,13 @@ info_printed None = tt
 info_printed (Some info) = ((refl, omega arith, refl), tt)
 
 process_printed : (e : TreeEntry) → AllPrinted (expressions_of e)
-process_printed e =
-    (
-      omega arith,
-      (
-        (refl, omega arith, refl),
-        ((refl, omega arith, refl), printed_append (parent_pairs e.parent) (info_pairs e.info) (parent_printed e.parent) (info_printed e.info)),
-      ),
-    )
+process_printed e = (
+  omega arith,
+  (
+    (refl, omega arith, refl),
+    ((refl, omega arith, refl), printed_append (parent_pairs e.parent) (info_pairs e.info) (parent_printed e.parent) (info_printed e.info)),
+  ),
+)
 
 tree_printed : (es : List TreeEntry) → AllPrinted (expressions es)
 tree_printed [] = tt
@@ -217,8 +214,7 @@ behind done last [] =
 behind done last (e ∷ es) =
     let next = push_item done (table (close last)) in
     let last_now = nodes_of e.id e.kind e.parent e.info in
-    let (doc, ran, closed) = behind next last_now es in
-    (
+    let (doc, ran, closed) = behind next last_now es in (
       doc,
       run_append (inside done last) (inside next last_now) (expressions_of e) (expressions es) (process_next done last e.id e.kind e.parent e.info) ∙ ran,
       closed ∙ ap (λ (ds : Items). member (codes "process") (array ds) no_members) (item_join-push next (table (close last_now)) (tables_of es)),

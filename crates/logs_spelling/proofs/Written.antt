@@ -1,5 +1,5 @@
 -- What is written of a tree and its logs reads as this tree and these logs.
-use Rattle.std.proofs.Common.{◌≡◌, ℕ, ◌+◌, ◌<◌, ◌^◌, true, false, List, [], ◌∷◌, ◌++◌, length, map, All, codes, decimal, Option, Some, None, flat_map, refl, sym, ap, subst, ◌∙◌, arith, append_assoc, append-nil, IsUtf8}
+use Rattle.std.proofs.Common.{◌≡◌, ℕ, ◌+◌, ◌<◌, false, List, [], ◌∷◌, ◌++◌, length, map, All, codes, decimal, Option, Some, None, flat_map, refl, sym, ap, subst, ◌∙◌, arith, append_assoc, append-nil, IsUtf8}
 use Rattle.std.proofs.lemmas.Grind.{flat_map-append}
 use Rattle.std.specs.List.{AllByRecursion}
 use Rattle.hex.specs.Hex.{encode_lower}
@@ -13,13 +13,13 @@ use Rattle.trace_lines.specs.Trace.{line_text, lines_text}
 use Rattle.link_script.specs.Documents.{kind_text, IsTreeText}
 use Rattle.link_script.specs.declared.stage.Stage.TheVariants.{Whole}
 use Rattle.link_script.specs.Rules.{pieces, is_rule, around_rule}
-use Rattle.link_script.specs.Spellings.{process_text, FitsProcess}
+use Rattle.link_script.specs.Spellings.{process_text}
 use Rattle.logs_script.specs.declared.line.ProcessLog.{ProcessLog}
 use Rattle.logs_script.specs.Lines.{FitsLog, bytes_part, log_line, log_lines}
 use Rattle.logs_script.specs.Laws.{AreFirst}
-use Rattle.logs_script.specs.Trees.{head_lines, info_line, logs_text, parent_line, process_table, tree_text}
+use Rattle.logs_script.specs.Trees.{info_line, logs_text, parent_line, process_table, tree_text}
 use Rattle.logs_script.proofs.LogLaws.{lines_again as logs_again}
-use Rattle.logs_spelling.specs.Fits.{FitsEntry, FitsInfo, FitsLogs, FitsParent, FitsTree, IsNumbered}
+use Rattle.logs_spelling.specs.Fits.{FitsEntry, FitsInfo, FitsParent, IsNumbered}
 use Rattle.logs_spelling.specs.Laws.{WrittenIsRead}
 use Rattle.logs_spelling.proofs.Printed.{ArePrinted, ArePrintedLines, decimal_printed, digits_printed, ended, is_printed, letters_printed, lines_again, lines_append, printed_append, rule_found, text_is_utf8, text_pieces, word_printed}
 use Rattle.logs_spelling.proofs.TreeText.{tree_text_reads}
@@ -109,17 +109,16 @@ fronts_append [] b h k = k
 fronts_append (x ∷ a) b h k = (h.0, fronts_append a b h.1 k)
 
 head_front : (p : ProcessId) (kind : Kind) → IsNumbered p → AreFrontLines (head_table p kind)
-head_front p kind fits =
+head_front p kind fits = (
+  record { printed = word_printed (codes "[[process]]") refl; no_rule = refl },
+  (
+    record { printed = printed_append (codes "id = ") (decimal p.0) (word_printed (codes "id = ") refl) (number_printed p fits); no_rule = refl },
     (
-      record { printed = word_printed (codes "[[process]]") refl; no_rule = refl },
-      (
-        record { printed = printed_append (codes "id = ") (decimal p.0) (word_printed (codes "id = ") refl) (number_printed p fits); no_rule = refl },
-        (
-          record { printed = quoted_printed (codes "kind = \"") (kind_text kind) (word_printed (codes "kind = \"") refl) (kind_printed kind); no_rule = refl },
-          tt,
-        ),
-      ),
-    )
+      record { printed = quoted_printed (codes "kind = \"") (kind_text kind) (word_printed (codes "kind = \"") refl) (kind_printed kind); no_rule = refl },
+      tt,
+    ),
+  ),
+)
 
 parent_front : (parent : Option ProcessId) → FitsParent parent → AreFrontLines (parent_table parent)
 parent_front None fits = tt
@@ -173,8 +172,7 @@ written_is_read es ls tree logs =
     let printed = lines_append fronts (codes "---" ∷ behind) (all_printed fronts front) (word_printed (codes "---") refl, printed_behind) in
     let text = whole_text es ls in
     let cut : pieces (logs_text es ls) ≡ fronts ++ codes "---" ∷ ended behind =
-    ap pieces text ∙ text_pieces (all_lines es ls) printed ∙ append_assoc fronts (codes "---" ∷ behind) ([] ∷ []) in
-    (
+    ap pieces text ∙ text_pieces (all_lines es ls) printed ∙ append_assoc fronts (codes "---" ∷ behind) ([] ∷ []) in (
       length fronts + 1,
       behind,
       record {
@@ -183,11 +181,11 @@ written_is_read es ls tree logs =
         has_text = record {
           text = subst IsUtf8 (sym text) (text_is_utf8 (all_lines es ls) printed);
           rule = ap around_rule cut ∙ rule_found fronts behind (no_rules fronts front);
-          tree_text = subst (λ (t : List ℕ). IsTreeText Whole t es) (front_text es) (tree_text_reads es tree.entries_fit)
+          tree_text = subst (λ (t : List ℕ). IsTreeText Whole t es) (front_text es) (tree_text_reads es tree.entries_fit);
         };
         is_tree = tree.is_tree;
         rule_is = refl;
-        lines_are = sym (lines_again behind printed_behind)
+        lines_are = sym (lines_again behind printed_behind);
       },
       logs_again es ls (length fronts + 1) logs.are_first logs.each_has_one,
     )

@@ -1,6 +1,4 @@
 use Rattle.logs_spelling.proofs.TreeText.{tree_text_reads}
-use Rattle.logs_spelling.proofs.Printed.{lines_again}
-use Rattle.logs_spelling.proofs.Written.{written_is_read}
 use Rattle.logs_spelling.proofs.law.trees_are_read_back.Goals as goal
 
 pub returns : goal.returns
