@@ -39,7 +39,8 @@ one_parent None None (Some q) a b = absurd b
 one_parent None (Some p) q a b = absurd a
 one_parent (Some d) None q a b = absurd a
 one_parent (Some d) (Some p) None a b = absurd b
-one_parent (Some d) (Some p) (Some q) (is, _, _) (also, _, _) = ap (λ (x : ProcessId). Some x) (one_number d p q is also)
+one_parent (Some d) (Some p) (Some q) (is, _, _) (also, _, _) =
+    ap (λ (x : ProcessId). Some x) (one_number d p q is also)
 
 one_info : (o : Option Data) (v w : Option (List ℕ)) → May IsInfo o v → May IsInfo o w → v ≡ w
 one_info None None None a b = refl
@@ -47,7 +48,8 @@ one_info None None (Some w) a b = absurd b
 one_info None (Some v) w a b = absurd a
 one_info (Some d) None w a b = absurd a
 one_info (Some d) (Some v) None a b = absurd b
-one_info (Some d) (Some v) (Some w) (is, _, _) (also, _, _) = ap (λ (x : List ℕ). Some x) (one_word d v w is also)
+one_info (Some d) (Some v) (Some w) (is, _, _) (also, _, _) =
+    ap (λ (x : List ℕ). Some x) (one_word d v w is also)
 
 kinds_differ : (k l : Kind) → kind_text k ≡ kind_text l → k ≡ l
 kinds_differ Coordinator Coordinator e = refl
@@ -55,7 +57,8 @@ kinds_differ Coordinator Manager e = absurd (let no : 11 ≡ 7 = ap length e in 
 kinds_differ Manager Coordinator e = absurd (let no : 7 ≡ 11 = ap length e in cc)
 kinds_differ Manager Manager e = refl
 
-one_kind : (o : Option Data) (k l : Kind) → o ≡ Some (string (kind_text k)) → o ≡ Some (string (kind_text l)) → k ≡ l
+one_kind : (o : Option Data) (k l : Kind) → o ≡ Some (string (kind_text k)) → o ≡ Some (string (kind_text l))
+    → k ≡ l
 one_kind o k l a b =
     let same : Some (string (kind_text k)) ≡ Some (string (kind_text l)) = sym a ∙ b in
     kinds_differ k l (let word : kind_text k ≡ kind_text l = cc in word)
@@ -69,7 +72,8 @@ one_process d e f a b =
       one_info (get (codes "info") d) e.info f.info a.info b.info,
     ) refl
 
-one_list : (ds : Items) (es fs : List TreeEntry) → AreProcesses Whole ds es → AreProcesses Whole ds fs → es ≡ fs
+one_list : (ds : Items) (es fs : List TreeEntry) → AreProcesses Whole ds es → AreProcesses Whole ds fs
+    → es ≡ fs
 one_list no_items [] [] a b = refl
 one_list no_items [] (f ∷ fs) a b = absurd b
 one_list no_items (e ∷ es) fs a b = absurd a
@@ -83,7 +87,8 @@ one_table (member k d ms) es fs (ds, is, are) (ds', also, are') =
     let same : ds ≡ ds' = cc in
     one_list ds' es fs (subst (λ (x : Items). AreProcesses Whole x es) same are) are'
 
-one_tree : (text : List ℕ) (es fs : List TreeEntry) → IsTreeText Whole text es → IsTreeText Whole text fs → es ≡ fs
+one_tree : (text : List ℕ) (es fs : List TreeEntry) → IsTreeText Whole text es → IsTreeText Whole text fs
+    → es ≡ fs
 one_tree text es fs (ms, parsed, is) (ms', parsed', also) =
     let same : ms ≡ ms' = some_is ms ms' (sym parsed ∙ parsed') in
     one_table ms' es fs (subst (λ (x : Members). IsTable Whole x es) same is) also
@@ -99,20 +104,25 @@ record SameFront (es fs : List TreeEntry) (m n : ℕ) (ls ks : List (List ℕ)) 
   rules : m ≡ n
   lines : ls ≡ ks
 
-text_is_one : (bytes : List ℕ) (fronts behind fronts' behind' : List (List ℕ)) (es fs : List TreeEntry) → HasTreeText Whole bytes fronts behind es
+text_is_one : (bytes : List ℕ) (fronts behind fronts' behind' : List (List ℕ)) (es fs : List TreeEntry)
+    → HasTreeText Whole bytes fronts behind es
     → HasTreeText Whole bytes fronts' behind' fs → (fronts ≡ fronts') × (behind ≡ behind') × (es ≡ fs)
 text_is_one bytes fronts behind fronts' behind' es fs a b =
-    let same : (fronts, behind) ≡ (fronts', behind') = some_is (fronts, behind) (fronts', behind') (sym a.rule ∙ b.rule) in
+    let same : (fronts, behind) ≡ (fronts', behind') =
+    some_is (fronts, behind) (fronts', behind') (sym a.rule ∙ b.rule) in
     let first : fronts ≡ fronts' = ap (λ (p : cut). p.0) same in (
       first,
       ap (λ (p : cut). p.1) same,
-      one_tree (lines_text fronts') es fs (subst (λ (x : List (List ℕ)). IsTreeText Whole (lines_text x) es) first a.tree_text) b.tree_text,
+      one_tree (lines_text fronts') es fs (subst
+          (λ (x : List (List ℕ)). IsTreeText Whole (lines_text x) es) first a.tree_text) b.tree_text,
     )
 
-front_is_one : (input : List ℕ) (es fs : List TreeEntry) (m n : ℕ) (ls ks : List (List ℕ)) → IsFront Whole input es m ls → IsFront Whole input fs n ks
+front_is_one : (input : List ℕ) (es fs : List TreeEntry) (m n : ℕ) (ls ks : List (List ℕ))
+    → IsFront Whole input es m ls → IsFront Whole input fs n ks
     → SameFront es fs m n ls ks
 front_is_one input es fs m n ls ks a b =
-    let (fronts, behind, tree) = text_is_one input a.fronts a.behind b.fronts b.behind es fs a.has_text b.has_text in
+    let (fronts, behind, tree) = text_is_one input a.fronts a.behind b.fronts b.behind es fs a.has_text
+    b.has_text in
     record {
       trees = tree;
       rules = a.rule_is ∙ ap (λ (x : List (List ℕ)). length x + 1) fronts ∙ sym b.rule_is;
@@ -120,7 +130,8 @@ front_is_one input es fs m n ls ks a b =
     }
 
 -- what is read behind two fronts of one input
-read_alike : (es fs : List TreeEntry) (m n : ℕ) (ls ks : List (List ℕ)) → SameFront es fs m n ls ks → logs_of es m ls ≡ logs_of fs n ks
+read_alike : (es fs : List TreeEntry) (m n : ℕ) (ls ks : List (List ℕ)) → SameFront es fs m n ls ks
+    → logs_of es m ls ≡ logs_of fs n ks
 read_alike es fs m n ls ks same = rw (same.trees, same.rules, same.lines) refl
 
 pub read_in_one_way : ReadInOneWay
@@ -141,12 +152,16 @@ no_tree_fault es TooDeep h = h.not_too_deep
 
 pub read_has_no_fault : ReadHasNoFault
 read_has_no_fault input es ls Utf8 (m, lines, front, read) fault = fault.1 front.has_text.text
-read_has_no_fault input es ls TreeText (m, lines, front, read) (_, (text, none)) = none front.fronts front.behind es front.has_text
-read_has_no_fault input es ls (Tree cause) (m, lines, front, read) (_, (fronts, behind, fs, has_text, first)) =
-    let (_, _, same) = text_is_one input front.fronts front.behind fronts behind es fs front.has_text has_text in
+read_has_no_fault input es ls TreeText (m, lines, front, read) (_, (text, none)) =
+    none front.fronts front.behind es front.has_text
+read_has_no_fault input es ls (Tree cause) (m, lines, front, read)
+    (_, (fronts, behind, fs, has_text, first)) =
+    let (_, _, same) = text_is_one input front.fronts front.behind fronts behind es fs front.has_text has_text
+    in
     absurd (
     let no : has_fault es cause ≡ false = no_tree_fault es cause front.is_tree in
-    let yes : has_fault es cause ≡ true = subst (λ (x : List TreeEntry). has_fault x cause ≡ true) (sym same) first.is_there in
+    let yes : has_fault es cause ≡ true = subst (λ (x : List TreeEntry). has_fault x cause ≡ true)
+    (sym same) first.is_there in
     let both : false ≡ true = sym no ∙ yes in
     cc)
 read_has_no_fault input es ls TooLong (m, lines, front, read) fault = fault.0

@@ -22,7 +22,11 @@ abbrev pub ArePrinted : List ℕ → Type 0
 ArePrinted s = AllByRecursion IsPrinted s
 
 pub is_printed : (c : ℕ) → 32 ≤ c → c < 128 → IsPrinted c
-is_printed c low high = record { no_feed = grind (arith, nat_tests); no_return = grind (arith, nat_tests); ascii = high }
+is_printed c low high = record {
+  no_feed = grind (arith, nat_tests);
+  no_return = grind (arith, nat_tests);
+  ascii = high;
+}
 
 pub printed_append : (a b : List ℕ) → ArePrinted a → ArePrinted b → ArePrinted (a ++ b)
 printed_append [] b h k = k
@@ -31,7 +35,8 @@ printed_append (c ∷ cs) b h k = (h.0, printed_append cs b h.1 k)
 pub decimal_printed : (n : ℕ) → n < 2 ^ 64 → ArePrinted (decimal n)
 decimal_printed n h =
     decimal_by_steps (λ k ds. ArePrinted ds) (λ k lt. (is_printed (48 + k) (omega arith) (omega arith), tt))
-    (λ k ds big before. printed_append ds ((48 + k % 10) ∷ []) before (is_printed (48 + k % 10) (omega arith) (omega arith), tt)) n h
+    (λ k ds big before. printed_append ds ((48 + k % 10) ∷ []) before
+    (is_printed (48 + k % 10) (omega arith) (omega arith), tt)) n h
 
 letter : (c : ℕ) → IsAsciiAlphabetic c → IsPrinted c
 letter c (inl h) = is_printed c (omega arith) (omega arith)
@@ -39,7 +44,10 @@ letter c (inr h) = is_printed c (omega arith) (omega arith)
 
 pub letters_printed : (s : List ℕ) → All IsAsciiAlphabetic s → ArePrinted s
 letters_printed [] h = tt
-letters_printed (c ∷ cs) h = (letter c (All-head IsAsciiAlphabetic c cs h), letters_printed cs (All-tail IsAsciiAlphabetic c cs h))
+letters_printed (c ∷ cs) h = (
+  letter c (All-head IsAsciiAlphabetic c cs h),
+  letters_printed cs (All-tail IsAsciiAlphabetic c cs h),
+)
 
 pub digits_printed : (s : List ℕ) → list_all is_lower_digit s ≡ true → ArePrinted s
 digits_printed [] h = tt
@@ -51,7 +59,8 @@ digits_printed (c ∷ cs) h =
 pub word_printed : (s : List ℕ) → list_all (λ c. nat_le 32 c && nat_lt c 128) s ≡ true → ArePrinted s
 word_printed [] h = tt
 word_printed (c ∷ cs) h =
-    let (here, more) = and_parts (nat_le 32 c && nat_lt c 128) (list_all (λ d. nat_le 32 d && nat_lt d 128) cs) h in
+    let (here, more) = and_parts (nat_le 32 c && nat_lt c 128)
+    (list_all (λ d. nat_le 32 d && nat_lt d 128) cs) h in
     (is_printed c (grind (arith, nat_tests)) (grind (arith, nat_tests)), word_printed cs more)
 
 -- Lines.
@@ -97,7 +106,8 @@ text_pieces [] h = refl
 text_pieces (line ∷ lines) h =
     piece line (lines_text lines) h.0 ∙ ap (λ (ps : List (List ℕ)). line ∷ ps) (text_pieces lines h.1)
 
-around_more : (front : List ℕ) (more : List (List ℕ)) → 0 < length more → around_rule (front ∷ more) ≡ rule_or front more (around_rule more)
+around_more : (front : List ℕ) (more : List (List ℕ)) → 0 < length more
+    → around_rule (front ∷ more) ≡ rule_or front more (around_rule more)
 unfolding around_rule
 around_more front [] some = absurd (omega arith)
 around_more front (next ∷ more) some = refl
@@ -125,7 +135,8 @@ no_return (c ∷ line) (suc i) h = no_return line i h.1
 unstripped : (line : List ℕ) → ArePrinted line → strip_carriage_return line ≡ line
 unstripped line h = rw (no_return line (length line - 1) h)
 
-one_part : (x : List ℕ) (parts : List (List ℕ)) → 0 < length parts → lines_of_parts (x ∷ parts) ≡ strip_carriage_return x ∷ lines_of_parts parts
+one_part : (x : List ℕ) (parts : List (List ℕ)) → 0 < length parts
+    → lines_of_parts (x ∷ parts) ≡ strip_carriage_return x ∷ lines_of_parts parts
 one_part x [] some = absurd (omega arith)
 one_part x (y ∷ more) some = refl
 
@@ -133,4 +144,5 @@ one_part x (y ∷ more) some = refl
 pub lines_again : (lines : List (List ℕ)) → ArePrintedLines lines → lines_of_parts (ended lines) ≡ lines
 lines_again [] h = refl
 lines_again (line ∷ lines) h =
-    one_part line (ended lines) (some_behind lines [] []) ∙ rw (unstripped line h.0, lines_again lines h.1) refl
+    one_part line (ended lines) (some_behind lines [] [])
+    ∙ rw (unstripped line h.0, lines_again lines h.1) refl

@@ -54,9 +54,15 @@ table_fits (member k d ms) es (ds, is, are) = processes_fit ds es are
 
 -- The logs that are read are each the first of a process.
 
-first_more : (es : List TreeEntry) (seen ls : List ProcessLog) (l : ProcessLog) → AreFirst es seen ls → FitsLog l
+first_more : (es : List TreeEntry) (seen ls : List ProcessLog) (l : ProcessLog) → AreFirst es seen ls
+    → FitsLog l
     → may_follow es (seen ++ ls) l ≡ true → AreFirst es seen (ls ++ l ∷ [])
-first_more es seen [] l h fits may = (fits, subst (λ (x : List ProcessLog). may_follow es x l ≡ true) (append_nil seen) may, tt)
+first_more es seen [] l h fits may = (
+  fits,
+  subst (λ (x : List ProcessLog). may_follow es x l ≡ true)
+      (append_nil seen) may,
+  tt,
+)
   where
     append_nil : (x : List ProcessLog) → x ++ [] ≡ x
     append_nil [] = refl
@@ -74,15 +80,18 @@ FirstOf es read ls = read ≡ Ok ls → AreFirst es [] ls
 
 line_first : (es : List TreeEntry) (seen ls : List ProcessLog) (n : ℕ) (line : List ℕ) (o : Option ProcessLog)
     (more : List ProcessLog → Result (List ProcessLog) ℕ) → log_at line ≡ o → AreFirst es [] seen
-    → ((now : List ProcessLog) → AreFirst es [] now → FirstOf es (more now) ls) → FirstOf es (line_then es seen n o more) ls
+    → ((now : List ProcessLog) → AreFirst es [] now → FirstOf es (more now) ls)
+    → FirstOf es (line_then es seen n o more) ls
 line_first es seen ls n line None more is h next e = absurd cc
 line_first es seen ls n line (Some l) more is h next e = by_test (may_follow es seen l) refl e
   where
-    by_test : (b : Bool) → may_follow es seen l ≡ b → cond b (more (seen ++ l ∷ [])) (Err n) ≡ Ok ls → AreFirst es [] ls
+    by_test : (b : Bool) → may_follow es seen l ≡ b → cond b (more (seen ++ l ∷ [])) (Err n) ≡ Ok ls
+        → AreFirst es [] ls
     by_test true may f = next (seen ++ l ∷ []) (first_more es [] seen l h (line_takes line l is).1 may) f
     by_test false may f = absurd cc
 
-behind_first : (es : List TreeEntry) (seen ls : List ProcessLog) (n : ℕ) (lines : List (List ℕ)) → AreFirst es [] seen
+behind_first : (es : List TreeEntry) (seen ls : List ProcessLog) (n : ℕ) (lines : List (List ℕ))
+    → AreFirst es [] seen
     → FirstOf es (logs_behind es seen n lines) ls
 behind_first es seen ls n [] h e =
     let is : Ok seen ≡ Ok ls = sym (at_end es seen n) ∙ e in
@@ -90,25 +99,31 @@ behind_first es seen ls n [] h e =
     subst (AreFirst es []) same h
 behind_first es seen ls n (line ∷ lines) h e =
     elim (cases_Bool (is_skipped line)) [
-      | inl skipped ↦ behind_first es seen ls (n + 1) lines h (sym (at_skipped es seen n line lines skipped) ∙ e)
+      | inl skipped ↦ behind_first es seen ls (n + 1) lines h
+          (sym (at_skipped es seen n line lines skipped) ∙ e)
       | inr kept ↦
           line_first es seen ls n line (log_at line) (λ now. logs_behind es now (n + 1) lines) refl h
-          (λ now first. behind_first es now ls (n + 1) lines first) (sym (at_line es seen n line lines kept) ∙ e)
+          (λ now first. behind_first es now ls (n + 1) lines first)
+          (sym (at_line es seen n line lines kept) ∙ e)
     ]
 
 abbrev got : List ProcessLog → Result (List ProcessLog) ℕ
 got ls = Ok ls
 
-whole : (es : List TreeEntry) (last : ℕ) (read : Result (List ProcessLog) ℕ) (ls : List ProcessLog) → complete es last read ≡ Ok ls
+whole : (es : List TreeEntry) (last : ℕ) (read : Result (List ProcessLog) ℕ) (ls : List ProcessLog)
+    → complete es last read ≡ Ok ls
     → (read ≡ Ok ls) × (each_has_log es ls ≡ true)
 whole es last (Err n) ls e = absurd cc
 whole es last (Ok found) ls e = by_test (each_has_log es found) refl e
   where
-    by_test : (b : Bool) → each_has_log es found ≡ b → cond b (got found) (Err last) ≡ got ls → (got found ≡ got ls) × (each_has_log es ls ≡ true)
-    by_test true each f = let same : found ≡ ls = cc in (f, subst (λ (x : List ProcessLog). each_has_log es x ≡ true) same each)
+    by_test : (b : Bool) → each_has_log es found ≡ b → cond b (got found) (Err last) ≡ got ls
+        → (got found ≡ got ls) × (each_has_log es ls ≡ true)
+    by_test true each f = let same : found ≡ ls = cc in
+        (f, subst (λ (x : List ProcessLog). each_has_log es x ≡ true) same each)
     by_test false each f = absurd cc
 
-logs_fit : (es : List TreeEntry) (rule : ℕ) (lines : List (List ℕ)) (ls : List ProcessLog) → logs_of es rule lines ≡ Ok ls → FitsLogs es ls
+logs_fit : (es : List TreeEntry) (rule : ℕ) (lines : List (List ℕ)) (ls : List ProcessLog)
+    → logs_of es rule lines ≡ Ok ls → FitsLogs es ls
 unfolding logs_of
 logs_fit es rule lines ls e =
     let (read, each) = whole es (rule + length lines) (logs_behind es [] (rule + 1) lines) ls e in

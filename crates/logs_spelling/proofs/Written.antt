@@ -27,7 +27,8 @@ use Rattle.logs_spelling.proofs.TreeText.{tree_text_reads}
 -- The lines of a process.
 
 abbrev head_table : ProcessId → Kind → List (List ℕ)
-head_table p kind = codes "[[process]]" ∷ (codes "id = " ++ decimal p.0) ∷ (codes "kind = \"" ++ kind_text kind ++ codes "\"") ∷ []
+head_table p kind = codes "[[process]]" ∷ (codes "id = " ++ decimal p.0)
+    ∷ (codes "kind = \"" ++ kind_text kind ++ codes "\"") ∷ []
 
 abbrev parent_table : Option ProcessId → List (List ℕ)
 parent_table None = []
@@ -44,12 +45,15 @@ abbrev front_lines : List TreeEntry → List (List ℕ)
 front_lines es = flat_map table_lines es
 
 head_form : (f n i d b k c : List ℕ)
-    → (f ++ (n ++ i)) ++ d ++ (n ++ b) ++ k ++ (c ++ n) ≡ (f ++ n) ++ (((i ++ d) ++ n) ++ (((b ++ k ++ c) ++ n) ++ []))
+    → (f ++ (n ++ i)) ++ d ++ (n ++ b) ++ k ++ (c ++ n) ≡ (f ++ n)
+    ++ (((i ++ d) ++ n) ++ (((b ++ k ++ c) ++ n) ++ []))
 head_form f n i d b k c = simp (append_assoc, append-nil)
 
 head_text : (p : ProcessId) (kind : Kind)
-    → codes "[[process]]\nid = " ++ decimal p.0 ++ codes "\nkind = \"" ++ kind_text kind ++ codes "\"\n" ≡ lines_text (head_table p kind)
-head_text p kind = head_form (codes "[[process]]") (10 ∷ []) (codes "id = ") (decimal p.0) (codes "kind = \"") (kind_text kind) (codes "\"")
+    → codes "[[process]]\nid = " ++ decimal p.0 ++ codes "\nkind = \"" ++ kind_text kind ++ codes "\"\n"
+    ≡ lines_text (head_table p kind)
+head_text p kind = head_form (codes "[[process]]") (10 ∷ []) (codes "id = ") (decimal p.0) (codes "kind = \"")
+    (kind_text kind) (codes "\"")
 
 parent_text : (parent : Option ProcessId) → parent_line parent ≡ lines_text (parent_table parent)
 parent_text None = refl
@@ -64,12 +68,14 @@ unfolding process_table
 table_text e =
     ap (λ (t : List ℕ). t ++ parent_line e.parent ++ info_line e.info) (head_text e.id e.kind)
     ∙ rw (parent_text e.parent, info_text e.info) (append_assoc (lines_text (head_table e.id e.kind)) _ _)
-    ∙ ap (λ (t : List ℕ). lines_text (head_table e.id e.kind) ++ t) (sym (flat_map-append line_text (parent_table e.parent) (info_table e.info)))
+    ∙ ap (λ (t : List ℕ). lines_text (head_table e.id e.kind) ++ t)
+    (sym (flat_map-append line_text (parent_table e.parent) (info_table e.info)))
     ∙ sym (flat_map-append line_text (head_table e.id e.kind) (parent_table e.parent ++ info_table e.info))
 
 front_text : (es : List TreeEntry) → tree_text es ≡ lines_text (front_lines es)
 front_text [] = refl
-front_text (e ∷ es) = rw (table_text e, front_text es) (sym (flat_map-append line_text (table_lines e) (front_lines es)))
+front_text (e ∷ es) = rw (table_text e, front_text es)
+    (sym (flat_map-append line_text (table_lines e) (front_lines es)))
 
 behind_text : (ls : List ProcessLog) → log_lines ls ≡ lines_text (map log_line ls)
 behind_text [] = refl
@@ -80,7 +86,8 @@ all_lines es ls = front_lines es ++ codes "---" ∷ map log_line ls
 
 whole_text : (es : List TreeEntry) (ls : List ProcessLog) → logs_text es ls ≡ lines_text (all_lines es ls)
 whole_text es ls =
-    rw (front_text es, behind_text ls) (append_assoc (lines_text (front_lines es)) (codes "---\n") (lines_text (map log_line ls)))
+    rw (front_text es, behind_text ls) (append_assoc (lines_text (front_lines es)) (codes "---\n")
+    (lines_text (map log_line ls)))
     ∙ sym (flat_map-append line_text (front_lines es) (codes "---" ∷ map log_line ls))
 
 -- They are printed, and none before the line of three dashes is one.
@@ -92,9 +99,11 @@ kind_printed : (kind : Kind) → ArePrinted (kind_text kind)
 kind_printed Coordinator = word_printed (codes "coordinator") refl
 kind_printed Manager = word_printed (codes "manager") refl
 
-quoted_printed : (front word : List ℕ) → ArePrinted front → ArePrinted word → ArePrinted (front ++ word ++ codes "\"")
+quoted_printed : (front word : List ℕ) → ArePrinted front → ArePrinted word
+    → ArePrinted (front ++ word ++ codes "\"")
 quoted_printed front word a b =
-    printed_append (front ++ word) (codes "\"") (printed_append front word a b) (word_printed (codes "\"") refl)
+    printed_append (front ++ word) (codes "\"") (printed_append front word a b)
+    (word_printed (codes "\"") refl)
 
 -- a line before the line of three dashes
 record IsFrontLine (line : List ℕ) : Type 0 where
@@ -112,9 +121,17 @@ head_front : (p : ProcessId) (kind : Kind) → IsNumbered p → AreFrontLines (h
 head_front p kind fits = (
   record { printed = word_printed (codes "[[process]]") refl; no_rule = refl },
   (
-    record { printed = printed_append (codes "id = ") (decimal p.0) (word_printed (codes "id = ") refl) (number_printed p fits); no_rule = refl },
+    record {
+      printed = printed_append (codes "id = ") (decimal p.0) (word_printed (codes "id = ") refl)
+          (number_printed p fits);
+      no_rule = refl;
+    },
     (
-      record { printed = quoted_printed (codes "kind = \"") (kind_text kind) (word_printed (codes "kind = \"") refl) (kind_printed kind); no_rule = refl },
+      record {
+        printed = quoted_printed (codes "kind = \"") (kind_text kind)
+            (word_printed (codes "kind = \"") refl) (kind_printed kind);
+        no_rule = refl;
+      },
       tt,
     ),
   ),
@@ -122,21 +139,35 @@ head_front p kind fits = (
 
 parent_front : (parent : Option ProcessId) → FitsParent parent → AreFrontLines (parent_table parent)
 parent_front None fits = tt
-parent_front (Some p) fits =
-    (record { printed = printed_append (codes "parent = ") (decimal p.0) (word_printed (codes "parent = ") refl) (number_printed p fits); no_rule = refl }, tt)
+parent_front (Some p) fits = (
+  record {
+    printed = printed_append (codes "parent = ") (decimal p.0)
+        (word_printed (codes "parent = ") refl) (number_printed p fits);
+    no_rule = refl;
+  },
+  tt,
+)
 
 info_front : (info : Option (List ℕ)) → FitsInfo info → AreFrontLines (info_table info)
 info_front None fits = tt
-info_front (Some info) fits =
-    (record { printed = quoted_printed (codes "info = \"") info (word_printed (codes "info = \"") refl) (letters_printed info fits.1); no_rule = refl }, tt)
+info_front (Some info) fits = (
+  record {
+    printed = quoted_printed (codes "info = \"") info (word_printed (codes "info = \"") refl)
+        (letters_printed info fits.1);
+    no_rule = refl;
+  },
+  tt,
+)
 
 fronts_fit : (es : List TreeEntry) → AllByRecursion FitsEntry es → AreFrontLines (front_lines es)
 fronts_fit [] fits = tt
 fronts_fit (e ∷ es) fits =
     let this = fits.0 in
     fronts_append (table_lines e) (front_lines es)
-    (fronts_append (head_table e.id e.kind) (parent_table e.parent ++ info_table e.info) (head_front e.id e.kind this.id_fits)
-    (fronts_append (parent_table e.parent) (info_table e.info) (parent_front e.parent this.parent_fits) (info_front e.info this.info_fits)))
+    (fronts_append (head_table e.id e.kind) (parent_table e.parent ++ info_table e.info)
+    (head_front e.id e.kind this.id_fits)
+    (fronts_append (parent_table e.parent) (info_table e.info) (parent_front e.parent this.parent_fits)
+    (info_front e.info this.info_fits)))
     (fronts_fit es fits.1)
 
 all_printed : (lines : List (List ℕ)) → AreFrontLines lines → ArePrintedLines lines
@@ -150,18 +181,23 @@ no_rules (line ∷ lines) h = (h.0.no_rule, no_rules lines h.1)
 bytes_printed : (bytes : List ℕ) → All (λ b. b < 256) bytes → ArePrinted (bytes_part bytes)
 bytes_printed [] fit = tt
 bytes_printed (b ∷ bs) fit =
-    let spelled : Spells (encode_lower (b ∷ bs)) (b ∷ bs) = record { fits = fit; spelled = refl } in
-    (is_printed 32 (omega arith) (omega arith), digits_printed (encode_lower (b ∷ bs)) (spelled_lower (encode_lower (b ∷ bs)) (b ∷ bs, spelled)))
+    let spelled : Spells (encode_lower (b ∷ bs)) (b ∷ bs) = record { fits = fit; spelled = refl } in (
+      is_printed 32 (omega arith) (omega arith),
+      digits_printed (encode_lower (b ∷ bs)) (spelled_lower (encode_lower (b ∷ bs)) (b ∷ bs, spelled)),
+    )
 
 log_printed : (l : ProcessLog) → FitsLog l → ArePrinted (log_line l)
 log_printed l fits =
     printed_append (codes "log " ++ process_text l.process) (bytes_part l.bytes)
-    (printed_append (codes "log ") (process_text l.process) (word_printed (codes "log ") refl) (decimal_printed l.process.0 (omega (arith, fits.process_fits))))
+    (printed_append (codes "log ") (process_text l.process) (word_printed (codes "log ") refl)
+    (decimal_printed l.process.0 (omega (arith, fits.process_fits))))
     (bytes_printed l.bytes fits.bytes_fit)
 
-logs_printed : (es : List TreeEntry) (seen ls : List ProcessLog) → AreFirst es seen ls → ArePrintedLines (map log_line ls)
+logs_printed : (es : List TreeEntry) (seen ls : List ProcessLog) → AreFirst es seen ls
+    → ArePrintedLines (map log_line ls)
 logs_printed es seen [] h = tt
-logs_printed es seen (l ∷ ls) (fits, may, more) = (log_printed l fits, logs_printed es (seen ++ l ∷ []) ls more)
+logs_printed es seen (l ∷ ls) (fits, may, more) =
+    (log_printed l fits, logs_printed es (seen ++ l ∷ []) ls more)
 
 pub written_is_read : WrittenIsRead
 written_is_read es ls tree logs =
@@ -169,10 +205,12 @@ written_is_read es ls tree logs =
     let behind = map log_line ls in
     let front = fronts_fit es tree.entries_fit in
     let printed_behind = logs_printed es [] ls logs.are_first in
-    let printed = lines_append fronts (codes "---" ∷ behind) (all_printed fronts front) (word_printed (codes "---") refl, printed_behind) in
+    let printed = lines_append fronts (codes "---" ∷ behind) (all_printed fronts front)
+    (word_printed (codes "---") refl, printed_behind) in
     let text = whole_text es ls in
     let cut : pieces (logs_text es ls) ≡ fronts ++ codes "---" ∷ ended behind =
-    ap pieces text ∙ text_pieces (all_lines es ls) printed ∙ append_assoc fronts (codes "---" ∷ behind) ([] ∷ []) in (
+    ap pieces text ∙ text_pieces (all_lines es ls) printed
+    ∙ append_assoc fronts (codes "---" ∷ behind) ([] ∷ []) in (
       length fronts + 1,
       behind,
       record {
@@ -181,7 +219,8 @@ written_is_read es ls tree logs =
         has_text = record {
           text = subst IsUtf8 (sym text) (text_is_utf8 (all_lines es ls) printed);
           rule = ap around_rule cut ∙ rule_found fronts behind (no_rules fronts front);
-          tree_text = subst (λ (t : List ℕ). IsTreeText Whole t es) (front_text es) (tree_text_reads es tree.entries_fit);
+          tree_text = subst (λ (t : List ℕ). IsTreeText Whole t es) (front_text es)
+              (tree_text_reads es tree.entries_fit);
         };
         is_tree = tree.is_tree;
         rule_is = refl;

@@ -12,7 +12,8 @@ use Rattle.logs_spelling.specs.Fits.{FitsEntry, FitsLogs, FitsTree}
 
 -- what is written of a tree and its logs reads as this tree and these logs
 abbrev pub WrittenIsRead : Type 0
-WrittenIsRead = (es : List TreeEntry) (ls : List ProcessLog) → FitsTree es → FitsLogs es ls → IsLogsText (logs_text es ls) es ls
+WrittenIsRead = (es : List TreeEntry) (ls : List ProcessLog) → FitsTree es → FitsLogs es ls
+    → IsLogsText (logs_text es ls) es ls
 
 -- a tree and its logs that were read can be written
 abbrev pub ReadCanBeWritten : Type 0
@@ -26,7 +27,8 @@ ReadInOneWay = (input : List ℕ) (es fs : List TreeEntry) (ls ms : List Process
 
 -- an input that reads as a tree and its logs has no fault
 abbrev pub ReadHasNoFault : Type 0
-ReadHasNoFault = (input : List ℕ) (es : List TreeEntry) (ls : List ProcessLog) (fault : ScriptFault) → IsLogsText input es ls
+ReadHasNoFault = (input : List ℕ) (es : List TreeEntry) (ls : List ProcessLog) (fault : ScriptFault)
+    → IsLogsText input es ls
     → IsLogsFault input fault → ⊥
 
 -- the text that is written of processes reads as these processes
