@@ -85,6 +85,14 @@ impl Locks {
         }
     }
 
+    /// The first branch in the way of a branch's lock, if there is one: where there is none, a lock is refused for
+    /// memory alone.
+    pub fn blocker(&self, xid: &Xid, key: &[u8], mode: Mode) -> Option<Xid>
+        ensures { result ≡ blocked_by (holders_of self.now key.now) xid.now mode }
+    {
+        blocked_by(self.holders(key), xid, mode)
+    }
+
     /// A shared lock for a branch, which keeps what it holds. Held: another branch holds the key exclusively.
     /// Either refusal changes nothing.
     pub fn shared(&mut self, xid: &Xid, key: &[u8]) -> Result<(), LockError>
@@ -107,7 +115,7 @@ impl Locks {
         ensures ok { OnOk result (Gives self.old self.new xid.now key.now mode) }
         ensures err { IfErr result (Refuses self.old self.new xid.now key.now mode) }
     {
-        if let Some(other) = blocked_by(self.holders(key), xid, mode) {
+        if let Some(other) = self.blocker(xid, key, mode) {
             return Err(LockError::Held(other));
         }
         match self.give(xid, key, mode) {

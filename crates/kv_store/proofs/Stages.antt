@@ -5,7 +5,7 @@ use Rattle.std.proofs.lemmas.List.Folds.{list_any-append}
 use Rattle.tree_model.specs.declared.records.Write.{Write}
 use Rattle.key_tables.specs.Tables.{Becomes, SameLists, list_at, same_key}
 use Rattle.kv_store.specs.declared.version.Version.{Version}
-use Rattle.kv_store.specs.Versions.{Adds, AddsFront, Applies, Holds, IsKept, Publishes, SameData, Stages, TakesBack, VersionTable, made, names_key, none_above, rises_from, up_to, value_at, value_by, written}
+use Rattle.kv_store.specs.Versions.{Adds, AddsFront, Applies, Holds, IsKept, Publishes, SameData, Sets, Stages, TakesBack, VersionTable, made, names_key, none_above, rises_from, up_to, value_at, value_by, written}
 use Rattle.kv_store.proofs.Values.{made_go, made_none, none_above_later, none_above_made, rises_made, value_behind, value_front, value_later, value_made}
 
 abbrev pub Table : Type 0
@@ -221,4 +221,32 @@ holds_filled n t u ws nothing adds = record {
   count = refl;
   is_staged = refl;
   values = λ k. ap (value_by n None) (adds k ∙ ap (λ vs. vs ++ made n ws k) (nothing k)) ∙ value_made n None ws k;
+}
+
+-- a key is set behind the last commit
+pub adds_one : (t u : Table) (n : ℕ) (w : Write)
+    → Becomes t u w.key (list_at t w.key ++ record { count = n; value = w.value } ∷ []) → Adds t u n (w ∷ [])
+adds_one t u n w one =
+    adding_ends t u n (w ∷ []) (adding_goes_on t t u n (w ∷ []) w [] (adding_begins t n (w ∷ [])) one)
+
+pub kept_set : (base n : ℕ) (t u : Table) (ws : List Write) → IsKept base n false t → Adds t u n ws → IsKept base n false u
+kept_set base n t u ws kept adds = record {
+  starts = kept.starts;
+  rises = λ k. ap (rises_from 0) (adds k) ∙ rises_made n 0 (list_at t k) ws k (kept.rises k) (kept.settled refl k) (omega arith);
+  settled = λ unstaged k. all k;
+  next = λ k. none_above_later n (list_at u k) (all k);
+}
+  where
+    all : (k : List ℕ) → none_above n (list_at u k) ≡ true
+    all k = ap (none_above n) (adds k) ∙ none_above_made n (list_at t k) ws k (kept.settled refl k)
+
+pub sets : (s s' : VersionTable) (w : Write) → IsKept s.base s.count false s.versions
+    → s'.base ≡ s.base → s'.count ≡ s.count → s'.is_staged ≡ false → Adds s.versions s'.versions s.count (w ∷ []) → Sets s s' w
+sets s s' w kept base count unstaged adds = record {
+  base = base;
+  count = count;
+  is_staged = unstaged;
+  before = λ m k below. ap (value_by m None) (adds k) ∙ value_front s.count None (list_at s.versions k) (w ∷ []) k m below;
+  now = λ k. ap (value_by s.count None) (adds k) ∙ value_behind s.count None (list_at s.versions k) (made s.count (w ∷ []) k) (kept.settled refl k)
+      ∙ value_made s.count (value_by s.count None (list_at s.versions k)) (w ∷ []) k;
 }

@@ -1,5 +1,5 @@
 -- The data of a key store, with what each key was behind each commit since the base.
-use Rattle.std.specs.Prelude.{◌≡◌, ◌≤◌, ◌+◌, ℕ, Bool, true, false, ◌&&◌, if◌then◌else◌, nat_le, nat_lt, Option, Some, None, List, [], ◌∷◌, ◌++◌, length, filter}
+use Rattle.std.specs.Prelude.{◌≡◌, ◌≤◌, ◌<◌, ◌+◌, ℕ, Bool, true, false, ◌&&◌, if◌then◌else◌, nat_le, nat_lt, Option, Some, None, List, [], ◌∷◌, ◌++◌, length, filter}
 use Rattle.std.specs.List.{list_any, list_all}
 use Rattle.std.specs.List.Sorted.{IsPartitionPoint}
 use Rattle.key_tables.specs.Tables.{Becomes, list_at, same_key}
@@ -62,6 +62,14 @@ pub record Applies (old new : VersionTable) (ws : List Write) : Type 0 where
   pub is_staged : new.is_staged ≡ false
   pub before : (n : ℕ) (k : List ℕ) → n ≤ old.count → value_at new n k ≡ value_at old n k
   pub next : (k : List ℕ) → value_at new new.count k ≡ written ws k (value_at old old.count k)
+
+-- a key is set behind the last commit: what it was behind each commit before stays
+pub record Sets (old new : VersionTable) (w : Write) : Type 0 where
+  pub base : new.base ≡ old.base
+  pub count : new.count ≡ old.count
+  pub is_staged : new.is_staged ≡ false
+  pub before : (n : ℕ) (k : List ℕ) → n < old.count → value_at new n k ≡ value_at old n k
+  pub now : (k : List ℕ) → value_at new old.count k ≡ written (w ∷ []) k (value_at old old.count k)
 
 -- a pair of a key and its value, as a write
 abbrev pub pair_write : List ℕ × List ℕ → Write

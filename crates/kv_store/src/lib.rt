@@ -4,6 +4,7 @@
 //! stage      the writes of the next commit, unseen; it takes all memory
 //! publish    they are data now; it takes none
 //! apply      both
+//! set        a key of the base, as a log has it behind a trim; no commit is counted
 //! read       what a key is
 //! read_at    what it was behind so many commits, found by halving
 //! ```

@@ -12,6 +12,7 @@ ghost use Rattle.kv_store.specs.Versions.{
   Publishes,
   ReadsAt,
   SameData,
+  Sets,
   Stages,
   TakesBack,
   pair_write,
@@ -165,6 +166,16 @@ impl Versions {
     {
         self.count += 1;
         self.is_staged = false;
+    }
+
+    /// Sets a key of the base, as a log has it behind a trim: no commit is counted. Memory: nothing changed.
+    pub fn set(&mut self, write: &Write) -> Result<(), AllocError>
+        requires unstaged { self.old.is_staged ≡ false }
+        ensures ok { OnOk result (Sets self.old self.new write.now) }
+        ensures err { OnErr result (SameData self.old self.new) }
+    {
+        push_write(self.alloc, &mut self.keys, self.count, write)?;
+        Ok(())
     }
 
     /// Makes a commit of these writes. Memory: nothing changed.

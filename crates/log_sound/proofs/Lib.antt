@@ -5,3 +5,4 @@ pub mod Sizes
 pub mod Cuts
 pub mod CutNames
 pub mod CutRecords
+pub mod OwnNames

@@ -1,7 +1,7 @@
 -- Which records can stand in a log of each sort of process.
 use Rattle.std.specs.Prelude.{◌≡◌, ◌<◌, ◌≤◌, ◌^◌, ⊤, ℕ, List, Option, Some, None, length}
 use Rattle.std.specs.List.{AllByRecursion}
-use Rattle.xa_xid.specs.Xids.{IsXid}
+use Rattle.xa_xid.specs.Xids.{IsXid, XidParts}
 use Rattle.tree_model.specs.declared.names.Kind.{Kind}
 use Rattle.tree_model.specs.declared.names.Kind.TheVariants.{Coordinator, Manager}
 use Rattle.tree_model.specs.declared.names.ProcessId.{ProcessId}
@@ -92,6 +92,14 @@ IsSound k l = IsSoundEntry k l.parent l.entry
 -- the XID that a log writes for a whole name reads as this name
 abbrev pub NamesReadBack : Type 0
 NamesReadBack = (p : Option ProcessId) (b : Branch) → IsSoundName p b → name_in (name_xid p b) ≡ (p, b)
+
+-- the name that an XID is read as is whole
+abbrev pub NamesAreSound : Type 0
+NamesAreSound = (x : XidParts) → IsXid x → IsSoundName (name_in x).0 (name_in x).1
+
+-- the name that an XID is read as has this XID
+abbrev pub NamesAreWrittenBack : Type 0
+NamesAreWrittenBack = (x : XidParts) → name_xid (name_in x).0 (name_in x).1 ≡ x
 
 -- the payload of a sound record reads as this record
 abbrev pub RecordsReadBack : Type 0

@@ -1,11 +1,21 @@
 //! A sound record's payload reads as this record.
 
-ghost use Rattle.log_sound.specs.Sound.{NamesReadBack, RecordsFitFrames, RecordsReadBack};
+ghost use Rattle.log_sound.specs.Sound.{NamesAreSound, NamesAreWrittenBack, NamesReadBack, RecordsFitFrames, RecordsReadBack};
 ghost use Rattle.log_sound.specs.Written.{ReadIsWritten};
 
 /// The XID that a log writes for a whole name reads as this name.
 pub fn names_read_back()
     ensures { NamesReadBack }
+{}
+
+/// The name that an XID is read as is whole.
+pub fn names_are_sound()
+    ensures { NamesAreSound }
+{}
+
+/// The name that an XID is read as has this XID.
+pub fn names_are_written_back()
+    ensures { NamesAreWrittenBack }
 {}
 
 /// The payload of a sound record reads as this record.

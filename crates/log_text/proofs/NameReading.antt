@@ -106,14 +106,14 @@ case_of x b xid hx hb e =
 
 -- An XID that is no case's is foreign.
 
-fits_txn_in : (p : Presumption) (name : List ℕ) → All (λ b. b < 256) name → FitsTxn (txn_in p name)
+pub fits_txn_in : (p : Presumption) (name : List ℕ) → All (λ b. b < 256) name → FitsTxn (txn_in p name)
 fits_txn_in p name h = record {
   root = number_fits 4 0 name h;
   boot = number_fits 8 4 name h;
   sequence = number_fits 8 12 name h;
 }
 
-fits_below_in : (name : List ℕ) → All (λ b. b < 256) name → FitsBelow (below_in name)
+pub fits_below_in : (name : List ℕ) → All (λ b. b < 256) name → FitsBelow (below_in name)
 fits_below_in [] h = tt
 fits_below_in (b ∷ bs) h = record {
   parent = number_fits 4 0 (b ∷ bs) h;

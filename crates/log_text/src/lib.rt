@@ -9,4 +9,5 @@ mod records;
 
 pub use encode::{Frame, name_xid};
 pub use frames::{HEADER, first_frame};
+pub use names::name_in;
 pub use records::{ReadFault, read_record};

@@ -27,7 +27,7 @@ fn child_name(xid: &Xid, txn: Txn, parent: ProcessId, ticket: Ticket) -> (Option
 }
 
 /// The name that an XID is: the case that has this XID, with its parent below the root, or else the XID itself.
-fn name_in(xid: &Xid) -> (Option<ProcessId>, Branch)
+pub fn name_in(xid: &Xid) -> (Option<ProcessId>, Branch)
     requires { IsXid xid.now }
     ensures { result ≡ name_in xid.now }
 {

@@ -10,6 +10,8 @@ mod xa_random;
 #[cfg(test)]
 mod xa_rows;
 #[cfg(test)]
+mod xa_states;
+#[cfg(test)]
 mod xa_steps;
 #[cfg(test)]
 mod xids;

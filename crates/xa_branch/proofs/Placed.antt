@@ -1,12 +1,12 @@
 -- What holds of the state of each known branch, once one of them moves.
-use Rattle.std.proofs.Common.{Bool, true, false, cond, List, [], ◌∷◌, Option, Some, None}
-use Rattle.std.specs.Prelude.{if◌then◌else◌}
+use Rattle.std.proofs.Common.{◌≡◌, ◌≢◌, Bool, true, false, cond, List, [], ◌∷◌, ◌++◌, Option, Some, None, refl, ap}
+use Rattle.std.specs.Prelude.{is_some, if◌then◌else◌}
 use Rattle.std.specs.Map.{lookup, remove_entry}
 use Rattle.indexmap.specs.IndexMap.{insert_entry}
 use Rattle.xa_tables.specs.declared.states.BranchState.{BranchState}
 use Rattle.xa_tables.specs.declared.states.BranchState.TheVariants.{S0, S1, S2, S3, S4, S5}
 use Rattle.xa_xid.specs.declared.xid.Xid.{Xid}
-use Rattle.xa_branch.specs.Branches.{placed}
+use Rattle.xa_branch.specs.Branches.{is_known, placed}
 use Rattle.xa_branch.specs.Names.{same}
 
 -- each known branch is in such a state
@@ -57,3 +57,21 @@ module _ (P : BranchState → Type 0) where
   all_placed bs x S3 w h = inserted bs x S3 w h
   all_placed bs x S4 w h = inserted bs x S4 w h
   all_placed bs x S5 w h = inserted bs x S5 w h
+
+last_by : (b : Bool) (e : Xid × BranchState) (bs more : List (Xid × BranchState)) (x : Xid) (s : BranchState) (o : Option BranchState)
+    → is_some (cond b (Some e.1) o) ≡ false → (is_some o ≡ false → more ≡ bs ++ (x, s) ∷ []) → (if b then (e.0, s) ∷ bs else e ∷ more) ≡ e ∷ bs ++ (x, s) ∷ []
+last_by true e bs more x s o h rest = absurd cc
+last_by false e bs more x s o h rest = ap (λ l. e ∷ l) (rest h)
+
+goes_last : (bs : List (Xid × BranchState)) (x : Xid) (s : BranchState) → is_known bs x ≡ false → insert_entry same bs x s ≡ bs ++ (x, s) ∷ []
+goes_last [] x s h = refl
+goes_last (e ∷ bs) x s h = last_by (same x e.0) e bs (insert_entry same bs x s) x s (lookup (same x) bs) h (goes_last bs x s)
+
+-- a branch that is not known goes behind all others
+pub placed_last : (bs : List (Xid × BranchState)) (x : Xid) (s : BranchState) → s ≢ S0 → is_known bs x ≡ false → placed bs x s ≡ bs ++ (x, s) ∷ []
+placed_last bs x S0 n h = absurd (n refl)
+placed_last bs x S1 n h = goes_last bs x S1 h
+placed_last bs x S2 n h = goes_last bs x S2 h
+placed_last bs x S3 n h = goes_last bs x S3 h
+placed_last bs x S4 n h = goes_last bs x S4 h
+placed_last bs x S5 n h = goes_last bs x S5 h

@@ -232,7 +232,7 @@ impl Branches {
     }
 
     /// The branches in S3 and S5, in order of beginning.
-    fn in_doubt(&self) -> Result<Vec<Xid>, AllocError>
+    pub fn in_doubt(&self) -> Result<Vec<Xid>, AllocError>
         ensures { IfOk result (λ v. v.items ≡ in_doubt self.now.branches) }
     {
         self.states

@@ -11,8 +11,9 @@ use Rattle.xa_tables.specs.declared.states.AssocState.TheVariants.{T0, T1, T2, M
 use Rattle.xa_tables.specs.declared.states.BranchState.{BranchState}
 use Rattle.xa_tables.specs.declared.states.BranchState.TheVariants.{S0, S1, S2, S3, S4, S5}
 use Rattle.xa_assoc.specs.Associations.{Row, row, own_part}
-use Rattle.xa_engine.specs.Reacting.{IsAt, end_call, suspend_call}
-use Rattle.xa_engine.specs.Histories.{first_of, naming_check, is_start, is_work, has_rows, is_lost, is_refusal}
+use Rattle.xa_states.specs.Reacting.{IsAt, end_call, suspend_call}
+use Rattle.xa_engine.specs.Histories.{first_of, naming_check, is_lost, is_refusal}
+use Rattle.xa_states.specs.Ready.{is_start, is_work, has_rows}
 
 -- a branch that this manager knows is in S1, S2 or S4
 abbrev pub IsWork : BranchState → Type 0

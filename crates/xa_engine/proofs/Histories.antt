@@ -25,24 +25,26 @@ use Rattle.xa_assoc.specs.Associations.{AssocList, IsBare, active_of, moved_of, 
 use Rattle.xa_assoc.proofs.Sound.{is_active-T1, same_is}
 use Rattle.xa_branch.specs.Branches.{Scans, scan_refusal, starts_scan, state_in}
 use Rattle.xa_branch.specs.Scans.{has_scan}
-use Rattle.xa_engine.specs.declared.manager.Manager.{Manager}
+use Rattle.xa_states.specs.declared.states.States.{States}
 use Rattle.xa_engine.specs.declared.script.Request.{Request}
 use Rattle.xa_engine.specs.declared.script.Request.TheVariants.{Open, Close, Branch, Recover}
-use Rattle.xa_engine.specs.Manager.{Checked, Closed, IsNew, Opened, Same, Scanned, state_at}
+use Rattle.xa_states.specs.Answers.{Checked, Closed, IsNew, Opened, Same, Scanned, state_at}
 use Rattle.xa_engine.specs.Runs.{Answer, Leads, Makes}
-use Rattle.xa_engine.specs.Histories.{AnswersFirst, BranchStep, HasBranchRow, HasOwnRow, HasMigrationRow, InitStep, IsLegalHistory, MigrationRow, MigrationStep, OwnRow, OwnStep, WalksBy, behind_flags, branch_checks, first_of, first_refusal, has_associations, is_closed, is_on, is_refusal, is_refused, is_work_by, is_work_call, is_work_on, scan_checks, state_checks}
+use Rattle.xa_engine.specs.Manager.{plain_rows}
+use Rattle.xa_engine.specs.Histories.{AnswersFirst, BranchStep, HasBranchRow, HasOwnRow, HasMigrationRow, InitStep, IsLegalHistory, MigrationRow, MigrationStep, OwnRow, OwnStep, WalksBy, behind_flags, branch_checks, first_of, first_refusal, has_associations, is_on, is_refusal, is_refused, is_work_by, is_work_call, is_work_on, scan_checks, state_checks}
+use Rattle.xa_states.specs.Ready.{is_closed}
 use Rattle.xa_engine.proofs.Reached.{AllWork, IsKept, IsReached, bare_moved, bare_states, empty_states, moved_kept, moved_states, names_apart, new_reached, same_reached, seats_apart}
 use Rattle.xa_engine.proofs.Outcomes.{Finished, Outcome, Works, comes}
 
 -- what one call does, and what it answers
-pub record IsLegalStep (old : Manager) (r : Request) (answer : Answer) (new : Manager) : Type 0 where
+pub record IsLegalStep (old : States) (r : Request) (answer : Answer) (new : States) : Type 0 where
   pub answers : AnswersFirst old r answer new
   pub manager : InitStep old.init r answer new.init
   pub branch : (x : Xid) → BranchStep x (state_at old x) r answer (state_at new x)
   pub association : (t : ℕ) (x : Xid) → OwnStep t x (own_state old.associations t x) r answer (own_state new.associations t x)
   pub migration : (x : Xid) → MigrationStep x (moved_of old.associations x) r answer (moved_of new.associations x)
 
-abbrev pub Steps : Manager → Request → Answer → Manager → Type 0
+abbrev pub Steps : States → Request → Answer → States → Type 0
 Steps old r answer new = IsLegalStep old r answer new × IsReached new
 
 -- what is refused stays
@@ -60,25 +62,25 @@ moves_on false r P Q e p q = q refl
 some_is : (c d : Code) → Some c ≡ Some d → c ≡ d
 some_is c d e = cc
 
-answers_refusal : (old new : Manager) (r : Request) (c : Code) → first_refusal old r ≡ Some c → Same old new → AnswersFirst old r (Err c) new
+answers_refusal : (old new : States) (r : Request) (c : Code) → first_refusal old r ≡ Some c → Same old new → AnswersFirst old r (Err c) new
 answers_refusal old new r c first same = record {
   refused = λ d e. (ap (λ (k : Code). Err k) (some_is c d (sym first ∙ e)), same);
   made = λ e. absurd (let f : None ≡ Some c = sym e ∙ first in cc);
 }
 
-answers_row : (old new : Manager) (r : Request) (a : Answer) → first_refusal old r ≡ None → is_refused a ≡ false → AnswersFirst old r a new
+answers_row : (old new : States) (r : Request) (a : Answer) → first_refusal old r ≡ None → is_refused a ≡ false → AnswersFirst old r a new
 answers_row old new r a first made = record {
   refused = λ d e. absurd (let f : None ≡ Some d = sym first ∙ e in cc);
   made = λ e. made;
 }
 
-refused_manager : (old new : Manager) (r : Request) (c : Code) → is_refusal c ≡ true → Same old new → InitStep old.init r (Err c) new.init
+refused_manager : (old new : States) (r : Request) (c : Code) → is_refusal c ≡ true → Same old new → InitStep old.init r (Err c) new.init
 refused_manager old new (Open flags migrates) c refuses same = rw refuses same.init
 refused_manager old new (Close flags) c refuses same = rw refuses same.init
 refused_manager old new (Branch v t x flags) c refuses same = same.init
 refused_manager old new (Recover t count flags) c refuses same = same.init
 
-refused_step : (old new : Manager) (r : Request) (c : Code) → IsReached old → first_refusal old r ≡ Some c → is_refusal c ≡ true → Same old new → Steps old r (Err c) new
+refused_step : (old new : States) (r : Request) (c : Code) → IsReached old → first_refusal old r ≡ Some c → is_refusal c ≡ true → Same old new → Steps old r (Err c) new
 refused_step old new r c ok first refuses same = (
   record {
     answers = answers_refusal old new r c first same;
@@ -147,7 +149,7 @@ pair_apart : (u t : ℕ) (y x : Xid) → (same x y ≡ false) ⊎ (nat_eq u t �
 pair_apart u t y x (inl names) = names_apart u t y x (flipped x y names)
 pair_apart u t y x (inr threads) = seats_apart u t y x (not_one u t threads)
 
-works_step : (old new : Manager) (v : Verb) (t : ℕ) (x : Xid) (flags : Flags) (c : Call) (answer : Code) → IsReached old → old.init ≡ R1
+works_step : (old new : States) (v : Verb) (t : ℕ) (x : Xid) (flags : Flags) (c : Call) (answer : Code) → IsReached old → old.init ≡ R1
     → legal v flags.0 ≡ Ok c → first_refusal old (on v t x flags) ≡ None → Works old new t x c answer → Steps old (on v t x flags) (Err answer) new
 works_step old new v t x flags c answer ok opened is first w =
     let r = on v t x flags in
@@ -185,7 +187,7 @@ none_by : (w s n : Bool) → w ≡ false → ((w && s) && n) ≡ true → ⊥
 none_by false s n e h = absurd cc
 none_by true s n e h = absurd cc
 
-ends_step : (old new : Manager) (v : Verb) (t : ℕ) (x : Xid) (flags : Flags) (c : Call) (answer : Code) → IsReached old → old.init ≡ R1
+ends_step : (old new : States) (v : Verb) (t : ℕ) (x : Xid) (flags : Flags) (c : Call) (answer : Code) → IsReached old → old.init ≡ R1
     → legal v flags.0 ≡ Ok c → first_refusal old (on v t x flags) ≡ None → Finished old new t x c answer → Steps old (on v t x flags) (Err answer) new
 ends_step old new v t x flags c answer ok opened is first w =
     let r = on v t x flags in
@@ -212,7 +214,7 @@ ends_step old new v t x flags c answer ok opened is first w =
       },
     )
 
-outcome_step : (old new : Manager) (v : Verb) (t : ℕ) (x : Xid) (flags : Flags) (c : Call) (answer : Code) → IsReached old → old.init ≡ R1
+outcome_step : (old new : States) (v : Verb) (t : ℕ) (x : Xid) (flags : Flags) (c : Call) (answer : Code) → IsReached old → old.init ≡ R1
     → legal v flags.0 ≡ Ok c → first_refusal old (on v t x flags) ≡ first_of (state_checks old c t x) → Outcome old new t x c answer → Steps old (on v t x flags) (Err answer) new
 outcome_step old new v t x flags c answer ok opened is first (inl s) =
     subst (λ (a : Code). Steps old (on v t x flags) (Err a) new) (sym s.answers)
@@ -222,14 +224,14 @@ outcome_step old new v t x flags c answer ok opened is first (inr (inr w)) = end
 
 -- The other checks of a call on a branch.
 
-at_branch : (old : Manager) (v : Verb) (t : ℕ) (x : Xid) (flags : Flags) (c : Call) → legal v flags.0 ≡ Ok c → first_refusal old (on v t x flags) ≡ first_of (branch_checks old c t x)
+at_branch : (old : States) (v : Verb) (t : ℕ) (x : Xid) (flags : Flags) (c : Call) → legal v flags.0 ≡ Ok c → first_refusal old (on v t x flags) ≡ first_of (branch_checks old c t x)
 at_branch old v t x flags c is = ap (λ q. behind_flags (λ d. branch_checks old d t x) q) is
 
-abbrev checks_at : Manager → Call → ℕ → Xid → InitState → Bool → Option Code
+abbrev checks_at : States → Call → ℕ → Xid → InitState → Bool → Option Code
 checks_at m c t x i null = first_of ((is_closed i, code.Proto) ∷ (null, code.Inval) ∷ state_checks m c t x)
 
-named_step : (old new : Manager) (v : Verb) (t : ℕ) (x : Xid) (flags : Flags) (c : Call) (answer : Code) (null : Bool) → IsReached old → old.init ≡ R1 → same x null_xid ≡ null
-    → legal v flags.0 ≡ Ok c → Checked old new c t x answer → Steps old (on v t x flags) (Err answer) new
+named_step : (old new : States) (v : Verb) (t : ℕ) (x : Xid) (flags : Flags) (c : Call) (answer : Code) (null : Bool) → IsReached old → old.init ≡ R1 → same x null_xid ≡ null
+    → legal v flags.0 ≡ Ok c → Checked plain_rows old new c t x answer → Steps old (on v t x flags) (Err answer) new
 named_step old new v t x flags c answer true ok opened named is h =
     let refused = h.null opened (same_is x null_xid named) in
     subst (λ (a : Code). Steps old (on v t x flags) (Err a) new) (sym refused.0)
@@ -241,8 +243,8 @@ named_step old new v t x flags c answer false ok opened named is h =
     (at_branch old v t x flags c is ∙ ap (λ i. checks_at old c t x i (same x null_xid)) opened ∙ ap (λ b. checks_at old c t x R1 b) named)
     (comes old new c t x answer ok (h.does opened other))
 
-opened_step : (old new : Manager) (v : Verb) (t : ℕ) (x : Xid) (flags : Flags) (c : Call) (answer : Code) (i : InitState) → IsReached old → old.init ≡ i
-    → legal v flags.0 ≡ Ok c → Checked old new c t x answer → Steps old (on v t x flags) (Err answer) new
+opened_step : (old new : States) (v : Verb) (t : ℕ) (x : Xid) (flags : Flags) (c : Call) (answer : Code) (i : InitState) → IsReached old → old.init ≡ i
+    → legal v flags.0 ≡ Ok c → Checked plain_rows old new c t x answer → Steps old (on v t x flags) (Err answer) new
 opened_step old new v t x flags c answer R0 ok opened is h =
     let refused = h.closed opened in
     subst (λ (a : Code). Steps old (on v t x flags) (Err a) new) (sym refused.0)
@@ -250,8 +252,8 @@ opened_step old new v t x flags c answer R0 ok opened is h =
     (at_branch old v t x flags c is ∙ ap (λ i. checks_at old c t x i (same x null_xid)) opened) refl refused.1)
 opened_step old new v t x flags c answer R1 ok opened is h = named_step old new v t x flags c answer (same x null_xid) ok opened refl is h
 
-branch_step : (old new : Manager) (v : Verb) (t : ℕ) (x : Xid) (flags : Flags) (answer : Code) (l : Result Call Code) → IsReached old → legal v flags.0 ≡ l
-    → MatchResult l (λ c. Checked old new c t x answer) (λ refusal. (answer ≡ refusal) × Same old new) → Steps old (on v t x flags) (Err answer) new
+branch_step : (old new : States) (v : Verb) (t : ℕ) (x : Xid) (flags : Flags) (answer : Code) (l : Result Call Code) → IsReached old → legal v flags.0 ≡ l
+    → MatchResult l (λ c. Checked plain_rows old new c t x answer) (λ refusal. (answer ≡ refusal) × Same old new) → Steps old (on v t x flags) (Err answer) new
 branch_step old new v t x flags answer (Ok c) ok is h = opened_step old new v t x flags c answer old.init ok refl is h
 branch_step old new v t x flags answer (Err e) ok is h =
     subst (λ (a : Code). Steps old (on v t x flags) (Err a) new) (sym h.0)
@@ -259,8 +261,8 @@ branch_step old new v t x flags answer (Err e) ok is h =
 
 -- An open, a close and a recover.
 
-same_of : (old new : Manager) → new ≡ old → Same old new
-same_of old new e = subst (λ (m : Manager). Same old m) (sym e) (record { init = refl; branches = record { branches = refl; scans = refl; room = omega arith }; associations = refl })
+same_of : (old new : States) → new ≡ old → Same old new
+same_of old new e = subst (λ (m : States). Same old m) (sym e) (record { init = refl; branches = record { branches = refl; scans = refl; room = omega arith }; associations = refl })
 
 either_refused : (b : Bool) (o : Option Call) (c : Call) → (if b then Err code.Inval else refused_async o) ≡ Ok c → ⊥
 either_refused true o c h = absurd cc
@@ -288,25 +290,25 @@ close_row R0 = (0, omega arith, refl)
 close_row R1 = (0, omega arith, refl)
 
 -- an open leaves each association as it is: there is none, where the manager was closed
-own_kept : (old new : Manager) (migrates : Bool) (answer : Code) (i : InitState) → old.init ≡ i → IsReached old → Opened old new migrates answer
+own_kept : (old new : States) (migrates : Bool) (answer : Code) (i : InitState) → old.init ≡ i → IsReached old → Opened old new migrates answer
     → (t : ℕ) (x : Xid) → own_state new.associations t x ≡ own_state old.associations t x
 own_kept old new migrates answer R0 is ok h t x =
     let anew = h.anew is in
     empty_states new.associations anew.0 anew.1 t x ∙ sym (bare_states old.associations (ok.closed is) ok.kept t x)
-own_kept old new migrates answer R1 is ok h t x = ap (λ (m : Manager). own_state m.associations t x) (h.again is)
+own_kept old new migrates answer R1 is ok h t x = ap (λ (m : States). own_state m.associations t x) (h.again is)
 
-moved_stays : (old new : Manager) (migrates : Bool) (answer : Code) (i : InitState) → old.init ≡ i → IsReached old → Opened old new migrates answer
+moved_stays : (old new : States) (migrates : Bool) (answer : Code) (i : InitState) → old.init ≡ i → IsReached old → Opened old new migrates answer
     → (x : Xid) → moved_of new.associations x ≡ moved_of old.associations x
 moved_stays old new migrates answer R0 is ok h x =
     let anew = h.anew is in
     bare_moved new.associations anew.0 x ∙ sym (bare_moved old.associations (ok.closed is) x)
-moved_stays old new migrates answer R1 is ok h x = ap (λ (m : Manager). moved_of m.associations x) (h.again is)
+moved_stays old new migrates answer R1 is ok h x = ap (λ (m : States). moved_of m.associations x) (h.again is)
 
-kept_again : (old new : Manager) (migrates : Bool) (answer : Code) (i : InitState) → old.init ≡ i → IsReached old → Opened old new migrates answer → IsKept new.associations
+kept_again : (old new : States) (migrates : Bool) (answer : Code) (i : InitState) → old.init ≡ i → IsReached old → Opened old new migrates answer → IsKept new.associations
 kept_again old new migrates answer R0 is ok h = let anew = h.anew is in λ t x. inl (empty_states new.associations anew.0 anew.1 t x)
-kept_again old new migrates answer R1 is ok h = subst (λ (m : Manager). IsKept m.associations) (sym (h.again is)) ok.kept
+kept_again old new migrates answer R1 is ok h = subst (λ (m : States). IsKept m.associations) (sym (h.again is)) ok.kept
 
-opens : (old new : Manager) (flags : Flags) (migrates : Bool) (c : Call) → IsReached old → legal verb.Open flags.0 ≡ Ok c → Opened old new migrates code.Ok
+opens : (old new : States) (flags : Flags) (migrates : Bool) (c : Call) → IsReached old → legal verb.Open flags.0 ≡ Ok c → Opened old new migrates code.Ok
     → Steps old (Open flags migrates) (Err code.Ok) new
 opens old new flags migrates c ok is h = (
   record {
@@ -325,7 +327,7 @@ opens old new flags migrates c ok is h = (
   },
 )
 
-open_step : (old new : Manager) (flags : Flags) (migrates : Bool) (answer : Code) (l : Result Call Code) → IsReached old → legal verb.Open flags.0 ≡ l
+open_step : (old new : States) (flags : Flags) (migrates : Bool) (answer : Code) (l : Result Call Code) → IsReached old → legal verb.Open flags.0 ≡ l
     → MatchResult l (λ c. Opened old new migrates answer) (λ refusal. (answer ≡ refusal) × (new ≡ old)) → Steps old (Open flags migrates) (Err answer) new
 open_step old new flags migrates answer (Ok c) ok is h =
     subst (λ (a : Code). Steps old (Open flags migrates) (Err a) new) (sym h.answers)
@@ -337,20 +339,20 @@ open_step old new flags migrates answer (Err e) ok is h =
 abbrev close_checks : Bool → Bool → Call → List (Bool × Code)
 close_checks holders moved c = (not holders || not moved, code.Proto) ∷ []
 
-at_close : (old : Manager) (flags : Flags) (holders moved : Bool) (c : Call) → (length old.associations.holders == 0) ≡ holders → (length old.associations.moved == 0) ≡ moved → legal verb.Close flags.0 ≡ Ok c
+at_close : (old : States) (flags : Flags) (holders moved : Bool) (c : Call) → (length old.associations.holders == 0) ≡ holders → (length old.associations.moved == 0) ≡ moved → legal verb.Close flags.0 ≡ Ok c
     → first_refusal old (Close flags) ≡ first_of (close_checks holders moved c)
 at_close old flags holders moved c h m is =
     ap (λ q. behind_flags (λ d. (has_associations old.associations, code.Proto) ∷ []) q) is
     ∙ ap (λ b. first_of (close_checks b (length old.associations.moved == 0) c)) h ∙ ap (λ b. first_of (close_checks holders b c)) m
 
-close_refused : (old new : Manager) (flags : Flags) (c : Call) (answer : Code) → IsReached old → first_refusal old (Close flags) ≡ Some code.Proto → (IsBare old.associations → ⊥) → Closed old new answer
+close_refused : (old new : States) (flags : Flags) (c : Call) (answer : Code) → IsReached old → first_refusal old (Close flags) ≡ Some code.Proto → (IsBare old.associations → ⊥) → Closed old new answer
     → Steps old (Close flags) (Err answer) new
 close_refused old new flags c answer ok first held h =
     let refused = h.held held in
     subst (λ (a : Code). Steps old (Close flags) (Err a) new) (sym refused.0)
     (refused_step old new (Close flags) code.Proto ok first refl (same_of old new refused.1))
 
-closes : (old new : Manager) (flags : Flags) (c : Call) → IsReached old → legal verb.Close flags.0 ≡ Ok c → first_refusal old (Close flags) ≡ None → IsBare old.associations
+closes : (old new : States) (flags : Flags) (c : Call) → IsReached old → legal verb.Close flags.0 ≡ Ok c → first_refusal old (Close flags) ≡ None → IsBare old.associations
     → (new.init ≡ R0) × (new.branches ≡ old.branches) × (new.associations ≡ old.associations) → Steps old (Close flags) (Err code.Ok) new
 closes old new flags c ok is first bare h = (
   record {
@@ -372,7 +374,7 @@ closes old new flags c ok is first bare h = (
 is_zero : (n : ℕ) → (n == 0) ≡ false → n ≡ 0 → ⊥
 is_zero n e z = absurd (let f : (0 == 0) ≡ false = subst (λ (k : ℕ). (k == 0) ≡ false) z e in cc)
 
-close_by : (old new : Manager) (flags : Flags) (c : Call) (answer : Code) (holders moved : Bool) → IsReached old → legal verb.Close flags.0 ≡ Ok c
+close_by : (old new : States) (flags : Flags) (c : Call) (answer : Code) (holders moved : Bool) → IsReached old → legal verb.Close flags.0 ≡ Ok c
     → (length old.associations.holders == 0) ≡ holders → (length old.associations.moved == 0) ≡ moved → Closed old new answer → Steps old (Close flags) (Err answer) new
 close_by old new flags c answer true true ok is e f h =
     let bare : IsBare old.associations = record { holders = eqb-true (length old.associations.holders) 0 e; moved = eqb-true (length old.associations.moved) 0 f } in
@@ -384,7 +386,7 @@ close_by old new flags c answer true false ok is e f h =
 close_by old new flags c answer false moved ok is e f h =
     close_refused old new flags c answer ok (at_close old flags false moved c e f is) (λ bare. is_zero (length old.associations.holders) e bare.holders) h
 
-close_step : (old new : Manager) (flags : Flags) (answer : Code) (l : Result Call Code) → IsReached old → legal verb.Close flags.0 ≡ l
+close_step : (old new : States) (flags : Flags) (answer : Code) (l : Result Call Code) → IsReached old → legal verb.Close flags.0 ≡ l
     → MatchResult l (λ c. Closed old new answer) (λ refusal. (answer ≡ refusal) × (new ≡ old)) → Steps old (Close flags) (Err answer) new
 close_step old new flags answer (Ok c) ok is h =
     close_by old new flags c answer (length old.associations.holders == 0) (length old.associations.moved == 0) ok is refl refl h
@@ -407,14 +409,14 @@ scan_refuses false false full e h = let is : e ≡ code.Inval = cc in rw is refl
 scan_refuses false true true e h = let is : e ≡ code.RmErr = cc in rw is refl
 scan_refuses false true false e h = absurd cc
 
-at_scan : (old : Manager) (t count : ℕ) (flags : Flags) (c : Call) → legal verb.Recover flags.0 ≡ Ok c → old.init ≡ R1
+at_scan : (old : States) (t count : ℕ) (flags : Flags) (c : Call) → legal verb.Recover flags.0 ≡ Ok c → old.init ≡ R1
     → first_refusal old (Recover t count flags) ≡ scan_refusal old.branches.scans t c
 at_scan old t count flags c is opened =
     ap (λ q. behind_flags (λ d. scan_checks old d t) q) is
     ∙ ap (λ i. first_of ((is_closed i, code.Proto) ∷ (not (has_scan old.branches.scans t) && not (starts_scan c), code.Inval) ∷ (not (has_scan old.branches.scans t) && nat_le 256 (length old.branches.scans), code.RmErr) ∷ [])) opened
     ∙ scan_agrees (has_scan old.branches.scans t) (starts_scan c) (nat_le 256 (length old.branches.scans))
 
-scans : (old new : Manager) (t count : ℕ) (flags : Flags) (c : Call) (given : List Xid) → IsReached old → first_refusal old (Recover t count flags) ≡ None
+scans : (old new : States) (t count : ℕ) (flags : Flags) (c : Call) (given : List Xid) → IsReached old → first_refusal old (Recover t count flags) ≡ None
     → Scans old.branches new.branches t count c given × (new.associations ≡ old.associations) × (new.init ≡ old.init) → Steps old (Recover t count flags) (Ok given) new
 scans old new t count flags c given ok first h = (
   record {
@@ -431,7 +433,7 @@ scans old new t count flags c given ok first h = (
   },
 )
 
-scan_by_state : (old new : Manager) (t count : ℕ) (flags : Flags) (c : Call) (answer : Answer) (i : InitState) → IsReached old → old.init ≡ i → legal verb.Recover flags.0 ≡ Ok c
+scan_by_state : (old new : States) (t count : ℕ) (flags : Flags) (c : Call) (answer : Answer) (i : InitState) → IsReached old → old.init ≡ i → legal verb.Recover flags.0 ≡ Ok c
     → Scanned old new t count c answer → Steps old (Recover t count flags) answer new
 scan_by_state old new t count flags c answer R0 ok opened is h =
     let refused = h.closed opened in
@@ -448,7 +450,7 @@ scan_by_state old new t count flags c (Err e) R1 ok opened is h =
     refused_step old new (Recover t count flags) e ok (at_scan old t count flags c is opened ∙ refused.0)
     (scan_refuses (has_scan old.branches.scans t) (starts_scan c) (nat_le 256 (length old.branches.scans)) e refused.0) refused.1
 
-recover_step : (old new : Manager) (t count : ℕ) (flags : Flags) (answer : Answer) (l : Result Call Code) → IsReached old → legal verb.Recover flags.0 ≡ l
+recover_step : (old new : States) (t count : ℕ) (flags : Flags) (answer : Answer) (l : Result Call Code) → IsReached old → legal verb.Recover flags.0 ≡ l
     → MatchResult l (λ c. Scanned old new t count c answer) (λ refusal. (answer ≡ Err refusal) × Same old new) → Steps old (Recover t count flags) answer new
 recover_step old new t count flags answer (Ok c) ok is h = scan_by_state old new t count flags c answer old.init ok refl is h
 recover_step old new t count flags answer (Err e) ok is h =
@@ -456,7 +458,7 @@ recover_step old new t count flags answer (Err e) ok is h =
     (refused_step old new (Recover t count flags) e ok (ap (λ q. behind_flags (λ d. scan_checks old d t) q) is) (legal_refuses verb.Recover flags.0 e is) h.1)
 
 -- any call is a legal step
-makes_step : (old new : Manager) (r : Request) (answer : Answer) → IsReached old → Makes old new r answer → Steps old r answer new
+makes_step : (old new : States) (r : Request) (answer : Answer) → IsReached old → Makes old new r answer → Steps old r answer new
 makes_step old new (Open flags migrates) (Ok given) ok h = absurd h
 makes_step old new (Open flags migrates) (Err answer) ok h = open_step old new flags migrates answer (legal verb.Open flags.0) ok refl h
 makes_step old new (Close flags) (Ok given) ok h = absurd h
@@ -466,9 +468,9 @@ makes_step old new (Branch v t x flags) (Err answer) ok h = branch_step old new 
 makes_step old new (Recover t count flags) answer ok h = recover_step old new t count flags answer (legal verb.Recover flags.0) ok refl h
 
 -- what each step does to a part of the manager, a list of calls does to it
-project : {S : Type 0} (step : S → Request → Answer → S → Type 0) (f : Manager → S)
-    → ((old new : Manager) (r : Request) (a : Answer) → IsLegalStep old r a new → step (f old) r a (f new))
-    → (m n : Manager) (rs : List Request) (given : List Answer) → IsReached m → Leads m rs given n → WalksBy step (f m) rs given (f n)
+project : {S : Type 0} (step : S → Request → Answer → S → Type 0) (f : States → S)
+    → ((old new : States) (r : Request) (a : Answer) → IsLegalStep old r a new → step (f old) r a (f new))
+    → (m n : States) (rs : List Request) (given : List Answer) → IsReached m → Leads m rs given n → WalksBy step (f m) rs given (f n)
 project step f by m n [] [] ok e = ap f e
 project step f by m n [] (a ∷ given) ok e = absurd e
 project step f by m n (r ∷ rs) [] ok e = absurd e
@@ -484,7 +486,7 @@ one_branch (Some z) x y h k = sym (same_is z x h) ∙ same_is z y k
 one_active : (a : AssocList) (t : ℕ) (x y : Xid) → own_state a t x ≡ T1 → own_state a t y ≡ T1 → x ≡ y
 one_active a t x y h k = one_branch (active_of a t) x y (is_active-T1 a t x h) (is_active-T1 a t y k)
 
-pub legal_history : (m n : Manager) (rs : List Request) (given : List Answer) → IsNew m → Leads m rs given n → IsLegalHistory m rs given n
+pub legal_history : (m n : States) (rs : List Request) (given : List Answer) → IsNew m → Leads m rs given n → IsLegalHistory m rs given n
 legal_history m n rs given new leads =
     let ok = new_reached m new in
     record {

@@ -1,4 +1,3 @@
-pub mod Reactions
 pub mod Runs
 pub mod Spelled
 pub mod Checks

@@ -15,21 +15,23 @@ use Rattle.xa_xid.specs.declared.xid.Xid.{Xid}
 use Rattle.xa_assoc.specs.Names.{same}
 use Rattle.xa_assoc.specs.Associations.{AssocList, IsRowOf, Moves as AssocMoves, Row, active_of, end_plan, has_active, has_room, has_seat, is_active, moved_of, own_part, own_state, resume_plan, start_plan, suspend_plan}
 use Rattle.xa_branch.specs.Branches.{Moves as BranchMoves, is_known, off_row}
-use Rattle.xa_engine.specs.declared.manager.Manager.{Manager}
-use Rattle.xa_engine.specs.Manager.{ByState, Does, Finishes, Reacts, Refuses, Same, is_held, left_state, start_reaction, state_at}
-use Rattle.xa_engine.specs.Reacting.{by_state, end_call, left_by, resumed, suspend_call}
-use Rattle.xa_engine.specs.Histories.{first_of, has_rows, is_at_limit, is_out_of_state, is_refusal, is_work, naming_check, state_checks}
+use Rattle.xa_states.specs.declared.states.States.{States}
+use Rattle.xa_states.specs.Answers.{ByState, Does, Finishes, Reacts, Refuses, Same, is_held, left_state, start_reaction, state_at}
+use Rattle.xa_states.specs.Reacting.{by_state, end_call, left_by, resumed, suspend_call}
+use Rattle.xa_engine.specs.Manager.{plain_rows}
+use Rattle.xa_engine.specs.Histories.{first_of, is_at_limit, is_out_of_state, is_refusal, naming_check, state_checks}
+use Rattle.xa_states.specs.Ready.{has_rows, is_work}
 use Rattle.xa_engine.proofs.Checks.{Agrees, IsWork, Seen, begins, checks_by, ends, joins, own_by, resumes, suspends}
 use Rattle.xa_engine.proofs.Reached.{IsReached, IsTarget, IsWorkOr, work_at}
 
-pub record Stands (old new : Manager) (t : ℕ) (x : Xid) (c : Call) (answer : Code) : Type 0 where
+pub record Stands (old new : States) (t : ℕ) (x : Xid) (c : Call) (answer : Code) : Type 0 where
   pub code : Code
   pub first : first_of (state_checks old c t x) ≡ Some code
   pub refuses : is_refusal code ≡ true
   pub answers : answer ≡ code
   pub same : Same old new
 
-pub record Works (old new : Manager) (t : ℕ) (x : Xid) (c : Call) (answer : Code) : Type 0 where
+pub record Works (old new : States) (t : ℕ) (x : Xid) (c : Call) (answer : Code) : Type 0 where
   pub from : AssocState
   pub to : AssocState
   pub state : BranchState
@@ -44,7 +46,7 @@ pub record Works (old new : Manager) (t : ℕ) (x : Xid) (c : Call) (answer : Co
   pub branch : BranchMoves old.branches new.branches x state
   pub init : new.init ≡ old.init
 
-pub record Finished (old new : Manager) (t : ℕ) (x : Xid) (c : Call) (answer : Code) : Type 0 where
+pub record Finished (old new : States) (t : ℕ) (x : Xid) (c : Call) (answer : Code) : Type 0 where
   pub first : first_of (state_checks old c t x) ≡ None
   pub answers : is_refusal answer ≡ false
   pub work : is_work c ≡ false
@@ -53,13 +55,13 @@ pub record Finished (old new : Manager) (t : ℕ) (x : Xid) (c : Call) (answer :
   pub associations : new.associations ≡ old.associations
   pub init : new.init ≡ old.init
 
-abbrev pub Outcome : Manager → Manager → ℕ → Xid → Call → Code → Type 0
+abbrev pub Outcome : States → States → ℕ → Xid → Call → Code → Type 0
 Outcome old new t x c answer = Stands old new t x c answer ⊎ (Works old new t x c answer ⊎ Finished old new t x c answer)
 
-abbrev state_of : Manager → Xid → Option BranchState
+abbrev state_of : States → Xid → Option BranchState
 state_of m x = lookup (same x) m.branches.branches
 
-abbrev seen_by : Manager → ℕ → Xid → Option BranchState → Seen
+abbrev seen_by : States → ℕ → Xid → Option BranchState → Seen
 seen_by m t x o = record {
   state = o;
   busy = is_some (active_of m.associations t);
@@ -77,14 +79,14 @@ active_by : (o : Option Xid) (x : Xid) → is_some o ≡ false → option_map_or
 active_by None x e = refl
 active_by (Some y) x e = absurd cc
 
-idle : (m : Manager) (t : ℕ) (x : Xid) → is_some (active_of m.associations t) ≡ false → is_active m.associations t x ≡ false
+idle : (m : States) (t : ℕ) (x : Xid) → is_some (active_of m.associations t) ≡ false → is_active m.associations t x ≡ false
 idle m t x e = active_by (active_of m.associations t) x e
 
-stands : (old new : Manager) (t : ℕ) (x : Xid) (c : Call) (code answer : Code) → first_of (state_checks old c t x) ≡ Some code → is_refusal code ≡ true → Refuses old new answer code
+stands : (old new : States) (t : ℕ) (x : Xid) (c : Call) (code answer : Code) → first_of (state_checks old c t x) ≡ Some code → is_refusal code ≡ true → Refuses old new answer code
     → Outcome old new t x c answer
 stands old new t x c code answer first refuses h = inl (record { code = code; first = first; refuses = refuses; answers = h.0; same = h.1 })
 
-reacted : (old new : Manager) (t : ℕ) (x : Xid) (c : Call) (plan : Result Row Code) (to : BranchState) (answer : Code) (s : Seen)
+reacted : (old new : States) (t : ℕ) (x : Xid) (c : Call) (plan : Result Row Code) (to : BranchState) (answer : Code) (s : Seen)
     → first_of (state_checks old c t x) ≡ first_of (checks_by s c) → own_by s.active s.seat ≡ own_state old.associations t x
     → Agrees s c plan → IsRowOf c plan → is_work c ≡ true → IsTarget to → Reacts old new t x c plan to answer → Outcome old new t x c answer
 reacted old new t x c (Ok r) to answer s same own agrees rows work target w = inr (inl (record {
@@ -105,7 +107,7 @@ reacted old new t x c (Ok r) to answer s same own agrees rows work target w = in
 reacted old new t x c (Err e) to answer s same own agrees rows work target w =
     stands old new t x c e answer (same ∙ agrees.first) agrees.refuses w
 
-begin_row : (m : Manager) (t : ℕ) (x : Xid) → IsRowOf call.Start (start_reaction m t x)
+begin_row : (m : States) (t : ℕ) (x : Xid) → IsRowOf call.Start (start_reaction m t x)
 begin_row m t x = search rules
 
 join_row : (a : AssocList) (t : ℕ) (x : Xid) → IsRowOf call.StartJoin (start_plan a t x)
@@ -125,13 +127,13 @@ left_target true active = tt
 left_target false true = tt
 left_target false false = tt
 
-pub start_out : (old new : Manager) (t : ℕ) (x : Xid) (answer : Code) → Does old new call.Start t x answer → Outcome old new t x call.Start answer
+pub start_out : (old new : States) (t : ℕ) (x : Xid) (answer : Code) → Does plain_rows old new call.Start t x answer → Outcome old new t x call.Start answer
 start_out old new t x answer h =
     let s = seen_by old t x (state_of old x) in
     reacted old new t x call.Start (start_reaction old t x) S1 answer s refl refl
     (begins s.state s.busy s.active s.seat s.unmoved s.migrates s.spare s.room s.full s.held (idle old t x)) (begin_row old t x) refl tt h
 
-join_by : (old new : Manager) (t : ℕ) (x : Xid) (answer : Code) (o : Option BranchState) → state_of old x ≡ o → IsWorkOr o
+join_by : (old new : States) (t : ℕ) (x : Xid) (answer : Code) (o : Option BranchState) → state_of old x ≡ o → IsWorkOr o
     → Reacts old new t x call.StartJoin (by_state (unwrap_or o S0) (start_plan old.associations t x) (Err code.Proto)) S1 answer → Outcome old new t x call.StartJoin answer
 join_by old new t x answer None is w h =
     stands old new t x call.StartJoin code.NotA answer (ap (λ q. first_of (checks_by (seen_by old t x q) call.StartJoin)) is) refl h
@@ -149,14 +151,14 @@ join_by old new t x answer (Some S0) is w h = absurd w
 join_by old new t x answer (Some S3) is w h = absurd w
 join_by old new t x answer (Some S5) is w h = absurd w
 
-pub join_out : (old new : Manager) (t : ℕ) (x : Xid) (answer : Code) → IsReached old → Does old new call.StartJoin t x answer → Outcome old new t x call.StartJoin answer
+pub join_out : (old new : States) (t : ℕ) (x : Xid) (answer : Code) → IsReached old → Does plain_rows old new call.StartJoin t x answer → Outcome old new t x call.StartJoin answer
 join_out old new t x answer ok h = join_by old new t x answer (state_of old x) refl (work_at old.branches.branches x ok.states) h
 
 -- what a call does that works on a branch, or is lost with it
-abbrev OnWork : Manager → Manager → ℕ → Xid → Call → (Bool → Result Row Code) → (Bool → BranchState) → Code → Bool → Type 0
+abbrev OnWork : States → States → ℕ → Xid → Call → (Bool → Result Row Code) → (Bool → BranchState) → Code → Bool → Type 0
 OnWork old new t x c plan to answer lost = Reacts old new t x c (plan lost) (to lost) answer
 
-by_work : (old new : Manager) (t : ℕ) (x : Xid) (c : Call) (plan : Bool → Result Row Code) (to : Bool → BranchState) (answer : Code) (o : Option BranchState)
+by_work : (old new : States) (t : ℕ) (x : Xid) (c : Call) (plan : Bool → Result Row Code) (to : Bool → BranchState) (answer : Code) (o : Option BranchState)
     → ((q : Option BranchState) → state_of old x ≡ q → first_of (state_checks old c t x) ≡ first_of (checks_by (seen_by old t x q) c))
     → state_of old x ≡ o → IsWorkOr o → first_of (checks_by (seen_by old t x None) c) ≡ Some code.NotA
     → Agrees (seen_by old t x (Some S1)) c (plan false) → Agrees (seen_by old t x (Some S2)) c (plan false) → Agrees (seen_by old t x (Some S4)) c (plan true)
@@ -179,7 +181,7 @@ resumed_target : (lost : Bool) → IsTarget (resumed lost)
 resumed_target true = tt
 resumed_target false = tt
 
-pub resume_out : (old new : Manager) (t : ℕ) (x : Xid) (answer : Code) → IsReached old → Does old new call.StartResume t x answer → Outcome old new t x call.StartResume answer
+pub resume_out : (old new : States) (t : ℕ) (x : Xid) (answer : Code) → IsReached old → Does plain_rows old new call.StartResume t x answer → Outcome old new t x call.StartResume answer
 resume_out old new t x answer ok h =
     let s = seen_by old t x None in
     by_work old new t x call.StartResume (λ lost. resume_plan old.associations t x lost) resumed answer (state_of old x)
@@ -189,7 +191,7 @@ resume_out old new t x answer ok h =
     (resumes true S4 tt s.busy s.active s.seat s.unmoved s.migrates s.spare s.room s.full s.held (idle old t x))
     (resume_row old.associations t x) refl resumed_target h
 
-pub suspend_out : (old new : Manager) (t : ℕ) (x : Xid) (answer : Code) → IsReached old → Does old new call.EndSuspend t x answer → Outcome old new t x call.EndSuspend answer
+pub suspend_out : (old new : States) (t : ℕ) (x : Xid) (answer : Code) → IsReached old → Does plain_rows old new call.EndSuspend t x answer → Outcome old new t x call.EndSuspend answer
 suspend_out old new t x answer ok h =
     let s = seen_by old t x None in
     by_work old new t x call.EndSuspend (λ lost. suspend_plan old.associations t x lost false) (λ lost. left_state new x lost) answer (state_of old x)
@@ -199,7 +201,7 @@ suspend_out old new t x answer ok h =
     (suspends true false S4 tt s.busy s.active s.seat s.unmoved s.migrates s.spare s.room s.full s.held)
     (λ lost. suspend_row old.associations t x lost false) refl (λ lost. left_target lost (has_active new.associations x)) h
 
-pub migrate_out : (old new : Manager) (t : ℕ) (x : Xid) (answer : Code) → IsReached old → Does old new call.EndMigrate t x answer → Outcome old new t x call.EndMigrate answer
+pub migrate_out : (old new : States) (t : ℕ) (x : Xid) (answer : Code) → IsReached old → Does plain_rows old new call.EndMigrate t x answer → Outcome old new t x call.EndMigrate answer
 migrate_out old new t x answer ok h =
     let s = seen_by old t x None in
     by_work old new t x call.EndMigrate (λ lost. suspend_plan old.associations t x lost true) (λ lost. left_state new x lost) answer (state_of old x)
@@ -209,7 +211,7 @@ migrate_out old new t x answer ok h =
     (suspends true true S4 tt s.busy s.active s.seat s.unmoved s.migrates s.spare s.room s.full s.held)
     (λ lost. suspend_row old.associations t x lost true) refl (λ lost. left_target lost (has_active new.associations x)) h
 
-pub success_out : (old new : Manager) (t : ℕ) (x : Xid) (answer : Code) → IsReached old → Does old new call.EndSuccess t x answer → Outcome old new t x call.EndSuccess answer
+pub success_out : (old new : States) (t : ℕ) (x : Xid) (answer : Code) → IsReached old → Does plain_rows old new call.EndSuccess t x answer → Outcome old new t x call.EndSuccess answer
 success_out old new t x answer ok h =
     let s = seen_by old t x None in
     by_work old new t x call.EndSuccess (λ lost. end_plan old.associations t x lost true) (λ lost. left_state new x (lost || false)) answer (state_of old x)
@@ -219,7 +221,7 @@ success_out old new t x answer ok h =
     (ends true true S4 tt s.busy s.active s.seat s.unmoved s.migrates s.spare s.room s.full s.held)
     (λ lost. end_row old.associations t x lost true) refl (λ lost. left_target (lost || false) (has_active new.associations x)) h
 
-pub fail_out : (old new : Manager) (t : ℕ) (x : Xid) (answer : Code) → IsReached old → Does old new call.EndFail t x answer → Outcome old new t x call.EndFail answer
+pub fail_out : (old new : States) (t : ℕ) (x : Xid) (answer : Code) → IsReached old → Does plain_rows old new call.EndFail t x answer → Outcome old new t x call.EndFail answer
 fail_out old new t x answer ok h =
     let s = seen_by old t x None in
     by_work old new t x call.EndFail (λ lost. end_plan old.associations t x lost false) (λ lost. left_state new x (lost || true)) answer (state_of old x)
@@ -239,7 +241,7 @@ plain_is true true = refl
 plain_is true false = refl
 plain_is false out = refl
 
-plain_checks : (m : Manager) (c : Call) (t : ℕ) (x : Xid) (known out : Bool) → is_work c ≡ false
+plain_checks : (m : States) (c : Call) (t : ℕ) (x : Xid) (known out : Bool) → is_work c ≡ false
     → first_of (naming_check c known ∷ (out, code.Proto) ∷ (is_at_limit m c t x, code.RmErr) ∷ []) ≡ plain_first known out
 plain_checks m call.Start t x known out w = absurd cc
 plain_checks m call.StartJoin t x known out w = absurd cc
@@ -268,14 +270,14 @@ or_true : (b : Bool) → (b || true) ≡ true
 or_true true = refl
 or_true false = refl
 
-out_is : (m : Manager) (c : Call) (t : ℕ) (x : Xid) → is_work c ≡ false → is_out_of_state m c t x ≡ (not (has_rows (branch_rows (state_at m x) c)) || is_held m.associations x)
+out_is : (m : States) (c : Call) (t : ℕ) (x : Xid) → is_work c ≡ false → is_out_of_state m c t x ≡ (not (has_rows (branch_rows (state_at m x) c)) || is_held m.associations x)
 out_is m c t x w = rw w refl
 
 no_rows : (s : BranchState) (c : Call) (row : Code × BranchState) → branch_rows s c ≡ [] → Contains (branch_rows s c) row → ⊥
 no_rows s c row e h = let k : Contains [] row = subst (λ (rows : List (Code × BranchState)). Contains rows row) e h in absurd (let lt = k.1 in omega arith)
 
-finish_known : (old new : Manager) (t : ℕ) (x : Xid) (c : Call) (wanted answer : Code) (held : Bool) → is_work c ≡ false → is_known old.branches.branches x ≡ true → is_held old.associations x ≡ held
-    → is_refusal wanted ≡ false → off_row c ≡ code.Proto → EndsOrNot (state_at old x) c wanted → Finishes old new x c wanted answer → Outcome old new t x c answer
+finish_known : (old new : States) (t : ℕ) (x : Xid) (c : Call) (wanted answer : Code) (held : Bool) → is_work c ≡ false → is_known old.branches.branches x ≡ true → is_held old.associations x ≡ held
+    → is_refusal wanted ≡ false → off_row c ≡ code.Proto → EndsOrNot (state_at old x) c wanted → Finishes old new x c (wanted, S0) answer → Outcome old new t x c answer
 finish_known old new t x c wanted answer true w known is answers off rows f =
     let out = out_is old c t x w ∙ ap (λ b. not (has_rows (branch_rows (state_at old x) c)) || b) is ∙ or_true (not (has_rows (branch_rows (state_at old x) c))) in
     stands old new t x c code.Proto answer
@@ -295,13 +297,13 @@ finish_known old new t x c wanted answer false w known is answers off (inr has) 
       answers = ap is_refusal made.0 ∙ answers;
       work = w;
       listed = subst (λ (a : Code). Contains (branch_rows (state_at old x) c) (a, S0)) (sym made.0) has.0;
-      branch = made.1;
-      associations = made.2;
-      init = made.3;
+      branch = made.1.branch;
+      associations = made.1.associations;
+      init = made.1.init;
     }))
 
-finish_by : (old new : Manager) (t : ℕ) (x : Xid) (c : Call) (wanted answer : Code) (o : Option BranchState) → state_of old x ≡ o → IsWorkOr o → is_work c ≡ false
-    → is_refusal wanted ≡ false → off_row c ≡ code.Proto → ((s : BranchState) → IsWork s → EndsOrNot s c wanted) → Finishes old new x c wanted answer → Outcome old new t x c answer
+finish_by : (old new : States) (t : ℕ) (x : Xid) (c : Call) (wanted answer : Code) (o : Option BranchState) → state_of old x ≡ o → IsWorkOr o → is_work c ≡ false
+    → is_refusal wanted ≡ false → off_row c ≡ code.Proto → ((s : BranchState) → IsWork s → EndsOrNot s c wanted) → Finishes old new x c (wanted, S0) answer → Outcome old new t x c answer
 finish_by old new t x c wanted answer None is work w answers off rows f =
     stands old new t x c code.NotA answer
     (plain_checks old c t x (is_known old.branches.branches x) (is_out_of_state old c t x) w ∙ ap (λ o. plain_first (is_some o) (is_out_of_state old c t x)) is)
@@ -311,8 +313,8 @@ finish_by old new t x c wanted answer (Some s) is work w answers off rows f =
     finish_known old new t x c wanted answer (is_held old.associations x) w (ap is_some is) refl answers off
     (subst (λ (q : BranchState). EndsOrNot q c wanted) (sym at) (rows s work)) f
 
-pub finish_out : (old new : Manager) (t : ℕ) (x : Xid) (c : Call) (wanted answer : Code) → IsReached old → is_work c ≡ false
-    → is_refusal wanted ≡ false → off_row c ≡ code.Proto → ((s : BranchState) → IsWork s → EndsOrNot s c wanted) → Finishes old new x c wanted answer → Outcome old new t x c answer
+pub finish_out : (old new : States) (t : ℕ) (x : Xid) (c : Call) (wanted answer : Code) → IsReached old → is_work c ≡ false
+    → is_refusal wanted ≡ false → off_row c ≡ code.Proto → ((s : BranchState) → IsWork s → EndsOrNot s c wanted) → Finishes old new x c (wanted, S0) answer → Outcome old new t x c answer
 finish_out old new t x c wanted answer ok w answers off rows f =
     finish_by old new t x c wanted answer (state_of old x) refl (work_at old.branches.branches x ok.states) w answers off rows f
 
@@ -349,7 +351,7 @@ rolled_back S3 h = absurd h
 rolled_back S5 h = absurd h
 
 -- what comes of any call
-pub comes : (old new : Manager) (c : Call) (t : ℕ) (x : Xid) (answer : Code) → IsReached old → Does old new c t x answer → Outcome old new t x c answer
+pub comes : (old new : States) (c : Call) (t : ℕ) (x : Xid) (answer : Code) → IsReached old → Does plain_rows old new c t x answer → Outcome old new t x c answer
 comes old new call.Start t x answer ok h = start_out old new t x answer h
 comes old new call.StartJoin t x answer ok h = join_out old new t x answer ok h
 comes old new call.StartResume t x answer ok h = resume_out old new t x answer ok h

@@ -17,8 +17,8 @@ use Rattle.xa_assoc.specs.Associations.{AssocList, IsBare, Moves as AssocMoves, 
 use Rattle.xa_assoc.proofs.Sound.{has_some-seat, same_is}
 use Rattle.xa_branch.specs.Branches.{Moves as BranchMoves}
 use Rattle.xa_branch.proofs.Placed.{AllIn, GoneOr, NoneOr, all_placed, found}
-use Rattle.xa_engine.specs.declared.manager.Manager.{Manager}
-use Rattle.xa_engine.specs.Manager.{Same, IsNew}
+use Rattle.xa_states.specs.declared.states.States.{States}
+use Rattle.xa_states.specs.Answers.{Same, IsNew}
 use Rattle.xa_engine.proofs.Checks.{IsWork}
 
 -- each known branch is in S1, S2 or S4
@@ -29,7 +29,7 @@ AllWork bs = AllIn IsWork bs
 abbrev pub IsKept : AssocList → Type 0
 IsKept a = (t : ℕ) (x : Xid) → (own_state a t x ≡ T0) ⊎ (is_holder a t ≡ true)
 
-pub record IsReached (m : Manager) : Type 0 where
+pub record IsReached (m : States) : Type 0 where
   pub closed : m.init ≡ R0 → IsBare m.associations
   pub kept : IsKept m.associations
   pub states : AllWork m.branches.branches
@@ -46,7 +46,7 @@ pub work_at : (bs : List (Xid × BranchState)) (x : Xid) → AllWork bs → IsWo
 work_at bs x h = found IsWork bs x h
 
 -- a branch that moves leaves all in these states
-pub moved_states : (old new : Manager) (x : Xid) (s : BranchState) → IsTarget s → BranchMoves old.branches new.branches x s → AllWork old.branches.branches → AllWork new.branches.branches
+pub moved_states : (old new : States) (x : Xid) (s : BranchState) → IsTarget s → BranchMoves old.branches new.branches x s → AllWork old.branches.branches → AllWork new.branches.branches
 moved_states old new x s w moves h = subst (λ (bs : List (Xid × BranchState)). AllWork bs) (sym moves.order) (all_placed IsWork old.branches.branches x s w h)
 
 state_by : Option Xid → List Seat → ℕ → Xid → AssocState
@@ -153,7 +153,7 @@ empty_states a bare seats t x =
     state_of a t x ∙ ap (λ o. state_by o a.seats t x) none ∙ ap (λ (s : List Seat). state_by None s t x) seats
 
 -- a new manager is reached
-pub new_reached : (m : Manager) → IsNew m → IsReached m
+pub new_reached : (m : States) → IsNew m → IsReached m
 new_reached m h = record {
   closed = λ e. h.associations;
   kept = λ t x. inl (empty_states m.associations h.associations h.seats t x);
@@ -161,7 +161,7 @@ new_reached m h = record {
 }
 
 -- and so is a manager that has not changed
-pub same_reached : (old new : Manager) → Same old new → IsReached old → IsReached new
+pub same_reached : (old new : States) → Same old new → IsReached old → IsReached new
 same_reached old new s ok = record {
   closed = λ e. subst (λ (a : AssocList). IsBare a) (sym s.associations) (ok.closed (sym s.init ∙ e));
   kept = subst (λ (a : AssocList). IsKept a) (sym s.associations) ok.kept;

@@ -2,12 +2,12 @@
 use Rattle.std.proofs.Common.{◌≡◌, List, [], ◌∷◌, ◌++◌, refl, ap, sym, ◌∙◌, subst, append_assoc}
 use Rattle.std.specs.List.{flat_map}
 use Rattle.std.proofs.lemmas.List.{append-nil}
-use Rattle.xa_engine.specs.declared.manager.Manager.{Manager}
+use Rattle.xa_states.specs.declared.states.States.{States}
 use Rattle.xa_engine.specs.declared.script.Request.{Request}
 use Rattle.xa_engine.specs.Runs.{Answer, Makes, Leads, answer_text}
 
-pub leads_more : (m k n : Manager) (rs : List Request) (r : Request) (given : List Answer) (a : Answer) → Leads m rs given k → Makes k n r a → Leads m (rs ++ r ∷ []) (given ++ a ∷ []) n
-leads_more m k n [] r [] a e makes = (n, subst (λ (j : Manager). Makes j n r a) (sym e) makes, refl)
+pub leads_more : (m k n : States) (rs : List Request) (r : Request) (given : List Answer) (a : Answer) → Leads m rs given k → Makes k n r a → Leads m (rs ++ r ∷ []) (given ++ a ∷ []) n
+leads_more m k n [] r [] a e makes = (n, subst (λ (j : States). Makes j n r a) (sym e) makes, refl)
 leads_more m k n [] r (b ∷ given) a e makes = absurd e
 leads_more m k n (s ∷ rs) r [] a e makes = absurd e
 leads_more m k n (s ∷ rs) r (b ∷ given) a e makes = (e.0, e.1, leads_more e.0 k n rs r given a e.2 makes)

@@ -10,7 +10,6 @@ use Rattle.xa_tables.specs.declared.call.Call.TheVariants as call
 use Rattle.xa_tables.specs.declared.call.Verb.{Verb}
 use Rattle.xa_tables.specs.declared.call.Verb.TheVariants as verb
 use Rattle.xa_tables.specs.declared.states.InitState.{InitState}
-use Rattle.xa_tables.specs.declared.states.InitState.TheVariants.{R0, R1}
 use Rattle.xa_tables.specs.declared.states.AssocState.{AssocState}
 use Rattle.xa_tables.specs.declared.states.AssocState.TheVariants.{T1, M}
 use Rattle.xa_tables.specs.declared.states.BranchState.{BranchState}
@@ -21,10 +20,11 @@ use Rattle.xa_assoc.specs.Associations.{AssocList, active_of, has_room, has_seat
 use Rattle.xa_branch.specs.Branches.{is_known, starts_scan}
 use Rattle.xa_branch.specs.Names.{same}
 use Rattle.xa_branch.specs.Scans.{has_scan}
-use Rattle.xa_engine.specs.declared.manager.Manager.{Manager}
+use Rattle.xa_states.specs.declared.states.States.{States}
 use Rattle.xa_engine.specs.declared.script.Request.{Request}
 use Rattle.xa_engine.specs.declared.script.Request.TheVariants.{Open, Close, Branch, Recover}
-use Rattle.xa_engine.specs.Manager.{Same, is_held, state_at}
+use Rattle.xa_states.specs.Answers.{Same, is_held, state_at}
+use Rattle.xa_states.specs.Ready.{has_rows, is_closed, is_start, is_work}
 use Rattle.xa_engine.specs.Runs.{Answer, IsCode}
 
 -- The checks of a call, in their order.
@@ -34,35 +34,10 @@ abbrev pub first_of : List (Bool × Code) → Option Code
 first_of [] = None
 first_of (check ∷ checks) = if check.0 then Some check.1 else first_of checks
 
--- a manager is not open
-abbrev pub is_closed : InitState → Bool
-is_closed R0 = true
-is_closed R1 = false
-
 -- a new branch must not be known, and every other must be
 abbrev pub naming_check : Call → Bool → Bool × Code
 naming_check call.Start known = (known, code.DupId)
 naming_check _ known = (not known, code.NotA)
-
--- a call begins an association, or takes one up again
-abbrev pub is_start : Call → Bool
-is_start call.Start = true
-is_start call.StartJoin = true
-is_start call.StartResume = true
-is_start _ = false
-
--- a call is one on an association: a start or an end
-abbrev pub is_work : Call → Bool
-is_work call.EndSuspend = true
-is_work call.EndMigrate = true
-is_work call.EndSuccess = true
-is_work call.EndFail = true
-is_work c = is_start c
-
--- a table has a row
-abbrev pub has_rows : {S : Type 0} → List (Code × S) → Bool
-has_rows [] = false
-has_rows (row ∷ rows) = true
 
 -- the table of associations has a row for a call, from the thread's own association or from one that is
 -- suspended for migration
@@ -77,7 +52,7 @@ is_unfit a c t x = (is_start c && is_some (active_of a t)) || not (has_own_row a
 
 -- no row applies: the branch has none, the thread may not work on it, or it is held and to be prepared or
 -- ended
-abbrev pub is_out_of_state : Manager → Call → ℕ → Xid → Bool
+abbrev pub is_out_of_state : States → Call → ℕ → Xid → Bool
 is_out_of_state m c t x =
     not (has_rows (branch_rows (state_at m x) c))
     || (if is_work c then is_unfit m.associations c t x else is_held m.associations x)
@@ -88,7 +63,7 @@ is_lost S4 = true
 is_lost _ = false
 
 -- a limit is met: 1,024 branches, 256 threads with associations, or 2^64 - 1 migrations of one branch
-abbrev pub is_at_limit : Manager → Call → ℕ → Xid → Bool
+abbrev pub is_at_limit : States → Call → ℕ → Xid → Bool
 is_at_limit m call.Start t x = nat_le 1024 (length m.branches.branches) || not (has_room m.associations t)
 is_at_limit m call.StartJoin t x = not (has_room m.associations t)
 is_at_limit m call.StartResume t x =
@@ -99,17 +74,17 @@ is_at_limit m call.EndMigrate t x =
 is_at_limit m _ t x = false
 
 -- what is asked of a call on a branch once its flags are legal and its name is one
-abbrev pub state_checks : Manager → Call → ℕ → Xid → List (Bool × Code)
+abbrev pub state_checks : States → Call → ℕ → Xid → List (Bool × Code)
 state_checks m c t x =
     naming_check c (is_known m.branches.branches x) ∷ (is_out_of_state m c t x, code.Proto)
     ∷ (is_at_limit m c t x, code.RmErr) ∷ []
 
 -- what is asked of a call on a branch once its flags are legal
-abbrev pub branch_checks : Manager → Call → ℕ → Xid → List (Bool × Code)
+abbrev pub branch_checks : States → Call → ℕ → Xid → List (Bool × Code)
 branch_checks m c t x = (is_closed m.init, code.Proto) ∷ (same x null_xid, code.Inval) ∷ state_checks m c t x
 
 -- what is asked of a recover once its flags are legal
-abbrev pub scan_checks : Manager → Call → ℕ → List (Bool × Code)
+abbrev pub scan_checks : States → Call → ℕ → List (Bool × Code)
 scan_checks m c t =
     (is_closed m.init, code.Proto) ∷ (not (has_scan m.branches.scans t) && not (starts_scan c), code.Inval)
     ∷ (not (has_scan m.branches.scans t) && nat_le 256 (length m.branches.scans), code.RmErr) ∷ []
@@ -124,7 +99,7 @@ behind_flags checks (Ok c) = first_of (checks c)
 behind_flags checks (Err refusal) = Some refusal
 
 -- the first check that refuses a call
-abbrev pub first_refusal : Manager → Request → Option Code
+abbrev pub first_refusal : States → Request → Option Code
 first_refusal m (Open flags migrates) = behind_flags (λ c. []) (legal verb.Open flags.0)
 first_refusal m (Close flags) =
     behind_flags (λ c. (has_associations m.associations, code.Proto) ∷ []) (legal verb.Close flags.0)
@@ -149,7 +124,7 @@ is_refused (Ok given) = false
 is_refused (Err c) = is_refusal c
 
 -- a call answers by the first check that refuses it, and then changes nothing; where none does, by no refusal
-pub record AnswersFirst (old : Manager) (r : Request) (answer : Answer) (new : Manager) : Type 0 where
+pub record AnswersFirst (old : States) (r : Request) (answer : Answer) (new : States) : Type 0 where
   pub refused : (c : Code) → first_refusal old r ≡ Some c → (answer ≡ Err c) × Same old new
   pub made : first_refusal old r ≡ None → is_refused answer ≡ false
 
@@ -249,7 +224,7 @@ WalksBy step s _ _ e = ⊥
 -- a history is legal: its projections on the manager, on each branch, on each thread's association with each
 -- branch and on the migrations of each branch walk rows of the tables, a thread is active in one branch at
 -- most, and each call answers by the first check that refuses it
-pub record IsLegalHistory (m : Manager) (rs : List Request) (given : List Answer) (n : Manager) : Type 0 where
+pub record IsLegalHistory (m : States) (rs : List Request) (given : List Answer) (n : States) : Type 0 where
   pub manager : WalksBy InitStep m.init rs given n.init
   pub branches : (x : Xid) → WalksBy (BranchStep x) (state_at m x) rs given (state_at n x)
   pub associations : (t : ℕ) (x : Xid)

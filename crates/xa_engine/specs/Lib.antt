@@ -1,4 +1,3 @@
-pub mod Reacting
 pub mod Manager
 pub mod Requests
 pub mod Runs

@@ -1,19 +1,20 @@
 -- A run of a script's calls on a manager, and the text of its answers.
-use Rattle.std.specs.Prelude.{◌≡◌, ℕ, List, [], ◌∷◌, ◌++◌, Option, Result, Ok, Err, length, codes}
+use Rattle.std.specs.Prelude.{◌≡◌, ℕ, List, [], ◌∷◌, ◌++◌, Result, Ok, Err, length, codes}
 use Rattle.std.specs.List.{flat_map}
 use Rattle.std.specs.Fmt.{decimal}
 use Rattle.xa_codes.specs.Codes.{code_name}
 use Rattle.xa_codes.specs.declared.code.Code.{Code}
 use Rattle.xa_xid.specs.declared.xid.Xid.{Xid}
 use Rattle.xa_xid.specs.Text.{xid_text}
-use Rattle.xa_engine.specs.declared.manager.Manager.{Manager}
+use Rattle.xa_states.specs.declared.states.States.{States}
 use Rattle.report_io.specs.declared.status.Status.{Status}
 use Rattle.report_io.specs.declared.status.Status.TheVariants.{Ended, Refused, Stopped}
 use Rattle.xa_engine.specs.declared.script.ScriptError.{ScriptError}
 use Rattle.xa_engine.specs.declared.script.ScriptError.TheVariants.{Line, Utf8, TooLong}
 use Rattle.xa_engine.specs.declared.script.Request.{Request}
 use Rattle.xa_engine.specs.declared.script.Request.TheVariants.{Open, Close, Branch, Recover}
-use Rattle.xa_engine.specs.Manager.{IsNew, Opens, Closes, Answers, Recovers}
+use Rattle.xa_states.specs.Answers.{IsNew, Opens, Closes, Answers, Recovers}
+use Rattle.xa_engine.specs.Manager.{plain_rows}
 use Rattle.xa_engine.specs.Requests.{IsScript, IsScriptFault}
 
 -- an answer: the branches that a recover gives, or a code
@@ -26,16 +27,16 @@ IsCode P (Ok given) = ⊥
 IsCode P (Err code) = P code
 
 -- a call of a script takes a manager from one state to another, and is answered so
-abbrev pub Makes : Manager → Manager → Request → Answer → Type 0
+abbrev pub Makes : States → States → Request → Answer → Type 0
 Makes old new (Open flags migrates) answer = IsCode (Opens old new flags.0 migrates) answer
 Makes old new (Close flags) answer = IsCode (Closes old new flags.0) answer
-Makes old new (Branch verb thread xid flags) answer = IsCode (Answers old new verb thread xid flags.0) answer
+Makes old new (Branch verb thread xid flags) answer = IsCode (Answers plain_rows old new verb thread xid flags.0) answer
 Makes old new (Recover thread count flags) answer = Recovers old new thread count flags.0 answer
 
 -- calls take a manager from one state to another, each with its answer
-abbrev pub Leads : Manager → List Request → List Answer → Manager → Type 0
+abbrev pub Leads : States → List Request → List Answer → States → Type 0
 Leads m [] [] n = m ≡ n
-Leads m (r ∷ rs) (a ∷ rest) n = (k : Manager) × Makes m k r a × Leads k rs rest n
+Leads m (r ∷ rs) (a ∷ rest) n = (k : States) × Makes m k r a × Leads k rs rest n
 Leads m _ _ n = ⊥
 
 -- the line of an answer: the code's name, or how many branches there are, and their names
@@ -49,7 +50,7 @@ report_text answers = flat_map answer_text answers ++ codes "end" ++ 10 ∷ []
 
 -- a text reports a run of these calls from a new manager on
 abbrev pub Reports : List Request → List ℕ → Type 0
-Reports requests text = (m : Manager) × (n : Manager) × (answers : List Answer) × IsNew m
+Reports requests text = (m : States) × (n : States) × (answers : List Answer) × IsNew m
     × Leads m requests answers n × (text ≡ report_text answers)
 
 -- the line of a refused script

@@ -2,17 +2,18 @@
 
 ghost use Rattle.std.specs.Prelude.{◌≡◌, ◌++◌, ℕ, List, Ok, OnOk, IfOk, IfErr, string_bytes};
 ghost use Rattle.std.specs.Io.KnownBytes.{Appends, Keeps};
-ghost use Rattle.xa_engine.specs.Manager.{map_ok};
+ghost use Rattle.xa_states.specs.Answers.{map_ok};
 ghost use Rattle.report_io.specs.Streams.{IsInput, WritesFront};
 ghost use Rattle.report_io.specs.declared.status.Status.{Status as AnyStatus};
 ghost use Rattle.xa_engine.specs.Runs.{Makes, Reports, IsReport, answer_text, refusal_text};
 
-use crate::manager::Manager;
+use crate::manager;
 use crate::script::{Request, ScriptError, requests_of};
 use report_io::{Failure, Status, read_all, write_all};
 use std::alloc::{AllocError, Global};
 use std::io::{Read, Write};
 use xa_codes::Code;
+use xa_states::States;
 use xa_xid::Xid;
 
 /// Reads an XA script, makes its calls on a manager without data, and writes their answers; or one line
@@ -65,10 +66,10 @@ fn refusal(alloc: Global, error: ScriptError) -> Result<String, AllocError>
 fn answers(alloc: Global, requests: &[Request]) -> Result<String, AllocError>
     ensures { IfOk result (λ text. Reports requests.now (string_bytes text)) }
 {
-    let mut manager = Manager::new(alloc);
+    let mut states = States::new(alloc);
     let mut out = String::new(alloc);
     for request in requests {
-        let answer = make(&mut manager, *request)?;
+        let answer = make(&mut states, *request)?;
         push_answer(&mut out, &answer)?;
     }
     out.push_str("end\n")?;
@@ -76,23 +77,23 @@ fn answers(alloc: Global, requests: &[Request]) -> Result<String, AllocError>
 }
 
 /// Makes a call.
-fn make(manager: &mut Manager, request: Request) -> Result<Result<Vec<Xid>, Code>, AllocError>
-    ensures { IfOk result (λ answer. Makes manager.old manager.new request (map_ok answer)) }
+fn make(states: &mut States, request: Request) -> Result<Result<Vec<Xid>, Code>, AllocError>
+    ensures { IfOk result (λ answer. Makes states.old states.new request (map_ok answer)) }
 {
     let code = match request {
-        Request::Open { flags, migrates } => manager.open(flags, migrates),
-        Request::Close { flags } => manager.close(flags),
+        Request::Open { flags, migrates } => states.open(flags, migrates),
+        Request::Close { flags } => states.close(flags),
         Request::Branch {
             verb,
             thread,
             xid,
             flags,
-        } => manager.call(verb, thread, &xid, flags)?,
+        } => manager::call(states, verb, thread, &xid, flags)?,
         Request::Recover {
             thread,
             count,
             flags,
-        } => return manager.recover(thread, count, flags),
+        } => return states.recover(thread, count, flags),
     };
     Ok(Err(code))
 }

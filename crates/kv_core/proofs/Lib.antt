@@ -1,0 +1,4 @@
+pub mod Moves
+pub mod Tidy
+pub mod Turning
+pub mod Working

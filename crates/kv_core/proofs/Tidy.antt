@@ -1,0 +1,217 @@
+-- What keeps a key store tidy.
+use Rattle.std.proofs.Common.{◌≡◌, ℕ, Bool, true, false, Option, None, List, [], ◌∷◌, refl, ap, sym, ◌∙◌, arith, rules, ◌⊎◌, inl, inr}
+use Rattle.std.proofs.lemmas.Grind.{common_steps}
+use Rattle.xa_tables.specs.declared.call.Call.{Call}
+use Rattle.xa_tables.specs.declared.call.Call.TheVariants as call
+use Rattle.xa_tables.specs.declared.states.BranchState.{BranchState}
+use Rattle.xa_tables.specs.declared.states.BranchState.TheVariants.{S0, S1, S2, S3, S4, S5}
+use Rattle.tree_model.specs.declared.names.Presumption.{Presumption}
+use Rattle.xa_xid.specs.declared.xid.Xid.{Xid}
+use Rattle.xa_states.specs.Answers.{Takes as TakesRow}
+use Rattle.log_order.specs.Orders.{names_key}
+use Rattle.tree_model.specs.declared.records.Write.{Write}
+use Rattle.tree_model.specs.Records.{same_bytes}
+use Rattle.tree_model.specs.Plays.{with_write}
+use Rattle.key_tables.specs.Tables.{same_key}
+use Rattle.kv_store.proofs.Order.{same_is as bytes_same}
+use Rattle.kv_locks.specs.declared.holders.Holder.{Holder}
+use Rattle.kv_locks.specs.declared.holders.Mode.{Mode}
+use Rattle.kv_locks.specs.declared.holders.Mode.TheVariants.{Exclusive, Shared}
+use Rattle.kv_locks.specs.Locks.{LockTable, Releases, Takes, blocked_by, given, holders_of, holds, same, without}
+use Rattle.kv_locks.proofs.Holding.{holds_given, holds_without, same_is as locks_same, without_itself}
+use Rattle.kv_writes.specs.Writes.{Leaves, SameWrites, WriteTable, writes_of}
+use Rattle.kv_writes.proofs.Lists.{with_write_names}
+use Rattle.kv_turns.specs.declared.turns.Turn.{Turn}
+use Rattle.kv_turns.specs.Turns.{turn_of}
+use Rattle.kv_core.specs.Ends.{ends, turn_for}
+use Rattle.kv_core.specs.Stores.{IsTidy, KeySight, is_let_go, state_of}
+use Rattle.kv_core.proofs.Moves.{Keeps}
+
+-- where the tables alone change
+pub tidy_moved : (s s' : KeySight) → IsTidy s → s'.writes ≡ s.writes → s'.locks ≡ s.locks → Keeps is_let_go s.tables s'.tables
+    → IsTidy s'
+tidy_moved s s' tidy writes locks keeps = record {
+  held = λ x k named. ap (λ l. holders_of l k) locks ∙ tidy.held x k (ap (λ w. names_key (writes_of w x) k) (sym writes) ∙ named);
+  written = λ x gone. ap (λ w. writes_of w x) writes ∙ tidy.written x (keeps x gone);
+  free = λ x k gone. ap (λ l. holds (holders_of l k) x) locks ∙ tidy.free x k (keeps x gone);
+}
+
+-- A lock that nobody is in the way of.
+
+one_held : (y x : Xid) (m : Mode) → blocked_by (record { xid = y; mode = Exclusive } ∷ []) x m ≡ None → same y x ≡ true
+one_held y x m none = by_test (same y x) refl
+  where
+    by_test : (b : Bool) → same y x ≡ b → same y x ≡ true
+    by_test true e = e
+    by_test false e = absurd (grind (arith, common_steps))
+
+given_own : (y x : Xid) (m : Mode) → same y x ≡ true
+    → given (record { xid = y; mode = Exclusive } ∷ []) x m ≡ record { xid = y; mode = Exclusive } ∷ []
+given_own y x Exclusive e = ap (λ z. record { xid = z; mode = Exclusive } ∷ []) (sym (locks_same y x e))
+given_own y x Shared e = grind (arith, common_steps)
+
+-- a branch's key stays its own
+held_took : (s : KeySight) (locks : LockTable) (x : Xid) (k : List ℕ) (m : Mode) → IsTidy s
+    → blocked_by (holders_of s.locks k) x m ≡ None → Takes s.locks locks x k m
+    → (y : Xid) (l : List ℕ) → names_key (writes_of s.writes y) l ≡ true
+    → holders_of locks l ≡ record { xid = y; mode = Exclusive } ∷ []
+held_took s locks x k m tidy clear took y l named = by_test (same_key k l) refl
+  where
+    had : holders_of s.locks l ≡ record { xid = y; mode = Exclusive } ∷ []
+    had = tidy.held y l named
+
+    by_test : (b : Bool) → same_key k l ≡ b → holders_of locks l ≡ record { xid = y; mode = Exclusive } ∷ []
+    by_test true e =
+        let one : k ≡ l = search rules in
+        let had_here : holders_of s.locks k ≡ record { xid = y; mode = Exclusive } ∷ [] = ap (holders_of s.locks) one ∙ had in
+        let own : same y x ≡ true = one_held y x m (ap (λ hs. blocked_by hs x m) (sym had_here) ∙ clear) in
+        ap (holders_of locks) (sym one) ∙ took.own ∙ ap (λ hs. given hs x m) had_here ∙ given_own y x m own
+    by_test false e = took.others l e ∙ had
+
+-- a branch that is let go holds no key that another takes
+free_took : (s : KeySight) (locks : LockTable) (x : Xid) (k : List ℕ) (m : Mode) → IsTidy s → is_let_go (state_of s x) ≡ false
+    → Takes s.locks locks x k m
+    → (y : Xid) (l : List ℕ) → is_let_go (state_of s y) ≡ true → holds (holders_of locks l) y ≡ false
+free_took s locks x k m tidy works took y l gone = by_test (same_key k l) refl
+  where
+    none : (b : Bool) → holds (given (holders_of s.locks k) x m) y ≡ b → holds (given (holders_of s.locks k) x m) y ≡ false
+    none false e = e
+    none true e = elim (holds_given (holders_of s.locks k) x y m e) [
+      | inl before ↦ absurd (let never : true ≡ false = sym before ∙ tidy.free y k gone in cc)
+      | inr this ↦ absurd (let never : true ≡ false = sym gone ∙ ap (λ z. is_let_go (state_of s z)) (sym (locks_same x y this)) ∙ works in cc)
+    ]
+
+    by_test : (b : Bool) → same_key k l ≡ b → holds (holders_of locks l) y ≡ false
+    by_test true e =
+        let one : k ≡ l = search rules in
+        ap (λ j. holds (holders_of locks j) y) (sym one) ∙ ap (λ hs. holds hs y) took.own
+        ∙ none (holds (given (holders_of s.locks k) x m) y) refl
+    by_test false e = ap (λ hs. holds hs y) (took.others l e) ∙ tidy.free y l gone
+
+pub tidy_read : (s : KeySight) (locks : LockTable) (x : Xid) (k : List ℕ) (m : Mode) → IsTidy s → is_let_go (state_of s x) ≡ false
+    → blocked_by (holders_of s.locks k) x m ≡ None → Takes s.locks locks x k m → IsTidy (record s { locks = locks })
+tidy_read s locks x k m tidy works clear took = record {
+  held = held_took s locks x k m tidy clear took;
+  written = tidy.written;
+  free = free_took s locks x k m tidy works took;
+}
+
+-- a key that is written is the one of the write, or was written before
+named_before : (ws : List Write) (k l : List ℕ) (v : Option (List ℕ)) → names_key (with_write ws k v) l ≡ true
+    → same_bytes k l ≡ false → names_key ws l ≡ true
+named_before ws k l v named other = by_test (names_key ws l) refl
+  where
+    by_test : (b : Bool) → names_key ws l ≡ b → names_key ws l ≡ true
+    by_test true e = e
+    by_test false e = absurd (let never : true ≡ false = sym named ∙ with_write_names ws k l v e other in cc)
+
+pub tidy_wrote : (s : KeySight) (writes : WriteTable) (locks : LockTable) (x : Xid) (k : List ℕ) (v : Option (List ℕ)) → IsTidy s
+    → is_let_go (state_of s x) ≡ false → blocked_by (holders_of s.locks k) x Exclusive ≡ None
+    → Takes s.locks locks x k Exclusive → Leaves s.writes writes x (with_write (writes_of s.writes x) k v)
+    → IsTidy (record s { writes = writes; locks = locks })
+tidy_wrote s writes locks x k v tidy works clear took left = record {
+  held = λ y l named. held y l named (same x y) refl;
+  written = λ y gone. written y gone (same x y) refl;
+  free = free_took s locks x k Exclusive tidy works took;
+}
+  where
+    own_key : (l : List ℕ) → names_key (with_write (writes_of s.writes x) k v) l ≡ true → (b : Bool) → same_bytes k l ≡ b
+        → holders_of locks l ≡ record { xid = x; mode = Exclusive } ∷ []
+    own_key l named true e = ap (holders_of locks) (sym (bytes_same k l e)) ∙ took.own
+    own_key l named false e = held_took s locks x k Exclusive tidy clear took x l (named_before (writes_of s.writes x) k l v named e)
+
+    held : (y : Xid) (l : List ℕ) → names_key (writes_of writes y) l ≡ true → (b : Bool) → same x y ≡ b
+        → holders_of locks l ≡ record { xid = y; mode = Exclusive } ∷ []
+    held y l named true e =
+        let one : x ≡ y = locks_same x y e in
+        let mine : names_key (with_write (writes_of s.writes x) k v) l ≡ true = ap (λ ws. names_key ws l) (sym left.own) ∙ ap (λ z. names_key (writes_of writes z) l) one ∙ named in
+        own_key l mine (same_bytes k l) refl ∙ ap (λ z. record { xid = z; mode = Exclusive } ∷ []) one
+    held y l named false e = held_took s locks x k Exclusive tidy clear took y l (ap (λ ws. names_key ws l) (sym (left.others y e)) ∙ named)
+
+    written : (y : Xid) → is_let_go (state_of s y) ≡ true → (b : Bool) → same x y ≡ b → writes_of writes y ≡ []
+    written y gone true e =
+        let one : x ≡ y = locks_same x y e in
+        absurd (let never : true ≡ false = sym gone ∙ ap (λ z. is_let_go (state_of s z)) (sym one) ∙ works in cc)
+    written y gone false e = left.others y e ∙ tidy.written y gone
+
+-- room was made for the writes before
+pub left_behind : (t u v : WriteTable) (x : Xid) (k : List ℕ) (w : Option (List ℕ)) → SameWrites t u
+    → Leaves u v x (with_write (writes_of u x) k w) → Leaves t v x (with_write (writes_of t x) k w)
+left_behind t u v x k w stays left = record {
+  own = left.own ∙ ap (λ ws. with_write ws k w) (stays x);
+  others = λ y apart. left.others y apart ∙ stays y;
+}
+
+-- A branch takes its turn.
+
+pub turn_leads : (s : BranchState) (c : Call) (wrote : Bool) (p : Presumption)
+    → ((turn_of s c wrote p).to ≡ S0) ⊎ ((turn_of s c wrote p).to ≡ S3)
+turn_leads s call.Prepare true p = inr refl
+turn_leads s call.Prepare false p = inl refl
+turn_leads s call.Commit wrote p = inl refl
+turn_leads s call.CommitOnePhase true p = inl refl
+turn_leads s call.CommitOnePhase false p = inl refl
+turn_leads S0 call.Rollback wrote p = inl refl
+turn_leads S1 call.Rollback wrote p = inl refl
+turn_leads S2 call.Rollback wrote p = inl refl
+turn_leads S3 call.Rollback wrote p = inl refl
+turn_leads S4 call.Rollback wrote p = inl refl
+turn_leads S5 call.Rollback wrote p = inl refl
+turn_leads s _ wrote p = inl refl
+
+-- a turn that does not end its branch is a promise
+pub promised_to : (s : KeySight) (x : Xid) (c : Call) (turn : Turn) → turn ≡ turn_for s x c → ends turn.to ≡ false → turn.to ≡ S3
+promised_to s x c turn is goes_on = elim (turn_leads (state_of s x) c _ _) [
+  | inl ended ↦ absurd (let never : true ≡ false = sym (ap ends (ap (λ (t : Turn). t.to) is ∙ ended)) ∙ goes_on in cc)
+  | inr promised ↦ ap (λ (t : Turn). t.to) is ∙ promised
+]
+
+without_other : (y x : Xid) → same y x ≡ false
+    → without (record { xid = y; mode = Exclusive } ∷ []) x ≡ record { xid = y; mode = Exclusive } ∷ []
+without_other y x other = grind (arith, common_steps)
+
+still_free : (hs : List Holder) (x y : Xid) → holds hs y ≡ false → holds (without hs x) y ≡ false
+still_free hs x y none = by_test (holds (without hs x) y) refl
+  where
+    by_test : (b : Bool) → holds (without hs x) y ≡ b → holds (without hs x) y ≡ false
+    by_test false e = e
+    by_test true e = absurd (let never : true ≡ false = sym (holds_without hs x y e) ∙ none in cc)
+
+other_way : (x y : Xid) → same x y ≡ false → same y x ≡ false
+other_way x y apart = by_test (same y x) refl
+  where
+    by_test : (b : Bool) → same y x ≡ b → same y x ≡ false
+    by_test false e = e
+    by_test true e =
+        let one : y ≡ x = locks_same y x e in
+        absurd (let never : true ≡ false = sym (ap (λ z. same z y) (sym one) ∙ ap (same y) one ∙ e) ∙ apart in cc)
+
+pub tidy_ended : (s s' : KeySight) (x : Xid) → IsTidy s → TakesRow s.tables s'.tables x S0
+    → Leaves s.writes s'.writes x [] → Releases s.locks s'.locks x → IsTidy s'
+unfolding names_key
+tidy_ended s s' x tidy row left released = record {
+  held = λ y l named. held y l named (same x y) refl;
+  written = λ y gone. written y gone (same x y) refl;
+  free = λ y l gone. ap (λ hs. holds hs y) (released.each l) ∙ free y l gone (same x y) refl;
+}
+  where
+    held : (y : Xid) (l : List ℕ) → names_key (writes_of s'.writes y) l ≡ true → (b : Bool) → same x y ≡ b
+        → holders_of s'.locks l ≡ record { xid = y; mode = Exclusive } ∷ []
+    held y l named true e =
+        let nothing : writes_of s'.writes y ≡ [] = ap (writes_of s'.writes) (sym (locks_same x y e)) ∙ left.own in
+        absurd (let never : true ≡ false = sym named ∙ ap (λ ws. names_key ws l) nothing in cc)
+    held y l named false e =
+        released.each l ∙ ap (λ hs. without hs x) (tidy.held y l (ap (λ ws. names_key ws l) (sym (left.others y e)) ∙ named))
+        ∙ without_other y x (other_way x y e)
+
+    before : (y : Xid) → is_let_go (state_of s' y) ≡ true → same x y ≡ false → is_let_go (state_of s y) ≡ true
+    before y gone e = ap is_let_go (sym (row.branch.others y e)) ∙ gone
+
+    written : (y : Xid) → is_let_go (state_of s' y) ≡ true → (b : Bool) → same x y ≡ b → writes_of s'.writes y ≡ []
+    written y gone true e = ap (writes_of s'.writes) (sym (locks_same x y e)) ∙ left.own
+    written y gone false e = left.others y e ∙ tidy.written y (before y gone e)
+
+    free : (y : Xid) (l : List ℕ) → is_let_go (state_of s' y) ≡ true → (b : Bool) → same x y ≡ b
+        → holds (without (holders_of s.locks l) x) y ≡ false
+    free y l gone true e = ap (holds (without (holders_of s.locks l) x)) (sym (locks_same x y e)) ∙ without_itself (holders_of s.locks l) x
+    free y l gone false e = still_free (holders_of s.locks l) x y (tidy.free y l (before y gone e))

@@ -1,0 +1,3 @@
+pub mod Stores
+pub mod Works
+pub mod Ends

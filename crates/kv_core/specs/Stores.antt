@@ -1,0 +1,50 @@
+-- A key store behind XA, without its log.
+use Rattle.std.specs.Prelude.{◌≡◌, ℕ, Bool, true, false, List, [], ◌∷◌}
+use Rattle.xa_tables.specs.declared.states.BranchState.{BranchState}
+use Rattle.xa_tables.specs.declared.states.BranchState.TheVariants.{S0, S5}
+use Rattle.xa_xid.specs.declared.xid.Xid.{Xid}
+use Rattle.xa_states.specs.declared.states.States.{States}
+use Rattle.xa_states.specs.Answers.{Same, state_at}
+use Rattle.log_order.specs.Orders.{names_key}
+use Rattle.kv_locks.specs.declared.holders.Mode.TheVariants.{Exclusive}
+use Rattle.kv_locks.specs.Locks.{LockTable, holders_of, holds}
+use Rattle.kv_store.specs.Versions.{VersionTable}
+use Rattle.kv_writes.specs.Writes.{SameWrites, WriteTable, writes_of}
+
+-- what a contract sees: the tables of calls, what each branch at work has written, the locks, and the data
+pub record KeySight : Type 0 where
+  pub tables : States
+  pub writes : WriteTable
+  pub locks : LockTable
+  pub versions : VersionTable
+
+-- the state of a branch
+abbrev pub state_of : KeySight → Xid → BranchState
+state_of s x = state_at s.tables x
+
+-- the branch is not known, or an operator decided it
+abbrev pub is_let_go : BranchState → Bool
+is_let_go S0 = true
+is_let_go S5 = true
+is_let_go _ = false
+
+-- a branch holds each key exclusively that it has written, and one that is let go has written nothing and holds nothing
+pub record IsTidy (s : KeySight) : Type 0 where
+  pub held : (x : Xid) (k : List ℕ) → names_key (writes_of s.writes x) k ≡ true
+      → holders_of s.locks k ≡ record { xid = x; mode = Exclusive } ∷ []
+  pub written : (x : Xid) → is_let_go (state_of s x) ≡ true → writes_of s.writes x ≡ []
+  pub free : (x : Xid) (k : List ℕ) → is_let_go (state_of s x) ≡ true → holds (holders_of s.locks k) x ≡ false
+
+-- nothing changes but room
+pub record SameStore (old new : KeySight) : Type 0 where
+  pub tables : Same old.tables new.tables
+  pub writes : SameWrites old.writes new.writes
+  pub locks : new.locks ≡ old.locks
+  pub versions : new.versions ≡ old.versions
+
+-- what a call made of the tables, and of nothing else
+pub record MovesTables (old new : KeySight) (Moves : States → States → Type 0) : Type 0 where
+  pub tables : Moves old.tables new.tables
+  pub writes : new.writes ≡ old.writes
+  pub locks : new.locks ≡ old.locks
+  pub versions : new.versions ≡ old.versions

@@ -1,0 +1,337 @@
+//! A key store behind XA, without its log.
+
+ghost use Rattle.std.specs.Prelude.{◌≡◌, ◌<◌, ◌+◌, ◌^◌, ◌↔◌, not, IsTrue, Contains, IfOk, IfErr, OnOk, OnErr, Some, None, option_map, true, false};
+ghost use Rattle.kv_locks.specs.declared.holders.Mode.TheVariants as mode;
+ghost use Rattle.kv_writes.specs.Writes.{AreWrites, writes_of};
+ghost use Rattle.xa_states.specs.Answers.{Answers, Closes, Opens, Recovers, Wanted, map_ok};
+ghost use Rattle.xa_states.specs.Ready.{is_closed, is_work_verb};
+ghost use Rattle.xa_branch.specs.Branches.{is_known};
+ghost use Rattle.kv_core.specs.Stores.{IsTidy, MovesTables, SameStore, state_of};
+ghost use Rattle.kv_core.specs.Works.{IsRefused, Reads, Writes, at_work, branch_refusal, is_too_long, refusal_by, value_for, work_refusal};
+ghost use Rattle.kv_core.specs.Ends.{IsDue, IsListed, IsOff, PublishesWrites, SameButData, StagesWrites, TakesTurn, ends, turn_for, wrote_some};
+
+use kv_locks::{LockError, Locks, Mode};
+use kv_store::Versions;
+use kv_turns::{Turn, presumption_of};
+use kv_writes::BranchWrites;
+use std::alloc::{AllocError, Global};
+use std::marker::Model;
+use tree_model::{Bytes, Sequence, Write};
+use xa_codes::{Code, Flags};
+use xa_manager::WorkError;
+use xa_states::States;
+use xa_tables::{BranchState, Call, Verb, next_branch};
+use xa_xid::Xid;
+
+/// The longest key and the longest value, in bytes.
+const KEY: usize = 64;
+
+const VALUE: usize = 256;
+
+/// The tables of calls, what each branch at work has written, the locks and the data.
+#[derive(Drop)]
+pub struct KeyStore {
+    alloc: Global,
+    states: States,
+    writes: BranchWrites,
+    locks: Locks,
+    versions: Versions,
+}
+
+impl Model for KeyStore {
+    ghost use Rattle.kv_core.specs.Stores.{IsTidy, KeySight};
+
+    ghost Value = { KeySight };
+
+    ghost view = { λ s. record { tables = s.states; writes = s.writes; locks = s.locks; versions = s.versions } };
+
+    ghost invariant = { λ s. IsTidy (record { tables = s.states; writes = s.writes; locks = s.locks; versions = s.versions }) };
+}
+
+/// Whether a key has no bytes or more than 64, or a value more than 256.
+fn is_too_long(key: &[u8], value: Option<&[u8]>) -> bool
+    ensures { result ≡ is_too_long key.now (option_map (λ v. v.now) value.entry) }
+{
+    key.is_empty()
+        || key.len() > KEY
+        || match value {
+            None => false,
+            Some(value) => value.len() > VALUE,
+        }
+}
+
+/// Whether a branch has written something.
+fn wrote_some(writes: &[Write]) -> bool
+    ensures { result ≡ wrote_some writes.now }
+{
+    !writes.is_empty()
+}
+
+/// Whether a table's rows have this one.
+fn is_listed(rows: &[(Code, BranchState)], row: (Code, BranchState)) -> bool
+    ensures { IsTrue result ↔ Contains rows.now row }
+{
+    rows.contains(&row)
+}
+
+/// Whether a branch is ended in this state.
+fn ends(state: BranchState) -> bool
+    ensures { result ≡ ends state }
+{
+    state == BranchState::S0
+}
+
+/// A list of its own of these bytes.
+fn bytes_of(bytes: &[u8], alloc: Global) -> Result<Bytes, AllocError>
+    ensures { IfOk result (λ copy. copy ≡ bytes.now) }
+{
+    Ok(Sequence::from_vec(Vec::from_slice(alloc, bytes)?))
+}
+
+/// The same, where there are bytes.
+fn copied(bytes: Option<&[u8]>, alloc: Global) -> Result<Option<Bytes>, AllocError>
+    ensures { IfOk result (λ copy. copy ≡ option_map (λ v. v.now) bytes.entry) }
+{
+    match bytes {
+        None => Ok(None),
+        Some(bytes) => Ok(Some(bytes_of(bytes, alloc)?)),
+    }
+}
+
+impl KeyStore {
+    /// Whether the manager is open.
+    pub fn is_open(&self) -> bool
+        ensures { result ≡ not (is_closed self.now.tables.init) }
+    {
+        self.states.is_open()
+    }
+
+    /// The state of a branch.
+    pub fn state(&self, xid: &Xid) -> BranchState
+        ensures { result ≡ state_of self.now xid.now }
+    {
+        self.states.state(xid)
+    }
+
+    /// What a branch at work has written.
+    pub fn writes(&self, xid: &Xid) -> &[Write]
+        ensures writes { result.now ≡ writes_of self.now.writes xid.now }
+        ensures limits { AreWrites result.now }
+    {
+        self.writes.of(xid)
+    }
+
+    /// The branch that a thread works for: the one that it is active in.
+    fn at_work(&self, thread: u32) -> Option<Xid>
+        ensures { result ≡ at_work self.now thread }
+    {
+        let xid = self.states.active(thread)?;
+        match self.states.state(&xid) {
+            BranchState::S1 | BranchState::S4 => Some(xid),
+            BranchState::S0 | BranchState::S2 | BranchState::S3 | BranchState::S5 => None,
+        }
+    }
+
+    /// Why a branch may not do its work at a key.
+    fn refusal(&self, xid: &Xid, key: &[u8], value: Option<&[u8]>, mode: Mode) -> Option<WorkError>
+        ensures { result ≡ branch_refusal self.now key.now (option_map (λ v. v.now) value.entry) mode xid.now }
+    {
+        if self.states.state(xid) == BranchState::S4 {
+            return Some(WorkError::RollbackOnly);
+        }
+        if is_too_long(key, value) {
+            return Some(WorkError::TooLong);
+        }
+        if let Some(other) = self.locks.blocker(xid, key, mode) {
+            return Some(WorkError::Locked(other));
+        }
+        if mode == Mode::Exclusive && !self.writes.is_within_limit(xid, key) {
+            return Some(WorkError::TooManyWrites);
+        }
+        None
+    }
+
+    /// The branch that a thread works for, which may do this work at a key.
+    fn worker(
+        &self,
+        thread: u32,
+        key: &[u8],
+        value: Option<&[u8]>,
+        mode: Mode,
+    ) -> Result<Xid, WorkError>
+        ensures ok { IfOk result (λ xid. (at_work self.now thread ≡ Some xid)
+            × (branch_refusal self.now key.now (option_map (λ v. v.now) value.entry) mode xid ≡ None)) }
+        ensures err { IfErr result (λ e. work_refusal self.now thread key.now (option_map (λ v. v.now) value.entry) mode ≡ Some e) }
+    {
+        let Some(xid) = self.at_work(thread) else {
+            return Err(WorkError::NotAssociated);
+        };
+        match self.refusal(&xid, key, value, mode) {
+            None => Ok(xid),
+            Some(refusal) => Err(refusal),
+        }
+    }
+
+    /// What a branch finds at a key: its own write, or else the data.
+    fn value(&self, xid: &Xid, key: &[u8]) -> Option<&[u8]>
+        ensures { option_map (λ v. v.now) result ≡ value_for self.now xid.now key.now }
+    {
+        match self.writes.find(xid, key) {
+            None => self.versions.read(key),
+            Some(write) => match &write.value {
+                None => None,
+                Some(value) => Some(value.as_slice()),
+            },
+        }
+    }
+
+    /// Reads a key for a thread's branch, which holds it from then on, at least shared. NotAssociated, RollbackOnly,
+    /// TooLong, Locked, in this order. A refusal changes nothing.
+    pub fn get(&mut self, thread: u32, key: &[u8]) -> Result<Option<Bytes>, WorkError>
+        ensures ok { IfOk result (λ found. Reads self.old self.new thread key.now found) }
+        ensures err { IfErr result (λ e. IsRefused self.old self.new (work_refusal self.old thread key.now None mode.Shared) e) }
+    {
+        let xid = self.worker(thread, key, None, Mode::Shared)?;
+        let found = copied(self.value(&xid, key), self.alloc)?;
+        match self.locks.shared(&xid, key) {
+            Ok(()) => Ok(found),
+            Err(_) => Err(WorkError::Memory),
+        }
+    }
+
+    /// Writes a key for a thread's branch, or deletes it, which holds it exclusively from then on.
+    fn write(&mut self, thread: u32, key: &[u8], value: Option<&[u8]>) -> Result<(), WorkError>
+        ensures ok { OnOk result (Writes self.old self.new thread key.now (option_map (λ v. v.now) value.entry)) }
+        ensures err { IfErr result (λ e. IsRefused self.old self.new
+            (work_refusal self.old thread key.now (option_map (λ v. v.now) value.entry) mode.Exclusive) e) }
+    {
+        let xid = self.worker(thread, key, value, Mode::Exclusive)?;
+        let write = Write {
+            key: bytes_of(key, self.alloc)?,
+            value: copied(value, self.alloc)?,
+        };
+        self.writes.reserve(&xid)?;
+        match self.locks.exclusive(&xid, key) {
+            Ok(()) => {
+                self.writes.put(&xid, write);
+                Ok(())
+            }
+            Err(_) => Err(WorkError::Memory),
+        }
+    }
+
+    /// Writes a value at a key for a thread's branch. NotAssociated, RollbackOnly, TooLong, Locked, TooManyWrites, in
+    /// this order. A refusal changes nothing.
+    pub fn put(&mut self, thread: u32, key: &[u8], value: &[u8]) -> Result<(), WorkError>
+        ensures ok { OnOk result (Writes self.old self.new thread key.now (Some value.now)) }
+        ensures err { IfErr result (λ e. IsRefused self.old self.new (work_refusal self.old thread key.now (Some value.now) mode.Exclusive) e) }
+    {
+        self.write(thread, key, Some(value))
+    }
+
+    /// Deletes a key for a thread's branch, with the refusals of `put`.
+    pub fn delete(&mut self, thread: u32, key: &[u8]) -> Result<(), WorkError>
+        ensures ok { OnOk result (Writes self.old self.new thread key.now None) }
+        ensures err { IfErr result (λ e. IsRefused self.old self.new (work_refusal self.old thread key.now None mode.Exclusive) e) }
+    {
+        self.write(thread, key, None)
+    }
+
+    /// A prepare, commit, rollback or forget that no check refuses, and its turn; or the refusal.
+    pub fn due(&self, verb: Verb, xid: &Xid, flags: Flags) -> Result<(Call, Turn), Code>
+        requires { is_work_verb verb ≡ false }
+        ensures ok { IfOk result (λ due. IsDue self.now verb xid.now flags.0 due) }
+        ensures err { IfErr result (λ code. IsOff self.now verb xid.now flags.0 code) }
+    {
+        let call = self.states.ready(verb, xid, flags)?;
+        let from = self.states.state(xid);
+        let turn = Turn::of(
+            from,
+            call,
+            wrote_some(self.writes.of(xid)),
+            presumption_of(xid),
+        );
+        if is_listed(next_branch(from, call), (turn.code, turn.to)) {
+            Ok((call, turn))
+        } else {
+            Err(Code::Proto)
+        }
+    }
+
+    /// Stages what a branch has written, which nobody sees before it is published. Memory: nothing changed.
+    pub fn stage(&mut self, xid: &Xid) -> Result<(), AllocError>
+        requires unstaged { self.old.versions.is_staged ≡ false }
+        requires fits { self.old.versions.count + 1 < 2 ^ 63 }
+        ensures ok { OnOk result (StagesWrites self.old self.new xid.now) }
+        ensures err { OnErr result (SameButData self.old self.new) }
+    {
+        self.versions.stage(self.writes.of(xid))
+    }
+
+    /// Makes the staged writes data. It takes no memory.
+    pub fn publish(&mut self)
+        requires staged { self.old.versions.is_staged ≡ true }
+        requires fits { self.old.versions.count + 1 < 2 ^ 63 }
+        ensures { PublishesWrites self.old self.new }
+    {
+        self.versions.publish();
+    }
+
+    /// A branch takes its turn. In S0 it lets its writes and its locks go. It takes no memory.
+    pub fn finish(&mut self, xid: &Xid, call: Call, turn: Turn)
+        requires known { is_known self.old.tables.branches.branches xid.now ≡ true }
+        requires turn { turn ≡ turn_for self.old xid.now call }
+        requires listed { IsListed self.old xid.now call turn }
+        ensures { TakesTurn self.old self.new xid.now turn }
+    {
+        let _answer = self.states.finish(xid, call, (turn.code, turn.to));
+        if ends(turn.to) {
+            self.writes.remove(xid);
+            self.locks.release(xid);
+        }
+    }
+
+    /// A start or an end of a thread's work in a branch.
+    pub fn work_call(
+        &mut self,
+        verb: Verb,
+        thread: u32,
+        xid: &Xid,
+        flags: Flags,
+    ) -> Result<Code, AllocError>
+        requires { is_work_verb verb ≡ true }
+        ensures answer { IfOk result (λ answer. (wanted : Wanted) → MovesTables self.old self.new
+            (λ old new. Answers wanted old new verb thread xid.now flags.0 answer)) }
+        ensures err { OnErr result (SameStore self.old self.new) }
+    {
+        self.states.work_call(verb, thread, xid, flags)
+    }
+
+    /// Opens the manager, which migrates associations or not.
+    pub fn open(&mut self, flags: Flags, migrates: bool) -> Code
+        ensures { MovesTables self.old self.new (λ old new. Opens old new flags.0 migrates result) }
+    {
+        self.states.open(flags, migrates)
+    }
+
+    /// Closes the manager.
+    pub fn close(&mut self, flags: Flags) -> Code
+        ensures { MovesTables self.old self.new (λ old new. Closes old new flags.0 result) }
+    {
+        self.states.close(flags)
+    }
+
+    /// A scan of the branches in doubt.
+    pub fn recover(
+        &mut self,
+        thread: u32,
+        count: u32,
+        flags: Flags,
+    ) -> Result<Result<Vec<Xid>, Code>, AllocError>
+        ensures answer { IfOk result (λ answer. MovesTables self.old self.new
+            (λ old new. Recovers old new thread count flags.0 (map_ok answer))) }
+        ensures err { OnErr result (SameStore self.old self.new) }
+    {
+        self.states.recover(thread, count, flags)
+    }
+}

@@ -1,0 +1,21 @@
+-- The records that a key store writes can stand in a manager's log.
+use Rattle.xa_xid.specs.Xids.{XidParts}
+use Rattle.tree_model.specs.declared.names.Kind.TheVariants.{Manager}
+use Rattle.tree_model.specs.declared.records.Write.{Write}
+use Rattle.std.specs.Prelude.{List}
+use Rattle.log_text.specs.Parts.{name_in}
+use Rattle.log_sound.specs.Sound.{AreSoundWrites, IsSound, IsSoundName}
+use Rattle.kv_turns.specs.declared.entries.Entry.{Entry}
+use Rattle.kv_turns.specs.declared.entries.Entry.TheVariants.{Prepared, Committed, RolledBack, Direct, Forgot}
+use Rattle.kv_turns.specs.Turns.{AreSome, IsEntry, entry_record}
+
+sound_writes : (ws : List Write) → AreSome ws → AreSoundWrites ws
+sound_writes ws some = record { some = some.1; few = some.0.few; each = some.0.each }
+
+pub sound_entry : (e : Entry) (x : XidParts) (ws : List Write) → IsSoundName (name_in x).0 (name_in x).1 → IsEntry e ws
+    → IsSound Manager (entry_record e x ws)
+sound_entry Prepared x ws name some = (name, sound_writes ws some)
+sound_entry Committed x ws name some = name
+sound_entry RolledBack x ws name some = name
+sound_entry Direct x ws name some = (name, sound_writes ws some)
+sound_entry Forgot x ws name some = name

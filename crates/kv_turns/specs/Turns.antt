@@ -1,0 +1,96 @@
+-- What a call that finishes a branch makes of it at a key store (C193, chapter 3; the forces of R*).
+use Rattle.std.specs.Prelude.{◌≤◌, ⊤, Bool, true, false, Some, None, List, length}
+use Rattle.xa_codes.specs.declared.code.Code.{Code}
+use Rattle.xa_codes.specs.declared.code.Code.TheVariants as code
+use Rattle.xa_tables.specs.declared.call.Call.{Call}
+use Rattle.xa_tables.specs.declared.call.Call.TheVariants as call
+use Rattle.xa_tables.specs.declared.states.BranchState.{BranchState}
+use Rattle.xa_tables.specs.declared.states.BranchState.TheVariants.{S0, S3}
+use Rattle.xa_xid.specs.Xids.{XidParts}
+use Rattle.tree_model.specs.declared.names.Presumption.{Presumption}
+use Rattle.tree_model.specs.declared.names.Presumption.TheVariants.{PresumeAbort}
+use Rattle.tree_model.specs.declared.names.Outcome.TheVariants.{Committed as CommittedOutcome, Aborted as AbortedOutcome}
+use Rattle.tree_model.specs.declared.records.Branch.{Branch}
+use Rattle.tree_model.specs.declared.records.Branch.TheVariants.{Case as CaseBranch, Foreign}
+use Rattle.tree_model.specs.declared.records.LogRecord.{LogRecord}
+use Rattle.tree_model.specs.declared.records.Record.{Record}
+use Rattle.tree_model.specs.declared.records.Record.TheVariants as record_of
+use Rattle.tree_model.specs.declared.records.Write.{Write}
+use Rattle.tree_model.specs.ManagerRows.{is_acknowledged}
+use Rattle.log_text.specs.Parts.{name_in}
+use Rattle.kv_writes.specs.Writes.{AreWrites}
+use Rattle.kv_turns.specs.declared.entries.Entry.{Entry}
+use Rattle.kv_turns.specs.declared.entries.Entry.TheVariants.{Prepared, Committed, RolledBack, Direct, Forgot}
+use Rattle.kv_turns.specs.declared.turns.Turn.{Turn}
+
+-- the presumption of a branch: that of its case; one that is no case's is under Presumed Abort
+abbrev pub presumption_of : Branch → Presumption
+presumption_of (CaseBranch c) = c.txn.presumption
+presumption_of (Foreign x) = PresumeAbort
+
+-- Turns.
+
+-- the branch comes to a state, and nothing is written
+abbrev pub silent : Code → BranchState → Turn
+silent a s = record { code = a; to = s; entry = None; is_forced = false }
+
+-- the answer is XA_OK, a record is written, and the branch comes to a state
+abbrev pub writes : Entry → Bool → BranchState → Turn
+writes e is_forced s = record { code = code.Ok; to = s; entry = Some e; is_forced = is_forced }
+
+-- a branch that wrote nothing is ended by its prepare, and another promises
+abbrev pub prepare_turn : Bool → Turn
+prepare_turn false = silent code.RdOnly S0
+prepare_turn true = writes Prepared true S3
+
+-- a prepared branch commits: forced, unless the presumption covers it
+abbrev pub commit_turn : Presumption → Turn
+commit_turn p = writes Committed (is_acknowledged p CommittedOutcome) S0
+
+-- a branch commits in one phase
+abbrev pub direct_turn : Bool → Turn
+direct_turn false = silent code.Ok S0
+direct_turn true = writes Direct true S0
+
+-- a prepared branch rolls back: forced, unless the presumption covers it; of any other nothing is written
+abbrev pub rollback_turn : BranchState → Presumption → Turn
+rollback_turn S3 p = writes RolledBack (is_acknowledged p AbortedOutcome) S0
+rollback_turn _ p = silent code.Ok S0
+
+-- what a call makes of a branch in a state that wrote something or nothing
+abbrev pub turn_of : BranchState → Call → Bool → Presumption → Turn
+turn_of s call.Prepare wrote p = prepare_turn wrote
+turn_of s call.Commit wrote p = commit_turn p
+turn_of s call.CommitOnePhase wrote p = direct_turn wrote
+turn_of s call.Rollback wrote p = rollback_turn s p
+turn_of s _ wrote p = writes Forgot true S0
+
+-- Records.
+
+-- a record makes the branch's writes data
+abbrev pub applies : Entry → Bool
+applies Committed = true
+applies Direct = true
+applies _ = false
+
+-- the record under a name
+abbrev pub entry_of : Entry → Branch → List Write → Record
+entry_of Prepared b ws = record_of.Prepared b ws
+entry_of Committed b ws = record_of.Committed b
+entry_of RolledBack b ws = record_of.RolledBack b
+entry_of Direct b ws = record_of.Direct b ws
+entry_of Forgot b ws = record_of.Forgot b
+
+-- the record in a log, under the whole name of an XID
+abbrev pub entry_record : Entry → XidParts → List Write → LogRecord
+entry_record e x ws = record { entry = entry_of e (name_in x).1 ws; parent = (name_in x).0 }
+
+-- some writes, within their limits
+abbrev pub AreSome : List Write → Type 0
+AreSome ws = AreWrites ws × (1 ≤ length ws)
+
+-- the record can be written of a branch that has written this
+abbrev pub IsEntry : Entry → List Write → Type 0
+IsEntry Prepared ws = AreSome ws
+IsEntry Direct ws = AreSome ws
+IsEntry _ ws = ⊤

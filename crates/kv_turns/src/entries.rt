@@ -1,0 +1,91 @@
+//! The records that a key store writes of a branch.
+
+ghost use Rattle.std.specs.Prelude.{◌≡◌, IfOk};
+ghost use Rattle.tree_model.specs.declared.names.Kind.TheVariants as kind;
+ghost use Rattle.log_text.specs.Made.{frame_record};
+ghost use Rattle.log_text.specs.Parts.{name_in};
+ghost use Rattle.log_sound.specs.Sound.{IsSound, IsSoundName};
+ghost use Rattle.kv_turns.specs.Turns.{IsEntry, applies, entry_of, entry_record, presumption_of};
+
+use log_text::{Frame, name_in};
+use std::alloc::{AllocError, Global};
+use tree_model::{Branch, LogRecord, Presumption, ProcessId, Record, Sequence, Write, Writes};
+use xa_xid::Xid;
+
+/// A record of a branch.
+#[derive(Clone, Copy, Debug, PartialEq, Eq)]
+pub enum Entry {
+    /// The branch promised, with its writes.
+    Prepared,
+    /// A prepared branch committed.
+    Committed,
+    /// A prepared branch rolled back.
+    RolledBack,
+    /// The branch committed in one phase, with its writes.
+    Direct,
+    /// An operator's decision may be forgotten.
+    Forgot,
+}
+
+/// The whole name of an XID.
+fn name_of(xid: &Xid) -> (Option<ProcessId>, Branch)
+    ensures name { result ≡ name_in xid.now }
+    ensures sound { IsSoundName result.0 result.1 }
+{
+    let _parts = xid.parts();
+    name_in(xid)
+}
+
+/// The presumption of a branch: that of its case. One whose XID is of no case is under Presumed Abort.
+pub fn presumption_of(xid: &Xid) -> Presumption
+    ensures { result ≡ presumption_of (name_in xid.now).1 }
+{
+    match name_of(xid).1 {
+        Branch::Case(case) => case.txn.presumption,
+        Branch::Foreign(_) => Presumption::PresumeAbort,
+    }
+}
+
+/// The same writes again.
+fn copied(writes: &[Write], alloc: Global) -> Result<Writes, AllocError>
+    ensures { IfOk result (λ copy. copy ≡ writes.now) }
+{
+    let mut copy = Vec::with_capacity(alloc, writes.len())?;
+    for write in writes {
+        copy.push(write.copied(alloc)?)?;
+    }
+    Ok(Sequence::from_vec(copy))
+}
+
+impl Entry {
+    /// Whether it makes the branch's writes data.
+    pub fn applies(self) -> bool
+        ensures { result ≡ applies self }
+    {
+        matches!(self, Entry::Committed | Entry::Direct)
+    }
+
+    /// The record under this name.
+    fn record(self, branch: Branch, writes: &[Write], alloc: Global) -> Result<Record, AllocError>
+        ensures { IfOk result (λ entry. entry ≡ entry_of self branch writes.now) }
+    {
+        Ok(match self {
+            Entry::Prepared => Record::Prepared(branch, copied(writes, alloc)?),
+            Entry::Committed => Record::Committed(branch),
+            Entry::RolledBack => Record::RolledBack(branch),
+            Entry::Direct => Record::Direct(branch, copied(writes, alloc)?),
+            Entry::Forgot => Record::Forgot(branch),
+        })
+    }
+
+    /// The record of a branch that has written this, as it stands in a log.
+    pub fn frame(self, xid: &Xid, writes: &[Write], alloc: Global) -> Result<Frame, AllocError>
+        requires { IsEntry self writes.now }
+        ensures frame { IfOk result (λ frame. frame_record frame ≡ entry_record self xid.now writes.now) }
+        ensures sound { IsSound kind.Manager (entry_record self xid.now writes.now) }
+    {
+        let (parent, branch) = name_of(xid);
+        let entry = self.record(branch, writes, alloc)?;
+        Frame::new(LogRecord { entry, parent }, alloc)
+    }
+}

@@ -1,0 +1,3 @@
+pub mod Reactions
+pub mod Finishing
+pub mod Restoring

@@ -1,0 +1,28 @@
+use Rattle.std.proofs.Common.{◌≢◌, ◌∙◌, ap, refl, rules}
+use Rattle.std.specs.Prelude.{◌||◌, not}
+use Rattle.xa_codes.specs.declared.code.Code.TheVariants as code
+use Rattle.xa_assoc.specs.Associations.{end_plan, has_active}
+use Rattle.xa_states.specs.Answers.{state_at}
+use Rattle.xa_states.specs.Reacting.{left_by, end_call}
+use Rattle.xa_states.proofs.Reactions.{made_step, end_is_plan, end_listed}
+use Rattle.xa_states.proofs.states.States.end_work.Goals as goal
+
+pub returns : goal.returns
+returns c =
+    let old = c.args.self.now in
+    let t = c.args.thread in
+    let x = c.args.xid.now in
+    let lost = c.args.lost in
+    let not_proto : c.end-code.result ≢ code.Proto = search rules in
+    let not_limit : c.end-code.result ≢ code.RmErr = search rules in
+    made_step old
+    (record { init = old.init; branches = c.step.new.self; associations = c.end-code.new.self }) t x
+    (end_call c.args.succeeds) c.end_call.result
+    (end_plan old.associations t x lost c.args.succeeds)
+    (left_by (lost || not c.args.succeeds) (has_active c.end-code.new.self x)) c.left-to.result
+    c.end-code.result c.step.result lost (end_is_plan old.associations t x lost c.args.succeeds)
+    c.end-code.ensures not_proto not_limit
+    (end_listed lost c.args.succeeds (has_active c.end-code.new.self x)
+    (state_at old x) old.associations t x c.requires) c.requires c.end_call.ensures
+    (c.left-to.ensures ∙ ap (λ b. left_by b (has_active c.end-code.new.self x)) c.is_failed.ensures)
+    c.step.ensures.row refl

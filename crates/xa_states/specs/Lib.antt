@@ -1,0 +1,4 @@
+pub mod Reacting
+pub mod Answers
+pub mod Ready
+pub mod Restored

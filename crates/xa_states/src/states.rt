@@ -1,0 +1,399 @@
+//! The tables of a resource manager, and the calls that walk their rows.
+
+use crate::reacting::{
+    end_call, has_rows, is_failed, is_refusal, resumed, state_left, suspend_call,
+};
+use std::alloc::{AllocError, Global};
+use xa_assoc::Associations;
+use xa_branch::Branches;
+use xa_codes::{Code, Flags};
+use xa_tables::{BranchState, Call, InitState, Verb, legal_call};
+use xa_xid::Xid;
+
+/// The most branches that are known at a time.
+const BRANCHES: usize = 1024;
+
+/// The state of a manager, its branches and the associations of its threads. The data are the manager's own:
+/// it says which row a call takes that finishes a branch.
+#[derive(Drop)]
+pub struct States {
+    init: InitState,
+    branches: Branches,
+    associations: Associations,
+}
+
+impl States {
+    ghost use Rattle.std.specs.Prelude.{◌≡◌, ◌≢◌, ◌||◌, not, IfOk, OnErr, MatchResult, Contains, Some, None, true, false};
+    ghost use Rattle.xa_tables.specs.Tables.{branch_rows};
+    ghost use Rattle.xa_tables.specs.declared.call.Call.TheVariants as call;
+    ghost use Rattle.xa_assoc.specs.Associations.{active_of, start_plan, resume_plan, suspend_plan, end_plan};
+    ghost use Rattle.xa_branch.specs.Branches.{in_doubt, is_known, off_row};
+    ghost use Rattle.xa_states.specs.Reacting.{IsAt, resumed, suspend_call, end_call};
+    ghost use Rattle.xa_states.specs.Answers.{Same, IsNew, Opens, Closes, Wanted, Answers, Recovers, Refuses, Takes, map_ok, Reacts, Resumes, Suspends, Ends, left_state, is_held, start_reaction, join_reaction, state_at};
+    ghost use Rattle.xa_states.specs.Ready.{is_work_verb, is_closed, ready};
+    ghost use Rattle.xa_states.specs.Restored.{Restored, restore_refusal};
+
+    /// A manager that is not open.
+    pub fn new(alloc: Global) -> Self
+        ensures { IsNew result }
+    {
+        States {
+            init: InitState::R0,
+            branches: Branches::new(alloc),
+            associations: Associations::new(alloc, true),
+        }
+    }
+
+    /// The tables behind a restart: a manager that is not open, without associations and scans, and these
+    /// branches in doubt, in this order: prepared (in S3), or where the second is true decided by an operator
+    /// (in S5). RmErr: they are more than 1,024. DupId: one of them stands there twice.
+    pub fn restored(alloc: Global, left: &[(Xid, bool)]) -> Result<Result<Self, Code>, AllocError>
+        ensures { IfOk result (λ made. MatchResult made
+            (λ states. (restore_refusal left.now ≡ None) × Restored left.now states)
+            (λ refusal. restore_refusal left.now ≡ Some refusal)) }
+    {
+        if left.len() > BRANCHES {
+            return Ok(Err(Code::RmErr));
+        }
+        let mut branches = Branches::new(alloc);
+        for (xid, decided) in left {
+            let code = branches.restore(xid, state_left(*decided))?;
+            if code != Code::Ok {
+                return Ok(Err(code));
+            }
+        }
+        Ok(Ok(States {
+            init: InitState::R0,
+            branches,
+            associations: Associations::new(alloc, true),
+        }))
+    }
+
+    /// Whether the manager is open.
+    pub fn is_open(&self) -> bool
+        ensures { result ≡ not (is_closed self.now.init) }
+    {
+        self.init == InitState::R1
+    }
+
+    /// The state of a branch: S0 where it is not known.
+    pub fn state(&self, xid: &Xid) -> BranchState
+        ensures { result ≡ state_at self.now xid.now }
+    {
+        self.branches.state(xid)
+    }
+
+    /// The branch that a thread works for: the one that it is active in.
+    pub fn active(&self, thread: u32) -> Option<Xid>
+        ensures { result ≡ active_of self.now.associations thread }
+    {
+        self.associations.active(thread)
+    }
+
+    /// The branches in doubt (in S3 and S5), in order of beginning.
+    pub fn in_doubt(&self) -> Result<Vec<Xid>, AllocError>
+        ensures { IfOk result (λ v. v.items ≡ in_doubt self.now.branches.branches) }
+    {
+        self.branches.in_doubt()
+    }
+
+    /// Opens the manager, which migrates associations or not. Where it is open nothing changes.
+    pub fn open(&mut self, flags: Flags, migrates: bool) -> Code
+        ensures { Opens self.old self.new flags.0 migrates result }
+    {
+        if let Err(refusal) = legal_call(Verb::Open, flags) {
+            return refusal;
+        }
+        if self.init == InitState::R0 {
+            self.associations.reset(migrates);
+            self.init = InitState::R1;
+        }
+        Code::Ok
+    }
+
+    /// Closes the manager. Proto: there is an association.
+    pub fn close(&mut self, flags: Flags) -> Code
+        ensures { Closes self.old self.new flags.0 result }
+    {
+        if let Err(refusal) = legal_call(Verb::Close, flags) {
+            return refusal;
+        }
+        if !self.associations.is_empty() {
+            return Code::Proto;
+        }
+        self.init = InitState::R0;
+        Code::Ok
+    }
+
+    /// A start or an end of a thread's work in a branch, whole. Inval, Async: the flags. Proto: the manager is
+    /// not open, or no row applies. Inval: the null XID. DupId, NotA: the branch is known, or is not. RmErr:
+    /// 1,024 branches, 256 threads with associations or 2^64 - 1 migrations of the branch. A refusal changes
+    /// nothing.
+    pub fn work_call(
+        &mut self,
+        verb: Verb,
+        thread: u32,
+        xid: &Xid,
+        flags: Flags,
+    ) -> Result<Code, AllocError>
+        requires { is_work_verb verb ≡ true }
+        ensures answer { IfOk result (λ answer. (wanted : Wanted)
+            → Answers wanted self.old self.new verb thread xid.now flags.0 answer) }
+        ensures err { OnErr result (Same self.old self.new) }
+    {
+        let call = match legal_call(verb, flags) {
+            Ok(call) => call,
+            Err(refusal) => return Ok(refusal),
+        };
+        if self.init == InitState::R0 {
+            return Ok(Code::Proto);
+        }
+        if xid.is_null() {
+            return Ok(Code::Inval);
+        }
+        match call {
+            Call::Start => self.start(thread, xid),
+            Call::StartJoin => self.join(thread, xid),
+            Call::StartResume => self.resume(thread, xid),
+            Call::EndSuspend => self.suspend(thread, xid, false),
+            Call::EndMigrate => self.suspend(thread, xid, true),
+            Call::EndSuccess => Ok(self.end(thread, xid, true)),
+            _ => Ok(self.end(thread, xid, false)),
+        }
+    }
+
+    /// The call that a prepare, commit, rollback or forget makes where it comes to a row of the table. Inval,
+    /// Async: the flags. Proto: the manager is not open. Inval: the null XID. NotA: the branch is not known.
+    /// Proto: it is held, or the table has no row for its state.
+    pub fn ready(&self, verb: Verb, xid: &Xid, flags: Flags) -> Result<Call, Code>
+        ensures { result ≡ ready self.now verb xid.now flags.0 }
+    {
+        let call = legal_call(verb, flags)?;
+        if self.init == InitState::R0 {
+            return Err(Code::Proto);
+        }
+        if xid.is_null() {
+            return Err(Code::Inval);
+        }
+        if !self.branches.is_known(xid) {
+            return Err(Code::NotA);
+        }
+        if self.is_held(xid) || !has_rows(self.branches.state(xid), call) {
+            return Err(Code::Proto);
+        }
+        Ok(call)
+    }
+
+    /// Takes the row of a call that finishes a branch, which `ready` let through: its answer, and the state
+    /// behind it. It takes no memory. NotA: the branch is not known. Proto (at a start DupId): the table has no
+    /// such row. A refusal changes nothing.
+    pub fn finish(&mut self, xid: &Xid, call: Call, row: (Code, BranchState)) -> Code
+        ensures row { is_known self.old.branches.branches xid.now ≡ true
+            → Contains (branch_rows (state_at self.old xid.now) call) row
+            → (result ≡ row.0) × Takes self.old self.new xid.now row.1 }
+        ensures off { is_known self.old.branches.branches xid.now ≡ true
+            → (Contains (branch_rows (state_at self.old xid.now) call) row → ⊥)
+            → Refuses self.old self.new result (off_row call) }
+        ensures unknown { is_known self.old.branches.branches xid.now ≡ false
+            → Refuses self.old self.new result Code.NotA }
+    {
+        self.branches.step(xid, call, row)
+    }
+
+    /// An operator's decision about a prepared branch, which leads it from S3 to S5; the manager need not be
+    /// open. False: it is not in S3, and nothing changes.
+    pub fn decided(&mut self, xid: &Xid) -> bool
+        ensures decided { result ≡ true → (state_at self.old xid.now ≡ BranchState.S3)
+            × Takes self.old self.new xid.now BranchState.S5 }
+        ensures refused { result ≡ false
+            → (state_at self.old xid.now ≢ BranchState.S3) × (self.new ≡ self.old) }
+    {
+        self.branches.decided(xid)
+    }
+
+    /// A scan of the branches in doubt.
+    pub fn recover(
+        &mut self,
+        thread: u32,
+        count: u32,
+        flags: Flags,
+    ) -> Result<Result<Vec<Xid>, Code>, AllocError>
+        ensures answer { IfOk result
+            (λ answer. Recovers self.old self.new thread count flags.0 (map_ok answer)) }
+        ensures err { OnErr result (Same self.old self.new) }
+    {
+        let call = match legal_call(Verb::Recover, flags) {
+            Ok(call) => call,
+            Err(refusal) => return Ok(Err(refusal)),
+        };
+        if self.init == InitState::R0 {
+            return Ok(Err(Code::Proto));
+        }
+        self.branches.scan(thread, count, call)
+    }
+
+    /// A start of a new branch.
+    fn start(&mut self, thread: u32, xid: &Xid) -> Result<Code, AllocError>
+        ensures answer { IfOk result
+            (Reacts self.old self.new thread xid.now call.Start
+            (start_reaction self.old thread xid.now) BranchState.S1) }
+        ensures err { OnErr result (Same self.old self.new) }
+    {
+        if self.branches.is_known(xid) {
+            return Ok(Code::DupId);
+        }
+        if self.associations.is_busy(thread, xid) {
+            return Ok(Code::Proto);
+        }
+        if self.branches.is_full() {
+            return Ok(Code::RmErr);
+        }
+        self.branches.reserve(1)?;
+        let code = self.associations.start(thread, xid)?;
+        if code == Code::Ok {
+            return self.branches.begin(xid);
+        }
+        Ok(code)
+    }
+
+    /// A start TMJOIN.
+    fn join(&mut self, thread: u32, xid: &Xid) -> Result<Code, AllocError>
+        ensures answer { IfOk result
+            (Reacts self.old self.new thread xid.now call.StartJoin
+            (join_reaction self.old thread xid.now) BranchState.S1) }
+        ensures err { OnErr result (Same self.old self.new) }
+    {
+        match self.branches.state(xid) {
+            BranchState::S0 => Ok(Code::NotA),
+            BranchState::S1 | BranchState::S2 => self.join_work(thread, xid),
+            BranchState::S3 | BranchState::S4 | BranchState::S5 => Ok(Code::Proto),
+        }
+    }
+
+    fn join_work(&mut self, thread: u32, xid: &Xid) -> Result<Code, AllocError>
+        requires { IsAt false (state_at self.old xid.now) }
+        ensures answer { IfOk result
+            (Reacts self.old self.new thread xid.now call.StartJoin
+            (start_plan self.old.associations thread xid.now) BranchState.S1) }
+        ensures err { OnErr result (Same self.old self.new) }
+    {
+        let code = self.associations.start(thread, xid)?;
+        if is_refusal(code) {
+            return Ok(code);
+        }
+        Ok(
+            self.branches
+                .step(xid, Call::StartJoin, (code, BranchState::S1)),
+        )
+    }
+
+    /// A start TMRESUME.
+    fn resume(&mut self, thread: u32, xid: &Xid) -> Result<Code, AllocError>
+        ensures answer { IfOk result (Resumes self.old self.new thread xid.now) }
+        ensures err { OnErr result (Same self.old self.new) }
+    {
+        match self.branches.state(xid) {
+            BranchState::S0 => Ok(Code::NotA),
+            BranchState::S1 | BranchState::S2 => self.resume_work(thread, xid, false),
+            BranchState::S4 => self.resume_work(thread, xid, true),
+            BranchState::S3 | BranchState::S5 => Ok(Code::Proto),
+        }
+    }
+
+    fn resume_work(&mut self, thread: u32, xid: &Xid, lost: bool) -> Result<Code, AllocError>
+        requires { IsAt lost (state_at self.old xid.now) }
+        ensures answer { IfOk result (Reacts self.old self.new thread xid.now call.StartResume
+            (resume_plan self.old.associations thread xid.now lost) (resumed lost)) }
+        ensures err { OnErr result (Same self.old self.new) }
+    {
+        let code = self.associations.resume(thread, xid, lost)?;
+        if is_refusal(code) {
+            return Ok(code);
+        }
+        Ok(
+            self.branches
+                .step(xid, Call::StartResume, (code, resumed(lost))),
+        )
+    }
+
+    /// An end TMSUSPEND, with TMMIGRATE or not.
+    fn suspend(&mut self, thread: u32, xid: &Xid, migrate: bool) -> Result<Code, AllocError>
+        ensures answer { IfOk result (Suspends self.old self.new thread xid.now migrate) }
+        ensures err { OnErr result (Same self.old self.new) }
+    {
+        match self.branches.state(xid) {
+            BranchState::S0 => Ok(Code::NotA),
+            BranchState::S1 | BranchState::S2 => self.suspend_work(thread, xid, false, migrate),
+            BranchState::S4 => self.suspend_work(thread, xid, true, migrate),
+            BranchState::S3 | BranchState::S5 => Ok(Code::Proto),
+        }
+    }
+
+    fn suspend_work(
+        &mut self,
+        thread: u32,
+        xid: &Xid,
+        lost: bool,
+        migrate: bool,
+    ) -> Result<Code, AllocError>
+        requires { IsAt lost (state_at self.old xid.now) }
+        ensures answer { IfOk result (Reacts self.old self.new thread xid.now (suspend_call migrate)
+            (suspend_plan self.old.associations thread xid.now lost migrate)
+            (left_state self.new xid.now lost)) }
+        ensures err { OnErr result (Same self.old self.new) }
+    {
+        let code = self.associations.suspend(thread, xid, lost, migrate)?;
+        if is_refusal(code) {
+            return Ok(code);
+        }
+        let to = self.left(xid, lost);
+        Ok(self.branches.step(xid, suspend_call(migrate), (code, to)))
+    }
+
+    /// An end TMSUCCESS, or else TMFAIL.
+    fn end(&mut self, thread: u32, xid: &Xid, succeeds: bool) -> Code
+        ensures { Ends self.old self.new thread xid.now succeeds result }
+    {
+        match self.branches.state(xid) {
+            BranchState::S0 => Code::NotA,
+            BranchState::S1 | BranchState::S2 => self.end_work(thread, xid, false, succeeds),
+            BranchState::S4 => self.end_work(thread, xid, true, succeeds),
+            BranchState::S3 | BranchState::S5 => Code::Proto,
+        }
+    }
+
+    fn end_work(&mut self, thread: u32, xid: &Xid, lost: bool, succeeds: bool) -> Code
+        requires { IsAt lost (state_at self.old xid.now) }
+        ensures { Reacts self.old self.new thread xid.now (end_call succeeds)
+            (end_plan self.old.associations thread xid.now lost succeeds)
+            (left_state self.new xid.now (lost || not succeeds)) result }
+    {
+        let code = self.associations.end(thread, xid, lost, succeeds);
+        if is_refusal(code) {
+            return code;
+        }
+        let to = self.left(xid, is_failed(lost, succeeds));
+        self.branches.step(xid, end_call(succeeds), (code, to))
+    }
+
+    /// Whether a branch is held by any thread, or suspended for migration.
+    fn is_held(&self, xid: &Xid) -> bool
+        ensures { result ≡ is_held self.now.associations xid.now }
+    {
+        let held = self.associations.of_branch(xid);
+        held.active || held.suspended || held.migrated
+    }
+
+    /// The state of a branch behind an end: active while another thread is active in it.
+    fn left(&self, xid: &Xid, lost: bool) -> BranchState
+        ensures { result ≡ left_state self.now xid.now lost }
+    {
+        if lost {
+            BranchState::S4
+        } else if self.associations.of_branch(xid).active {
+            BranchState::S1
+        } else {
+            BranchState::S2
+        }
+    }
+}
