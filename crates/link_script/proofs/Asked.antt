@@ -34,16 +34,19 @@ fronts es e (Ok more) = ap (λ (x : List Event). Ok x) (sym (append_assoc es (e 
 fronts es e (Err f) = refl
 
 at : (read : List ℕ → Option Event) (front : List Event) (n i : ℕ) (ls : List (List ℕ)) → i < length ls
-    → with_front front (events_at read n (drop i ls)) ≡ with_front front (events_at read n (get_or ls i [] ∷ drop (i + 1) ls))
+    → with_front front (events_at read n (drop i ls))
+    ≡ with_front front (events_at read n (get_or ls i [] ∷ drop (i + 1) ls))
 at read front n i ls lt = at_drop_more (λ xs. with_front front (events_at read n xs)) ls i [] lt
 
-pub skips : (read : List ℕ → Option Event) (front : List Event) (ls : List (List ℕ)) (n m i : ℕ) (total : Result (List Event) ℕ)
+pub skips : (read : List ℕ → Option Event) (front : List Event) (ls : List (List ℕ)) (n m i : ℕ)
+    (total : Result (List Event) ℕ)
     → i < length ls → is_skipped (get_or ls i []) ≡ true → m ≡ n + 1
     → with_front front (events_at read n (drop i ls)) ≡ total
     → with_front front (events_at read m (drop (i + 1) ls)) ≡ total
 skips read front ls n m i total lt skip next so_far =
     ap (λ (k : ℕ). with_front front (events_at read k (drop (i + 1) ls))) next
-    ∙ sym (at read front n i ls lt ∙ ap (with_front front) (at_skipped read n (get_or ls i []) (drop (i + 1) ls) skip))
+    ∙ sym (at read front n i ls lt ∙ ap (with_front front)
+    (at_skipped read n (get_or ls i []) (drop (i + 1) ls) skip))
     ∙ so_far
 
 reads : (read : List ℕ → Option Event) (front : List Event) (ls : List (List ℕ)) (n i : ℕ) → i < length ls
@@ -61,17 +64,21 @@ pub goes_on : (read : List ℕ → Option Event) (front : List Event) (ls : List
 goes_on read front ls n m i e total lt kept is next so_far =
     ap (λ (k : ℕ). with_front (front ++ e ∷ []) (events_at read k (drop (i + 1) ls))) next
     ∙ sym (fronts front e (events_at read (n + 1) (drop (i + 1) ls)))
-    ∙ ap (λ (o : Option Event). with_front front (line_then n o (events_at read (n + 1) (drop (i + 1) ls)))) (sym is)
+    ∙ ap (λ (o : Option Event). with_front front (line_then n o (events_at read (n + 1) (drop (i + 1) ls))))
+    (sym is)
     ∙ sym (reads read front ls n i lt kept) ∙ so_far
 
-pub stops : (read : List ℕ → Option Event) (front : List Event) (ls : List (List ℕ)) (n i : ℕ) (total : Result (List Event) ℕ)
+pub stops : (read : List ℕ → Option Event) (front : List Event) (ls : List (List ℕ)) (n i : ℕ)
+    (total : Result (List Event) ℕ)
     → i < length ls → is_skipped (get_or ls i []) ≡ false → read (get_or ls i []) ≡ None
     → with_front front (events_at read n (drop i ls)) ≡ total → total ≡ Err n
 stops read front ls n i total lt kept is so_far =
     sym so_far ∙ reads read front ls n i lt kept
-    ∙ ap (λ (o : Option Event). with_front front (line_then n o (events_at read (n + 1) (drop (i + 1) ls)))) is
+    ∙ ap (λ (o : Option Event). with_front front (line_then n o (events_at read (n + 1) (drop (i + 1) ls))))
+    is
 
-pub ends : (read : List ℕ → Option Event) (front : List Event) (ls : List (List ℕ)) (n i : ℕ) (total : Result (List Event) ℕ)
+pub ends : (read : List ℕ → Option Event) (front : List Event) (ls : List (List ℕ)) (n i : ℕ)
+    (total : Result (List Event) ℕ)
     → length ls ≤ i → with_front front (events_at read n (drop i ls)) ≡ total → total ≡ Ok front
 unfolding events_at
 ends read front ls n i total le so_far =

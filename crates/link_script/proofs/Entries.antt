@@ -18,19 +18,25 @@ use Rattle.tree_model.specs.declared.trees.TreeEntry.{TreeEntry}
 use Rattle.link_script.specs.declared.stage.Stage.{Stage}
 use Rattle.link_script.specs.Documents.{IsProcess, AreProcesses, IsTable}
 
-are_push : {stage : Stage} (vs : List Value) (es : List TreeEntry) (v : Value) (e : TreeEntry) → AreProcesses stage (items_view vs) es → IsProcess stage (view v) e → AreProcesses stage (items_view (vs ++ v ∷ [])) (es ++ e ∷ [])
+are_push : {stage : Stage} (vs : List Value) (es : List TreeEntry) (v : Value) (e : TreeEntry)
+    → AreProcesses stage (items_view vs) es → IsProcess stage (view v) e
+    → AreProcesses stage (items_view (vs ++ v ∷ [])) (es ++ e ∷ [])
 are_push [] [] v e h p = (p, tt)
 are_push [] (x ∷ es) v e h p = absurd h
 are_push (w ∷ vs) [] v e h p = absurd h
 are_push (w ∷ vs) (x ∷ es) v e h p = (h.0, are_push vs es v e h.1 p)
 
 -- one more value is one more process
-pub are_more : {stage : Stage} (vs : List Value) (ps qs : List TreeEntry) (i : ℕ) (v : Value) (p : TreeEntry) → i < length vs → v ≡ get_or vs i v → qs ≡ ps ++ p ∷ [] → AreProcesses stage (items_view (take i vs)) ps → IsProcess stage (view v) p → AreProcesses stage (items_view (take (i + 1) vs)) qs
+pub are_more : {stage : Stage} (vs : List Value) (ps qs : List TreeEntry) (i : ℕ) (v : Value) (p : TreeEntry)
+    → i < length vs → v ≡ get_or vs i v → qs ≡ ps ++ p ∷ [] → AreProcesses stage (items_view (take i vs)) ps
+    → IsProcess stage (view v) p → AreProcesses stage (items_view (take (i + 1) vs)) qs
 are_more vs ps qs i v p lt is made h here =
     rw (made, take_more vs i v lt, ← is) (are_push (take i vs) ps v p h here)
 
 -- a value that is no process spoils the list
-pub none_at : {stage : Stage} (vs : List Value) (i : ℕ) (v : Value) → i < length vs → v ≡ get_or vs i v → ((p : TreeEntry) → IsProcess stage (view v) p → ⊥) → (es : List TreeEntry) → AreProcesses stage (items_view vs) es → ⊥
+pub none_at : {stage : Stage} (vs : List Value) (i : ℕ) (v : Value) → i < length vs → v ≡ get_or vs i v
+    → ((p : TreeEntry) → IsProcess stage (view v) p → ⊥) → (es : List TreeEntry)
+    → AreProcesses stage (items_view vs) es → ⊥
 none_at [] i v lt is none es h = absurd (omega arith)
 none_at (w ∷ vs) i v lt is none [] h = h
 none_at (w ∷ vs) zero v lt is none (e ∷ es) h = none e (rw is h.0)
@@ -45,7 +51,8 @@ same_keys k l e =
 abbrev single : List ℕ → Data → Members
 single k d = member k d no_members
 
-found_in : (o : Ordering) (k l : List ℕ) (c d : Data) → o ≡ slice_cmp nat_cmp k l → match_ordering o None (Some c) None ≡ Some d → single l c ≡ single k d
+found_in : (o : Ordering) (k l : List ℕ) (c d : Data) → o ≡ slice_cmp nat_cmp k l
+    → match_ordering o None (Some c) None ≡ Some d → single l c ≡ single k d
 found_in Less k l c d is e = absurd cc
 found_in Greater k l c d is e = absurd cc
 found_in Equal k l c d is e =
@@ -54,28 +61,39 @@ found_in Equal k l c d is e =
     rw (same, value) refl
 
 -- the one member, by its key
-pub one_member : (k : List ℕ) (es : List (String Global × Value)) (d : Data) → length es ≡ 1 → get_member k (members_view es) ≡ Some d → members_view es ≡ single k d
+pub one_member : (k : List ℕ) (es : List (String Global × Value)) (d : Data) → length es ≡ 1
+    → get_member k (members_view es) ≡ Some d → members_view es ≡ single k d
 one_member k [] d len e = absurd cc
 one_member k (m ∷ n ∷ es) d len e = absurd (omega arith)
-one_member k (m ∷ []) d len e = found_in (slice_cmp nat_cmp k (string_bytes m.0)) k (string_bytes m.0) (view m.1) d refl e
+one_member k (m ∷ []) d len e = found_in (slice_cmp nat_cmp k (string_bytes m.0)) k (string_bytes m.0)
+    (view m.1) d refl e
 
 -- one member is found at its key
-pub found_again : (k : List ℕ) (es : List (String Global × Value)) (d : Data) → slice_cmp nat_cmp k k ≡ Equal → members_view es ≡ single k d → get_member k (members_view es) ≡ Some d
-found_again k es d self e = ap (get_member k) e ∙ ap (λ (o : Ordering). match_ordering o None (Some d) None) self
+pub found_again : (k : List ℕ) (es : List (String Global × Value)) (d : Data) → slice_cmp nat_cmp k k ≡ Equal
+    → members_view es ≡ single k d → get_member k (members_view es) ≡ Some d
+found_again k es d self e = ap (get_member k) e
+    ∙ ap (λ (o : Ordering). match_ordering o None (Some d) None) self
 
-pub one_long : (k : List ℕ) (es : List (String Global × Value)) (d : Data) → members_view es ≡ single k d → length es ≡ 1
+pub one_long : (k : List ℕ) (es : List (String Global × Value)) (d : Data) → members_view es ≡ single k d
+    → length es ≡ 1
 one_long k [] d e = absurd cc
 one_long k (m ∷ []) d e = refl
 one_long k (m ∷ n ∷ es) d e = absurd cc
 
-pub only_found : (k : List ℕ) (r : Option (Bor Value)) (es : List (String Global × Value)) → option_map (λ x. view x.now) r ≡ get_member k (members_view es) → length es ≡ 1 → IfSome r (λ v. members_view es ≡ single k (view v.now))
+pub only_found : (k : List ℕ) (r : Option (Bor Value)) (es : List (String Global × Value))
+    → option_map (λ x. view x.now) r ≡ get_member k (members_view es) → length es ≡ 1
+    → IfSome r (λ v. members_view es ≡ single k (view v.now))
 only_found k None es e len = tt
 only_found k (Some v) es e len = one_member k es (view v.now) len (sym e)
 
-pub only_none : (k : List ℕ) (r : Option (Bor Value)) (es : List (String Global × Value)) → option_map (λ x. view x.now) r ≡ get_member k (members_view es) → slice_cmp nat_cmp k k ≡ Equal → IfNone r ((d : Data) → members_view es ≡ single k d → ⊥)
+pub only_none : (k : List ℕ) (r : Option (Bor Value)) (es : List (String Global × Value))
+    → option_map (λ x. view x.now) r ≡ get_member k (members_view es) → slice_cmp nat_cmp k k ≡ Equal
+    → IfNone r ((d : Data) → members_view es ≡ single k d → ⊥)
 only_none k None es e self = λ d is. absurd (let found : None ≡ Some d = e ∙ found_again k es d self is in cc)
 only_none k (Some v) es e self = tt
 
-pub spoiled : (stage : Stage) (es : List (String Global × Value)) → (length es ≡ 0 → ⊥) → ((d : Data) → members_view es ≡ single (codes "process") d → ⊥) → (xs : List TreeEntry) → IsTable stage (members_view es) xs → ⊥
+pub spoiled : (stage : Stage) (es : List (String Global × Value)) → (length es ≡ 0 → ⊥)
+    → ((d : Data) → members_view es ≡ single (codes "process") d → ⊥) → (xs : List TreeEntry)
+    → IsTable stage (members_view es) xs → ⊥
 spoiled stage [] some none xs h = some refl
 spoiled stage (m ∷ es) some none xs h = none (array h.0) h.1

@@ -10,11 +10,13 @@ use Rattle.link_script.specs.Documents.{IsKnownKey, KeysAreKnown}
 abbrev named : String Global → Type 0
 named k = IsKnownKey (string_bytes k)
 
-pub to_members : (ms : List (String Global × Value)) → All (λ k. IsKnownKey (string_bytes k)) (keys_of ms) → KeysAreKnown (members_view ms)
+pub to_members : (ms : List (String Global × Value)) → All (λ k. IsKnownKey (string_bytes k)) (keys_of ms)
+    → KeysAreKnown (members_view ms)
 to_members [] h = tt
 to_members (m ∷ ms) h = (All-head named m.0 (keys_of ms) h, to_members ms (All-tail named m.0 (keys_of ms) h))
 
-pub from_members : (ms : List (String Global × Value)) → KeysAreKnown (members_view ms) → All (λ k. IsKnownKey (string_bytes k)) (keys_of ms)
+pub from_members : (ms : List (String Global × Value)) → KeysAreKnown (members_view ms)
+    → All (λ k. IsKnownKey (string_bytes k)) (keys_of ms)
 from_members [] h = All-nil named
 from_members (m ∷ ms) h = All-cons named m.0 (keys_of ms) h.0 (from_members ms h.1)
 

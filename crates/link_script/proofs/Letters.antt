@@ -4,10 +4,16 @@ use Rattle.std.proofs.lemmas.Bool.{cases_eq}
 use Rattle.std.proofs.lemmas.Bool.Decides.{nat_tests}
 use Rattle.link_script.specs.Names.{after_at}
 
-pub after_is : (c : ℕ) (bs : List ℕ) (r : Option (Bor (List ℕ))) → MatchOption r ((rest : List ℕ) → bs ≢ c ∷ rest) (λ x. bs ≡ c ∷ x.now) → option_map (λ s. s.now) r ≡ after_at c bs
+pub after_is : (c : ℕ) (bs : List ℕ) (r : Option (Bor (List ℕ)))
+    → MatchOption r ((rest : List ℕ) → bs ≢ c ∷ rest) (λ x. bs ≡ c ∷ x.now)
+    → option_map (λ s. s.now) r ≡ after_at c bs
 after_is c [] None h = refl
 after_is c (b ∷ bs) None h =
-    elim (cases_eq b c) [ inl e ↦ absurd (h bs (ap (λ (x : ℕ). x ∷ bs) e)) | inr e ↦ (let no : eqb b c ≡ false = grind (arith, nat_tests) in rw no refl) ]
+    elim (cases_eq b c) [
+      | inl e ↦ absurd (h bs (ap (λ (x : ℕ). x ∷ bs) e))
+      | inr
+          e ↦ (let no : eqb b c ≡ false = grind (arith, nat_tests) in rw no refl)
+    ]
 after_is c [] (Some x) h = absurd cc
 after_is c (b ∷ bs) (Some x) h =
     let head : b ≡ c = cc in

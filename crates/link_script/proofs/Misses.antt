@@ -12,7 +12,8 @@ use Rattle.link_script.specs.Names.{◌>>=◌}
 use Rattle.link_script.specs.Events.{same}
 
 -- the value of a step that went on
-pub bind_some : {A B : Type 0} (r : Option A) (f : A → Option B) (y : B) → (r >>= f) ≡ Some y → (x : A) × (r ≡ Some x) × (f x ≡ Some y)
+pub bind_some : {A B : Type 0} (r : Option A) (f : A → Option B) (y : B) → (r >>= f) ≡ Some y
+    → (x : A) × (r ≡ Some x) × (f x ≡ Some y)
 bind_some None f y e = absurd cc
 bind_some (Some x) f y e = (x, refl, e)
 
@@ -27,7 +28,8 @@ misses c (b ∷ bs) = cond (eqb b c) false (misses c bs)
 first_missed : (c b : ℕ) (r : Bool) → cond (eqb b c) false r ≡ true → (b ≢ c) × (r ≡ true)
 first_missed c b r h =
     elim (cases_eq b c) [
-      | inl e ↦ absurd (let yes : eqb b c ≡ true = grind (arith, nat_tests) in let no : false ≡ true = rw yes at h in cc)
+      | inl e ↦ absurd (let yes : eqb b c ≡ true = grind (arith, nat_tests) in let no : false ≡ true =
+          rw yes at h in cc)
       | inr e ↦ (e, rw (not_at c b e) at h)
     ]
 
@@ -40,7 +42,8 @@ misses_append c (x ∷ a) b h k =
 pub misses_without : (c : ℕ) (bs : List ℕ) → misses c bs ≡ true → Without c bs
 misses_without c [] h k lt e = absurd (omega arith)
 misses_without c (x ∷ xs) h zero lt e = (first_missed c x (misses c xs) h).0 e
-misses_without c (x ∷ xs) h (suc k) lt e = misses_without c xs (first_missed c x (misses c xs) h).1 k (omega arith) e
+misses_without c (x ∷ xs) h (suc k) lt e = misses_without c xs (first_missed c x (misses c xs) h).1 k
+    (omega arith) e
 
 -- a text without the byte is not cut there
 pub cut_none : (c : ℕ) (bs : List ℕ) → misses c bs ≡ true → cut_at c bs ≡ None
@@ -69,8 +72,10 @@ digit_misses c d mark low high = rw (not_at c d (mark d low high)) refl
 
 pub decimal_misses : (c : ℕ) → IsMark c → (n : ℕ) → n < 2 ^ 64 → misses c (decimal n) ≡ true
 decimal_misses c mark n h =
-    decimal_by_steps (λ k ds. misses c ds ≡ true) (λ k lt. digit_misses c (48 + k) mark (omega arith) (omega arith))
-    (λ k ds big before. misses_append c ds ((48 + k % 10) ∷ []) before (digit_misses c (48 + k % 10) mark (omega arith) (omega arith))) n h
+    decimal_by_steps (λ k ds. misses c ds ≡ true)
+    (λ k lt. digit_misses c (48 + k) mark (omega arith) (omega arith))
+    (λ k ds big before. misses_append c ds ((48 + k % 10) ∷ []) before
+    (digit_misses c (48 + k % 10) mark (omega arith) (omega arith))) n h
 
 -- words that pass the test are one
 pub same_tells : (a b : List ℕ) → same a b ≡ true → a ≡ b

@@ -12,7 +12,8 @@ use Rattle.link_script.specs.Documents.{AreProcesses, IsTable, IsTreeText}
 abbrev pub ArePlaced : Stage → List TreeEntry → Type 0
 ArePlaced stage es = list_all (λ e. places stage e.kind e.parent) es ≡ true
 
-processes_placed : (stage : Stage) (ds : Items) (es : List TreeEntry) → AreProcesses stage ds es → ArePlaced stage es
+processes_placed : (stage : Stage) (ds : Items) (es : List TreeEntry) → AreProcesses stage ds es
+    → ArePlaced stage es
 processes_placed stage no_items [] h = refl
 processes_placed stage no_items (e ∷ es) h = absurd h
 processes_placed stage (item d ds) [] h = absurd h
@@ -24,5 +25,6 @@ table_placed : (stage : Stage) (ms : Members) (es : List TreeEntry) → IsTable 
 table_placed stage no_members es h = rw h refl
 table_placed stage (member k d ms) es h = processes_placed stage h.0 es h.2
 
-pub read_trees_are_placed : (stage : Stage) (text : List ℕ) (es : List TreeEntry) → IsTreeText stage text es → ArePlaced stage es
+pub read_trees_are_placed : (stage : Stage) (text : List ℕ) (es : List TreeEntry) → IsTreeText stage text es
+    → ArePlaced stage es
 read_trees_are_placed stage text es h = table_placed stage h.0 es h.2

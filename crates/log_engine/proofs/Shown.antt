@@ -16,7 +16,8 @@ use Rattle.log_engine.specs.Places.{Placed, placed_records}
 use Rattle.log_engine.specs.Reports.{damage_or, first_damage, heading_text, held_text, records_text, shown_text, tail_text, torn_text}
 use Rattle.log_engine.proofs.PlaceLaws.{places_tell}
 
-pub shown_more : (e : TreeEntry) (es : List TreeEntry) (logs : List ProcessLog) → shown_text (e ∷ es) logs ≡ held_text e.id e.kind (bytes_of logs e.id) ++ shown_text es logs
+pub shown_more : (e : TreeEntry) (es : List TreeEntry) (logs : List ProcessLog)
+    → shown_text (e ∷ es) logs ≡ held_text e.id e.kind (bytes_of logs e.id) ++ shown_text es logs
 unfolding shown_text
 shown_more e es logs = refl
 
@@ -24,12 +25,14 @@ pub shown_none : (logs : List ProcessLog) → shown_text [] logs ≡ []
 unfolding shown_text
 shown_none logs = refl
 
-pub sound_more : (e : TreeEntry) (es : List TreeEntry) (logs : List ProcessLog) (ls : List LogRecord) (torn : ℕ) → read_log e.kind (bytes_of logs e.id) ≡ Whole ls torn
+pub sound_more : (e : TreeEntry) (es : List TreeEntry) (logs : List ProcessLog) (ls : List LogRecord)
+    (torn : ℕ) → read_log e.kind (bytes_of logs e.id) ≡ Whole ls torn
     → first_damage (e ∷ es) logs ≡ first_damage es logs
 unfolding first_damage
 sound_more e es logs ls torn is = ap (λ r. damage_or e.id r (first_damage es logs)) is
 
-pub damaged_here : (e : TreeEntry) (es : List TreeEntry) (logs : List ProcessLog) (place : ℕ) → read_log e.kind (bytes_of logs e.id) ≡ Damaged place
+pub damaged_here : (e : TreeEntry) (es : List TreeEntry) (logs : List ProcessLog) (place : ℕ)
+    → read_log e.kind (bytes_of logs e.id) ≡ Damaged place
     → first_damage (e ∷ es) logs ≡ Some (e.id, place)
 unfolding first_damage
 damaged_here e es logs place is = ap (λ r. damage_or e.id r (first_damage es logs)) is
@@ -49,21 +52,26 @@ no_parts : (q : ProcessId) → of_parts q [] (Whole [] 0) ≡ heading_text q
 no_parts q = append-nil (heading_text q ++ []) ∙ append-nil (heading_text q)
 
 -- what a log without a record holds
-pub held_none : (q : ProcessId) (p : Kind) (bytes : List ℕ) → read_log p bytes ≡ Whole [] 0 → held_text q p bytes ≡ heading_text q
+pub held_none : (q : ProcessId) (p : Kind) (bytes : List ℕ) → read_log p bytes ≡ Whole [] 0
+    → held_text q p bytes ≡ heading_text q
 unfolding held_text
 held_none q p bytes is =
-    ap (λ xs. of_parts q xs (read_log p bytes)) (nothing_placed (placed_records p bytes) (places_tell p bytes [] 0 is))
+    ap (λ xs. of_parts q xs (read_log p bytes))
+    (nothing_placed (placed_records p bytes) (places_tell p bytes [] 0 is))
     ∙ ap (λ r. of_parts q [] r) is ∙ no_parts q
 
 -- what a log with a torn tail holds
-pub held_some : (q : ProcessId) (p : Kind) (bytes : List ℕ) (ls : List LogRecord) (torn : ℕ) → read_log p bytes ≡ Whole ls torn
+pub held_some : (q : ProcessId) (p : Kind) (bytes : List ℕ) (ls : List LogRecord) (torn : ℕ)
+    → read_log p bytes ≡ Whole ls torn
     → held_text q p bytes ≡ heading_text q ++ records_text (placed_records p bytes) ++ torn_text torn
 unfolding held_text
-held_some q p bytes ls torn is = ap (λ r. heading_text q ++ records_text (placed_records p bytes) ++ tail_text r) is
+held_some q p bytes ls torn is = ap (λ r. heading_text q ++ records_text (placed_records p bytes)
+    ++ tail_text r) is
 
 -- What was found of a log that is sound.
 
-pub held_empty : (q : ProcessId) (p : Kind) (bytes : List ℕ) (found : Found) → IsFound p bytes found → found ≡ Empty → held_text q p bytes ≡ heading_text q
+pub held_empty : (q : ProcessId) (p : Kind) (bytes : List ℕ) (found : Found) → IsFound p bytes found
+    → found ≡ Empty → held_text q p bytes ≡ heading_text q
 held_empty q p bytes Empty h e = held_none q p bytes h
 held_empty q p bytes (Sound torn) h e = absurd (cc)
 
@@ -73,24 +81,30 @@ sound_torn a b e = cc
 same_place : (a b : ℕ) → DamagedError a ≡ DamagedError b → a ≡ b
 same_place a b e = cc
 
-pub held_sound : (q : ProcessId) (p : Kind) (bytes : List ℕ) (found : Found) (torn : ℕ) → IsFound p bytes found → found ≡ Sound torn
+pub held_sound : (q : ProcessId) (p : Kind) (bytes : List ℕ) (found : Found) (torn : ℕ)
+    → IsFound p bytes found → found ≡ Sound torn
     → held_text q p bytes ≡ heading_text q ++ records_text (placed_records p bytes) ++ torn_text torn
 held_sound q p bytes Empty torn h e = absurd (cc)
 held_sound q p bytes (Sound found) torn h e =
     held_some q p bytes _ found (h.3 ∙ h.2.read)
-    ∙ ap (λ n. heading_text q ++ records_text (placed_records p bytes) ++ torn_text n) (sound_torn found torn e)
+    ∙ ap (λ n. heading_text q ++ records_text (placed_records p bytes) ++ torn_text n)
+    (sound_torn found torn e)
 
-pub sound_found : (p : Kind) (bytes : List ℕ) (found : Found) → IsFound p bytes found → (ls : List LogRecord) × (torn : ℕ) × (read_log p bytes ≡ Whole ls torn)
+pub sound_found : (p : Kind) (bytes : List ℕ) (found : Found) → IsFound p bytes found
+    → (ls : List LogRecord) × (torn : ℕ) × (read_log p bytes ≡ Whole ls torn)
 sound_found p bytes Empty h = ([], 0, h)
 sound_found p bytes (Sound torn) h = (_, torn, h.3 ∙ h.2.read)
 
-pub no_log : (p : Kind) (bytes : List ℕ) (error : OpenError) (place : ℕ) → IsNoLog p bytes error → error ≡ DamagedError place → read_log p bytes ≡ Damaged place
+pub no_log : (p : Kind) (bytes : List ℕ) (error : OpenError) (place : ℕ) → IsNoLog p bytes error
+    → error ≡ DamagedError place → read_log p bytes ≡ Damaged place
 no_log p bytes Memory place h e = absurd (cc)
 no_log p bytes Device place h e = absurd (cc)
 no_log p bytes (DamagedError at) place h e = h ∙ ap (λ n. Damaged n) (same_place at place e)
 
-pub joined : (old head records tail a b c : List ℕ) → a ≡ old ++ head → b ≡ a ++ records → c ≡ b ++ tail → c ≡ old ++ (head ++ records ++ tail)
-joined old head records tail a b c e f g = g ∙ ap (λ t. t ++ tail) (f ∙ ap (λ t. t ++ records) e) ∙ simp append_assoc
+pub joined : (old head records tail a b c : List ℕ) → a ≡ old ++ head → b ≡ a ++ records → c ≡ b ++ tail
+    → c ≡ old ++ (head ++ records ++ tail)
+joined old head records tail a b c e f g = g ∙ ap (λ t. t ++ tail) (f ∙ ap (λ t. t ++ records) e)
+    ∙ simp append_assoc
 
 -- One more log.
 
@@ -98,5 +112,6 @@ pub text_more : (old new total : List ℕ) (e : TreeEntry) (es rest : List TreeE
     → new ≡ old ++ held_text e.id e.kind (bytes_of logs e.id) → rest ≡ e ∷ es
     → old ++ shown_text rest logs ≡ total → new ++ shown_text es logs ≡ total
 text_more old new total e es rest logs n is h =
-    ap (λ t. t ++ shown_text es logs) n ∙ append_assoc old (held_text e.id e.kind (bytes_of logs e.id)) (shown_text es logs)
+    ap (λ t. t ++ shown_text es logs) n ∙ append_assoc old (held_text e.id e.kind (bytes_of logs e.id))
+    (shown_text es logs)
     ∙ sym (ap (λ t. old ++ t) (shown_more e es logs)) ∙ sym (ap (λ t. old ++ shown_text t logs) is) ∙ h

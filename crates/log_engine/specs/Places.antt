@@ -11,11 +11,12 @@ pub record Placed : Type 0 where
   pub place : ℕ
   pub read : LogRecord
 
+-- a record with the place of its first byte
 abbrev pub placed : ℕ → LogRecord → Placed
 placed place l = record { place = place; read = l }
 
--- What is read goes from frame to frame. Within a frame so many bytes are still passed over, and a frame begins where
--- none are.
+-- What is read goes from frame to frame. Within a frame so many bytes are still passed over, and a frame
+-- begins where none are.
 
 -- the record that begins there, where there is one, and those behind it
 abbrev pub and_placed : ℕ → Option LogRecord → List Placed → List Placed

@@ -69,7 +69,8 @@ damage_text q place = codes "damaged " ++ decimal q.0 ++ codes " " ++ decimal pl
 -- what is written of logs that were read, by whether one is damaged
 abbrev pub IsShown : Status → List TreeEntry → List ProcessLog → List ℕ → Type 0
 IsShown Ended es logs text = (first_damage es logs ≡ None) × (text ≡ shown_text es logs)
-IsShown Refused es logs text = (q : ProcessId) × (place : ℕ) × (first_damage es logs ≡ Some (q, place)) × (text ≡ damage_text q place)
+IsShown Refused es logs text = (q : ProcessId) × (place : ℕ) × (first_damage es logs ≡ Some (q, place))
+    × (text ≡ damage_text q place)
 IsShown Stopped es logs text = ⊥
 
 -- the line of a refused input

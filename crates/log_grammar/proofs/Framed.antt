@@ -50,14 +50,16 @@ frame_by a b d rest c h cut =
     let behind : AreBytes (b ∷ d ∷ rest) = bytes_behind 1 (a ∷ b ∷ d ∷ rest) h in
     let after_size : AreBytes rest = bytes_behind 3 (a ∷ b ∷ d ∷ rest) h in
     let number : big_number 2 (b ∷ d ∷ rest) ≡ size = omega arith in
-    let bytes : big_bytes 2 size ≡ b ∷ d ∷ [] = ap (big_bytes 2) (sym number) ∙ number_again 2 (b ∷ d ∷ rest) behind (omega arith) in
+    let bytes : big_bytes 2 size ≡ b ∷ d ∷ [] = ap (big_bytes 2) (sym number)
+    ∙ number_again 2 (b ∷ d ∷ rest) behind (omega arith) in
     let high : b < 256 = h 1 in
     let low : d < 256 = h 2 in
     let length_is : length (take size rest) ≡ size = taken size rest cut.fits in
     subst (λ (k : Cut). IsFrame (a ∷ b ∷ d ∷ rest) k) (sym cut.is) (record {
       text = ap (λ t. a ∷ b ∷ d ∷ t) (sym (take-append-drop size rest))
           ∙ ap (λ t. a ∷ (t ++ (take size rest ++ drop size rest))) (sym (ap (big_bytes 2) length_is ∙ bytes))
-          ∙ ap (λ t. a ∷ t) (sym (append_assoc (big_bytes 2 (length (take size rest))) (take size rest) (drop size rest)));
+          ∙ ap (λ t. a ∷ t) (sym (append_assoc (big_bytes 2 (length (take size rest))) (take size rest)
+          (drop size rest)));
       payload = front_bytes size rest after_size;
       behind = bytes_behind size rest after_size;
       short = omega (arith, length_is, high, low);
@@ -73,19 +75,22 @@ is_frame (a ∷ b ∷ d ∷ rest) c h e = frame_by a b d rest c h (cuts a (b * 2
 
 -- One more record at the front.
 
-begins_more : (p : Kind) (s t : SeenLog) (xs : List ℕ) (c : Cut) (l : LogRecord) (ls : List LogRecord) (said : SeenLog) (rest : List ℕ)
+begins_more : (p : Kind) (s t : SeenLog) (xs : List ℕ) (c : Cut) (l : LogRecord) (ls : List LogRecord)
+    (said : SeenLog) (rest : List ℕ)
     → IsFrame xs c → IsWrittenAs l c.0 c.1 → read_record p c.0 c.1 ≡ Some l → after s l ≡ Some t
     → Begins p t c.2 ls said rest → Begins p s xs (l ∷ ls) said rest
 unfolding admitted record_text records_text
 begins_more p s t xs c l ls said rest frame written reads follows more = record {
   text = frame.text
-      ∙ ap (λ t. t ++ c.2) (sym (ap (λ k. frame_text k (payload_text l.parent l.entry)) written.same_kind ∙ ap (frame_text c.0) written.same_payload))
+      ∙ ap (λ t. t ++ c.2) (sym (ap (λ k. frame_text k (payload_text l.parent l.entry)) written.same_kind
+      ∙ ap (frame_text c.0) written.same_payload))
       ∙ ap (λ t. record_text l ++ t) more.text ∙ sym (append_assoc (record_text l) (records_text ls) rest);
   order = ap (λ o. and_then o (λ u. admitted u ls)) follows ∙ more.order;
   frames = (
     record {
       short = subst (λ t. length t < 65536) (sym written.same_payload) frame.short;
-      reads = ap (λ k. read_record p k (payload_text l.parent l.entry)) written.same_kind ∙ ap (read_record p c.0) written.same_payload ∙ reads;
+      reads = ap (λ k. read_record p k (payload_text l.parent l.entry)) written.same_kind
+          ∙ ap (read_record p c.0) written.same_payload ∙ reads;
     },
     more.frames,
   );
@@ -115,16 +120,19 @@ says_more p s t place xs c l (Whole ls torn) frame written reads follows said = 
 }
 says_more p s t place xs c l (Damaged at) frame written reads follows said =
     let own : length (record_text l) ≡ 3 + length c.1 =
-    ap length (ap (λ k. frame_text k (payload_text l.parent l.entry)) written.same_kind ∙ ap (frame_text c.0) written.same_payload) ∙ frame.place in
+    ap length (ap (λ k. frame_text k (payload_text l.parent l.entry)) written.same_kind
+    ∙ ap (frame_text c.0) written.same_payload) ∙ frame.place in
     let size : length (records_text (l ∷ said.2.sound)) ≡ 3 + length c.1 + said.0 =
-    length-append (record_text l) (records_text said.2.sound) ∙ ap (λ n. n + length (records_text said.2.sound)) own ∙ ap (λ n. 3 + length c.1 + n) said.2.size in (
+    length-append (record_text l) (records_text said.2.sound)
+    ∙ ap (λ n. n + length (records_text said.2.sound)) own ∙ ap (λ n. 3 + length c.1 + n) said.2.size in (
       3 + length c.1 + said.0,
       omega (arith, said.1),
       record {
         sound = l ∷ said.2.sound;
         said = said.2.said;
         rest = said.2.rest;
-        begins = begins_more p s t xs c l said.2.sound said.2.said said.2.rest frame written reads follows said.2.begins;
+        begins = begins_more p s t xs c l said.2.sound said.2.said said.2.rest frame written reads follows
+            said.2.begins;
         size = size;
         frame = said.2.frame;
         is_whole = said.2.is_whole;
@@ -164,28 +172,39 @@ reads_on p s place xs c h whole more (Some l) reads = by_order (after s l) refl
     by_order None follows = damaged_here p s place xs c whole (inr (l, reads, follows))
     by_order (Some t) follows =
         let frame = is_frame xs c h whole in
-        says_more p s t place xs c l (read_frames p (place + 3 + length c.1) t 0 c.2) frame (read_is_written p c.0 c.1 l frame.payload reads) reads follows (more t)
+        says_more p s t place xs c l (read_frames p (place + 3 + length c.1) t 0 c.2) frame
+        (read_is_written p c.0 c.1 l frame.payload reads) reads follows (more t)
 
 torn_says : (p : Kind) (s : SeenLog) (place : ℕ) (xs : List ℕ) → first_frame xs ≡ None
     → Says p s place xs (Whole [] (length xs))
-torn_says p s place xs torn = record { said = s; tail = xs; begins = begins_none p s xs; is_torn = torn; size = refl }
+torn_says p s place xs torn = record {
+  said = s;
+  tail = xs;
+  begins = begins_none p s xs;
+  is_torn = torn;
+  size = refl;
+}
 
 -- bytes no longer than this read as what they are
 pub reading_says : (n : ℕ) (p : Kind) (s : SeenLog) (place : ℕ) (xs : List ℕ) → length xs < n → AreBytes xs
     → Says p s place xs (read_frames p place s 0 xs)
 reading_says zero p s place xs short h = absurd (omega (arith, short))
-reading_says (suc n) p s place xs short h = reads_first n p s place xs short h (first_frame xs) refl (λ t q ys le k. reading_says n p t q ys le k)
+reading_says (suc n) p s place xs short h = reads_first n p s place xs short h (first_frame xs) refl
+    (λ t q ys le k. reading_says n p t q ys le k)
   where
     reads_first : (n : ℕ) (p : Kind) (s : SeenLog) (place : ℕ) (xs : List ℕ) → length xs < suc n → AreBytes xs
         → (o : Option Cut) → first_frame xs ≡ o
-        → ((t : SeenLog) (q : ℕ) (ys : List ℕ) → length ys < n → AreBytes ys → Says p t q ys (read_frames p q t 0 ys))
+        → ((t : SeenLog) (q : ℕ) (ys : List ℕ) → length ys < n → AreBytes ys
+        → Says p t q ys (read_frames p q t 0 ys))
         → Says p s place xs (read_frames p place s 0 xs)
-    reads_first n p s place xs short h None whole more = subst (Says p s place xs) (sym (torn_read p place s xs whole)) (torn_says p s place xs whole)
+    reads_first n p s place xs short h None whole more =
+        subst (Says p s place xs) (sym (torn_read p place s xs whole)) (torn_says p s place xs whole)
     reads_first n p s place xs short h (Some c) whole more =
         let frame = is_frame xs c h whole in
         let less : length c.2 < n = omega (arith, frame.shorter, short) in
         subst (Says p s place xs) (sym (step_read p place s xs c whole))
-        (reads_on p s place xs c h whole (λ t. more t (place + 3 + length c.1) c.2 less frame.behind) (read_record p c.0 c.1) refl)
+        (reads_on p s place xs c h whole (λ t. more t (place + 3 + length c.1) c.2 less frame.behind)
+        (read_record p c.0 c.1) refl)
 
 -- What is there is read.
 
@@ -196,27 +215,32 @@ record_size l = omega arith
 -- the frame of a record at the front reads as the record
 steps : (p : Kind) (s t : SeenLog) (place : ℕ) (xs behind : List ℕ) (l : LogRecord) → HasFrame p l
     → after s l ≡ Some t → xs ≡ record_text l ++ behind
-    → read_frames p place s 0 xs ≡ with_first l (read_frames p (place + 3 + length (payload_text l.parent l.entry)) t 0 behind)
+    → read_frames p place s 0 xs ≡ with_first l
+    (read_frames p (place + 3 + length (payload_text l.parent l.entry)) t 0 behind)
 unfolding record_text
 steps p s t place xs behind l has follows is =
     let k = kind_byte l.entry in
     let payload = payload_text l.parent l.entry in
-    let whole : first_frame xs ≡ Some (k, payload, behind) = ap first_frame is ∙ own_frame k payload behind has.short in
+    let whole : first_frame xs ≡ Some (k, payload, behind) = ap first_frame is
+    ∙ own_frame k payload behind has.short in
     step_read p place s xs (k, payload, behind) whole
     ∙ ap (λ o. record_by place s o (λ u. read_frames p (place + 3 + length payload) u 0 behind)) has.reads
     ∙ ap (λ o. seen_by place l o (λ u. read_frames p (place + 3 + length payload) u 0 behind)) follows
 
 -- what is read of bytes that begin with sound records is these and what is read behind them
-there_reads : (p : Kind) (s : SeenLog) (place : ℕ) (xs : List ℕ) (ls : List LogRecord) (said : SeenLog) (rest : List ℕ)
+there_reads : (p : Kind) (s : SeenLog) (place : ℕ) (xs : List ℕ) (ls : List LogRecord) (said : SeenLog)
+    (rest : List ℕ)
     → Begins p s xs ls said rest
     → read_frames p place s 0 xs ≡ with_all ls (read_frames p (place + length (records_text ls)) said 0 rest)
 unfolding admitted records_text
 there_reads p s place xs [] said rest begins =
     let same : s ≡ said = some_is s said begins.order in
     let here : place + 0 ≡ place = omega arith in
-    ap (read_frames p place s 0) begins.text ∙ ap (λ t. read_frames p place t 0 rest) same ∙ ap (λ n. read_frames p n said 0 rest) (sym here)
+    ap (read_frames p place s 0) begins.text ∙ ap (λ t. read_frames p place t 0 rest) same
+    ∙ ap (λ n. read_frames p n said 0 rest) (sym here)
 there_reads p s place xs (l ∷ ls) said rest begins =
-    by_order (after s l) refl begins.order (λ t order. there_reads p t (place + 3 + length (payload_text l.parent l.entry)) (records_text ls ++ rest) ls said rest
+    by_order (after s l) refl begins.order (λ t order. there_reads p t
+    (place + 3 + length (payload_text l.parent l.entry)) (records_text ls ++ rest) ls said rest
     (record { text = refl; order = order; frames = begins.frames.1 }))
   where
     size : length (record_text l) ≡ 3 + length (payload_text l.parent l.entry)
@@ -225,40 +249,50 @@ there_reads p s place xs (l ∷ ls) said rest begins =
     by_order : (o : Option SeenLog) → after s l ≡ o → and_then o (λ u. admitted u ls) ≡ Some said
         → ((t : SeenLog) → admitted t ls ≡ Some said
         → read_frames p (place + 3 + length (payload_text l.parent l.entry)) t 0 (records_text ls ++ rest)
-        ≡ with_all ls (read_frames p (place + 3 + length (payload_text l.parent l.entry) + length (records_text ls)) said 0 rest))
-        → read_frames p place s 0 xs ≡ with_first l (with_all ls (read_frames p (place + length (record_text l ++ records_text ls)) said 0 rest))
+        ≡ with_all ls (read_frames p (place + 3 + length (payload_text l.parent l.entry) + length
+        (records_text ls)) said 0 rest))
+        → read_frames p place s 0 xs ≡ with_first l
+        (with_all ls (read_frames p (place + length (record_text l ++ records_text ls)) said 0 rest))
     by_order None follows order more = absurd (none_some said order)
     by_order (Some t) follows order more =
-        let at : place + 3 + length (payload_text l.parent l.entry) + length (records_text ls) ≡ place + length (record_text l ++ records_text ls) =
+        let at : place + 3 + length (payload_text l.parent l.entry) + length (records_text ls)
+        ≡ place + length (record_text l ++ records_text ls) =
         omega (arith, size, length-append (record_text l) (records_text ls)) in
-        steps p s t place xs (records_text ls ++ rest) l begins.frames.0 follows (begins.text ∙ append_assoc (record_text l) (records_text ls) rest)
+        steps p s t place xs (records_text ls ++ rest) l begins.frames.0 follows
+        (begins.text ∙ append_assoc (record_text l) (records_text ls) rest)
         ∙ ap (with_first l) (more t order ∙ ap (λ n. with_all ls (read_frames p n said 0 rest)) at)
 
 text_reads : (p : Kind) (bytes : List ℕ) (ls : List LogRecord) (torn : ℕ)
     → IsText p nothing_seen bytes ls torn → read_frames p 5 nothing_seen 0 bytes ≡ Whole ls torn
 text_reads p bytes ls torn text =
     there_reads p nothing_seen 5 bytes ls text.said text.tail text.begins
-    ∙ ap (with_all ls) (torn_read p (5 + length (records_text ls)) text.said text.tail text.is_torn) ∙ with_all_whole ls (length text.tail) ∙ ap (Whole ls) text.size
+    ∙ ap (with_all ls) (torn_read p (5 + length (records_text ls)) text.said text.tail text.is_torn)
+    ∙ with_all_whole ls (length text.tail) ∙ ap (Whole ls) text.size
 
 wrong_reads : (p : Kind) (said : SeenLog) (place : ℕ) (rest : List ℕ) (c : Cut) → first_frame rest ≡ Some c
     → IsWrong p said c
     → read_frames p place said 0 rest ≡ Damaged place
 wrong_reads p said place rest c whole (inl none) =
-    step_read p place said rest c whole ∙ ap (λ o. record_by place said o (λ t. read_frames p (place + 3 + length c.1) t 0 c.2)) none
+    step_read p place said rest c whole ∙ ap (λ o. record_by place said o
+    (λ t. read_frames p (place + 3 + length c.1) t 0 c.2)) none
 wrong_reads p said place rest c whole (inr w) =
-    step_read p place said rest c whole ∙ ap (λ o. record_by place said o (λ t. read_frames p (place + 3 + length c.1) t 0 c.2)) w.1
+    step_read p place said rest c whole ∙ ap (λ o. record_by place said o
+    (λ t. read_frames p (place + 3 + length c.1) t 0 c.2)) w.1
     ∙ ap (λ o. seen_by place w.0 o (λ t. read_frames p (place + 3 + length c.1) t 0 c.2)) w.2
 
 damage_reads : (p : Kind) (bytes : List ℕ) (place : ℕ) → IsDamagedAt p nothing_seen bytes place
     → read_frames p 5 nothing_seen 0 bytes ≡ Damaged (5 + place)
 damage_reads p bytes place damage =
     there_reads p nothing_seen 5 bytes damage.sound damage.said damage.rest damage.begins
-    ∙ ap (with_all damage.sound) (wrong_reads p damage.said (5 + length (records_text damage.sound)) damage.rest damage.frame damage.is_whole damage.is_wrong)
-    ∙ with_all_damaged damage.sound (5 + length (records_text damage.sound)) ∙ ap (λ n. Damaged (5 + n)) damage.size
+    ∙ ap (with_all damage.sound) (wrong_reads p damage.said
+    (5 + length (records_text damage.sound)) damage.rest damage.frame damage.is_whole damage.is_wrong)
+    ∙ with_all_damaged damage.sound (5 + length (records_text damage.sound))
+    ∙ ap (λ n. Damaged (5 + n)) damage.size
 
 pub bytes_read_as_text : BytesReadAsText
 bytes_read_as_text p bytes h =
-    let said : Says p nothing_seen 5 bytes (read_frames p 5 nothing_seen 0 bytes) = reading_says (suc (length bytes)) p nothing_seen 5 bytes (omega arith) h in
+    let said : Says p nothing_seen 5 bytes (read_frames p 5 nothing_seen 0 bytes) =
+    reading_says (suc (length bytes)) p nothing_seen 5 bytes (omega arith) h in
     record {
       whole = λ ls torn e. subst (Says p nothing_seen 5 bytes) e said;
       text = text_reads p bytes;

@@ -1,5 +1,5 @@
--- The bytes of a log as a relation: which bytes behind a header are which records with a torn tail, and which are damaged
--- at which place.
+-- The bytes of a log as a relation: which bytes behind a header are which records with a torn tail, and which
+-- are damaged at which place.
 use Rattle.std.specs.Prelude.{◌≡◌, ◌<◌, ◌+◌, ◌++◌, ◌⊎◌, ℕ, List, [], ◌∷◌, Option, Some, None, length}
 use Rattle.std.specs.List.{AllByRecursion}
 use Rattle.tree_model.specs.declared.names.Kind.{Kind}
@@ -11,6 +11,7 @@ use Rattle.log_order.specs.Logs.{Damaged, Whole, read_frames}
 use Rattle.log_order.specs.Orders.{SeenLog, after, nothing_seen}
 use Rattle.log_sound.specs.Written.{AreBytes}
 
+-- what has been seen behind more, where it may stand so far
 abbrev pub and_then : Option SeenLog → (SeenLog → Option SeenLog) → Option SeenLog
 and_then None more = None
 and_then (Some s) more = more s
@@ -25,9 +26,10 @@ pub record HasFrame (p : Kind) (l : LogRecord) : Type 0 where
   pub short : length (payload_text l.parent l.entry) < 65536
   pub reads : read_record p (kind_byte l.entry) (payload_text l.parent l.entry) ≡ Some l
 
--- bytes begin with the frames of these records, each of which may follow those before it, where a log has said this; behind
--- them it has said that, and other bytes stand
-pub record Begins (p : Kind) (s : SeenLog) (bytes : List ℕ) (ls : List LogRecord) (said : SeenLog) (rest : List ℕ) : Type 0 where
+-- bytes begin with the frames of these records, each of which may follow those before it, where a log has
+-- said this; behind them it has said that, and other bytes stand
+pub record Begins (p : Kind) (s : SeenLog) (bytes : List ℕ) (ls : List LogRecord) (said : SeenLog)
+    (rest : List ℕ) : Type 0 where
   pub text : bytes ≡ records_text ls ++ rest
   pub order : admitted s ls ≡ Some said
   pub frames : AllByRecursion (HasFrame p) ls
@@ -42,7 +44,8 @@ pub record IsText (p : Kind) (s : SeenLog) (bytes : List ℕ) (ls : List LogReco
 
 -- a whole frame is wrong: it is no record of this sort of process, or one that may not follow
 abbrev pub IsWrong : Kind → SeenLog → Cut → Type 0
-IsWrong p said c = (read_record p c.0 c.1 ≡ None) ⊎ ((l : LogRecord) × (read_record p c.0 c.1 ≡ Some l) × (after said l ≡ None))
+IsWrong p said c = (read_record p c.0 c.1 ≡ None)
+    ⊎ ((l : LogRecord) × (read_record p c.0 c.1 ≡ Some l) × (after said l ≡ None))
 
 -- bytes are damaged so many behind the first: there the first wrong frame begins, and all before it are sound
 pub record IsDamagedAt (p : Kind) (s : SeenLog) (bytes : List ℕ) (place : ℕ) : Type 0 where
@@ -55,13 +58,18 @@ pub record IsDamagedAt (p : Kind) (s : SeenLog) (bytes : List ℕ) (place : ℕ)
   pub is_whole : first_frame rest ≡ Some frame
   pub is_wrong : IsWrong p said frame
 
--- the bytes behind a header are read exactly so: what reads as records and a torn tail is a text of these, and every such
--- text reads so; what reads as damaged is damaged first at that place, and all that is damaged there reads so
+-- the bytes behind a header are read exactly so: what reads as records and a torn tail is a text of these,
+-- and every such text reads so; what reads as damaged is damaged first at that place, and all that is damaged
+-- there reads so
 pub record ReadsAsText (p : Kind) (bytes : List ℕ) : Type 0 where
-  pub whole : (ls : List LogRecord) (torn : ℕ) → read_frames p 5 nothing_seen 0 bytes ≡ Whole ls torn → IsText p nothing_seen bytes ls torn
-  pub text : (ls : List LogRecord) (torn : ℕ) → IsText p nothing_seen bytes ls torn → read_frames p 5 nothing_seen 0 bytes ≡ Whole ls torn
-  pub damaged : (place : ℕ) → read_frames p 5 nothing_seen 0 bytes ≡ Damaged (5 + place) → IsDamagedAt p nothing_seen bytes place
-  pub damage : (place : ℕ) → IsDamagedAt p nothing_seen bytes place → read_frames p 5 nothing_seen 0 bytes ≡ Damaged (5 + place)
+  pub whole : (ls : List LogRecord) (torn : ℕ) → read_frames p 5 nothing_seen 0 bytes ≡ Whole ls torn
+      → IsText p nothing_seen bytes ls torn
+  pub text : (ls : List LogRecord) (torn : ℕ) → IsText p nothing_seen bytes ls torn
+      → read_frames p 5 nothing_seen 0 bytes ≡ Whole ls torn
+  pub damaged : (place : ℕ) → read_frames p 5 nothing_seen 0 bytes ≡ Damaged (5 + place)
+      → IsDamagedAt p nothing_seen bytes place
+  pub damage : (place : ℕ) → IsDamagedAt p nothing_seen bytes place
+      → read_frames p 5 nothing_seen 0 bytes ≡ Damaged (5 + place)
 
 -- every list of bytes reads exactly as the text that it is, or as damaged where it is damaged first
 abbrev pub BytesReadAsText : Type 0

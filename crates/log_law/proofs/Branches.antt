@@ -36,7 +36,8 @@ branch_itself (Foreign x) = same_xid_refl x
 
 branch_is : (a b : Branch) → same_branch a b ≡ true → a ≡ b
 unfolding same_branch
-branch_is (CaseBranch c) (CaseBranch d) h = let one : c ≡ d = grind (arith, same_case_tells) in ap CaseBranch one
+branch_is (CaseBranch c) (CaseBranch d) h = let one : c ≡ d = grind (arith, same_case_tells) in
+    ap CaseBranch one
 branch_is (CaseBranch c) (Foreign y) h = absurd (cc)
 branch_is (Foreign x) (CaseBranch d) h = absurd (cc)
 branch_is (Foreign x) (Foreign y) h = ap Foreign (same_xid_is x y h)
@@ -49,7 +50,8 @@ same_parent_itself (Some p) (Some q) h = ap Some (grind (arith, same_process_tel
 
 -- the branch that a process reads in a name
 abbrev pub read_name : Place → Option ProcessId → Branch → Branch
-read_name place q (CaseBranch d) = if is_own place q d then CaseBranch d else Foreign (name_xid q (CaseBranch d))
+read_name place q (CaseBranch d) =
+    if is_own place q d then CaseBranch d else Foreign (name_xid q (CaseBranch d))
 read_name place q (Foreign y) = Foreign y
 
 -- the XID of a branch that a process read
@@ -57,11 +59,13 @@ abbrev xid_read : Place → Branch → XidParts
 xid_read place (CaseBranch d) = name_xid (parent_of place.role) (CaseBranch d)
 xid_read place (Foreign y) = y
 
-xid_kept : (place : Place) (q : Option ProcessId) (b : Branch) → xid_read place (read_name place q b) ≡ name_xid q b
+xid_kept : (place : Place) (q : Option ProcessId) (b : Branch)
+    → xid_read place (read_name place q b) ≡ name_xid q b
 xid_kept place q (CaseBranch d) = by_test (is_own place q d) refl
   where
     by_test : (k : Bool) → is_own place q d ≡ k
-        → xid_read place (if k then CaseBranch d else Foreign (name_xid q (CaseBranch d))) ≡ name_xid q (CaseBranch d)
+        → xid_read place (if k then CaseBranch d else Foreign (name_xid q (CaseBranch d)))
+        ≡ name_xid q (CaseBranch d)
     by_test true e = ap (λ r. name_xid r (CaseBranch d)) (sym (same_parent_itself q (parent_of place.role)
         (own_parent place q d e)))
     by_test false e = refl
@@ -129,7 +133,8 @@ no_promise false = refl
 
 module _ (place : Place) (p : Option ProcessId) (a : Branch) (sound : IsSoundName p a) where
   of_prepared : (q : Option ProcessId) (b : Branch) (ws : List Write)
-      → is_of (name_xid p a) (record { entry = Prepared b ws; parent = q }) ≡ same (name_xid p a) (name_xid q b)
+      → is_of (name_xid p a) (record { entry = Prepared b ws; parent = q })
+      ≡ same (name_xid p a) (name_xid q b)
   of_prepared q (CaseBranch d) ws = refl
   of_prepared q (Foreign y) ws = refl
 
@@ -147,7 +152,8 @@ module _ (place : Place) (p : Option ProcessId) (a : Branch) (sound : IsSoundNam
             (read_name place q b) (read_name place p a)) t;
       }
 
-  one_other : (q : Option ProcessId) (b : Branch) (r : Branch → Record) (n : Mark) (s : Said) → IsSoundName q b
+  one_other : (q : Option ProcessId) (b : Branch) (r : Branch → Record) (n : Mark) (s : Said)
+      → IsSoundName q b
       → ((c : Branch) (m : Mark) → mark_after (read_name place p a) m (r c)
       ≡ (if same_branch c (read_name place p a) then n else m))
       → ((c d : Branch) → prepares_branch d (r c) ≡ false)
@@ -215,7 +221,8 @@ module _ (place : Place) (s : ProcessId) (role : place.role
       ∙ ap (λ o. is_name (name_xid p a) (option_map (name_xid q) o)) (named (Foreign y))
 
   -- a record of a branch that sets this mark
-  read_other : (r : Branch → Record) (n : Mark) (t : Said) (q : Option ProcessId) (b : Branch) → IsSoundName q b
+  read_other : (r : Branch → Record) (n : Mark) (t : Said) (q : Option ProcessId) (b : Branch)
+      → IsSoundName q b
       → ((c d : Branch) → renamed d (r c) ≡ r d) → ((c : Branch) → record_case (r c) ≡ branch_case c)
       → ((c : Branch) → record_branch (r c) ≡ Some c)
       → ((c : Branch) (m : Mark) → mark_after (read_name place p a) m (r c)
@@ -275,7 +282,8 @@ module _ (place : Place) (s : ProcessId) (role : place.role
       ∙ ap said_so (sym (fold_marks m own (own_records place ls)))
 
   pub promises_alike : (ls : List LogRecord) → AllByRecursion (IsSound Manager) ls
-      → list_any (prepares (name_xid p a)) ls ≡ has (prepares_branch (read_name place p a)) (own_records place ls)
+      → list_any (prepares (name_xid p a)) ls
+      ≡ has (prepares_branch (read_name place p a)) (own_records place ls)
   unfolding own_records has
   promises_alike [] h = refl
   promises_alike (l ∷ ls) h =

@@ -84,7 +84,13 @@ silent c t entry none = record {
 
 says_opened : (c : Case) (n : _) → RecordSays c false (Opened n) (Opened n ∷ [])
 unfolding has none_of
-says_opened c n = record { ended = refl; owing = refl; deciding = refl; starting = refl; of_case = λ is. absurd (cc) }
+says_opened c n = record {
+  ended = refl;
+  owing = refl;
+  deciding = refl;
+  starting = refl;
+  of_case = λ is. absurd (cc);
+}
 
 says_collecting : (c d : Case) (ts : List Ticket) (t : Bool) → t ≡ same_case d c
     → RecordSays c t (Collecting d ts) (Collecting d ts ∷ [])
@@ -159,7 +165,8 @@ module _ (place : Place) (p : Option ProcessId) (c : Case) (coordinates : Coordi
       → (same name (name_xid q (CaseBranch d)) ≡ same_case d c
       → RecordSays c (same name (name_xid q (CaseBranch d))) r (r ∷ []))
       → (b : Bool) → is_own place q d ≡ b
-      → RecordSays c (same name (name_xid q (CaseBranch d))) r (if b then r ∷ [] else foreign_to place.role q d r)
+      → RecordSays c (same name (name_xid q (CaseBranch d))) r
+      (if b then r ∷ [] else foreign_to place.role q d r)
   by_own q d r h says true is = says (own_is place p c own sound q d h is)
   by_own q d r h says false is =
       subst (λ rs. RecordSays c (same name (name_xid q (CaseBranch d))) r rs) (sym (foreign_none place.role q
@@ -178,7 +185,8 @@ module _ (place : Place) (p : Option ProcessId) (c : Case) (coordinates : Coordi
       by_entry (Opened n) q h = says_opened c n
       by_entry (Collecting d ts) q h = by_own q d (Collecting d ts) h.0 (says_collecting c d ts _) (is_own
           place q d) refl
-      by_entry (Prepare d ts) q h = by_own q d (Prepare d ts) h.0 (says_prepare c d ts _) (is_own place q d) refl
+      by_entry (Prepare d ts) q h = by_own q d (Prepare d ts) h.0 (says_prepare c d ts _)
+          (is_own place q d) refl
       by_entry (Commit d ts) q h = by_own q d (Commit d ts) h.0 (says_commit c d ts _) (is_own place q d) refl
       by_entry (Abort d ts) q h = by_own q d (Abort d ts) h.0 (says_abort c d ts _) (is_own place q d) refl
       by_entry (End d) q h = by_own q d (End d) h (says_end c d _) (is_own place q d) refl

@@ -13,16 +13,19 @@ use Rattle.log_trim.specs.Trims.{opened_after}
 pub record ReadsBoot (place : Place) (l : LogRecord) : Type 0 where
   pub opened : is_opened l.entry ≡ true → (b : ℕ) → own_by place l (record_case l.entry)
       ≡ Opened (fold boot_after b (own_by place l (record_case l.entry))) ∷ []
-  pub other : is_opened l.entry ≡ false → (b : ℕ) → fold boot_after b (own_by place l (record_case l.entry)) ≡ b
+  pub other : is_opened l.entry ≡ false → (b : ℕ)
+      → fold boot_after b (own_by place l (record_case l.entry)) ≡ b
 
-fold_append : (b : ℕ) (xs ys : List Record) → fold boot_after b (xs ++ ys) ≡ fold boot_after (fold boot_after b xs) ys
+fold_append : (b : ℕ) (xs ys : List Record) → fold boot_after b (xs ++ ys)
+    ≡ fold boot_after (fold boot_after b xs) ys
 fold_append b [] ys = refl
 fold_append b (x ∷ xs) ys = fold_append (boot_after b x) xs ys
 
 -- one record more
 boot_one : (place : Place) (o : List LogRecord) (l : LogRecord) (b : ℕ) → ReadsBoot place l
     → own_records place o ≡ Opened b ∷ []
-    → own_records place (opened_after o l) ≡ Opened (fold boot_after b (own_by place l (record_case l.entry))) ∷ []
+    → own_records place (opened_after o l) ≡ Opened (fold boot_after b (own_by place l (record_case l.entry)))
+    ∷ []
 unfolding own_records
 boot_one place o l b reads e = by_test (is_opened l.entry) refl
   where
@@ -40,7 +43,8 @@ opened_since place o [] b h e = e
 opened_since place o (l ∷ ls) b h e =
     opened_since place (opened_after o l) ls (fold boot_after b (own_by place l (record_case l.entry))) h.1
     (boot_one place o l b h.0 e)
-    ∙ ap (λ n. Opened n ∷ []) (sym (fold_append b (own_by place l (record_case l.entry)) (own_records place ls)))
+    ∙ ap (λ n. Opened n ∷ []) (sym (fold_append b (own_by place l (record_case l.entry))
+    (own_records place ls)))
 
 first_one : (place : Place) (l : LogRecord) (ls : List LogRecord) (b : ℕ) → ReadsBoot place l
     → AllByRecursion (ReadsBoot place) ls
@@ -58,9 +62,11 @@ first_one place l ls b reads h e more = by_test (is_opened l.entry) refl e
     by_test true is f =
         opened_since place (l ∷ []) ls (fold boot_after b (own_by place l (record_case l.entry))) h
         (append-nil (own_by place l (record_case l.entry)) ∙ reads.opened is b)
-        ∙ ap (λ n. Opened n ∷ []) (sym (fold_append b (own_by place l (record_case l.entry)) (own_records place ls)))
+        ∙ ap (λ n. Opened n ∷ []) (sym (fold_append b (own_by place l (record_case l.entry))
+        (own_records place ls)))
     by_test false is f =
-        more f ∙ ap (λ n. Opened n ∷ []) (ap (λ n. fold boot_after n (own_records place ls)) (sym (reads.other is b))
+        more f ∙ ap (λ n. Opened n ∷ []) (ap (λ n. fold boot_after n (own_records place ls))
+        (sym (reads.other is b))
         ∙ sym (fold_append b (own_by place l (record_case l.entry)) (own_records place ls)))
 
 -- where there is an Opened, the last one has the boot of what is read

@@ -50,7 +50,8 @@ module _ (place : Place) (s : ProcessId) (role : place.role
       ls Unmarked sound)
       ∙ ap (λ z. z && not (list_any (prepares (name_xid q b)) rest)) (live_is_open (mark_of (read_name place
       q b) read))
-      ∙ ap (λ z. is_open (mark_of (read_name place q b) read) && not z) (promises_alike place s role q b name rest h)
+      ∙ ap (λ z. is_open (mark_of (read_name place q b) read) && not z)
+      (promises_alike place s role q b name rest h)
 
   abbrev pub StaysAlike : LogRecord → List LogRecord → Type 0
   StaysAlike l rest =
@@ -142,7 +143,8 @@ module _ (place : Place) (s : ProcessId) (role : place.role ≡ AtLeaf s) where
       → ReadsBoot place (record { entry = r b; parent = q })
   other_boot r q b renames case leaves none = record {
     opened = λ is. absurd (cc);
-    other = λ is n. ap (fold boot_after n) (read_as place s role r q b renames case) ∙ leaves (read_name place q b) n;
+    other = λ is n. ap (fold boot_after n) (read_as place s role r q b renames case)
+        ∙ leaves (read_name place q b) n;
   }
 
   boot_read : (r : Record) (q : Option ProcessId) → IsSound Manager (record { entry = r; parent = q })
@@ -150,7 +152,8 @@ module _ (place : Place) (s : ProcessId) (role : place.role ≡ AtLeaf s) where
   boot_read (Opened n) q k = record { opened = λ is b. refl; other = λ is. absurd (cc) }
   boot_read (Base n) q k = record { opened = λ is. absurd (cc); other = λ is b. refl }
   boot_read (Pair x v) q k = record { opened = λ is. absurd (cc); other = λ is b. refl }
-  boot_read (Prepared b ws) q k = other_boot (λ c. Prepared c ws) q b (λ c d. refl) (λ c. refl) (λ c n. refl) refl
+  boot_read (Prepared b ws) q k = other_boot (λ c. Prepared c ws) q b (λ c d. refl) (λ c. refl)
+      (λ c n. refl) refl
   boot_read (Committed b) q k = other_boot Committed q b (λ c d. refl) (λ c. refl) (λ c n. refl) refl
   boot_read (RolledBack b) q k = other_boot RolledBack q b (λ c d. refl) (λ c. refl) (λ c n. refl) refl
   boot_read (Direct b ws) q k = other_boot (λ c. Direct c ws) q b (λ c d. refl) (λ c. refl) (λ c n. refl) refl
@@ -164,7 +167,8 @@ module _ (place : Place) (s : ProcessId) (role : place.role ≡ AtLeaf s) where
   boot_read (Abort d ts) q k = absurd k.1
   boot_read (End d) q k = absurd k.1
 
-  boots_read : (ls : List LogRecord) → AllByRecursion (IsSound Manager) ls → AllByRecursion (ReadsBoot place) ls
+  boots_read : (ls : List LogRecord) → AllByRecursion (IsSound Manager) ls
+      → AllByRecursion (ReadsBoot place) ls
   boots_read [] h = tt
   boots_read (l ∷ ls) h = (boot_read l.entry l.parent h.0, boots_read ls h.1)
 

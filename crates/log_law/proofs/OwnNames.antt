@@ -41,7 +41,8 @@ pub own_parent : (place : Place) (p : Option ProcessId) (c : Case) → is_own pl
     → same_parent p (parent_of place.role) ≡ true
 own_parent place p c h = grind (arith, common_steps)
 
--- A record of a case that is the process's own is of this name exactly where it is of this case; another one is not.
+-- A record of a case that is the process's own is of this name exactly where it is of this case; another one
+-- is not.
 
 module _ (place : Place) (p : Option ProcessId) (c : Case) (own : is_own place p c
     ≡ true) (sound : IsSoundName p (CaseBranch c)) where

@@ -10,13 +10,15 @@ use Rattle.log_trim.specs.declared.lives.Said.{Said}
 use Rattle.log_trim.specs.declared.lives.Said.TheVariants.{Nothing, Waits, Settled, Owes, Over}
 use Rattle.log_trim.specs.Tables.{is_live, said_after}
 
--- what is said behind records of which one ended the case, one names somebody who owes, one decided it, one began it
+-- what is said behind records of which one ended the case, one names somebody who owes, one decided it, one
+-- began it
 abbrev pub behind : Said → Bool → Bool → Bool → Bool → Said
 behind Over e o d b = Over
 behind Owes e o d b = if e then Over else Owes
 behind Settled e o d b = if e then Over else if o then Owes else Settled
 behind Waits e o d b = if e then Over else if o then Owes else if d then Settled else Waits
-behind Nothing e o d b = if e then Over else if o then Owes else if d then Settled else if b then Waits else Nothing
+behind Nothing e o d b =
+    if e then Over else if o then Owes else if d then Settled else if b then Waits else Nothing
 
 -- the tests of one record, whatever its case
 abbrev pub ends : Record → Bool
@@ -108,7 +110,8 @@ said_one s (Pair k v) e o d b h = absurd h
 
 -- a case whose records say so is live exactly where it is not Unknown
 pub live_is_known : (e o cm ab pr co : Bool) → (o ≡ true → (cm || ab) ≡ true)
-    → is_live (behind Nothing e o (cm || ab) (pr || co)) ≡ is_known (standing_by e cm ab pr co (not o) Unknown)
+    → is_live (behind Nothing e o (cm || ab) (pr || co))
+    ≡ is_known (standing_by e cm ab pr co (not o) Unknown)
 live_is_known true o cm ab pr co h = refl
 live_is_known false true true ab pr co h = refl
 live_is_known false true false true pr co h = refl

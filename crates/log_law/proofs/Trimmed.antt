@@ -133,10 +133,12 @@ kept_if_live c rs =
     let o = has (owed c) rs in
     let decisions : has (decided c) rs ≡ (cm || ab) = has_either (is_commit c) (is_abort c) rs in
     let starts : has (started c) rs ≡ (pr || co) = has_either (is_prepare c) (is_collecting c) rs in
-    let nobody : not o ≡ none_of (owing_by c rs) = ap not (some_owed c rs) ∙ twice (none_of (owing_by c rs)) in
+    let nobody : not o ≡ none_of (owing_by c rs) = ap not (some_owed c rs)
+    ∙ twice (none_of (owing_by c rs)) in
     ap (λ d. is_live (behind Nothing e o d (has (started c) rs))) decisions
     ∙ ap (λ b. is_live (behind Nothing e o (cm || ab) b)) starts
-    ∙ live_is_known e o cm ab pr co (λ some. sym decisions ∙ has_more (owed c) (decided c) rs (owed_decides c) some)
+    ∙ live_is_known e o cm ab pr co (λ some. sym decisions
+    ∙ has_more (owed c) (decided c) rs (owed_decides c) some)
     ∙ ap (λ n. is_known (standing_by e cm ab pr co n Unknown)) nobody
     ∙ ap (λ s. is_known (standing_by e cm ab pr co (none_of (owing_by c rs)) s)) (sym (idle_unknown
     c.txn.presumption))
@@ -147,7 +149,8 @@ kept_if_live c rs =
 none_prepared : (x : Xid) (ls : List LogRecord) → AllByRecursion (IsSound Coordinator) ls
     → list_any (prepares x) ls ≡ false
 none_prepared x [] h = refl
-none_prepared x (l ∷ ls) h = ap (λ b. b || list_any (prepares x) ls) (not_prepared l h.0) ∙ none_prepared x ls h.1
+none_prepared x (l ∷ ls) h = ap (λ b. b || list_any (prepares x) ls) (not_prepared l h.0)
+    ∙ none_prepared x ls h.1
   where
     and_false : (b : Bool) → (b && false) ≡ false
     and_false true = refl
@@ -156,7 +159,8 @@ none_prepared x (l ∷ ls) h = ap (λ b. b || list_any (prepares x) ls) (not_pre
     not_prepared : (l : LogRecord) → IsSound Coordinator l → prepares x l ≡ false
     not_prepared l h = by_entry l.entry l.parent h
       where
-        by_entry : (r : Record) (q : Option ProcessId) → IsSound Coordinator (record { entry = r; parent = q })
+        by_entry : (r : Record) (q : Option ProcessId)
+            → IsSound Coordinator (record { entry = r; parent = q })
             → (is_of x (record { entry = r; parent = q }) && is_prepared r) ≡ false
         by_entry (Opened n) q h = refl
         by_entry (Collecting d ts) q h = and_false _
@@ -251,8 +255,10 @@ module _ (place : Place) (ls : List LogRecord) (coordinates : Coordinates place.
       let l : LogRecord = record { entry = r; parent = q } in
       let is : own_by place l (record_case r) ≡ r ∷ [] = ap (own_by place l) of
       ∙ ap (λ b. if b then r ∷ [] else foreign_to place.role q d r) own in
-      one_stays l rest (case_stays read (Some d)) is (ap (stays_by ls rest) named ∙ case_as_model q d rest own name h)
-      (model_case_stays place.role read (own_records place rest) r coordinates ∙ ap (case_stays read) of) behind
+      one_stays l rest (case_stays read (Some d)) is
+      (ap (stays_by ls rest) named ∙ case_as_model q d rest own name h)
+      (model_case_stays place.role read (own_records place rest) r coordinates ∙ ap (case_stays read) of)
+      behind
   case_stays_alike q d r rest of named name h behind false own =
       let l : LogRecord = record { entry = r; parent = q } in
       let none : own_by place l (record_case r) ≡ [] = ap (own_by place l) of
@@ -305,7 +311,8 @@ case_boot place q d r coordinates of none leaves = record {
       ∙ by_own b (is_own place q d);
 }
   where
-    by_own : (b : ℕ) (own : Bool) → fold boot_after b (if own then r ∷ [] else foreign_to place.role q d r) ≡ b
+    by_own : (b : ℕ) (own : Bool) → fold boot_after b (if own then r ∷ [] else foreign_to place.role q d r)
+        ≡ b
     by_own b true = leaves b
     by_own b false = ap (fold boot_after b) (foreign_none place.role q d r coordinates)
 
@@ -344,7 +351,9 @@ unfolding front_of_trim last_opened trimmed boot_of
 coordinators_read_trims place ls c sound opened =
     let rs = own_records place ls in
     own_append place (fold opened_after [] ls) (staying ls ls)
-    ∙ ap (λ t. t ++ own_records place (staying ls ls)) (opened_last place ls 0 (boots_read place ls c sound) opened)
+    ∙ ap (λ t. t ++ own_records place (staying ls ls))
+    (opened_last place ls 0 (boots_read place ls c sound) opened)
     ∙ ap (λ t. Opened (fold boot_after 0 rs) ∷ t) (staying_alike place ls c sound ls sound)
     ∙ sym (append-nil (Opened (fold boot_after 0 rs) ∷ model_staying place.role rs rs))
-    ∙ ap (λ t. (Opened (fold boot_after 0 rs) ∷ model_staying place.role rs rs) ++ t) (sym (no_data place.role rs c))
+    ∙ ap (λ t. (Opened (fold boot_after 0 rs) ∷ model_staying place.role rs rs) ++ t)
+    (sym (no_data place.role rs c))

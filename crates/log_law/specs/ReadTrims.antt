@@ -17,16 +17,16 @@ Coordinates AtRoot = Unit {0}
 Coordinates (Below p) = Unit {0}
 Coordinates (AtLeaf p) = ⊥
 
--- a coordinator reads of what a trim keeps of its log just what the model's trim leaves of what it read before
+-- a coordinator reads of what a trim keeps of its log just what the model's trim leaves of what it read
+-- before
 abbrev pub CoordinatorsReadTrims : Type 0
 CoordinatorsReadTrims = (place : Place) (ls : List LogRecord) → Coordinates place.role
     → AllByRecursion (IsSound Coordinator) ls
     → list_any (λ l. is_opened l.entry) ls ≡ true
     → own_records place (front_of_trim ls) ≡ trimmed place.role (own_records place ls)
 
--- a manager reads of what a trim keeps of its log, with its data behind it, just what the model's trim
--- leaves of what it
--- read before
+-- a manager reads of what a trim keeps of its log, with its data behind it, just what the model's trim leaves
+-- of what it read before
 abbrev pub ManagersReadTrims : Type 0
 ManagersReadTrims = (place : Place) (s : ProcessId) (ls : List LogRecord) → place.role ≡ AtLeaf s
     → AllByRecursion (IsSound Manager) ls

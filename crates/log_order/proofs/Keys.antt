@@ -12,4 +12,5 @@ unfolding same_bytes
 same_bytes_is_equality [] [] = refl
 same_bytes_is_equality [] (y ∷ b) = refl
 same_bytes_is_equality (x ∷ a) [] = refl
-same_bytes_is_equality (x ∷ a) (y ∷ b) = by_test (nat_eq x y) (bytes_eq a b) (same_bytes a b) (same_bytes_is_equality a b)
+same_bytes_is_equality (x ∷ a) (y ∷ b) = by_test (nat_eq x y) (bytes_eq a b) (same_bytes a b)
+    (same_bytes_is_equality a b)

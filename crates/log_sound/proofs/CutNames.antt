@@ -34,7 +34,8 @@ four_below a b c d ha hb hc hd = omega arith
 format_kept : (a b c d : ℕ) → a < 256 → b < 256 → c < 256 → d < 256
     → cast_signed w32 (cast_unsigned w32 (format_of (a ∷ b ∷ c ∷ d ∷ []))) ≡ format_of (a ∷ b ∷ c ∷ d ∷ [])
 format_kept a b c d ha hb hc hd =
-    ap (cast_signed w32) (of_z-to_z w32 (from_be_bytes w32 (a ∷ b ∷ c ∷ d ∷ [])) (four_below a b c d ha hb hc hd))
+    ap (cast_signed w32) (of_z-to_z w32 (from_be_bytes w32 (a ∷ b ∷ c ∷ d ∷ []))
+    (four_below a b c d ha hb hc hd))
 
 no_fault : (o : Option XidError) (b : Bool) → is_some (option_or o (cond b (Some Truncated) None)) ≡ false
     → b ≡ false
@@ -49,13 +50,18 @@ front_spelled : (xs : List ℕ) → AreBytes xs → is_some (front_fault xs) ≡
     → xs ≡ xid_bytes (front_parts xs) ++ drop (length (xid_bytes (front_parts xs))) xs
 front_spelled (a ∷ b ∷ c ∷ d ∷ g ∷ q ∷ rest) h sound =
     let format = format_of (a ∷ b ∷ c ∷ d ∷ []) in
-    let long : g + q ≤ length rest = enough (length rest) (g + q) (no_fault (xid_fault format g q) (nat_lt (length rest) (g + q)) sound) in
-    let whole : rest ≡ take (length (a ∷ b ∷ c ∷ d ∷ g ∷ q ∷ rest) - 6) rest = sym (take_all (length (a ∷ b ∷ c ∷ d ∷ g ∷ q ∷ rest) - 6) rest (omega arith)) in
-    let kept : parts (take g rest) (take q (drop g rest)) format ≡ parts (take g rest) (take q (drop g rest)) (cast_signed w32 (cast_unsigned w32 format)) =
+    let long : g + q ≤ length rest = enough (length rest) (g + q)
+    (no_fault (xid_fault format g q) (nat_lt (length rest) (g + q)) sound) in
+    let whole : rest ≡ take (length (a ∷ b ∷ c ∷ d ∷ g ∷ q ∷ rest) - 6) rest =
+    sym (take_all (length (a ∷ b ∷ c ∷ d ∷ g ∷ q ∷ rest) - 6) rest (omega arith)) in
+    let kept : parts (take g rest) (take q (drop g rest)) format
+    ≡ parts (take g rest) (take q (drop g rest)) (cast_signed w32 (cast_unsigned w32 format)) =
     ap (parts (take g rest) (take q (drop g rest))) (sym (format_kept a b c d (h 0) (h 1) (h 2) (h 3))) in
-    let read = reads (a ∷ b ∷ c ∷ d ∷ g ∷ q ∷ rest) rest (take g rest) (drop g rest) (take q (drop g rest)) format
+    let read = reads (a ∷ b ∷ c ∷ d ∷ g ∷ q ∷ rest) rest (take g rest) (drop g rest)
+    (take q (drop g rest)) format
     (parts (take g rest) (take q (drop g rest)) format) (omega arith) h whole long refl refl refl refl kept in
-    read.1 ∙ ap (λ n. xid_bytes (front_parts (a ∷ b ∷ c ∷ d ∷ g ∷ q ∷ rest)) ++ drop n (a ∷ b ∷ c ∷ d ∷ g ∷ q ∷ rest)) read.0
+    read.1 ∙ ap (λ n. xid_bytes (front_parts (a ∷ b ∷ c ∷ d ∷ g ∷ q ∷ rest))
+    ++ drop n (a ∷ b ∷ c ∷ d ∷ g ∷ q ∷ rest)) read.0
 front_spelled [] h sound = absurd (cc)
 front_spelled (a ∷ []) h sound = absurd (cc)
 front_spelled (a ∷ b ∷ []) h sound = absurd (cc)
@@ -68,11 +74,15 @@ unfolding xid_at
 xid_cut xs p h e = by_fault (is_some (front_fault xs)) refl e
   where
     by_fault : (b : Bool) → is_some (front_fault xs) ≡ b
-        → cond b None (Some (front_parts xs, drop (length (xid_bytes (front_parts xs))) xs)) ≡ Some p → IsCut xid_bytes xs p
+        → cond b None (Some (front_parts xs, drop (length (xid_bytes (front_parts xs))) xs)) ≡ Some p
+        → IsCut xid_bytes xs p
     by_fault true is f = absurd (none_some p f)
     by_fault false is f =
         subst (λ (q : XidParts × List ℕ). IsCut xid_bytes xs q) (some_is _ p f)
-        (record { written = front_spelled xs h is; bytes = bytes_behind (length (xid_bytes (front_parts xs))) xs h })
+        (record {
+          written = front_spelled xs h is;
+          bytes = bytes_behind (length (xid_bytes (front_parts xs))) xs h;
+        })
 
 -- The name.
 
@@ -84,12 +94,15 @@ xid_of_case x (Some b) = refl
 -- the XID of the name that an XID is read as is this XID
 pub name_again : (xid : XidParts) → name_xid (name_in xid).0 (name_in xid).1 ≡ xid
 unfolding name_in
-name_again xid = by_test (same_xid (branch_parts (txn_in (presumption_in xid.format) xid.gtrid) (below_in xid.bqual)) xid) refl
+name_again xid = by_test (same_xid (branch_parts (txn_in (presumption_in xid.format) xid.gtrid)
+    (below_in xid.bqual)) xid) refl
   where
     by_test : (b : Bool)
         → same_xid (branch_parts (txn_in (presumption_in xid.format) xid.gtrid) (below_in xid.bqual)) xid ≡ b
-        → name_xid (cond b (case_name (txn_in (presumption_in xid.format) xid.gtrid) (below_in xid.bqual)) (None, Foreign xid)).0
-        (cond b (case_name (txn_in (presumption_in xid.format) xid.gtrid) (below_in xid.bqual)) (None, Foreign xid)).1 ≡ xid
+        → name_xid (cond b (case_name (txn_in (presumption_in xid.format) xid.gtrid) (below_in xid.bqual))
+        (None, Foreign xid)).0
+        (cond b (case_name (txn_in (presumption_in xid.format) xid.gtrid) (below_in xid.bqual))
+        (None, Foreign xid)).1 ≡ xid
     by_test true e = xid_of_case _ (below_in xid.bqual) ∙ same_xid_is _ xid e
     by_test false e = refl
 

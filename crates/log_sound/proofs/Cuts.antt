@@ -27,7 +27,8 @@ tail_bytes a xs h i = h (suc i)
 -- a number's highest byte and the rest of it are one
 same_rest : (a b m r s : ℕ) → r < m → s < m → a * m + r ≡ b * m + s → r ≡ s
 same_rest a b m r s hr hs e =
-    sym (mod-eq_of_lt hr) ∙ sym (mul-add-mod_self_right a m r) ∙ ap (λ n. n % m) e ∙ mul-add-mod_self_right b m s ∙ mod-eq_of_lt hs
+    sym (mod-eq_of_lt hr) ∙ sym (mul-add-mod_self_right a m r) ∙ ap (λ n. n % m) e
+    ∙ mul-add-mod_self_right b m s ∙ mod-eq_of_lt hs
 
 same_high : (a b m r s : ℕ) → r < m → s < m → a * m + r ≡ b * m + s → a ≡ b
 same_high a b m r s hr hs e =
@@ -43,11 +44,13 @@ one_number (suc n) [] ys h k lx ly e = absurd (omega (arith, lx))
 one_number (suc n) (a ∷ xs) [] h k lx ly e = absurd (omega (arith, ly))
 one_number (suc n) (a ∷ xs) (b ∷ ys) h k lx ly e =
     let here : a * 256 ^ n + big_from 0 n xs ≡ b * 256 ^ n + big_from 0 n ys =
-    ap (λ r. a * 256 ^ n + r) (sym (big_from-cons 0 n a xs)) ∙ e ∙ ap (λ r. b * 256 ^ n + r) (big_from-cons 0 n b ys) in
+    ap (λ r. a * 256 ^ n + r) (sym (big_from-cons 0 n a xs)) ∙ e
+    ∙ ap (λ r. b * 256 ^ n + r) (big_from-cons 0 n b ys) in
     let small = big_from-lt 0 n xs (tail_bytes a xs h) in
     let small' = big_from-lt 0 n ys (tail_bytes b ys k) in
     let high : a ≡ b = same_high a b (256 ^ n) (big_from 0 n xs) (big_from 0 n ys) small small' here in
-    let rest : take n xs ≡ take n ys = one_number n xs ys (tail_bytes a xs h) (tail_bytes b ys k) (omega (arith, lx)) (omega (arith, ly))
+    let rest : take n xs ≡ take n ys = one_number n xs ys (tail_bytes a xs h) (tail_bytes b ys k)
+    (omega (arith, lx)) (omega (arith, ly))
     (same_rest a b (256 ^ n) (big_from 0 n xs) (big_from 0 n ys) small small' here) in
     ap (λ c. c ∷ take n xs) high ∙ ap (λ cs. b ∷ cs) rest
 
@@ -65,11 +68,14 @@ pub number_again : (n : ℕ) (xs : List ℕ) → AreBytes xs → n ≤ length xs
     → big_bytes n (big_number n xs) ≡ take n xs
 number_again n xs h le =
     let size : length (big_bytes n (big_number n xs)) ≡ n = length-bytes_high_first n (big_number n xs) in
-    let read : big_number n (big_bytes n (big_number n xs) ++ []) ≡ big_number n xs = big_number-reads_back n (big_number n xs) [] (big_from-lt 0 n xs h) in
+    let read : big_number n (big_bytes n (big_number n xs) ++ []) ≡ big_number n xs =
+    big_number-reads_back n (big_number n xs) [] (big_from-lt 0 n xs h) in
     let same : take n (big_bytes n (big_number n xs)) ≡ take n xs =
-    one_number n (big_bytes n (big_number n xs)) xs (number_bytes n (big_number n xs)) h (omega (arith, size)) le
+    one_number n (big_bytes n (big_number n xs)) xs (number_bytes n (big_number n xs)) h
+    (omega (arith, size)) le
     (ap (big_number n) (sym (append-nil (big_bytes n (big_number n xs)))) ∙ read) in
-    sym (ap (λ k. take k (big_bytes n (big_number n xs))) (sym size) ∙ take-length (big_bytes n (big_number n xs))) ∙ same
+    sym (ap (λ k. take k (big_bytes n (big_number n xs))) (sym size)
+    ∙ take-length (big_bytes n (big_number n xs))) ∙ same
 
 -- What stands behind a test that passed.
 
@@ -126,8 +132,10 @@ ticket_as_read xs h le =
     let b = big_bytes 8 (big_number 8 (drop 4 xs)) in
     let n = big_bytes 8 (big_number 8 (drop 12 xs)) in
     append_assoc c (b ++ n) (drop 20 xs) ∙ ap (λ z. c ++ z) (append_assoc b n (drop 20 xs))
-    ∙ ap (λ z. c ++ (b ++ z)) (ap (λ y. y ++ drop 20 xs) number ∙ ap (λ y. take 8 (drop 12 xs) ++ y) (sym (cut_twice 12 8 xs)) ∙ take-append-drop 8 (drop 12 xs))
-    ∙ ap (λ z. c ++ z) (ap (λ y. y ++ drop 12 xs) boot ∙ ap (λ y. take 8 (drop 4 xs) ++ y) (sym (cut_twice 4 8 xs)) ∙ take-append-drop 8 (drop 4 xs))
+    ∙ ap (λ z. c ++ (b ++ z)) (ap (λ y. y ++ drop 20 xs) number
+    ∙ ap (λ y. take 8 (drop 12 xs) ++ y) (sym (cut_twice 12 8 xs)) ∙ take-append-drop 8 (drop 12 xs))
+    ∙ ap (λ z. c ++ z) (ap (λ y. y ++ drop 12 xs) boot
+    ∙ ap (λ y. take 8 (drop 4 xs) ++ y) (sym (cut_twice 4 8 xs)) ∙ take-append-drop 8 (drop 4 xs))
     ∙ ap (λ y. y ++ drop 4 xs) child ∙ take-append-drop 4 xs
 
 -- what was read at the front was written there, and bytes are left
@@ -140,13 +148,16 @@ pub ticket_cut : (xs : List ℕ) (p : Ticket × List ℕ) → AreBytes xs → ti
 unfolding ticket_at
 ticket_cut xs p h e =
     let got = passed (nat_le 20 (length xs) && fits_ticket (ticket_in xs)) (ticket_in xs, drop 20 xs) p e in
-    let long : 20 ≤ length xs = at_most 20 (length xs) (both (nat_le 20 (length xs)) (fits_ticket (ticket_in xs)) got.0).0 in
-    subst (λ q. IsCut ticket_text xs q) got.1 (record { written = sym (ticket_as_read xs h long); bytes = bytes_behind 20 xs h })
+    let long : 20 ≤ length xs = at_most 20 (length xs)
+    (both (nat_le 20 (length xs)) (fits_ticket (ticket_in xs)) got.0).0 in
+    subst (λ q. IsCut ticket_text xs q) got.1
+    (record { written = sym (ticket_as_read xs h long); bytes = bytes_behind 20 xs h })
 
 -- Lists.
 
 -- the first was cut, and what all_of reads behind it
-rest_cut : {A : Type 0} (text : A → List ℕ) (xs : List ℕ) (p : A × List ℕ) (n : ℕ) (ys : List A) (o : Option (List A))
+rest_cut : {A : Type 0} (text : A → List ℕ) (xs : List ℕ) (p : A × List ℕ) (n : ℕ) (ys : List A)
+    (o : Option (List A))
     → IsCut text xs p → option_map (λ zs. p.0 ∷ zs) o ≡ Some ys
     → ((zs : List A) → o ≡ Some zs → (p.1 ≡ flat_map text zs) × (n ≡ length zs))
     → (xs ≡ flat_map text ys) × (suc n ≡ length ys)
@@ -158,8 +169,10 @@ rest_cut {A} text xs p n ys (Some zs) cut e more =
 
 first_cut : {A : Type 0} (at : List ℕ → Front A) (text : A → List ℕ)
     → ((xs : List ℕ) (p : A × List ℕ) → AreBytes xs → at xs ≡ Some p → IsCut text xs p)
-    → (n : ℕ) (xs : List ℕ) (ys : List A) → AreBytes xs → (o : Front A) → at xs ≡ o → and_more o (all_of at n) ≡ Some ys
-    → ((us : List ℕ) (zs : List A) → AreBytes us → all_of at n us ≡ Some zs → (us ≡ flat_map text zs) × (n ≡ length zs))
+    → (n : ℕ) (xs : List ℕ) (ys : List A) → AreBytes xs → (o : Front A) → at xs ≡ o
+    → and_more o (all_of at n) ≡ Some ys
+    → ((us : List ℕ) (zs : List A) → AreBytes us → all_of at n us ≡ Some zs
+    → (us ≡ flat_map text zs) × (n ≡ length zs))
     → (xs ≡ flat_map text ys) × (suc n ≡ length ys)
 first_cut at text cuts n xs ys h None is e more = absurd (none_some ys e)
 first_cut at text cuts n xs ys h (Some p) is e more =
@@ -168,11 +181,14 @@ first_cut at text cuts n xs ys h (Some p) is e more =
 
 pub all_cut : {A : Type 0} (at : List ℕ → Front A) (text : A → List ℕ)
     → ((xs : List ℕ) (p : A × List ℕ) → AreBytes xs → at xs ≡ Some p → IsCut text xs p)
-    → (n : ℕ) (xs : List ℕ) (ys : List A) → AreBytes xs → all_of at n xs ≡ Some ys → (xs ≡ flat_map text ys) × (n ≡ length ys)
+    → (n : ℕ) (xs : List ℕ) (ys : List A) → AreBytes xs → all_of at n xs ≡ Some ys
+    → (xs ≡ flat_map text ys) × (n ≡ length ys)
 unfolding all_of
-all_cut {A} at text cuts zero [] ys h e = subst (λ (zs : List A). ([] ≡ flat_map text zs) × (zero ≡ length zs)) (some_is [] ys e) (refl, refl)
+all_cut {A} at text cuts zero [] ys h e = subst
+    (λ (zs : List A). ([] ≡ flat_map text zs) × (zero ≡ length zs)) (some_is [] ys e) (refl, refl)
 all_cut at text cuts zero (x ∷ xs) ys h e = absurd (none_some ys e)
-all_cut at text cuts (suc n) xs ys h e = first_cut at text cuts n xs ys h (at xs) refl e (λ us zs k g. all_cut at text cuts n us zs k g)
+all_cut at text cuts (suc n) xs ys h e = first_cut at text cuts n xs ys h (at xs) refl e
+    (λ us zs k g. all_cut at text cuts n us zs k g)
 
 pub tickets_cut : (xs : List ℕ) (ts : List Ticket) → AreBytes xs → tickets_of xs ≡ Some ts
     → tickets_text ts ≡ xs
@@ -187,9 +203,11 @@ piece_cut : (least most size : ℕ) (rest : List ℕ) (p : List ℕ × List ℕ)
     → piece_at least most size rest ≡ Some p
     → (rest ≡ p.0 ++ p.1) × ((length p.0 ≡ size) × (p.1 ≡ drop size rest))
 piece_cut least most size rest p e =
-    let got = passed (nat_le least size && nat_le size most && nat_le size (length rest)) (take size rest, drop size rest) p e in
+    let got = passed (nat_le least size && nat_le size most && nat_le size (length rest))
+    (take size rest, drop size rest) p e in
     let long : size ≤ length rest = at_most size (length rest) (grind (arith, common_steps)) in
-    subst (λ (q : List ℕ × List ℕ). (rest ≡ q.0 ++ q.1) × ((length q.0 ≡ size) × (q.1 ≡ drop size rest))) got.1
+    subst (λ (q : List ℕ × List ℕ). (rest ≡ q.0 ++ q.1) × ((length q.0 ≡ size) × (q.1 ≡ drop size rest)))
+    got.1
     (sym (take-append-drop size rest), (taken size rest long, refl))
   where
     taken : (n : ℕ) (xs : List ℕ) → n ≤ length xs → length (take n xs) ≡ n
@@ -219,7 +237,8 @@ value_cut (high ∷ low ∷ rest) p h e =
     let bytes : big_bytes 2 size ≡ high ∷ low ∷ [] =
     ap (big_bytes 2) (sym number) ∙ number_again 2 (high ∷ low ∷ rest) h (omega arith) in
     record {
-      written = ap (λ t. high ∷ low ∷ t) cut.0 ∙ ap (λ t. t ++ (p.0 ++ p.1)) (sym (ap (big_bytes 2) cut.1.0 ∙ bytes))
+      written = ap (λ t. high ∷ low ∷ t) cut.0
+          ∙ ap (λ t. t ++ (p.0 ++ p.1)) (sym (ap (big_bytes 2) cut.1.0 ∙ bytes))
           ∙ sym (append_assoc (big_bytes 2 (length p.0)) p.0 p.1);
       bytes = subst AreBytes (sym cut.1.1) (bytes_behind size rest after);
     }
@@ -231,7 +250,8 @@ put_cut : (key rest : List ℕ) (o : Front (List ℕ)) (p : Write × List ℕ) �
 put_cut key rest None p is h e = absurd (none_some p e)
 put_cut key rest (Some v) p is h e =
     let cut = value_cut rest v h is in
-    subst (λ (q : Write × List ℕ). (1 ∷ rest ≡ left_text q.0.value ++ q.1) × ((q.0.key ≡ key) × AreBytes q.1)) (some_is _ p e)
+    subst (λ (q : Write × List ℕ). (1 ∷ rest ≡ left_text q.0.value ++ q.1) × ((q.0.key ≡ key) × AreBytes q.1))
+    (some_is _ p e)
     (ap (λ t. 1 ∷ t) cut.written, (refl, cut.bytes))
 
 left_cut : (key xs : List ℕ) (p : Write × List ℕ) → AreBytes xs → left_at key xs ≡ Some p
@@ -240,11 +260,13 @@ left_cut key [] p h e = absurd (none_some p e)
 left_cut key (how ∷ rest) p h e = by_how (how == 0) (how == 1) refl refl e
   where
     by_how : (a b : Bool) → (how == 0) ≡ a → (how == 1) ≡ b
-        → cond a (Some (record { key = key; value = None }, rest)) (cond b (put_of key (value_at rest)) None) ≡ Some p
+        → cond a (Some (record { key = key; value = None }, rest)) (cond b (put_of key (value_at rest)) None)
+        ≡ Some p
         → (how ∷ rest ≡ left_text p.0.value ++ p.1) × ((p.0.key ≡ key) × AreBytes p.1)
     by_how true b is other f =
         let none : how ≡ 0 = grind (arith, nat_tests) in
-        subst (λ (q : Write × List ℕ). (how ∷ rest ≡ left_text q.0.value ++ q.1) × ((q.0.key ≡ key) × AreBytes q.1)) (some_is _ p f)
+        subst (λ (q : Write × List ℕ). (how ∷ rest ≡ left_text q.0.value ++ q.1)
+        × ((q.0.key ≡ key) × AreBytes q.1)) (some_is _ p f)
         (ap (λ n. n ∷ rest) none, (refl, tail_bytes how rest h))
     by_how false true is other f =
         let one : how ≡ 1 = grind (arith, nat_tests) in
@@ -260,7 +282,8 @@ write_of_key xs (Some k) p h is e =
     let key = key_cut xs k h is in
     let left = left_cut k.0 k.1 p key.bytes e in
     record {
-      written = key.written ∙ ap (λ t. key_text k.0 ++ t) left.0 ∙ sym (append_assoc (key_text k.0) (left_text p.0.value) p.1)
+      written = key.written ∙ ap (λ t. key_text k.0 ++ t) left.0
+          ∙ sym (append_assoc (key_text k.0) (left_text p.0.value) p.1)
           ∙ ap (λ j. (key_text j ++ left_text p.0.value) ++ p.1) (sym left.1.0);
       bytes = left.1.1;
     }

@@ -28,7 +28,10 @@ record ShortParts (x : XidParts) : Type 0 where
   pub bqual : length x.bqual ≤ 64
 
 short_parts : (x : XidParts) → xid_fault x.format (length x.gtrid) (length x.bqual) ≡ None → ShortParts x
-short_parts x e = record { gtrid = grind (arith, nat_tests, common_steps, e); bqual = grind (arith, nat_tests, common_steps, e) }
+short_parts x e = record {
+  gtrid = grind (arith, nat_tests, common_steps, e);
+  bqual = grind (arith, nat_tests, common_steps, e);
+}
 
 size_of_xid : (x : XidParts) → length (xid_bytes x) ≡ 6 + length x.gtrid + length x.bqual
 size_of_xid x = omega (arith, length-append x.gtrid x.bqual)
@@ -44,7 +47,12 @@ short_name p b s =
 size_of_tickets : (ts : List Ticket) → length (flat_map ticket_text ts) ≡ 20 * length ts
 unfolding ticket_text
 size_of_tickets [] = refl
-size_of_tickets (t ∷ ts) = omega (arith, length-append (ticket_text t) (flat_map ticket_text ts), size_of_tickets ts, one t)
+size_of_tickets (t ∷ ts) = omega (
+  arith,
+  length-append (ticket_text t) (flat_map ticket_text ts),
+  size_of_tickets ts,
+  one t,
+)
   where
     one : (t : Ticket) → length (ticket_text t) ≡ 20
     one t = refl
@@ -62,11 +70,22 @@ short_left (Some v) h = omega (arith, size_of_value v, h)
 
 short_write : (w : Write) → IsSoundWrite w → length (write_text w) ≤ 324
 unfolding write_text
-short_write w h = omega (arith, length-append (key_text w.key) (left_text w.value), h.key.short, short_left w.value h.left)
+short_write w h = omega (
+  arith,
+  length-append (key_text w.key) (left_text w.value),
+  h.key.short,
+  short_left w.value h.left,
+)
 
-size_of_writes : (ws : List Write) → AllByRecursion IsSoundWrite ws → length (flat_map write_text ws) ≤ 324 * length ws
+size_of_writes : (ws : List Write) → AllByRecursion IsSoundWrite ws
+    → length (flat_map write_text ws) ≤ 324 * length ws
 size_of_writes [] h = omega arith
-size_of_writes (w ∷ ws) h = omega (arith, length-append (write_text w) (flat_map write_text ws), size_of_writes ws h.1, short_write w h.0)
+size_of_writes (w ∷ ws) h = omega (
+  arith,
+  length-append (write_text w) (flat_map write_text ws),
+  size_of_writes ws h.1,
+  short_write w h.0,
+)
 
 sized_value : (o : Option (List ℕ)) → IsSoundLeft o → SizedValue o
 sized_value None h = tt
@@ -106,19 +125,26 @@ sized Coordinator p (Prepared b ws) h = absurd h.1
 sized Coordinator p (Direct b ws) h = absurd h.1
 sized Coordinator p (Pair k v) h = absurd h.1
 
-with_tickets : (n : List ℕ) (ts : List Ticket) → length n ≤ 134 → AreSoundTickets ts → length (n ++ tickets_text ts) < 65536
+with_tickets : (n : List ℕ) (ts : List Ticket) → length n ≤ 134 → AreSoundTickets ts
+    → length (n ++ tickets_text ts) < 65536
 with_tickets n ts h s = omega (arith, length-append n (tickets_text ts), h, size_of_tickets ts, s.count)
 
-with_writes : (n : List ℕ) (ws : List Write) → length n ≤ 134 → AreSoundWrites ws → length (n ++ writes_text ws) < 65536
+with_writes : (n : List ℕ) (ws : List Write) → length n ≤ 134 → AreSoundWrites ws
+    → length (n ++ writes_text ws) < 65536
 with_writes n ws h s = omega (arith, length-append n (writes_text ws), h, size_of_writes ws s.each, s.few)
 
-short : (k : Kind) (p : Option ProcessId) (r : Record) → IsSoundEntry k p r → length (payload_text p r) < 65536
+short : (k : Kind) (p : Option ProcessId) (r : Record) → IsSoundEntry k p r
+    → length (payload_text p r) < 65536
 short Coordinator p (Opened n) h = omega arith
 short Manager p (Opened n) h = omega arith
-short Coordinator p (Collecting c ts) h = with_tickets (name_text p (CaseBranch c)) ts (short_name p (CaseBranch c) h.0) h.1
-short Coordinator p (Prepare c ts) h = with_tickets (name_text p (CaseBranch c)) ts (short_name p (CaseBranch c) h.0) h.1
-short Coordinator p (Commit c ts) h = with_tickets (name_text p (CaseBranch c)) ts (short_name p (CaseBranch c) h.0) h.1
-short Coordinator p (Abort c ts) h = with_tickets (name_text p (CaseBranch c)) ts (short_name p (CaseBranch c) h.0) h.1
+short Coordinator p (Collecting c ts) h = with_tickets (name_text p (CaseBranch c)) ts
+    (short_name p (CaseBranch c) h.0) h.1
+short Coordinator p (Prepare c ts) h = with_tickets (name_text p (CaseBranch c)) ts
+    (short_name p (CaseBranch c) h.0) h.1
+short Coordinator p (Commit c ts) h = with_tickets (name_text p (CaseBranch c)) ts
+    (short_name p (CaseBranch c) h.0) h.1
+short Coordinator p (Abort c ts) h = with_tickets (name_text p (CaseBranch c)) ts
+    (short_name p (CaseBranch c) h.0) h.1
 short Coordinator p (End c) h = omega (arith, short_name p (CaseBranch c) h)
 short Manager p (Prepared b ws) h = with_writes (name_text p b) ws (short_name p b h.0) h.1
 short Manager p (Direct b ws) h = with_writes (name_text p b) ws (short_name p b h.0) h.1
@@ -126,10 +152,20 @@ short Manager p (Committed b) h = omega (arith, short_name p b h)
 short Manager p (RolledBack b) h = omega (arith, short_name p b h)
 short Manager p (HeurCommit b) h = omega (arith, short_name p b h)
 short Manager p (HeurRollback b) h = omega (arith, short_name p b h)
-short Manager p (Told b o) h = omega (arith, length-append (name_text p b) (outcome_byte o ∷ []), short_name p b h)
+short Manager p (Told b o) h = omega (
+  arith,
+  length-append (name_text p b) (outcome_byte o ∷ []),
+  short_name p b h,
+)
 short Manager p (Forgot b) h = omega (arith, short_name p b h)
 short Manager p (Base n) h = omega arith
-short Manager p (Pair k v) h = omega (arith, length-append (key_text k) (value_text v), size_of_value v, h.1.0.short, h.1.1)
+short Manager p (Pair k v) h = omega (
+  arith,
+  length-append (key_text k) (value_text v),
+  size_of_value v,
+  h.1.0.short,
+  h.1.1,
+)
 short Coordinator p (Prepared b ws) h = absurd h.1
 short Coordinator p (Committed b) h = absurd h.1
 short Coordinator p (RolledBack b) h = absurd h.1

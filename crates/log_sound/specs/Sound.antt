@@ -49,6 +49,7 @@ abbrev pub IsSoundLeft : Option (List ℕ) → Type 0
 IsSoundLeft None = ⊤
 IsSoundLeft (Some v) = length v ≤ 256
 
+-- a write can stand in a log: its key and its value have lengths within bounds
 pub record IsSoundWrite (w : Write) : Type 0 where
   pub key : IsSoundKey w.key
   pub left : IsSoundLeft w.value
@@ -66,7 +67,8 @@ IsSoundUnnamed Manager (Base n) = n < 2 ^ 63
 IsSoundUnnamed Manager (Pair k v) = IsSoundKey k × (length v ≤ 256)
 IsSoundUnnamed _ _ = ⊥
 
--- a record can stand in a log of this sort of process: its kind is of that sort, its name whole, and its parts in range
+-- a record can stand in a log of this sort of process: its kind is of that sort, its name whole, and its
+-- parts in range
 abbrev pub IsSoundEntry : Kind → Option ProcessId → Record → Type 0
 IsSoundEntry Coordinator p (Collecting c ts) = IsSoundName p (CaseBranch c) × AreSoundTickets ts
 IsSoundEntry Coordinator p (Prepare c ts) = IsSoundName p (CaseBranch c) × AreSoundTickets ts
@@ -101,7 +103,8 @@ NamesAreWrittenBack = (x : XidParts) → name_xid (name_in x).0 (name_in x).1 �
 
 -- the payload of a sound record reads as this record
 abbrev pub RecordsReadBack : Type 0
-RecordsReadBack = (k : Kind) (l : LogRecord) → IsSound k l → read_record k (kind_byte l.entry) (payload_text l.parent l.entry) ≡ Some l
+RecordsReadBack = (k : Kind) (l : LogRecord) → IsSound k l
+    → read_record k (kind_byte l.entry) (payload_text l.parent l.entry) ≡ Some l
 
 -- a sound record fits a frame
 abbrev pub RecordsFitFrames : Type 0

@@ -14,6 +14,10 @@ fault_forced s = s.store.forced
 abbrev pub fault_failures : FaultStore → ℕ
 fault_failures s = if s.failed then 1 else 0
 
+-- how many calls its device takes before the one at which it fails
+abbrev pub fault_calls : FaultStore → ℕ
+fault_calls s = s.calls
+
 -- the device fails at the call behind which none is left to count, once
 pub record Fails (old new : FaultStore) (now : Bool) : Type 0 where
   pub store : new.store ≡ old.store

@@ -17,7 +17,7 @@ pub struct FaultStore {
 }
 
 impl FaultStore {
-    ghost use Rattle.log_store.specs.Faults.{Fails, fault_bytes, fault_failures, fault_forced};
+    ghost use Rattle.log_store.specs.Faults.{Fails, fault_bytes, fault_calls, fault_failures, fault_forced};
     ghost use Rattle.log_store.specs.Memory.{memory_bytes, memory_forced};
 
     /// The store, whose device fails behind so many calls. It takes no memory.
@@ -25,6 +25,7 @@ impl FaultStore {
         ensures text { fault_bytes result ≡ memory_bytes store }
         ensures forced { fault_forced result ≡ memory_forced store }
         ensures works { fault_failures result ≡ 0 }
+        ensures counts { fault_calls result ≡ calls }
     {
         FaultStore {
             store,

@@ -25,19 +25,33 @@ Front A = Option (A × List ℕ)
 -- the XID at the front
 unfoldable pub xid_at : List ℕ → Front XidParts
 xid_at bytes =
-    if is_some (front_fault bytes) then None else Some (front_parts bytes, drop (length (xid_bytes (front_parts bytes))) bytes)
+    if is_some (front_fault bytes) then None
+    else Some (front_parts bytes, drop (length (xid_bytes (front_parts bytes))) bytes)
 
 -- the transaction that a gtrid of 20 bytes names
 abbrev pub txn_in : Presumption → List ℕ → Txn
 txn_in p name =
-    record { root = record { 0 = big_number 4 name }; boot = big_number 8 (drop 4 name); sequence = big_number 8 (drop 12 name); presumption = p }
+    record {
+      root = record { 0 = big_number 4 name };
+      boot = big_number 8 (drop 4 name);
+      sequence = big_number 8 (drop 12 name);
+      presumption = p;
+    }
 
 -- the parent and the ticket that a bqual of 24 bytes names; none that is empty
 abbrev pub below_in : List ℕ → Option (ProcessId × Ticket)
 below_in [] = None
 below_in (b ∷ bs) =
-    Some (record { 0 = big_number 4 (b ∷ bs) }, record { child = record { 0 = big_number 4 (drop 4 (b ∷ bs)) }; boot = big_number 8 (drop 8 (b ∷ bs)); number = big_number 8 (drop 16 (b ∷ bs)) })
+    Some (
+      record { 0 = big_number 4 (b ∷ bs) },
+      record {
+        child = record { 0 = big_number 4 (drop 4 (b ∷ bs)) };
+        boot = big_number 8 (drop 8 (b ∷ bs));
+        number = big_number 8 (drop 16 (b ∷ bs));
+      },
+    )
 
+-- the presumption that an XID's format tells: 4002 is Presumed Commit's
 abbrev pub presumption_in : ℤ → Presumption
 presumption_in format = if int_eq format (pos 4002) then PresumeCommit else PresumeAbort
 
@@ -45,10 +59,12 @@ presumption_in format = if int_eq format (pos 4002) then PresumeCommit else Pres
 abbrev pub Name : Type 0
 Name = Option ProcessId × Branch
 
+-- the name of a case: alone at the root, else with its parent and its ticket
 abbrev pub case_name : Txn → Option (ProcessId × Ticket) → Name
 case_name x None = (None, CaseBranch (record { txn = x; ticket = None }))
 case_name x (Some b) = (Some b.0, CaseBranch (record { txn = x; ticket = Some b.1 }))
 
+-- the case where it has this XID itself, else the XID as a foreign name
 abbrev pub name_by : XidParts → Txn → Option (ProcessId × Ticket) → Name
 name_by xid x b = if same_xid (branch_parts x b) xid then case_name x b else (None, Foreign xid)
 
@@ -56,6 +72,7 @@ name_by xid x b = if same_xid (branch_parts x b) xid then case_name x b else (No
 unfoldable pub name_in : XidParts → Name
 name_in xid = name_by xid (txn_in (presumption_in xid.format) xid.gtrid) (below_in xid.bqual)
 
+-- the name at the front of a payload: the XID there, read as a name
 unfoldable pub name_at : List ℕ → Front Name
 name_at bytes = option_map (λ p. (name_in p.0, p.1)) (xid_at bytes)
 
@@ -63,20 +80,28 @@ name_at bytes = option_map (λ p. (name_in p.0, p.1)) (xid_at bytes)
 
 -- the ticket in 20 bytes
 abbrev pub ticket_in : List ℕ → Ticket
-ticket_in bytes = record { child = record { 0 = big_number 4 bytes }; boot = big_number 8 (drop 4 bytes); number = big_number 8 (drop 12 bytes) }
+ticket_in bytes = record {
+  child = record { 0 = big_number 4 bytes };
+  boot = big_number 8 (drop 4 bytes);
+  number = big_number 8 (drop 12 bytes);
+}
 
+-- a ticket's numbers are below 2^63
 abbrev pub fits_ticket : Ticket → Bool
 fits_ticket t = nat_lt t.boot (2 ^ 63) && nat_lt t.number (2 ^ 63)
 
 -- the ticket at the front: its numbers are below 2^63
 unfoldable pub ticket_at : List ℕ → Front Ticket
-ticket_at bytes = if nat_le 20 (length bytes) && fits_ticket (ticket_in bytes) then Some (ticket_in bytes, drop 20 bytes) else None
+ticket_at bytes = if nat_le 20 (length bytes) && fits_ticket (ticket_in bytes)
+    then Some (ticket_in bytes, drop 20 bytes) else None
 
 -- Keys, values and writes.
 
+-- the first so many bytes, where there are as many and their number is within these bounds
 abbrev pub piece_at : ℕ → ℕ → ℕ → List ℕ → Front (List ℕ)
 piece_at least most size rest =
-    if nat_le least size && nat_le size most && nat_le size (length rest) then Some (take size rest, drop size rest) else None
+    if nat_le least size && nat_le size most && nat_le size (length rest)
+    then Some (take size rest, drop size rest) else None
 
 -- the key at the front, behind its length: 1 to 64 bytes
 abbrev pub key_at : List ℕ → Front (List ℕ)
@@ -88,6 +113,7 @@ abbrev pub value_at : List ℕ → Front (List ℕ)
 value_at (high ∷ low ∷ rest) = piece_at 0 256 (high * 256 + low) rest
 value_at _ = None
 
+-- the write that puts a value, where a value was read
 abbrev pub put_of : List ℕ → Front (List ℕ) → Front Write
 put_of key None = None
 put_of key (Some p) = Some (record { key = key; value = Some p.0 }, p.1)
@@ -96,8 +122,10 @@ put_of key (Some p) = Some (record { key = key; value = Some p.0 }, p.1)
 abbrev pub left_at : List ℕ → List ℕ → Front Write
 left_at key [] = None
 left_at key (how ∷ rest) =
-    if how == 0 then Some (record { key = key; value = None }, rest) else if how == 1 then put_of key (value_at rest) else None
+    if how == 0 then Some (record { key = key; value = None }, rest)
+    else if how == 1 then put_of key (value_at rest) else None
 
+-- the write of a key, where a key was read, by what it leaves there
 abbrev pub write_by : Front (List ℕ) → Front Write
 write_by None = None
 write_by (Some p) = left_at p.0 p.1
@@ -113,6 +141,7 @@ abbrev pub and_more : {A : Type 0} → Front A → (List ℕ → Option (List A)
 and_more None more = None
 and_more (Some p) more = option_map (λ xs. p.0 ∷ xs) (more p.1)
 
+-- so many parts, each read at the front of what the last one left, and nothing behind the last
 unfoldable pub all_of : {A : Type 0} → (List ℕ → Front A) → ℕ → List ℕ → Option (List A)
 all_of at zero [] = Some []
 all_of at zero (b ∷ bs) = None

@@ -56,6 +56,7 @@ abbrev pub left_text : Option (List ℕ) → List ℕ
 left_text None = 0 ∷ []
 left_text (Some v) = 1 ∷ value_text v
 
+-- a write: its key, and what it leaves there
 unfoldable pub write_text : Write → List ℕ
 write_text w = key_text w.key ++ left_text w.value
 
@@ -63,6 +64,7 @@ write_text w = key_text w.key ++ left_text w.value
 abbrev pub writes_text : List Write → List ℕ
 writes_text ws = length ws ∷ flat_map write_text ws
 
+-- the byte of an outcome
 abbrev pub outcome_byte : Outcome → ℕ
 outcome_byte CommittedOutcome = 1
 outcome_byte AbortedOutcome = 0
@@ -71,6 +73,7 @@ outcome_byte AbortedOutcome = 0
 abbrev pub name_text : Option ProcessId → Branch → List ℕ
 name_text p b = xid_bytes (name_xid p b)
 
+-- a record's payload: what it carries, behind its name where it has one
 abbrev pub payload_text : Option ProcessId → Record → List ℕ
 payload_text p (Opened n) = big_bytes 8 n
 payload_text p (Collecting c ts) = name_text p (CaseBranch c) ++ tickets_text ts
@@ -99,13 +102,16 @@ records_text ls = flat_map record_text ls
 
 -- Sizes that the bytes before a list, a key and a value can tell.
 
+-- the length of a value, where there is one, fits two bytes
 abbrev pub SizedValue : Option (List ℕ) → Type 0
 SizedValue None = ⊤
 SizedValue (Some v) = length v < 65536
 
+-- the length of a key fits one byte, and that of its value two
 abbrev pub SizedWrite : Write → Type 0
 SizedWrite w = (length w.key < 256) × SizedValue w.value
 
+-- each number and length that a payload tells in one byte or two fits there
 abbrev pub IsSized : Record → Type 0
 IsSized (Collecting c ts) = length ts < 256
 IsSized (Prepare c ts) = length ts < 256

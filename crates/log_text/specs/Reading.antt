@@ -15,54 +15,69 @@ use Rattle.tree_model.specs.declared.records.Record.TheVariants.{Opened, Collect
 use Rattle.tree_model.specs.declared.records.Write.{Write}
 use Rattle.log_text.specs.Parts.{Front, Name, name_at, tickets_of, writes_of, key_at, value_at}
 
+-- the number in just 8 bytes, below 2^63
 abbrev pub below : List ℕ → Option ℕ
-below bytes = if (length bytes == 8) && nat_lt (big_number 8 bytes) (2 ^ 63) then Some (big_number 8 bytes) else None
+below bytes =
+    if (length bytes == 8) && nat_lt (big_number 8 bytes) (2 ^ 63) then Some (big_number 8 bytes) else None
 
+-- a record of the process itself, under no parent
 abbrev pub unnamed : Record → LogRecord
 unnamed r = record { entry = r; parent = None }
 
+-- a record under this parent, or none
 abbrev pub named : Option ProcessId → Record → LogRecord
 named p r = record { entry = r; parent = p }
 
 -- Coordinators.
 
+-- the record of a kind that lists a case's tickets
 abbrev pub listing : ℕ → Case → List Ticket → Record
 listing kind c ts =
-    if kind == 2 then Collecting c ts else if kind == 3 then Prepare c ts else if kind == 4 then Commit c ts else Abort c ts
+    if kind == 2 then Collecting c ts else if kind == 3 then Prepare c ts else if kind == 4 then Commit c ts
+    else Abort c ts
 
 -- a record of a case, with the tickets that are left behind its name
 abbrev pub case_record : ℕ → Option ProcessId → Case → List ℕ → Option LogRecord
 case_record kind p c rest =
     if kind == 6 then (if length rest == 0 then Some (named p (End c)) else None)
-    else if nat_le 2 kind && nat_le kind 5 then option_map (λ ts. named p (listing kind c ts)) (tickets_of rest)
+    else if nat_le 2 kind && nat_le kind 5
+    then option_map (λ ts. named p (listing kind c ts)) (tickets_of rest)
     else None
 
+-- a coordinator's record of what it names: a case, and nothing foreign
 abbrev pub of_case : ℕ → Option ProcessId → Branch → List ℕ → Option LogRecord
 of_case kind p (CaseBranch c) rest = case_record kind p c rest
 of_case kind p (Foreign x) rest = None
 
+-- a coordinator's record, where a name was read
 abbrev pub of_name : ℕ → Front Name → Option LogRecord
 of_name kind None = None
 of_name kind (Some n) = of_case kind n.0.0 n.0.1 n.1
 
+-- a coordinator's record that is not Opened: its kind, and the payload behind its name
 unfoldable pub coordinator_record : ℕ → List ℕ → Option LogRecord
 coordinator_record kind payload = of_name kind (name_at payload)
 
 -- Managers.
 
+-- the record of a kind that says nothing but its branch
 abbrev pub bare : ℕ → Branch → Option Record
 bare kind b =
-    if kind == 18 then Some (Committed b) else if kind == 19 then Some (RolledBack b) else if kind == 21 then Some (HeurCommit b)
+    if kind == 18 then Some (Committed b) else if kind == 19 then Some (RolledBack b)
+    else if kind == 21 then Some (HeurCommit b)
     else if kind == 22 then Some (HeurRollback b) else if kind == 24 then Some (Forgot b) else None
 
+-- the record of a kind that carries a branch's writes
 abbrev pub writing : ℕ → Branch → List Write → Record
 writing kind b ws = if kind == 17 then Prepared b ws else Direct b ws
 
 -- the outcome that a branch was told: one byte
 abbrev pub told : Branch → List ℕ → Option Record
-told b (o ∷ []) = if o == 1 then Some (Told b CommittedOutcome) else if o == 0 then Some (Told b AbortedOutcome) else None
+told b (o ∷ []) = if o == 1 then Some (Told b CommittedOutcome)
+    else if o == 0 then Some (Told b AbortedOutcome) else None
 told b _ = None
 
+-- a manager's record of a branch, by its kind and what is left behind the name
 abbrev pub branch_record : ℕ → Branch → List ℕ → Option Record
 branch_record kind b rest =
     if (kind == 17) || (kind == 20) then option_map (writing kind b) (writes_of rest)
@@ -70,6 +85,7 @@ branch_record kind b rest =
     else if length rest == 0 then bare kind b
     else None
 
+-- a manager's record of a branch, where a name was read
 abbrev pub of_branch : ℕ → Front Name → Option LogRecord
 of_branch kind None = None
 of_branch kind (Some n) = option_map (named n.0.0) (branch_record kind n.0.1 n.1)
@@ -79,20 +95,23 @@ abbrev pub pair_of : List ℕ → Front (List ℕ) → Option LogRecord
 pair_of k None = None
 pair_of k (Some v) = if length v.1 == 0 then Some (unnamed (Pair k v.0)) else None
 
+-- the record of a key and its value, where a key was read
 abbrev pub pair_by : Front (List ℕ) → Option LogRecord
 pair_by None = None
 pair_by (Some k) = pair_of k.0 (value_at k.1)
 
+-- a manager's record that is not Opened: its data, or a record of a branch
 unfoldable pub manager_record : ℕ → List ℕ → Option LogRecord
 manager_record kind payload =
     if kind == 25 then option_map (λ n. unnamed (Base n)) (below payload)
     else if kind == 26 then pair_by (key_at payload)
     else of_branch kind (name_at payload)
 
--- The record of a frame: none where its kind is unknown or of the other sort of process, or its payload is not exactly
--- that of a record.
+-- The record of a frame: none where its kind is unknown or of the other sort of process, or its payload is
+-- not exactly that of a record.
 unfoldable pub read_record : Kind → ℕ → List ℕ → Option LogRecord
 read_record Coordinator kind payload =
-    if kind == 1 then option_map (λ n. unnamed (Opened n)) (below payload) else coordinator_record kind payload
+    if kind == 1 then option_map (λ n. unnamed (Opened n)) (below payload)
+    else coordinator_record kind payload
 read_record Manager kind payload =
     if kind == 1 then option_map (λ n. unnamed (Opened n)) (below payload) else manager_record kind payload

@@ -27,8 +27,8 @@ ghost use Rattle.log_text.specs.Payloads.{
 use std::alloc::{AllocError, Global};
 use tree_model::{
     Branch, Bytes, LogRecord, Outcome, ProcessId, Record, Ticket, Tickets, Write, Writes,
-    branch_xid,
 };
+use tree_xids::branch_xid;
 use xa_xid::Xid;
 
 /// The XID that a log writes for a name: a branch, and the parent of a case below the root. It takes no memory.

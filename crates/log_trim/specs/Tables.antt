@@ -29,7 +29,8 @@ abbrev pub begins : Said → Said
 begins Nothing = Waits
 begins s = s
 
--- behind a decision the case is over where it ended; else somebody owes an acknowledgement where a decision names somebody
+-- behind a decision the case is over where it ended; else somebody owes an acknowledgement where a decision
+-- names somebody
 abbrev pub decides : Said → List Ticket → Said
 decides Over ts = Over
 decides Owes ts = Owes
@@ -63,20 +64,29 @@ abbrev pub is_prepared : Record → Bool
 is_prepared (Prepared b ws) = true
 is_prepared _ = false
 
--- The table: for each name what its records say, and how many records stand before the one that last prepared it.
+-- The table: for each name what its records say, and how many records stand before the one that last prepared
+-- it.
 
+-- what the records have said of each name, under its XID
 abbrev pub Table : Type 0
 Table = List (Xid × Life)
 
+-- what the table says of a name that no record has
 abbrev pub no_life : Life
 no_life = record { said = Nothing; since = 0 }
 
+-- what the table says of a name
 abbrev pub life_in : Table → Xid → Life
 life_in t x = unwrap_or (lookup (same x) t) no_life
 
+-- what it says behind one more record of the name, before which so many stand
 abbrev pub life_after : ℕ → Life → Record → Life
-life_after i life r = record { said = said_after life.said r; since = if is_prepared r then i else life.since }
+life_after i life r = record {
+  said = said_after life.said r;
+  since = if is_prepared r then i else life.since;
+}
 
+-- the table behind one more record of this name, where it has one
 abbrev pub noted_by : ℕ → Table → Record → Option Xid → Table
 noted_by i t r None = t
 noted_by i t r (Some x) = insert_entry same t x (life_after i (life_in t x) r)
@@ -94,6 +104,8 @@ lives_from i t (l ∷ ls) = lives_from (suc i) (noted i t l) ls
 abbrev pub lives_of : List LogRecord → Table
 lives_of ls = lives_from 0 [] ls
 
+-- a record of this name stays before which so many stand, where it has a name: it is live, and was not
+-- prepared again behind it
 abbrev pub keeps_by : Table → ℕ → Option Xid → Bool
 keeps_by t i None = false
 keeps_by t i (Some x) = is_live (life_in t x).said && nat_le (life_in t x).since i

@@ -1,5 +1,5 @@
--- The records that a trim keeps, under their whole names: the last Opened, and all records of the cases and branches
--- that are not forgotten.
+-- The records that a trim keeps, under their whole names: the last Opened, and all records of the cases and
+-- branches that are not forgotten.
 use Rattle.std.specs.Prelude.{◌≡◌, ◌&&◌, not, Bool, false, if◌then◌else◌, List, [], ◌∷◌, ◌++◌, fold, Option, Some, None}
 use Rattle.std.specs.List.{list_any}
 use Rattle.xa_xid.specs.declared.xid.Xid.{Xid}
@@ -30,6 +30,8 @@ said_of x ls = fold (said_behind x) Nothing ls
 abbrev pub prepares : Xid → LogRecord → Bool
 prepares x l = is_of x l && is_prepared l.entry
 
+-- a record of this name stays, where it has a name: it is live, and none of the records behind promises
+-- again for it
 abbrev pub stays_by : List LogRecord → List LogRecord → Option Xid → Bool
 stays_by ls behind None = false
 stays_by ls behind (Some x) = is_live (said_of x ls) && not (list_any (prepares x) behind)
@@ -43,6 +45,7 @@ unfoldable pub staying : List LogRecord → List LogRecord → List LogRecord
 staying ls [] = []
 staying ls (l ∷ behind) = if stays ls behind l then l ∷ staying ls behind else staying ls behind
 
+-- the last Opened behind one more record
 abbrev pub opened_after : List LogRecord → LogRecord → List LogRecord
 opened_after o l = if is_opened l.entry then l ∷ [] else o
 

@@ -28,7 +28,8 @@ unfolding bytes_at
 some_bytes w bytes some h =
     let zero : length w % 2 ≡ 0 = spelled_even w (bytes, h) in
     let even : eqb (length w % 2) 0 ≡ true = grind (arith, nat_tests) in
-    let d : decode_sized w (length w / 2) ≡ Ok bytes = decodes w bytes (length w / 2) h (omega (arith, zero)) in
+    let d : decode_sized w (length w / 2) ≡ Ok bytes =
+    decodes w bytes (length w / 2) h (omega (arith, zero)) in
     rw (some, even, spelled_lower w (bytes, h), d) refl
 
 pub half : (w : List ℕ) → IsHexadecimal w → length w ≡ 2 * (length w / 2)

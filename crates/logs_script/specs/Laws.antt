@@ -12,5 +12,6 @@ AreFirst es seen (l ∷ ls) = FitsLog l × (may_follow es seen l ≡ true) × Ar
 
 -- the lines of logs, one for each process of a tree, read as these logs
 abbrev pub LinesRead : Type 0
-LinesRead = (es : List TreeEntry) (ls : List ProcessLog) (rule : ℕ) → AreFirst es [] ls → each_has_log es ls ≡ true
+LinesRead = (es : List TreeEntry) (ls : List ProcessLog) (rule : ℕ) → AreFirst es [] ls
+    → each_has_log es ls ≡ true
     → logs_of es rule (map log_line ls) ≡ Ok ls

@@ -34,8 +34,8 @@ abbrev pub line_then : List TreeEntry → List ProcessLog → ℕ → Option Pro
 line_then es ls n None more = Err n
 line_then es ls n (Some l) more = if may_follow es ls l then more (ls ++ l ∷ []) else Err n
 
--- these logs and those of the lines behind them, the first of which has this number; or the number of the first line
--- that is the line of no log that may stand there
+-- these logs and those of the lines behind them, the first of which has this number; or the number of the
+-- first line that is the line of no log that may stand there
 unfoldable pub logs_behind : List TreeEntry → List ProcessLog → ℕ → List (List ℕ) → Result (List ProcessLog) ℕ
 logs_behind es ls n [] = Ok ls
 logs_behind es ls n (line ∷ lines) =
@@ -51,14 +51,16 @@ abbrev pub complete : List TreeEntry → ℕ → Result (List ProcessLog) ℕ �
 complete es last (Ok ls) = if each_has_log es ls then Ok ls else Err last
 complete es last (Err n) = Err n
 
--- the logs of the lines behind the line of three dashes, which has this number; or the number of the line that is wrong
+-- the logs of the lines behind the line of three dashes, which has this number; or the number of the line
+-- that is wrong
 unfoldable pub logs_of : List TreeEntry → ℕ → List (List ℕ) → Result (List ProcessLog) ℕ
 logs_of es rule lines = complete es (rule + length lines) (logs_behind es [] (rule + 1) lines)
 
 -- the input is the text of this tree and, behind the line of three dashes, the lines of these logs
 abbrev pub IsLogsText : List ℕ → List TreeEntry → List ProcessLog → Type 0
 IsLogsText input tree logs =
-    (rule : ℕ) × (lines : List (List ℕ)) × IsFront Whole input tree rule lines × (logs_of tree rule lines ≡ Ok logs)
+    (rule : ℕ) × (lines : List (List ℕ)) × IsFront Whole input tree rule lines
+    × (logs_of tree rule lines ≡ Ok logs)
 
 -- what is wrong with an input
 abbrev pub IsLogsFault : List ℕ → ScriptFault → Type 0

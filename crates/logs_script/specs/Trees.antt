@@ -20,7 +20,8 @@ info_line (Some info) = codes "info = \"" ++ info ++ codes "\"\n"
 
 -- the lines of a process and its kind
 abbrev pub head_lines : TreeEntry → List ℕ
-head_lines e = codes "[[process]]\nid = " ++ decimal e.id.0 ++ codes "\nkind = \"" ++ kind_text e.kind ++ codes "\"\n"
+head_lines e = codes "[[process]]\nid = " ++ decimal e.id.0 ++ codes "\nkind = \"" ++ kind_text e.kind
+    ++ codes "\"\n"
 
 -- the table of a process
 unfoldable pub process_table : TreeEntry → List ℕ

@@ -22,29 +22,35 @@ pub record Cuts (kind size : ℕ) (rest : List ℕ) (c : Cut) : Type 0 where
   pub is : c ≡ (kind, take size rest, drop size rest)
 
 cuts_by : (b : Bool) (kind size : ℕ) (rest : List ℕ) (c : Cut) → nat_lt (length rest) size ≡ b
-    → ◌≡◌ {A = Option Cut} (if b then None else Some (kind, take size rest, drop size rest)) (Some c) → Cuts kind size rest c
+    → ◌≡◌ {A = Option Cut} (if b then None else Some (kind, take size rest, drop size rest)) (Some c)
+    → Cuts kind size rest c
 cuts_by true kind size rest c t e = absurd (cc)
 cuts_by false kind size rest c t e = record { fits = grind (arith, nat_tests); is = cc }
 
 pub cuts : (kind size : ℕ) (rest : List ℕ) (c : Cut) → cut_at kind size rest ≡ Some c → Cuts kind size rest c
 cuts kind size rest c e = cuts_by (nat_lt (length rest) size) kind size rest c refl e
 
-pub cut_there : (kind size : ℕ) (rest : List ℕ) → size ≤ length rest → cut_at kind size rest ≡ Some (kind, take size rest, drop size rest)
+pub cut_there : (kind size : ℕ) (rest : List ℕ) → size ≤ length rest
+    → cut_at kind size rest ≡ Some (kind, take size rest, drop size rest)
 cut_there kind size rest le =
-    let t : nat_lt (length rest) size ≡ false = grind (arith, nat_tests) in ap (λ b. if b then None else Some (kind, take size rest, drop size rest)) t
+    let t : nat_lt (length rest) size ≡ false = grind (arith, nat_tests) in
+    ap (λ b. if b then None else Some (kind, take size rest, drop size rest)) t
 
 abbrev with_more : Cut → List ℕ → Cut
 with_more c ys = (c.0, c.1, c.2 ++ ys)
 
-cut_more : (kind size : ℕ) (rest ys : List ℕ) (c : Cut) → cut_at kind size rest ≡ Some c → cut_at kind size (rest ++ ys) ≡ Some (with_more c ys)
+cut_more : (kind size : ℕ) (rest ys : List ℕ) (c : Cut) → cut_at kind size rest ≡ Some c
+    → cut_at kind size (rest ++ ys) ≡ Some (with_more c ys)
 cut_more kind size rest ys c e =
     let k = cuts kind size rest c e in
     let le : size ≤ length (rest ++ ys) = omega (arith, length-append rest ys, k.fits) in
     cut_there kind size (rest ++ ys) le
-    ∙ ap Some (ap (λ t. (kind, t, drop size (rest ++ ys))) (take-append-le size rest ys k.fits) ∙ ap (λ d. (kind, take size rest, d)) (drop-append-le size rest ys k.fits)
+    ∙ ap Some (ap (λ t. (kind, t, drop size (rest ++ ys))) (take-append-le size rest ys k.fits)
+    ∙ ap (λ d. (kind, take size rest, d)) (drop-append-le size rest ys k.fits)
     ∙ ap (λ z. with_more z ys) (sym k.is))
 
-pub frame_more : (xs ys : List ℕ) (c : Cut) → first_frame xs ≡ Some c → first_frame (xs ++ ys) ≡ Some (with_more c ys)
+pub frame_more : (xs ys : List ℕ) (c : Cut) → first_frame xs ≡ Some c
+    → first_frame (xs ++ ys) ≡ Some (with_more c ys)
 frame_more [] ys c e = absurd (cc)
 frame_more (a ∷ []) ys c e = absurd (cc)
 frame_more (a ∷ b ∷ []) ys c e = absurd (cc)
@@ -58,7 +64,8 @@ passed p zero xs = refl
 passed p (suc k) [] = refl
 passed p (suc k) (b ∷ bs) = passed p k bs
 
-pub passed_whole : (p : Kind) (k : ℕ) (xs : List ℕ) → k ≤ length xs → is_whole p k xs ≡ is_whole p 0 (drop k xs)
+pub passed_whole : (p : Kind) (k : ℕ) (xs : List ℕ) → k ≤ length xs
+    → is_whole p k xs ≡ is_whole p 0 (drop k xs)
 unfolding is_whole
 passed_whole p zero xs h = refl
 passed_whole p (suc k) [] h = absurd (omega arith)
@@ -68,29 +75,37 @@ pub taken : (size : ℕ) (rest : List ℕ) → size ≤ length rest → length (
 taken size rest h = omega (arith, length-take size rest)
 
 -- the records are that of the first frame and those behind it
-step_by : (p : Kind) (a b d : ℕ) (rest : List ℕ) (c : Cut) → Cuts a (b * 256 + d) rest c → first_frame (a ∷ b ∷ d ∷ rest) ≡ Some c
+step_by : (p : Kind) (a b d : ℕ) (rest : List ℕ) (c : Cut) → Cuts a (b * 256 + d) rest c
+    → first_frame (a ∷ b ∷ d ∷ rest) ≡ Some c
     → records_in p 0 (a ∷ b ∷ d ∷ rest) ≡ and_records (read_record p c.0 c.1) (records_in p 0 c.2)
 unfolding records_in
 step_by p a b d rest c k e =
     ap (λ o. records_by p o (λ n. records_in p n (b ∷ d ∷ rest))) e
-    ∙ ap (λ n. and_records (read_record p c.0 c.1) (records_in p n rest)) (ap (λ z. length z.1) k.is ∙ taken (b * 256 + d) rest k.fits)
-    ∙ ap (and_records (read_record p c.0 c.1)) (passed p (b * 256 + d) rest ∙ ap (λ z. records_in p 0 z.2) (sym k.is))
+    ∙ ap (λ n. and_records (read_record p c.0 c.1) (records_in p n rest))
+    (ap (λ z. length z.1) k.is ∙ taken (b * 256 + d) rest k.fits)
+    ∙ ap (and_records (read_record p c.0 c.1))
+    (passed p (b * 256 + d) rest ∙ ap (λ z. records_in p 0 z.2) (sym k.is))
 
-pub step : (p : Kind) (xs : List ℕ) (c : Cut) → first_frame xs ≡ Some c → records_in p 0 xs ≡ and_records (read_record p c.0 c.1) (records_in p 0 c.2)
+pub step : (p : Kind) (xs : List ℕ) (c : Cut) → first_frame xs ≡ Some c
+    → records_in p 0 xs ≡ and_records (read_record p c.0 c.1) (records_in p 0 c.2)
 step p [] c e = absurd (cc)
 step p (a ∷ []) c e = absurd (cc)
 step p (a ∷ b ∷ []) c e = absurd (cc)
 step p (a ∷ b ∷ d ∷ rest) c e = step_by p a b d rest c (cuts a (b * 256 + d) rest c e) e
 
-step_whole_by : (p : Kind) (a b d : ℕ) (rest : List ℕ) (c : Cut) → Cuts a (b * 256 + d) rest c → first_frame (a ∷ b ∷ d ∷ rest) ≡ Some c
+step_whole_by : (p : Kind) (a b d : ℕ) (rest : List ℕ) (c : Cut) → Cuts a (b * 256 + d) rest c
+    → first_frame (a ∷ b ∷ d ∷ rest) ≡ Some c
     → is_whole p 0 (a ∷ b ∷ d ∷ rest) ≡ whole_if (read_record p c.0 c.1) (is_whole p 0 c.2)
 unfolding is_whole
 step_whole_by p a b d rest c k e =
     ap (λ o. whole_by p o (λ n. is_whole p n (b ∷ d ∷ rest))) e
-    ∙ ap (λ n. whole_if (read_record p c.0 c.1) (is_whole p n rest)) (ap (λ z. length z.1) k.is ∙ taken (b * 256 + d) rest k.fits)
-    ∙ ap (whole_if (read_record p c.0 c.1)) (passed_whole p (b * 256 + d) rest k.fits ∙ ap (λ z. is_whole p 0 z.2) (sym k.is))
+    ∙ ap (λ n. whole_if (read_record p c.0 c.1) (is_whole p n rest))
+    (ap (λ z. length z.1) k.is ∙ taken (b * 256 + d) rest k.fits)
+    ∙ ap (whole_if (read_record p c.0 c.1)) (passed_whole p (b * 256 + d) rest k.fits
+    ∙ ap (λ z. is_whole p 0 z.2) (sym k.is))
 
-pub step_whole : (p : Kind) (xs : List ℕ) (c : Cut) → first_frame xs ≡ Some c → is_whole p 0 xs ≡ whole_if (read_record p c.0 c.1) (is_whole p 0 c.2)
+pub step_whole : (p : Kind) (xs : List ℕ) (c : Cut) → first_frame xs ≡ Some c
+    → is_whole p 0 xs ≡ whole_if (read_record p c.0 c.1) (is_whole p 0 c.2)
 step_whole p [] c e = absurd (cc)
 step_whole p (a ∷ []) c e = absurd (cc)
 step_whole p (a ∷ b ∷ []) c e = absurd (cc)
@@ -111,63 +126,80 @@ no_frame p (b ∷ bs) e = ap (λ o. records_by p o (λ n. records_in p n bs)) e
 
 -- More bytes behind whole frames.
 
-more_if : (o : Option LogRecord) (w : Bool) (xs ys zs : List LogRecord) → whole_if o w ≡ true → (w ≡ true → xs ≡ ys ++ zs) → and_records o xs ≡ and_records o ys ++ zs
+more_if : (o : Option LogRecord) (w : Bool) (xs ys zs : List LogRecord) → whole_if o w ≡ true
+    → (w ≡ true → xs ≡ ys ++ zs) → and_records o xs ≡ and_records o ys ++ zs
 more_if None w xs ys zs h f = absurd (cc)
 more_if (Some l) w xs ys zs h f = ap (λ t. l ∷ t) (f h)
 
-more_by : (p : Kind) (o q : Option Cut) (bs ys : List ℕ) → whole_by p o (λ k. is_whole p k bs) ≡ true → ((c : Cut) → o ≡ Some c → q ≡ Some (with_more c ys))
+more_by : (p : Kind) (o q : Option Cut) (bs ys : List ℕ) → whole_by p o (λ k. is_whole p k bs) ≡ true
+    → ((c : Cut) → o ≡ Some c → q ≡ Some (with_more c ys))
     → ((k : ℕ) → is_whole p k bs ≡ true → records_in p k (bs ++ ys) ≡ records_in p k bs ++ records_in p 0 ys)
-    → records_by p q (λ k. records_in p k (bs ++ ys)) ≡ records_by p o (λ k. records_in p k bs) ++ records_in p 0 ys
+    → records_by p q (λ k. records_in p k (bs ++ ys)) ≡ records_by p o (λ k. records_in p k bs)
+    ++ records_in p 0 ys
 more_by p None q bs ys h m f = absurd (cc)
 more_by p (Some c) q bs ys h m f =
     ap (λ z. records_by p z (λ k. records_in p k (bs ++ ys))) (m c refl)
-    ∙ more_if (read_record p c.0 c.1) (is_whole p (suc (suc (length c.1))) bs) (records_in p (suc (suc (length c.1))) (bs ++ ys)) (records_in p (suc (suc (length c.1))) bs) (records_in p 0 ys) h (f (suc (suc (length c.1))))
+    ∙ more_if (read_record p c.0 c.1) (is_whole p (suc (suc (length c.1))) bs)
+    (records_in p (suc (suc (length c.1))) (bs ++ ys)) (records_in p (suc (suc (length c.1))) bs)
+    (records_in p 0 ys) h (f (suc (suc (length c.1))))
 
-pub more_records : (p : Kind) (k : ℕ) (xs ys : List ℕ) → is_whole p k xs ≡ true → records_in p k (xs ++ ys) ≡ records_in p k xs ++ records_in p 0 ys
+pub more_records : (p : Kind) (k : ℕ) (xs ys : List ℕ) → is_whole p k xs ≡ true
+    → records_in p k (xs ++ ys) ≡ records_in p k xs ++ records_in p 0 ys
 unfolding records_in is_whole
 more_records p zero [] ys h = refl
 more_records p (suc k) [] ys h = absurd (grind (arith, nat_tests))
 more_records p (suc k) (b ∷ bs) ys h = more_records p k bs ys h
 more_records p zero (b ∷ bs) ys h =
-    more_by p (first_frame (b ∷ bs)) (first_frame ((b ∷ bs) ++ ys)) bs ys h (λ c e. frame_more (b ∷ bs) ys c e) (λ k w. more_records p k bs ys w)
+    more_by p (first_frame (b ∷ bs)) (first_frame ((b ∷ bs) ++ ys)) bs ys h
+    (λ c e. frame_more (b ∷ bs) ys c e) (λ k w. more_records p k bs ys w)
 
-whole_if_more : (o : Option LogRecord) (w v : Bool) → whole_if o w ≡ true → (w ≡ true → v ≡ true) → whole_if o v ≡ true
+whole_if_more : (o : Option LogRecord) (w v : Bool) → whole_if o w ≡ true → (w ≡ true → v ≡ true)
+    → whole_if o v ≡ true
 whole_if_more None w v h f = h
 whole_if_more (Some l) w v h f = f h
 
-whole_by_more : (p : Kind) (o q : Option Cut) (bs ys : List ℕ) → whole_by p o (λ k. is_whole p k bs) ≡ true → ((c : Cut) → o ≡ Some c → q ≡ Some (with_more c ys))
-    → ((k : ℕ) → is_whole p k bs ≡ true → is_whole p k (bs ++ ys) ≡ true) → whole_by p q (λ k. is_whole p k (bs ++ ys)) ≡ true
+whole_by_more : (p : Kind) (o q : Option Cut) (bs ys : List ℕ) → whole_by p o (λ k. is_whole p k bs) ≡ true
+    → ((c : Cut) → o ≡ Some c → q ≡ Some (with_more c ys))
+    → ((k : ℕ) → is_whole p k bs ≡ true → is_whole p k (bs ++ ys) ≡ true)
+    → whole_by p q (λ k. is_whole p k (bs ++ ys)) ≡ true
 whole_by_more p None q bs ys h m f = absurd (cc)
 whole_by_more p (Some c) q bs ys h m f =
     ap (λ z. whole_by p z (λ k. is_whole p k (bs ++ ys))) (m c refl)
-    ∙ whole_if_more (read_record p c.0 c.1) (is_whole p (suc (suc (length c.1))) bs) (is_whole p (suc (suc (length c.1))) (bs ++ ys)) h (f (suc (suc (length c.1))))
+    ∙ whole_if_more (read_record p c.0 c.1) (is_whole p (suc (suc (length c.1))) bs)
+    (is_whole p (suc (suc (length c.1))) (bs ++ ys)) h (f (suc (suc (length c.1))))
 
-pub more_whole : (p : Kind) (k : ℕ) (xs ys : List ℕ) → is_whole p k xs ≡ true → is_whole p 0 ys ≡ true → is_whole p k (xs ++ ys) ≡ true
+pub more_whole : (p : Kind) (k : ℕ) (xs ys : List ℕ) → is_whole p k xs ≡ true → is_whole p 0 ys ≡ true
+    → is_whole p k (xs ++ ys) ≡ true
 unfolding is_whole
 more_whole p zero [] ys h w = w
 more_whole p (suc k) [] ys h w = absurd (grind (arith, nat_tests))
 more_whole p (suc k) (b ∷ bs) ys h w = more_whole p k bs ys h w
 more_whole p zero (b ∷ bs) ys h w =
-    whole_by_more p (first_frame (b ∷ bs)) (first_frame ((b ∷ bs) ++ ys)) bs ys h (λ c e. frame_more (b ∷ bs) ys c e) (λ k v. more_whole p k bs ys v w)
+    whole_by_more p (first_frame (b ∷ bs)) (first_frame ((b ∷ bs) ++ ys)) bs ys h
+    (λ c e. frame_more (b ∷ bs) ys c e) (λ k v. more_whole p k bs ys v w)
 
 -- The records of a front of the bytes are a front of their records.
 
 abbrev pub Front : List LogRecord → List LogRecord → Type 0
 Front xs ys = (rest : List LogRecord) × (xs ≡ ys ++ rest)
 
-front_if : (o : Option LogRecord) (xs ys : List LogRecord) → Front xs ys → Front (and_records o xs) (and_records o ys)
+front_if : (o : Option LogRecord) (xs ys : List LogRecord) → Front xs ys
+    → Front (and_records o xs) (and_records o ys)
 front_if None xs ys f = ([], refl)
 front_if (Some l) xs ys f = (f.0, ap (λ t. l ∷ t) f.1)
 
-front_by : (p : Kind) (o q : Option Cut) (bs cs ys : List ℕ) → ((c : Cut) → o ≡ Some c → q ≡ Some (with_more c ys))
+front_by : (p : Kind) (o q : Option Cut) (bs cs ys : List ℕ)
+    → ((c : Cut) → o ≡ Some c → q ≡ Some (with_more c ys))
     → ((k : ℕ) → Front (records_in p k bs) (records_in p k cs))
     → Front (records_by p q (λ k. records_in p k bs)) (records_by p o (λ k. records_in p k cs))
 front_by p None q bs cs ys m f = (records_by p q (λ k. records_in p k bs), refl)
 front_by p (Some c) q bs cs ys m f =
-    let g = front_if (read_record p c.0 c.1) (records_in p (suc (suc (length c.1))) bs) (records_in p (suc (suc (length c.1))) cs) (f (suc (suc (length c.1)))) in
+    let g = front_if (read_record p c.0 c.1) (records_in p (suc (suc (length c.1))) bs)
+    (records_in p (suc (suc (length c.1))) cs) (f (suc (suc (length c.1)))) in
     (g.0, ap (λ z. records_by p z (λ k. records_in p k bs)) (m c refl) ∙ g.1)
 
-frame_taken : (xs : List ℕ) (n : ℕ) (c : Cut) → first_frame (take n xs) ≡ Some c → first_frame xs ≡ Some (with_more c (drop n xs))
+frame_taken : (xs : List ℕ) (n : ℕ) (c : Cut) → first_frame (take n xs) ≡ Some c
+    → first_frame xs ≡ Some (with_more c (drop n xs))
 frame_taken xs n c e = ap first_frame (sym (take-append-drop n xs)) ∙ frame_more (take n xs) (drop n xs) c e
 
 pub front_of : (p : Kind) (k n : ℕ) (xs : List ℕ) → Front (records_in p k xs) (records_in p k (take n xs))
@@ -176,30 +208,40 @@ front_of p k zero xs = (records_in p k xs, refl)
 front_of p k (suc n) [] = ([], refl)
 front_of p (suc k) (suc n) (b ∷ bs) = front_of p k n bs
 front_of p zero (suc n) (b ∷ bs) =
-    front_by p (first_frame (b ∷ take n bs)) (first_frame (b ∷ bs)) bs (take n bs) (drop n bs) (λ c e. frame_taken (b ∷ bs) (suc n) c e) (λ k. front_of p k n bs)
+    front_by p (first_frame (b ∷ take n bs)) (first_frame (b ∷ bs)) bs (take n bs) (drop n bs)
+    (λ c e. frame_taken (b ∷ bs) (suc n) c e) (λ k. front_of p k n bs)
 
 -- The frame of a record.
 
-two_bytes : (n : ℕ) (ys : List ℕ) → n < 65536 → slice_index (big_bytes 2 n) 0 * 256 + slice_index (big_bytes 2 n) 1 ≡ n
+two_bytes : (n : ℕ) (ys : List ℕ) → n < 65536
+    → slice_index (big_bytes 2 n) 0 * 256 + slice_index (big_bytes 2 n) 1 ≡ n
 two_bytes n ys h = let e = big_number-reads_back 2 n ys (omega arith) in omega (arith, e)
 
 -- a record's frame is the first, whatever follows
-pub own_frame : (kind : ℕ) (payload ys : List ℕ) → length payload < 65536 → first_frame (frame_text kind payload ++ ys) ≡ Some (kind, payload, ys)
+pub own_frame : (kind : ℕ) (payload ys : List ℕ) → length payload < 65536
+    → first_frame (frame_text kind payload ++ ys) ≡ Some (kind, payload, ys)
 unfolding frame_text
 own_frame kind payload ys short =
     let size = two_bytes (length payload) ys short in
-    ap (λ n. cut_at kind n (payload ++ ys)) size ∙ cut_there kind (length payload) (payload ++ ys) (omega (arith, length-append payload ys))
-    ∙ ap Some (ap (λ t. (kind, t, drop (length payload) (payload ++ ys))) (take-append_seam payload ys) ∙ ap (λ d. (kind, payload, d)) (drop-append_seam payload ys))
+    ap (λ n. cut_at kind n (payload ++ ys)) size
+    ∙ cut_there kind (length payload) (payload ++ ys) (omega (arith, length-append payload ys))
+    ∙ ap Some (ap (λ t. (kind, t, drop (length payload) (payload ++ ys))) (take-append_seam payload ys)
+    ∙ ap (λ d. (kind, payload, d)) (drop-append_seam payload ys))
 
-pub own_record : (p : Kind) (l : LogRecord) (ys : List ℕ) → IsRecord p l → records_in p 0 (record_text l ++ ys) ≡ l ∷ records_in p 0 ys
+pub own_record : (p : Kind) (l : LogRecord) (ys : List ℕ) → IsRecord p l
+    → records_in p 0 (record_text l ++ ys) ≡ l ∷ records_in p 0 ys
 unfolding record_text
 own_record p l ys is =
-    step p (record_text l ++ ys) _ (own_frame (kind_byte l.entry) (payload_text l.parent l.entry) ys is.fits.short) ∙ ap (λ o. and_records o (records_in p 0 ys)) is.again
+    step p (record_text l ++ ys) _ (own_frame (kind_byte l.entry)
+    (payload_text l.parent l.entry) ys is.fits.short)
+    ∙ ap (λ o. and_records o (records_in p 0 ys)) is.again
 
-pub own_whole : (p : Kind) (l : LogRecord) (ys : List ℕ) → IsRecord p l → is_whole p 0 (record_text l ++ ys) ≡ is_whole p 0 ys
+pub own_whole : (p : Kind) (l : LogRecord) (ys : List ℕ) → IsRecord p l
+    → is_whole p 0 (record_text l ++ ys) ≡ is_whole p 0 ys
 unfolding record_text
 own_whole p l ys is =
-    step_whole p (record_text l ++ ys) _ (own_frame (kind_byte l.entry) (payload_text l.parent l.entry) ys is.fits.short) ∙ ap (λ o. whole_if o (is_whole p 0 ys)) is.again
+    step_whole p (record_text l ++ ys) _ (own_frame (kind_byte l.entry)
+    (payload_text l.parent l.entry) ys is.fits.short) ∙ ap (λ o. whole_if o (is_whole p 0 ys)) is.again
 
 pub nothing_whole : (p : Kind) → is_whole p 0 [] ≡ true
 unfolding is_whole
@@ -210,18 +252,22 @@ unfolding records_in
 no_records p = refl
 
 pub one_record : (p : Kind) (l : LogRecord) → IsRecord p l → records_in p 0 (record_text l) ≡ l ∷ []
-one_record p l is = ap (records_in p 0) (sym (append-nil (record_text l))) ∙ own_record p l [] is ∙ ap (λ t. l ∷ t) (no_records p)
+one_record p l is = ap (records_in p 0) (sym (append-nil (record_text l))) ∙ own_record p l [] is
+    ∙ ap (λ t. l ∷ t) (no_records p)
 
 pub one_whole : (p : Kind) (l : LogRecord) → IsRecord p l → is_whole p 0 (record_text l) ≡ true
-one_whole p l is = ap (is_whole p 0) (sym (append-nil (record_text l))) ∙ own_whole p l [] is ∙ nothing_whole p
+one_whole p l is = ap (is_whole p 0) (sym (append-nil (record_text l))) ∙ own_whole p l [] is
+    ∙ nothing_whole p
 
 -- a front of a frame is no record or all of it
-one_or_none : (l : LogRecord) (xs rest : List LogRecord) → l ∷ [] ≡ xs ++ rest → xs ≡ take (length xs) (l ∷ [])
+one_or_none : (l : LogRecord) (xs rest : List LogRecord) → l ∷ [] ≡ xs ++ rest
+    → xs ≡ take (length xs) (l ∷ [])
 one_or_none l [] rest e = refl
 one_or_none l (x ∷ []) rest e = cc
 one_or_none l (x ∷ y ∷ xs) rest e = absurd (omega (arith, ap length e, length-append (x ∷ y ∷ xs) rest))
 
-pub front_of_frame : (p : Kind) (l : LogRecord) (came : ℕ) → IsRecord p l → (n : ℕ) × (records_in p 0 (take came (record_text l)) ≡ take n (l ∷ []))
+pub front_of_frame : (p : Kind) (l : LogRecord) (came : ℕ) → IsRecord p l
+    → (n : ℕ) × (records_in p 0 (take came (record_text l)) ≡ take n (l ∷ []))
 front_of_frame p l came is =
     let f = front_of p 0 came (record_text l) in
     (length (records_in p 0 (take came (record_text l))), one_or_none l _ f.0 (sym (one_record p l is) ∙ f.1))

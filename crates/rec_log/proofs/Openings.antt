@@ -15,7 +15,8 @@ abbrev pub with_all : List LogRecord → LogReading → LogReading
 with_all [] r = r
 with_all (l ∷ ls) r = with_first l (with_all ls r)
 
-with_all_more : (xs : List LogRecord) (l : LogRecord) (r : LogReading) → with_all (xs ++ l ∷ []) r ≡ with_all xs (with_first l r)
+with_all_more : (xs : List LogRecord) (l : LogRecord) (r : LogReading)
+    → with_all (xs ++ l ∷ []) r ≡ with_all xs (with_first l r)
 with_all_more [] l r = refl
 with_all_more (x ∷ xs) l r = ap (with_first x) (with_all_more xs l r)
 
@@ -29,7 +30,8 @@ with_all_damaged (x ∷ xs) place = ap (with_first x) (with_all_damaged xs place
 
 -- One frame.
 
-passed_read : (p : Kind) (place : ℕ) (s : SeenLog) (k : ℕ) (xs : List ℕ) → read_frames p place s k xs ≡ read_frames p place s 0 (drop k xs)
+passed_read : (p : Kind) (place : ℕ) (s : SeenLog) (k : ℕ) (xs : List ℕ)
+    → read_frames p place s k xs ≡ read_frames p place s 0 (drop k xs)
 unfolding read_frames
 passed_read p place s zero xs = refl
 passed_read p place s (suc k) [] = refl
@@ -37,30 +39,41 @@ passed_read p place s (suc k) (b ∷ bs) = passed_read p place s k bs
 
 -- what one frame makes of the reading
 abbrev pub reads_one : Kind → ℕ → SeenLog → Cut → LogReading
-reads_one p place s c = record_by place s (read_record p c.0 c.1) (λ t. read_frames p (place + 3 + length c.1) t 0 c.2)
+reads_one p place s c = record_by place s (read_record p c.0 c.1)
+    (λ t. read_frames p (place + 3 + length c.1) t 0 c.2)
 
-seen_by_same : (place : ℕ) (l : LogRecord) (o : Option SeenLog) (f g : SeenLog → LogReading) → ((t : SeenLog) → f t ≡ g t) → seen_by place l o f ≡ seen_by place l o g
+seen_by_same : (place : ℕ) (l : LogRecord) (o : Option SeenLog) (f g : SeenLog → LogReading)
+    → ((t : SeenLog) → f t ≡ g t) → seen_by place l o f ≡ seen_by place l o g
 seen_by_same place l None f g h = refl
 seen_by_same place l (Some t) f g h = ap (with_first l) (h t)
 
-record_by_same : (place : ℕ) (s : SeenLog) (o : Option LogRecord) (f g : SeenLog → LogReading) → ((t : SeenLog) → f t ≡ g t) → record_by place s o f ≡ record_by place s o g
+record_by_same : (place : ℕ) (s : SeenLog) (o : Option LogRecord) (f g : SeenLog → LogReading)
+    → ((t : SeenLog) → f t ≡ g t) → record_by place s o f ≡ record_by place s o g
 record_by_same place s None f g h = refl
 record_by_same place s (Some l) f g h = seen_by_same place l (after s l) f g h
 
-step_read_by : (p : Kind) (place : ℕ) (s : SeenLog) (a b d : ℕ) (rest : List ℕ) (c : Cut) → Cuts a (b * 256 + d) rest c → first_frame (a ∷ b ∷ d ∷ rest) ≡ Some c
+step_read_by : (p : Kind) (place : ℕ) (s : SeenLog) (a b d : ℕ) (rest : List ℕ) (c : Cut)
+    → Cuts a (b * 256 + d) rest c → first_frame (a ∷ b ∷ d ∷ rest) ≡ Some c
     → read_frames p place s 0 (a ∷ b ∷ d ∷ rest) ≡ reads_one p place s c
 unfolding read_frames
 step_read_by p place s a b d rest c k e =
-    ap (λ o. frame_by p place s (length (a ∷ b ∷ d ∷ rest)) o (λ at t n. read_frames p at t n (b ∷ d ∷ rest))) e
-    ∙ record_by_same place s (read_record p c.0 c.1) (λ t. read_frames p (place + 3 + length c.1) t (length c.1) rest) (λ t. read_frames p (place + 3 + length c.1) t 0 c.2)
+    ap (λ o. frame_by p place s (length (a ∷ b ∷ d ∷ rest)) o (λ at t n. read_frames p at t n (b ∷ d ∷ rest)))
+    e
+    ∙ record_by_same place s (read_record p c.0 c.1)
+    (λ t. read_frames p (place + 3 + length c.1) t (length c.1) rest)
+    (λ t. read_frames p (place + 3 + length c.1) t 0 c.2)
     (λ t. passed_read p (place + 3 + length c.1) t (length c.1) rest
-    ∙ ap (read_frames p (place + 3 + length c.1) t 0) (ap (λ n. drop n rest) (ap (λ z. length z.1) k.is ∙ taken (b * 256 + d) rest k.fits) ∙ ap (λ z. z.2) (sym k.is)))
+    ∙ ap (read_frames p (place + 3 + length c.1) t 0)
+    (ap (λ n. drop n rest) (ap (λ z. length z.1) k.is ∙ taken (b * 256 + d) rest k.fits)
+    ∙ ap (λ z. z.2) (sym k.is)))
 
-pub step_read : (p : Kind) (place : ℕ) (s : SeenLog) (xs : List ℕ) (c : Cut) → first_frame xs ≡ Some c → read_frames p place s 0 xs ≡ reads_one p place s c
+pub step_read : (p : Kind) (place : ℕ) (s : SeenLog) (xs : List ℕ) (c : Cut) → first_frame xs ≡ Some c
+    → read_frames p place s 0 xs ≡ reads_one p place s c
 step_read p place s [] c e = absurd (cc)
 step_read p place s (a ∷ []) c e = absurd (cc)
 step_read p place s (a ∷ b ∷ []) c e = absurd (cc)
-step_read p place s (a ∷ b ∷ d ∷ rest) c e = step_read_by p place s a b d rest c (cuts a (b * 256 + d) rest c e) e
+step_read p place s (a ∷ b ∷ d ∷ rest) c e = step_read_by p place s a b d rest c
+    (cuts a (b * 256 + d) rest c e) e
 
 drop_nil : (n : ℕ) → ◌≡◌ {A = List ℕ} (drop n []) []
 drop_nil zero = refl
@@ -78,15 +91,19 @@ pub record Frame (xs : List ℕ) (c : Cut) : Type 0 where
   pub alone : first_frame frame ≡ Some (c.0, c.1, [])
   pub size : length frame ≡ 3 + length c.1
 
-frame_by_cut : (a b d : ℕ) (rest : List ℕ) (c : Cut) → Cuts a (b * 256 + d) rest c → Frame (a ∷ b ∷ d ∷ rest) c
+frame_by_cut : (a b d : ℕ) (rest : List ℕ) (c : Cut) → Cuts a (b * 256 + d) rest c
+    → Frame (a ∷ b ∷ d ∷ rest) c
 frame_by_cut a b d rest c k =
     let n = taken (b * 256 + d) rest k.fits in
     record {
       frame = a ∷ b ∷ d ∷ take (b * 256 + d) rest;
-      split = ap (λ t. a ∷ b ∷ d ∷ t) (sym (take-append-drop (b * 256 + d) rest)) ∙ ap (λ z. a ∷ b ∷ d ∷ (take (b * 256 + d) rest ++ z.2)) (sym k.is);
+      split = ap (λ t. a ∷ b ∷ d ∷ t) (sym (take-append-drop (b * 256 + d) rest))
+          ∙ ap (λ z. a ∷ b ∷ d ∷ (take (b * 256 + d) rest ++ z.2)) (sym k.is);
       alone = cut_there a (b * 256 + d) (take (b * 256 + d) rest) (omega (arith, n))
-          ∙ ap Some (ap (λ t. (a, t, drop (b * 256 + d) (take (b * 256 + d) rest))) (take_all (b * 256 + d) (take (b * 256 + d) rest) (omega (arith, n)))
-          ∙ ap (λ t. (a, take (b * 256 + d) rest, t)) (drop_all (b * 256 + d) (take (b * 256 + d) rest) (omega (arith, n)))
+          ∙ ap Some (ap (λ t. (a, t, drop (b * 256 + d) (take (b * 256 + d) rest)))
+          (take_all (b * 256 + d) (take (b * 256 + d) rest) (omega (arith, n)))
+          ∙ ap (λ t. (a, take (b * 256 + d) rest, t))
+          (drop_all (b * 256 + d) (take (b * 256 + d) rest) (omega (arith, n)))
           ∙ ap (λ z. (z.0, z.1, [])) (sym k.is));
       size = omega (arith, n, ap (λ z. length z.1) k.is);
     }
@@ -104,77 +121,104 @@ pub record Reads (p : Kind) (bytes : List ℕ) (s : SeenLog) (rest : List ℕ) :
   pub sound : List ℕ
   pub split : bytes ≡ sound ++ rest
   pub whole : is_whole p 0 sound ≡ true
-  pub read : read_frames p 5 nothing_seen 0 bytes ≡ with_all (records_in p 0 sound) (read_frames p (5 + length sound) s 0 rest)
+  pub read : read_frames p 5 nothing_seen 0 bytes
+      ≡ with_all (records_in p 0 sound) (read_frames p (5 + length sound) s 0 rest)
 
 pub reads_first : (p : Kind) (bytes : List ℕ) (s : SeenLog) → s ≡ nothing_seen → Reads p bytes s bytes
 reads_first p bytes s e = record {
   sound = [];
   split = refl;
   whole = nothing_whole p;
-  read = ap (λ t. read_frames p 5 t 0 bytes) (sym e) ∙ ap (λ ls. with_all ls (read_frames p 5 s 0 bytes)) (sym (no_records p));
+  read = ap (λ t. read_frames p 5 t 0 bytes) (sym e)
+      ∙ ap (λ ls. with_all ls (read_frames p 5 s 0 bytes)) (sym (no_records p));
 }
 
-reads_record : (p : Kind) (place : ℕ) (s t : SeenLog) (c : Cut) (l : LogRecord) → read_record p c.0 c.1 ≡ Some l → after s l ≡ Some t
+reads_record : (p : Kind) (place : ℕ) (s t : SeenLog) (c : Cut) (l : LogRecord)
+    → read_record p c.0 c.1 ≡ Some l → after s l ≡ Some t
     → reads_one p place s c ≡ with_first l (read_frames p (place + 3 + length c.1) t 0 c.2)
 reads_record p place s t c l r f =
-    ap (λ o. record_by place s o (λ u. read_frames p (place + 3 + length c.1) u 0 c.2)) r ∙ ap (λ o. seen_by place l o (λ u. read_frames p (place + 3 + length c.1) u 0 c.2)) f
+    ap (λ o. record_by place s o (λ u. read_frames p (place + 3 + length c.1) u 0 c.2)) r
+    ∙ ap (λ o. seen_by place l o (λ u. read_frames p (place + 3 + length c.1) u 0 c.2)) f
 
-pub reads_on : (p : Kind) (bytes rest : List ℕ) (s t : SeenLog) (c : Cut) (l : LogRecord) → Reads p bytes s rest → first_frame rest ≡ Some c
+pub reads_on : (p : Kind) (bytes rest : List ℕ) (s t : SeenLog) (c : Cut) (l : LogRecord)
+    → Reads p bytes s rest → first_frame rest ≡ Some c
     → read_record p c.0 c.1 ≡ Some l → after s l ≡ Some t → Reads p bytes t c.2
 reads_on p bytes rest s t c l h e r f =
     let a = frame_at rest c e in
-    let own : records_in p 0 a.frame ≡ l ∷ [] = step p a.frame (c.0, c.1, []) a.alone ∙ ap (λ o. and_records o (records_in p 0 [])) r ∙ ap (λ ls. l ∷ ls) (no_records p) in
-    let own_whole : is_whole p 0 a.frame ≡ true = step_whole p a.frame (c.0, c.1, []) a.alone ∙ ap (λ o. whole_if o (is_whole p 0 [])) r ∙ nothing_whole p in
-    let all : records_in p 0 (h.sound ++ a.frame) ≡ records_in p 0 h.sound ++ l ∷ [] = more_records p 0 h.sound a.frame h.whole ∙ ap (λ ls. records_in p 0 h.sound ++ ls) own in
-    let place : 5 + length h.sound + 3 + length c.1 ≡ 5 + length (h.sound ++ a.frame) = omega (arith, length-append h.sound a.frame, a.size) in
+    let own : records_in p 0 a.frame ≡ l ∷ [] = step p a.frame (c.0, c.1, []) a.alone
+    ∙ ap (λ o. and_records o (records_in p 0 [])) r ∙ ap (λ ls. l ∷ ls) (no_records p) in
+    let own_whole : is_whole p 0 a.frame ≡ true = step_whole p a.frame (c.0, c.1, []) a.alone
+    ∙ ap (λ o. whole_if o (is_whole p 0 [])) r ∙ nothing_whole p in
+    let all : records_in p 0 (h.sound ++ a.frame) ≡ records_in p 0 h.sound ++ l ∷ [] =
+    more_records p 0 h.sound a.frame h.whole ∙ ap (λ ls. records_in p 0 h.sound ++ ls) own in
+    let place : 5 + length h.sound + 3 + length c.1 ≡ 5 + length (h.sound ++ a.frame) =
+    omega (arith, length-append h.sound a.frame, a.size) in
     record {
       sound = h.sound ++ a.frame;
       split = h.split ∙ ap (λ z. h.sound ++ z) a.split ∙ sym (append_assoc h.sound a.frame c.2);
       whole = more_whole p 0 h.sound a.frame h.whole own_whole;
-      read = h.read ∙ ap (with_all (records_in p 0 h.sound)) (step_read p (5 + length h.sound) s rest c e ∙ reads_record p (5 + length h.sound) s t c l r f
+      read = h.read ∙ ap (with_all (records_in p 0 h.sound))
+          (step_read p (5 + length h.sound) s rest c e ∙ reads_record p (5 + length h.sound) s t c l r f
           ∙ ap (λ n. with_first l (read_frames p n t 0 c.2)) place)
-          ∙ sym (with_all_more (records_in p 0 h.sound) l (read_frames p (5 + length (h.sound ++ a.frame)) t 0 c.2))
+          ∙ sym (with_all_more (records_in p 0 h.sound) l
+          (read_frames p (5 + length (h.sound ++ a.frame)) t 0 c.2))
           ∙ ap (λ ls. with_all ls (read_frames p (5 + length (h.sound ++ a.frame)) t 0 c.2)) (sym all);
     }
 
-pub torn_read : (p : Kind) (place : ℕ) (s : SeenLog) (rest : List ℕ) → first_frame rest ≡ None → read_frames p place s 0 rest ≡ Whole [] (length rest)
+pub torn_read : (p : Kind) (place : ℕ) (s : SeenLog) (rest : List ℕ) → first_frame rest ≡ None
+    → read_frames p place s 0 rest ≡ Whole [] (length rest)
 unfolding read_frames
 torn_read p place s [] e = refl
-torn_read p place s (b ∷ bs) e = ap (λ o. frame_by p place s (suc (length bs)) o (λ at t k. read_frames p at t k bs)) e
+torn_read p place s (b ∷ bs) e = ap (λ o. frame_by p place s (suc (length bs)) o
+    (λ at t k. read_frames p at t k bs)) e
 
-pub reads_all : (p : Kind) (bytes rest : List ℕ) (s : SeenLog) → Reads p bytes s rest → first_frame rest ≡ None → Ends p bytes (length rest)
+pub reads_all : (p : Kind) (bytes rest : List ℕ) (s : SeenLog) → Reads p bytes s rest
+    → first_frame rest ≡ None → Ends p bytes (length rest)
 reads_all p bytes rest s h e = record {
   sound = h.sound;
   tail = rest;
   split = h.split;
   size = refl;
   whole = h.whole;
-  read = h.read ∙ ap (with_all (records_in p 0 h.sound)) (torn_read p (5 + length h.sound) s rest e) ∙ with_all_whole (records_in p 0 h.sound) (length rest);
+  read = h.read ∙ ap (with_all (records_in p 0 h.sound)) (torn_read p (5 + length h.sound) s rest e)
+      ∙ with_all_whole (records_in p 0 h.sound) (length rest);
 }
 
-place_of : (bytes sound rest : List ℕ) → bytes ≡ sound ++ rest → 5 + length sound ≡ 5 + (length bytes - length rest)
+place_of : (bytes sound rest : List ℕ) → bytes ≡ sound ++ rest
+    → 5 + length sound ≡ 5 + (length bytes - length rest)
 place_of bytes sound rest e = omega (arith, ap length e, length-append sound rest)
 
-damaged_at : (p : Kind) (bytes rest : List ℕ) (s : SeenLog) (h : Reads p bytes s rest) (place : ℕ) → place ≡ 5 + (length bytes - length rest)
-    → read_frames p (5 + length h.sound) s 0 rest ≡ Damaged (5 + length h.sound) → read_frames p 5 nothing_seen 0 bytes ≡ Damaged place
+damaged_at : (p : Kind) (bytes rest : List ℕ) (s : SeenLog) (h : Reads p bytes s rest) (place : ℕ)
+    → place ≡ 5 + (length bytes - length rest)
+    → read_frames p (5 + length h.sound) s 0 rest ≡ Damaged (5 + length h.sound)
+    → read_frames p 5 nothing_seen 0 bytes ≡ Damaged place
 damaged_at p bytes rest s h place e d =
-    h.read ∙ ap (with_all (records_in p 0 h.sound)) d ∙ with_all_damaged (records_in p 0 h.sound) (5 + length h.sound)
+    h.read ∙ ap (with_all (records_in p 0 h.sound)) d
+    ∙ with_all_damaged (records_in p 0 h.sound) (5 + length h.sound)
     ∙ ap Damaged (place_of bytes h.sound rest h.split ∙ sym e)
 
 -- no record is read there
-pub damaged_record : (p : Kind) (bytes rest : List ℕ) (s : SeenLog) (c : Cut) (place : ℕ) → Reads p bytes s rest → first_frame rest ≡ Some c
-    → read_record p c.0 c.1 ≡ None → place ≡ 5 + (length bytes - length rest) → read_frames p 5 nothing_seen 0 bytes ≡ Damaged place
+pub damaged_record : (p : Kind) (bytes rest : List ℕ) (s : SeenLog) (c : Cut) (place : ℕ)
+    → Reads p bytes s rest → first_frame rest ≡ Some c
+    → read_record p c.0 c.1 ≡ None → place ≡ 5 + (length bytes - length rest)
+    → read_frames p 5 nothing_seen 0 bytes ≡ Damaged place
 damaged_record p bytes rest s c place h e r is =
     damaged_at p bytes rest s h place is (step_read p (5 + length h.sound) s rest c e
-    ∙ ap (λ o. record_by (5 + length h.sound) s o (λ u. read_frames p (5 + length h.sound + 3 + length c.1) u 0 c.2)) r)
+    ∙ ap (λ o. record_by (5 + length h.sound) s o
+    (λ u. read_frames p (5 + length h.sound + 3 + length c.1) u 0 c.2)) r)
 
 -- the record may not follow
-pub damaged_order : (p : Kind) (bytes rest : List ℕ) (s : SeenLog) (c : Cut) (l : LogRecord) (place : ℕ) → Reads p bytes s rest → first_frame rest ≡ Some c
-    → read_record p c.0 c.1 ≡ Some l → after s l ≡ None → place ≡ 5 + (length bytes - length rest) → read_frames p 5 nothing_seen 0 bytes ≡ Damaged place
+pub damaged_order : (p : Kind) (bytes rest : List ℕ) (s : SeenLog) (c : Cut) (l : LogRecord) (place : ℕ)
+    → Reads p bytes s rest → first_frame rest ≡ Some c
+    → read_record p c.0 c.1 ≡ Some l → after s l ≡ None → place ≡ 5 + (length bytes - length rest)
+    → read_frames p 5 nothing_seen 0 bytes ≡ Damaged place
 damaged_order p bytes rest s c l place h e r f is =
     damaged_at p bytes rest s h place is (step_read p (5 + length h.sound) s rest c e
-    ∙ ap (λ o. record_by (5 + length h.sound) s o (λ u. read_frames p (5 + length h.sound + 3 + length c.1) u 0 c.2)) r
-    ∙ ap (λ o. seen_by (5 + length h.sound) l o (λ u. read_frames p (5 + length h.sound + 3 + length c.1) u 0 c.2)) f)
+    ∙ ap (λ o. record_by (5 + length h.sound) s o
+    (λ u. read_frames p (5 + length h.sound + 3 + length c.1) u 0 c.2)) r
+    ∙ ap (λ o. seen_by (5 + length h.sound) l o
+    (λ u. read_frames p (5 + length h.sound + 3 + length c.1) u 0 c.2)) f)
 
-pub shorter_rest : (p : Kind) (bytes rest : List ℕ) (s : SeenLog) → Reads p bytes s rest → length rest ≤ length bytes
+pub shorter_rest : (p : Kind) (bytes rest : List ℕ) (s : SeenLog) → Reads p bytes s rest
+    → length rest ≤ length bytes
 shorter_rest p bytes rest s h = omega (arith, ap length h.split, length-append h.sound rest)

@@ -16,7 +16,8 @@ use Rattle.rec_log.proofs.Written.{whole_text, written}
 -- Texts of logs.
 
 -- the frames of some records and of more
-pub held : (p : Kind) (xs ys : List ℕ) (ls ms : List LogRecord) → Holds p xs ls → Holds p ys ms → Holds p (xs ++ ys) (ls ++ ms)
+pub held : (p : Kind) (xs ys : List ℕ) (ls ms : List LogRecord) → Holds p xs ls → Holds p ys ms
+    → Holds p (xs ++ ys) (ls ++ ms)
 held p xs ys ls ms h k = record {
   whole = more_whole p 0 xs ys h.whole k.whole;
   read = more_records p 0 xs ys h.whole ∙ ap (λ t. t ++ records_in p 0 ys) h.read ∙ ap (λ t. ls ++ t) k.read;
@@ -25,57 +26,79 @@ held p xs ys ls ms h k = record {
 pub held_text : (p : Kind) (ls : List LogRecord) → AreRecords p ls → Holds p (records_text ls) ls
 held_text p ls are = record { whole = whole_text p ls are; read = written p ls are }
 
-pub spelled : (p : Kind) (text frames : List ℕ) (ls : List LogRecord) → text ≡ header ++ frames → Holds p frames ls → Spells p text ls
+pub spelled : (p : Kind) (text frames : List ℕ) (ls : List LogRecord) → text ≡ header ++ frames
+    → Holds p frames ls → Spells p text ls
 spelled p text frames ls e h = record {
   begins = ap (take 5) e;
   long = omega (arith, ap length e, length-append header frames);
-  holds = record { whole = ap (λ t. is_whole p 0 (body t)) e ∙ h.whole; read = ap (λ t. records_in p 0 (body t)) e ∙ h.read };
+  holds = record {
+    whole = ap (λ t. is_whole p 0 (body t)) e ∙ h.whole;
+    read = ap (λ t. records_in p 0 (body t)) e ∙ h.read;
+  };
 }
 
-pub alone : (p : Kind) (text : List ℕ) (ls : List LogRecord) → AreRecords p ls → text ≡ header ++ records_text ls → Spells p text ls
+pub alone : (p : Kind) (text : List ℕ) (ls : List LogRecord) → AreRecords p ls
+    → text ≡ header ++ records_text ls → Spells p text ls
 alone p text ls are e = spelled p text (records_text ls) ls e (held_text p ls are)
 
-pub spells_own : (p : Kind) (text : List ℕ) (ls : List LogRecord) → Spells p text ls → Spells p text (records_in p 0 (body text))
-spells_own p text ls s = record { begins = s.begins; long = s.long; holds = record { whole = s.holds.whole; read = refl } }
+pub spells_own : (p : Kind) (text : List ℕ) (ls : List LogRecord) → Spells p text ls
+    → Spells p text (records_in p 0 (body text))
+spells_own p text ls s = record {
+  begins = s.begins;
+  long = s.long;
+  holds = record { whole = s.holds.whole; read = refl };
+}
 
 -- the text that is put in place of what stands here
-pub spells_inside : (p : Kind) (text asked : List ℕ) (forced failures room : ℕ) (failed : Bool) (s : LogState) → log_state p text forced failures room failed ≡ s
-    → Spells s.kind asked (records_in s.kind 0 (body asked)) → Spells p asked (records_in s.kind 0 (body asked))
-spells_inside p text asked forced failures room failed s view h = subst (λ k. Spells k asked (records_in s.kind 0 (body asked))) (sym (ap (λ z. z.kind) view)) h
+pub spells_inside : (p : Kind) (text asked : List ℕ) (forced failures room : ℕ) (failed : Bool) (s : LogState)
+    → log_state p text forced failures room failed ≡ s
+    → Spells s.kind asked (records_in s.kind 0 (body asked))
+    → Spells p asked (records_in s.kind 0 (body asked))
+spells_inside p text asked forced failures room failed s view h =
+    subst (λ k. Spells k asked (records_in s.kind 0 (body asked))) (sym (ap (λ z. z.kind) view)) h
 
 -- The same records, by another word.
 
-pub rewritten_as : {T : Type 0} (result : Result T LogError) (old new : LogState) (rs ms : List LogRecord) → rs ≡ ms
+pub rewritten_as : {T : Type 0} (result : Result T LogError) (old new : LogState) (rs ms : List LogRecord)
+    → rs ≡ ms
     → OnOk result (Rewritten old new rs) → OnOk result (Rewritten old new ms)
 rewritten_as result old new rs ms e h = subst (λ ks. OnOk result (Rewritten old new ks)) e h
 
-pub not_rewritten_as : {T : Type 0} (result : Result T LogError) (old new : LogState) (rs ms : List LogRecord) → rs ≡ ms
+pub not_rewritten_as : {T : Type 0} (result : Result T LogError) (old new : LogState) (rs ms : List LogRecord)
+    → rs ≡ ms
     → IfErr result (λ e. NotRewritten old new rs e) → IfErr result (λ e. NotRewritten old new ms e)
 not_rewritten_as result old new rs ms e h = subst (λ ks. IfErr result (λ f. NotRewritten old new ks f)) e h
 
 -- A log of such a text.
 
-kept_is : (a b c d : List LogRecord) → a ≡ c → b ≡ d → ◌≡◌ {A = Kept} (record { forced = a; unforced = b }) (record { forced = c; unforced = d })
+kept_is : (a b c d : List LogRecord) → a ≡ c → b ≡ d
+    → ◌≡◌ {A = Kept} (record { forced = a; unforced = b }) (record { forced = c; unforced = d })
 kept_is a b c d e f = rw (e, f) refl
 
-kept_alone : (p : Kind) (text : List ℕ) (rs : List LogRecord) (forced : ℕ) → Spells p text rs → forced ≡ length text
+kept_alone : (p : Kind) (text : List ℕ) (rs : List LogRecord) (forced : ℕ) → Spells p text rs
+    → forced ≡ length text
     → kept_of p text forced ≡ record { forced = rs; unforced = [] }
 kept_alone p text rs forced s f =
     let all : front text forced ≡ body text = all_front text forced f in
     kept_is _ _ _ _ (ap (records_in p 0) all ∙ s.holds.read)
-    (ap (λ t. drop (length (records_in p 0 t)) (records_in p 0 (body text))) all ∙ drop_all (records_in p 0 (body text)))
+    (ap (λ t. drop (length (records_in p 0 t)) (records_in p 0 (body text))) all
+    ∙ drop_all (records_in p 0 (body text)))
 
-same_text : (p : Kind) (text new : List ℕ) (rs : List LogRecord) → new ≡ text → Spells p text rs → Spells p new rs
+same_text : (p : Kind) (text new : List ℕ) (rs : List LogRecord) → new ≡ text → Spells p text rs
+    → Spells p new rs
 same_text p text new rs e s = subst (λ t. Spells p t rs) (sym e) s
 
-pub text_alone : (p : Kind) (text new : List ℕ) (rs : List LogRecord) (forced : ℕ) (failed : Bool) → Spells p text rs → new ≡ text → forced ≡ length text
+pub text_alone : (p : Kind) (text new : List ℕ) (rs : List LogRecord) (forced : ℕ) (failed : Bool)
+    → Spells p text rs → new ≡ text → forced ≡ length text
     → IsLogText p new forced failed
 text_alone p text new rs forced failed s e f =
     let n = same_text p text new rs e s in
     record { begins = n.begins; header_forced = omega (arith, f, s.long); whole = λ _. n.holds.whole }
 
-pub rewritten : (p : Kind) (text asked new : List ℕ) (forced forced' failures failures' room room' : ℕ) (rs : List LogRecord) (failed : Bool) (s : LogState)
-    → log_state p text forced failures room failed ≡ s → failed ≡ false → Spells p asked rs → new ≡ asked → forced' ≡ length asked → failures' ≡ failures
+pub rewritten : (p : Kind) (text asked new : List ℕ) (forced forced' failures failures' room room' : ℕ)
+    (rs : List LogRecord) (failed : Bool) (s : LogState)
+    → log_state p text forced failures room failed ≡ s → failed ≡ false → Spells p asked rs → new ≡ asked
+    → forced' ≡ length asked → failures' ≡ failures
     → Rewritten s (log_state p new forced' failures' room' failed) rs
 rewritten p text asked new forced forced' failures failures' room room' rs failed s view ok spells e f g =
     let n = same_text p asked new rs e spells in
@@ -86,14 +109,16 @@ rewritten p text asked new forced forced' failures failures' room room' rs faile
       kind = refl;
       forced = ap (λ z. z.forced) k;
       unforced = ap (λ z. z.unforced) k;
-      behind = ap (λ t. length t - whole_size p 0 t) (all_front new forced' all) ∙ whole_is_full p (body new) n.holds.whole;
+      behind = ap (λ t. length t - whole_size p 0 t) (all_front new forced' all)
+          ∙ whole_is_full p (body new) n.holds.whole;
       works = ok;
       failures = g;
     })
 
 -- the bytes of a store whose device failed: the old ones, or those that it was to take
 abbrev pub Came : List ℕ → ℕ → List ℕ → ℕ → List ℕ → Type 0
-Came text forced bytes forced' asked = ((bytes ≡ text) × (forced' ≡ forced)) ⊎ ((bytes ≡ asked) × (forced' ≡ length asked))
+Came text forced bytes forced' asked = ((bytes ≡ text) × (forced' ≡ forced))
+    ⊎ ((bytes ≡ asked) × (forced' ≡ length asked))
 
 pub came_of : (text old bytes asked : List ℕ) (forced old_forced forced' : ℕ)
     → ((bytes ≡ old) × (forced' ≡ old_forced)) ⊎ ((bytes ≡ asked) × (forced' ≡ length asked))
@@ -101,17 +126,30 @@ pub came_of : (text old bytes asked : List ℕ) (forced old_forced forced' : ℕ
 came_of text old bytes asked forced old_forced forced' (inl e) o f = inl (e.0 ∙ o, e.1 ∙ f)
 came_of text old bytes asked forced old_forced forced' (inr e) o f = inr e
 
-kept_same : (p : Kind) (text bytes : List ℕ) (forced forced' : ℕ) → bytes ≡ text → forced' ≡ forced → kept_of p bytes forced' ≡ kept_of p text forced
+kept_same : (p : Kind) (text bytes : List ℕ) (forced forced' : ℕ) → bytes ≡ text → forced' ≡ forced
+    → kept_of p bytes forced' ≡ kept_of p text forced
 kept_same p text bytes forced forced' e f = ap (λ t. kept_of p t forced') e ∙ ap (kept_of p text) f
 
-kept_either : (p : Kind) (text bytes asked : List ℕ) (forced forced' : ℕ) (rs : List LogRecord) → Spells p asked rs → Came text forced bytes forced' asked
-    → (kept_of p bytes forced' ≡ kept_of p text forced) ⊎ (kept_of p bytes forced' ≡ record { forced = rs; unforced = [] })
-kept_either p text bytes asked forced forced' rs s (inl e) = inl (kept_same p text bytes forced forced' e.0 e.1)
-kept_either p text bytes asked forced forced' rs s (inr e) = inr (kept_alone p bytes rs forced' (same_text p asked bytes rs e.0 s) (e.1 ∙ ap length (sym e.0)))
+kept_either : (p : Kind) (text bytes asked : List ℕ) (forced forced' : ℕ) (rs : List LogRecord)
+    → Spells p asked rs → Came text forced bytes forced' asked
+    → (kept_of p bytes forced' ≡ kept_of p text forced)
+    ⊎ (kept_of p bytes forced' ≡ record { forced = rs; unforced = [] })
+kept_either p text bytes asked forced forced' rs s (inl e) =
+    inl (kept_same p text bytes forced forced' e.0 e.1)
+kept_either p text bytes asked forced forced' rs s (inr e) =
+    inr (kept_alone p bytes rs forced' (same_text p asked bytes rs e.0 s) (e.1 ∙ ap length (sym e.0)))
 
-pub rewrite_breaks : (p : Kind) (text bytes asked : List ℕ) (forced forced' failures failures' room room' : ℕ) (rs : List LogRecord) (failed : Bool) (s : LogState)
-    → log_state p text forced failures room failed ≡ s → Spells p asked rs → Came text forced bytes forced' asked → failures < failures'
+pub rewrite_breaks : (p : Kind) (text bytes asked : List ℕ) (forced forced' failures failures' room room' : ℕ)
+    (rs : List LogRecord) (failed : Bool) (s : LogState)
+    → log_state p text forced failures room failed ≡ s → Spells p asked rs
+    → Came text forced bytes forced' asked → failures < failures'
     → RewriteBreaks s (log_state p bytes forced' failures' room' true) rs
-rewrite_breaks p text bytes asked forced forced' failures failures' room room' rs failed s view spells came g =
+rewrite_breaks p text bytes asked forced forced' failures failures' room room' rs failed s view spells came g
+    =
     subst (λ z. RewriteBreaks z (log_state p bytes forced' failures' room' true) rs) view
-    (record { kind = refl; either = kept_either p text bytes asked forced forced' rs spells came; failed = refl; cause = g })
+    (record {
+      kind = refl;
+      either = kept_either p text bytes asked forced forced' rs spells came;
+      failed = refl;
+      cause = g;
+    })

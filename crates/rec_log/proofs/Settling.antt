@@ -22,16 +22,23 @@ same_bytes_is [] (y ∷ ys) h = cc
 same_bytes_is (x ∷ xs) [] h = cc
 same_bytes_is (x ∷ xs) (y ∷ ys) h = grind (arith, same_bytes_is xs ys)
 
-read_by : (p : Kind) (bytes : List ℕ) (short begins : Bool) (e : LogReading) → nat_lt (length bytes) 5 ≡ short → same_bytes (take 5 bytes) header ≡ begins → short ≡ false → begins ≡ true
+read_by : (p : Kind) (bytes : List ℕ) (short begins : Bool) (e : LogReading) → nat_lt (length bytes) 5 ≡ short
+    → same_bytes (take 5 bytes) header ≡ begins → short ≡ false → begins ≡ true
     → read_log p bytes ≡ read_frames p 5 nothing_seen 0 (drop 5 bytes)
 unfolding read_log
 read_by p bytes short begins e s b f g = rw (s, b, f, g) refl
 
-pub found_sound : (p : Kind) (bytes : List ℕ) (torn : ℕ) → 5 ≤ length bytes → same_bytes (take 5 bytes) header ≡ true → Ends p (drop 5 bytes) torn → IsFound p bytes (Sound torn)
-found_sound p bytes torn h b e =
-    (same_bytes_is (take 5 bytes) header b, h, e, read_by p bytes false true (Damaged 0) (grind (arith, nat_tests)) b refl refl)
+pub found_sound : (p : Kind) (bytes : List ℕ) (torn : ℕ) → 5 ≤ length bytes
+    → same_bytes (take 5 bytes) header ≡ true → Ends p (drop 5 bytes) torn → IsFound p bytes (Sound torn)
+found_sound p bytes torn h b e = (
+  same_bytes_is (take 5 bytes) header b,
+  h,
+  e,
+  read_by p bytes false true (Damaged 0) (grind (arith, nat_tests)) b refl refl,
+)
 
-pub settles_empty : (p : Kind) (bytes text : List ℕ) (before failures forced failures' : ℕ) → IsFound p bytes Empty → text ≡ header → forced ≡ length header → failures' ≡ failures
+pub settles_empty : (p : Kind) (bytes text : List ℕ) (before failures forced failures' : ℕ)
+    → IsFound p bytes Empty → text ≡ header → forced ≡ length header → failures' ≡ failures
     → Settles p bytes before failures text forced failures'
 settles_empty p bytes text before failures forced failures' found e f g = record {
   begins = ap (take 5) e;
@@ -43,8 +50,10 @@ settles_empty p bytes text before failures forced failures' found e f g = record
   failures_stay = g;
 }
 
-settles_sound : (p : Kind) (bytes text sound : List ℕ) (before failures forced failures' torn : ℕ) → text ≡ header ++ sound → is_whole p 0 sound ≡ true
-    → read_log p bytes ≡ Whole (records_in p 0 sound) torn → 5 ≤ forced → ((text ≡ bytes) × (forced ≡ before)) ⊎ (forced ≡ length text) → failures' ≡ failures
+settles_sound : (p : Kind) (bytes text sound : List ℕ) (before failures forced failures' torn : ℕ)
+    → text ≡ header ++ sound → is_whole p 0 sound ≡ true
+    → read_log p bytes ≡ Whole (records_in p 0 sound) torn → 5 ≤ forced
+    → ((text ≡ bytes) × (forced ≡ before)) ⊎ (forced ≡ length text) → failures' ≡ failures
     → Settles p bytes before failures text forced failures'
 settles_sound p bytes text sound before failures forced failures' torn e w r f k g = record {
   begins = ap (take 5) e;
@@ -56,42 +65,59 @@ settles_sound p bytes text sound before failures forced failures' torn e w r f k
   failures_stay = g;
 }
 
-joined : (p : Kind) (bytes : List ℕ) (torn : ℕ) (e : Ends p (drop 5 bytes) torn) → take 5 bytes ≡ header → bytes ≡ (header ++ e.sound) ++ e.tail
+joined : (p : Kind) (bytes : List ℕ) (torn : ℕ) (e : Ends p (drop 5 bytes) torn) → take 5 bytes ≡ header
+    → bytes ≡ (header ++ e.sound) ++ e.tail
 joined p bytes torn e h =
-    sym (take-append-drop 5 bytes) ∙ ap (λ t. t ++ drop 5 bytes) h ∙ ap (λ t. header ++ t) e.split ∙ sym (append_assoc header e.sound e.tail)
+    sym (take-append-drop 5 bytes) ∙ ap (λ t. t ++ drop 5 bytes) h ∙ ap (λ t. header ++ t) e.split
+    ∙ sym (append_assoc header e.sound e.tail)
 
-pub settles_front : (p : Kind) (bytes text : List ℕ) (before failures forced failures' torn : ℕ) → IsFound p bytes (Sound torn) → text ≡ take (length bytes - torn) bytes
+pub settles_front : (p : Kind) (bytes text : List ℕ) (before failures forced failures' torn : ℕ)
+    → IsFound p bytes (Sound torn) → text ≡ take (length bytes - torn) bytes
     → forced ≡ length text → failures' ≡ failures → Settles p bytes before failures text forced failures'
 settles_front p bytes text before failures forced failures' torn found e f g =
     let n = found.2 in
     let j = joined p bytes torn n found.0 in
-    let size : length bytes - torn ≡ length (header ++ n.sound) = omega (arith, ap length j, length-append (header ++ n.sound) n.tail, n.size) in
-    let text_is : text ≡ header ++ n.sound = e ∙ ap (λ k. take k bytes) size ∙ ap (take (length (header ++ n.sound))) j ∙ take-append_seam (header ++ n.sound) n.tail in
-    settles_sound p bytes text n.sound before failures forced failures' torn text_is n.whole (found.3 ∙ n.read) (omega (arith, f, ap length text_is, length-append header n.sound)) (inr f) g
+    let size : length bytes - torn ≡ length (header ++ n.sound) =
+    omega (arith, ap length j, length-append (header ++ n.sound) n.tail, n.size) in
+    let text_is : text ≡ header ++ n.sound = e ∙ ap (λ k. take k bytes) size
+    ∙ ap (take (length (header ++ n.sound))) j ∙ take-append_seam (header ++ n.sound) n.tail in
+    settles_sound p bytes text n.sound before failures forced failures' torn text_is n.whole
+    (found.3 ∙ n.read) (omega (arith, f, ap length text_is, length-append header n.sound)) (inr f) g
 
 no_tail : (xs tail : List ℕ) → length tail ≡ 0 → xs ++ tail ≡ xs
 no_tail xs [] h = append-nil xs
 no_tail xs (b ∷ bs) h = absurd (omega arith)
 
-pub settles_same : (p : Kind) (bytes text : List ℕ) (before failures forced failures' torn : ℕ) → IsFound p bytes (Sound torn) → torn ≡ 0 → text ≡ bytes
-    → 5 ≤ forced → forced ≡ before → failures' ≡ failures → Settles p bytes before failures text forced failures'
+pub settles_same : (p : Kind) (bytes text : List ℕ) (before failures forced failures' torn : ℕ)
+    → IsFound p bytes (Sound torn) → torn ≡ 0 → text ≡ bytes
+    → 5 ≤ forced → forced ≡ before → failures' ≡ failures
+    → Settles p bytes before failures text forced failures'
 settles_same p bytes text before failures forced failures' torn found z e f b g =
     let n = found.2 in
     let j = joined p bytes torn n found.0 ∙ no_tail (header ++ n.sound) n.tail (n.size ∙ z) in
-    settles_sound p bytes text n.sound before failures forced failures' torn (e ∙ j) n.whole (found.3 ∙ n.read) f (inl (e, b)) g
+    settles_sound p bytes text n.sound before failures forced failures' torn (e ∙ j) n.whole
+    (found.3 ∙ n.read) f (inl (e, b)) g
 
-stays_forced : (p : Kind) (bytes text : List ℕ) (before forced failures room : ℕ) → is_whole p 0 (body text) ≡ true
-    → ((text ≡ bytes) × (forced ≡ before)) ⊎ (forced ≡ length text) → StaysForced p bytes before ((log_state p text forced failures room false).sight)
+stays_forced : (p : Kind) (bytes text : List ℕ) (before forced failures room : ℕ)
+    → is_whole p 0 (body text) ≡ true
+    → ((text ≡ bytes) × (forced ≡ before)) ⊎ (forced ≡ length text)
+    → StaysForced p bytes before ((log_state p text forced failures room false).sight)
 stays_forced p bytes text before forced failures room w (inl e) =
-    inl (ap (λ t. kept_of p t forced) e.0 ∙ ap (kept_of p bytes) e.1, ap (λ t. bytes_behind p t forced) e.0 ∙ ap (bytes_behind p bytes) e.1)
+    inl (
+      ap (λ t. kept_of p t forced) e.0 ∙ ap (kept_of p bytes) e.1,
+      ap (λ t. bytes_behind p t forced) e.0
+          ∙ ap (bytes_behind p bytes) e.1,
+    )
 stays_forced p bytes text before forced failures room w (inr f) =
     let all : front text forced ≡ body text = all_front text forced f in
     inr (
-      ap (λ t. drop (length (records_in p 0 t)) (records_in p 0 (body text))) all ∙ drop_all (records_in p 0 (body text)),
+      ap (λ t. drop (length (records_in p 0 t)) (records_in p 0 (body text))) all
+          ∙ drop_all (records_in p 0 (body text)),
       ap (λ t. length t - whole_size p 0 t) all ∙ whole_is_full p (body text) w,
     )
 
-pub opens : (p : Kind) (bytes text : List ℕ) (before failures forced failures' room : ℕ) → Settles p bytes before failures text forced failures'
+pub opens : (p : Kind) (bytes text : List ℕ) (before failures forced failures' room : ℕ)
+    → Settles p bytes before failures text forced failures'
     → Opens p bytes before failures (log_state p text forced failures' room false)
 opens p bytes text before failures forced failures' room s = record {
   kind = refl;

@@ -26,7 +26,8 @@ within_by : (n : ℕ) (l : LogRecord) (ls : List LogRecord) (b : Bool) → nat_l
 unfolding whole_within
 within_by n l ls b e = ap (λ c. if c then l ∷ whole_within (n - record_size l) ls else []) e
 
-within_one : (n : ℕ) (l : LogRecord) (ls : List LogRecord) → record_size l ≤ n → whole_within n (l ∷ ls) ≡ l ∷ whole_within (n - record_size l) ls
+within_one : (n : ℕ) (l : LogRecord) (ls : List LogRecord) → record_size l ≤ n
+    → whole_within n (l ∷ ls) ≡ l ∷ whole_within (n - record_size l) ls
 within_one n l ls h = within_by n l ls true (grind (arith, nat_tests))
 
 within_no : (n : ℕ) (l : LogRecord) (ls : List LogRecord) → n < record_size l → whole_within n (l ∷ ls) ≡ []
@@ -38,7 +39,8 @@ size_is : (l : LogRecord) → record_size l ≡ 3 + length (payload_text l.paren
 unfolding record_text frame_text
 size_is l = omega arith
 
-frame_long : (p : Kind) (xs : List ℕ) (c : Cut) (l : LogRecord) (a : Frame xs c) → read_record p c.0 c.1 ≡ Some l → record_size l ≡ length a.frame
+frame_long : (p : Kind) (xs : List ℕ) (c : Cut) (l : LogRecord) (a : Frame xs c)
+    → read_record p c.0 c.1 ≡ Some l → record_size l ≡ length a.frame
 frame_long p xs c l a r = omega (arith, size_is l, read_long p c.0 c.1 l r, a.size)
 
 -- The front of a frame is no frame.
@@ -49,11 +51,14 @@ some_is x y e = cc
 nothing_behind : (xs ys : List ℕ) → xs ++ ys ≡ [] → length ys ≡ 0
 nothing_behind xs ys e = omega (arith, length-append xs ys, ap length e)
 
-cut_frame : (frame : List ℕ) (n : ℕ) (c : Cut) (o : Option Cut) → first_frame frame ≡ Some (c.0, c.1, []) → n < length frame → first_frame (take n frame) ≡ o → o ≡ None
+cut_frame : (frame : List ℕ) (n : ℕ) (c : Cut) (o : Option Cut) → first_frame frame ≡ Some (c.0, c.1, [])
+    → n < length frame → first_frame (take n frame) ≡ o → o ≡ None
 cut_frame frame n c None e h f = refl
 cut_frame frame n c (Some d) e h f =
-    let more : first_frame frame ≡ Some (d.0, d.1, d.2 ++ drop n frame) = ap first_frame (sym (take-append-drop n frame)) ∙ frame_more (take n frame) (drop n frame) d f in
-    let both : ◌≡◌ {A = Option Cut} (Some (d.0, d.1, d.2 ++ drop n frame)) (Some (c.0, c.1, [])) = sym more ∙ e in
+    let more : first_frame frame ≡ Some (d.0, d.1, d.2 ++ drop n frame) =
+    ap first_frame (sym (take-append-drop n frame)) ∙ frame_more (take n frame) (drop n frame) d f in
+    let both : ◌≡◌ {A = Option Cut} (Some (d.0, d.1, d.2 ++ drop n frame)) (Some (c.0, c.1, [])) = sym more
+    ∙ e in
     let none : d.2 ++ drop n frame ≡ [] = ap (λ z. z.2) (some_is _ _ both) in
     absurd (omega (arith, nothing_behind d.2 (drop n frame) none, length-drop n frame))
 
@@ -71,45 +76,60 @@ taken_none p n xs e =
     let f = front_of p 0 n xs in
     front_none (records_in p 0 (take n xs)) f.0 (sym e ∙ f.1) ∙ sym (ap (whole_within n) e ∙ within_none n)
 
-taken_whole : (p : Kind) (n : ℕ) (xs : List ℕ) (c : Cut) (l : LogRecord) → first_frame xs ≡ Some c → read_record p c.0 c.1 ≡ Some l → record_size l ≤ n
+taken_whole : (p : Kind) (n : ℕ) (xs : List ℕ) (c : Cut) (l : LogRecord) → first_frame xs ≡ Some c
+    → read_record p c.0 c.1 ≡ Some l → record_size l ≤ n
     → Taken p (n - record_size l) c.2 → Taken p n xs
 taken_whole p n xs c l e r h more =
     let a = frame_at xs c e in
     let m = n - record_size l in
     let sum : n ≡ length a.frame + m = omega (arith, frame_long p xs c l a r) in
-    let cut : take n xs ≡ a.frame ++ take m c.2 = ap (take n) a.split ∙ ap (λ k. take k (a.frame ++ c.2)) sum ∙ take-append-add a.frame c.2 m in
-    let first : first_frame (take n xs) ≡ Some (c.0, c.1, take m c.2) = ap first_frame cut ∙ frame_more a.frame (take m c.2) (c.0, c.1, []) a.alone in
-    step p (take n xs) (c.0, c.1, take m c.2) first ∙ ap (λ o. and_records o (records_in p 0 (take m c.2))) r ∙ ap (λ t. l ∷ t) more
-    ∙ sym (ap (whole_within n) (step p xs c e ∙ ap (λ o. and_records o (records_in p 0 c.2)) r) ∙ within_one n l (records_in p 0 c.2) h)
+    let cut : take n xs ≡ a.frame ++ take m c.2 = ap (take n) a.split ∙ ap (λ k. take k (a.frame ++ c.2)) sum
+    ∙ take-append-add a.frame c.2 m in
+    let first : first_frame (take n xs) ≡ Some (c.0, c.1, take m c.2) = ap first_frame cut
+    ∙ frame_more a.frame (take m c.2) (c.0, c.1, []) a.alone in
+    step p (take n xs) (c.0, c.1, take m c.2) first ∙ ap (λ o. and_records o (records_in p 0 (take m c.2))) r
+    ∙ ap (λ t. l ∷ t) more
+    ∙ sym (ap (whole_within n) (step p xs c e ∙ ap (λ o. and_records o (records_in p 0 c.2)) r)
+    ∙ within_one n l (records_in p 0 c.2) h)
 
-taken_cut : (p : Kind) (n : ℕ) (xs : List ℕ) (c : Cut) (l : LogRecord) → first_frame xs ≡ Some c → read_record p c.0 c.1 ≡ Some l → n < record_size l → Taken p n xs
+taken_cut : (p : Kind) (n : ℕ) (xs : List ℕ) (c : Cut) (l : LogRecord) → first_frame xs ≡ Some c
+    → read_record p c.0 c.1 ≡ Some l → n < record_size l → Taken p n xs
 taken_cut p n xs c l e r h =
     let a = frame_at xs c e in
     let less : n < length a.frame = omega (arith, frame_long p xs c l a r) in
     let cut : take n xs ≡ take n a.frame = ap (take n) a.split ∙ take-append-le n a.frame c.2 (omega arith) in
-    let none : first_frame (take n xs) ≡ None = ap first_frame cut ∙ cut_frame a.frame n c (first_frame (take n a.frame)) a.alone less refl in
+    let none : first_frame (take n xs) ≡ None = ap first_frame cut
+    ∙ cut_frame a.frame n c (first_frame (take n a.frame)) a.alone less refl in
     no_frame p (take n xs) none
-    ∙ sym (ap (whole_within n) (step p xs c e ∙ ap (λ o. and_records o (records_in p 0 c.2)) r) ∙ within_no n l (records_in p 0 c.2) h)
+    ∙ sym (ap (whole_within n) (step p xs c e ∙ ap (λ o. and_records o (records_in p 0 c.2)) r)
+    ∙ within_no n l (records_in p 0 c.2) h)
 
-taken_record : (p : Kind) (n : ℕ) (xs : List ℕ) (c : Cut) (l : LogRecord) (b : Bool) → first_frame xs ≡ Some c → read_record p c.0 c.1 ≡ Some l
+taken_record : (p : Kind) (n : ℕ) (xs : List ℕ) (c : Cut) (l : LogRecord) (b : Bool) → first_frame xs ≡ Some c
+    → read_record p c.0 c.1 ≡ Some l
     → nat_le (record_size l) n ≡ b → ((m : ℕ) → Taken p m c.2) → Taken p n xs
-taken_record p n xs c l true e r t f = taken_whole p n xs c l e r (grind (arith, nat_tests)) (f (n - record_size l))
+taken_record p n xs c l true e r t f = taken_whole p n xs c l e r (grind (arith, nat_tests))
+    (f (n - record_size l))
 taken_record p n xs c l false e r t f = taken_cut p n xs c l e r (grind (arith, nat_tests))
 
-taken_frame : (p : Kind) (n : ℕ) (xs : List ℕ) (c : Cut) (o : Option LogRecord) → first_frame xs ≡ Some c → read_record p c.0 c.1 ≡ o
+taken_frame : (p : Kind) (n : ℕ) (xs : List ℕ) (c : Cut) (o : Option LogRecord) → first_frame xs ≡ Some c
+    → read_record p c.0 c.1 ≡ o
     → ((m : ℕ) → Taken p m c.2) → Taken p n xs
-taken_frame p n xs c None e r f = taken_none p n xs (step p xs c e ∙ ap (λ o. and_records o (records_in p 0 c.2)) r)
+taken_frame p n xs c None e r f = taken_none p n xs
+    (step p xs c e ∙ ap (λ o. and_records o (records_in p 0 c.2)) r)
 taken_frame p n xs c (Some l) e r f = taken_record p n xs c l (nat_le (record_size l) n) e r refl f
 
-taken_by : (p : Kind) (n : ℕ) (xs : List ℕ) (o : Option Cut) → first_frame xs ≡ o → ((c : Cut) → length c.2 < length xs → (m : ℕ) → Taken p m c.2) → Taken p n xs
+taken_by : (p : Kind) (n : ℕ) (xs : List ℕ) (o : Option Cut) → first_frame xs ≡ o
+    → ((c : Cut) → length c.2 < length xs → (m : ℕ) → Taken p m c.2) → Taken p n xs
 taken_by p n xs None e f = taken_none p n xs (no_frame p xs e)
 taken_by p n xs (Some c) e f = taken_frame p n xs c (read_record p c.0 c.1) e refl (f c (shorter xs c e))
 
 records_taken_in : (p : Kind) (most n : ℕ) (xs : List ℕ) → length xs < most → Taken p n xs
 records_taken_in p zero n xs h = absurd (omega arith)
-records_taken_in p (suc most) n xs h = taken_by p n xs (first_frame xs) refl (λ c less m. records_taken_in p most m c.2 (omega arith))
+records_taken_in p (suc most) n xs h = taken_by p n xs (first_frame xs) refl
+    (λ c less m. records_taken_in p most m c.2 (omega arith))
 
-pub records_taken : (p : Kind) (n : ℕ) (xs : List ℕ) → records_in p 0 (take n xs) ≡ whole_within n (records_in p 0 xs)
+pub records_taken : (p : Kind) (n : ℕ) (xs : List ℕ)
+    → records_in p 0 (take n xs) ≡ whole_within n (records_in p 0 xs)
 records_taken p n xs = records_taken_in p (suc (length xs)) n xs (omega arith)
 
 -- The whole frames of records are as long as these records.
@@ -124,15 +144,20 @@ passed_size p zero xs = refl
 passed_size p (suc k) [] = refl
 passed_size p (suc k) (b ∷ bs) = passed_size p k bs
 
-step_size_by : (p : Kind) (a b d : ℕ) (rest : List ℕ) (c : Cut) → Cuts a (b * 256 + d) rest c → first_frame (a ∷ b ∷ d ∷ rest) ≡ Some c
-    → whole_size p 0 (a ∷ b ∷ d ∷ rest) ≡ size_if (read_record p c.0 c.1) (3 + length c.1 + whole_size p 0 c.2)
+step_size_by : (p : Kind) (a b d : ℕ) (rest : List ℕ) (c : Cut) → Cuts a (b * 256 + d) rest c
+    → first_frame (a ∷ b ∷ d ∷ rest) ≡ Some c
+    → whole_size p 0 (a ∷ b ∷ d ∷ rest) ≡ size_if (read_record p c.0 c.1)
+    (3 + length c.1 + whole_size p 0 c.2)
 unfolding whole_size
 step_size_by p a b d rest c k e =
     ap (λ o. size_by p o (λ n. whole_size p n (b ∷ d ∷ rest))) e
-    ∙ ap (λ n. size_if (read_record p c.0 c.1) (3 + length c.1 + whole_size p n rest)) (ap (λ z. length z.1) k.is ∙ taken (b * 256 + d) rest k.fits)
-    ∙ ap (λ n. size_if (read_record p c.0 c.1) (3 + length c.1 + n)) (passed_size p (b * 256 + d) rest ∙ ap (λ z. whole_size p 0 z.2) (sym k.is))
+    ∙ ap (λ n. size_if (read_record p c.0 c.1) (3 + length c.1 + whole_size p n rest))
+    (ap (λ z. length z.1) k.is ∙ taken (b * 256 + d) rest k.fits)
+    ∙ ap (λ n. size_if (read_record p c.0 c.1) (3 + length c.1 + n))
+    (passed_size p (b * 256 + d) rest ∙ ap (λ z. whole_size p 0 z.2) (sym k.is))
 
-step_size : (p : Kind) (xs : List ℕ) (c : Cut) → first_frame xs ≡ Some c → whole_size p 0 xs ≡ size_if (read_record p c.0 c.1) (3 + length c.1 + whole_size p 0 c.2)
+step_size : (p : Kind) (xs : List ℕ) (c : Cut) → first_frame xs ≡ Some c
+    → whole_size p 0 xs ≡ size_if (read_record p c.0 c.1) (3 + length c.1 + whole_size p 0 c.2)
 step_size p [] c e = absurd (cc)
 step_size p (a ∷ []) c e = absurd (cc)
 step_size p (a ∷ b ∷ []) c e = absurd (cc)
@@ -146,17 +171,20 @@ no_size p (b ∷ bs) e = ap (λ o. size_by p o (λ n. whole_size p n bs)) e
 abbrev Sized : Kind → List ℕ → Type 0
 Sized p xs = whole_size p 0 xs ≡ total (records_in p 0 xs)
 
-sized_frame : (p : Kind) (xs : List ℕ) (c : Cut) (o : Option LogRecord) → first_frame xs ≡ Some c → read_record p c.0 c.1 ≡ o → Sized p c.2 → Sized p xs
+sized_frame : (p : Kind) (xs : List ℕ) (c : Cut) (o : Option LogRecord) → first_frame xs ≡ Some c
+    → read_record p c.0 c.1 ≡ o → Sized p c.2 → Sized p xs
 unfolding total
 sized_frame p xs c None e r f =
     step_size p xs c e ∙ ap (λ o. size_if o (3 + length c.1 + whole_size p 0 c.2)) r
     ∙ sym (ap total (step p xs c e ∙ ap (λ o. and_records o (records_in p 0 c.2)) r))
 sized_frame p xs c (Some l) e r f =
-    let size : 3 + length c.1 + whole_size p 0 c.2 ≡ record_size l + total (records_in p 0 c.2) = omega (arith, f, size_is l, read_long p c.0 c.1 l r) in
+    let size : 3 + length c.1 + whole_size p 0 c.2 ≡ record_size l + total (records_in p 0 c.2) =
+    omega (arith, f, size_is l, read_long p c.0 c.1 l r) in
     step_size p xs c e ∙ ap (λ o. size_if o (3 + length c.1 + whole_size p 0 c.2)) r ∙ size
     ∙ sym (ap total (step p xs c e ∙ ap (λ o. and_records o (records_in p 0 c.2)) r))
 
-sized_by : (p : Kind) (xs : List ℕ) (o : Option Cut) → first_frame xs ≡ o → ((c : Cut) → length c.2 < length xs → Sized p c.2) → Sized p xs
+sized_by : (p : Kind) (xs : List ℕ) (o : Option Cut) → first_frame xs ≡ o
+    → ((c : Cut) → length c.2 < length xs → Sized p c.2) → Sized p xs
 unfolding total
 sized_by p xs None e f = no_size p xs e ∙ sym (ap total (no_frame p xs e))
 sized_by p xs (Some c) e f = sized_frame p xs c (read_record p c.0 c.1) e refl (f c (shorter xs c e))
@@ -173,21 +201,26 @@ sized p xs = sized_in p (suc (length xs)) xs (omega arith)
 abbrev Full : Kind → List ℕ → Type 0
 Full p xs = is_whole p 0 xs ≡ true → whole_size p 0 xs ≡ length xs
 
-full_frame : (p : Kind) (xs : List ℕ) (c : Cut) (o : Option LogRecord) → first_frame xs ≡ Some c → read_record p c.0 c.1 ≡ o → Full p c.2 → Full p xs
+full_frame : (p : Kind) (xs : List ℕ) (c : Cut) (o : Option LogRecord) → first_frame xs ≡ Some c
+    → read_record p c.0 c.1 ≡ o → Full p c.2 → Full p xs
 full_frame p xs c None e r f w =
-    let never : false ≡ true = sym (step_whole p xs c e ∙ ap (λ o. whole_if o (is_whole p 0 c.2)) r) ∙ w in absurd (cc)
+    let never : false ≡ true = sym (step_whole p xs c e ∙ ap (λ o. whole_if o (is_whole p 0 c.2)) r) ∙ w in
+    absurd (cc)
 full_frame p xs c (Some l) e r f w =
     let a = frame_at xs c e in
-    let rest : is_whole p 0 c.2 ≡ true = sym (step_whole p xs c e ∙ ap (λ o. whole_if o (is_whole p 0 c.2)) r) ∙ w in
+    let rest : is_whole p 0 c.2 ≡ true = sym (step_whole p xs c e ∙ ap (λ o. whole_if o (is_whole p 0 c.2)) r)
+    ∙ w in
     step_size p xs c e ∙ ap (λ o. size_if o (3 + length c.1 + whole_size p 0 c.2)) r
     ∙ omega (arith, f rest, a.size, ap length a.split, length-append a.frame c.2)
 
 no_whole : (p : Kind) (xs : List ℕ) → first_frame xs ≡ None → is_whole p 0 xs ≡ true → length xs ≡ 0
 unfolding is_whole
 no_whole p [] e w = refl
-no_whole p (b ∷ bs) e w = let never : false ≡ true = sym (ap (λ o. whole_by p o (λ n. is_whole p n bs)) e) ∙ w in absurd (cc)
+no_whole p (b ∷ bs) e w = let never : false ≡ true = sym (ap (λ o. whole_by p o (λ n. is_whole p n bs)) e)
+    ∙ w in absurd (cc)
 
-full_by : (p : Kind) (xs : List ℕ) (o : Option Cut) → first_frame xs ≡ o → ((c : Cut) → length c.2 < length xs → Full p c.2) → Full p xs
+full_by : (p : Kind) (xs : List ℕ) (o : Option Cut) → first_frame xs ≡ o
+    → ((c : Cut) → length c.2 < length xs → Full p c.2) → Full p xs
 full_by p xs None e f w = omega (arith, no_size p xs e, no_whole p xs e w)
 full_by p xs (Some c) e f w = full_frame p xs c (read_record p c.0 c.1) e refl (f c (shorter xs c e)) w
 
@@ -203,8 +236,11 @@ whole_is_full p xs w = omega (arith, full_in p (suc (length xs)) xs (omega arith
 more_by : (n k : ℕ) (l : LogRecord) (ls : List LogRecord) (b : Bool) → nat_le (record_size l) n ≡ b
     → (whole_within ((n - record_size l) + k) ls
     ≡ whole_within (n - record_size l) ls
-    ++ whole_within ((n - record_size l) - total (whole_within (n - record_size l) ls) + k) (drop (length (whole_within (n - record_size l) ls)) ls))
-    → whole_within (n + k) (l ∷ ls) ≡ whole_within n (l ∷ ls) ++ whole_within (n - total (whole_within n (l ∷ ls)) + k) (drop (length (whole_within n (l ∷ ls))) (l ∷ ls))
+    ++ whole_within ((n - record_size l) - total (whole_within (n - record_size l) ls) + k)
+    (drop (length (whole_within (n - record_size l) ls)) ls))
+    → whole_within (n + k) (l ∷ ls) ≡ whole_within n (l ∷ ls)
+    ++ whole_within (n - total (whole_within n (l ∷ ls)) + k)
+    (drop (length (whole_within n (l ∷ ls))) (l ∷ ls))
 unfolding total
 more_by n k l ls true b f =
     let le : record_size l ≤ n = grind (arith, nat_tests) in
@@ -213,36 +249,48 @@ more_by n k l ls true b f =
     let now : whole_within n (l ∷ ls) ≡ l ∷ w = within_one n l ls le in
     let sum : n + k - record_size l ≡ m + k = omega arith in
     let left : m - total w + k ≡ n - (record_size l + total w) + k = omega arith in
-    within_one (n + k) l ls (omega arith) ∙ ap (λ t. l ∷ t) (ap (λ t. whole_within t ls) sum ∙ f ∙ ap (λ t. w ++ whole_within t (drop (length w) ls)) left)
+    within_one (n + k) l ls (omega arith) ∙ ap (λ t. l ∷ t)
+    (ap (λ t. whole_within t ls) sum ∙ f ∙ ap (λ t. w ++ whole_within t (drop (length w) ls)) left)
     ∙ sym (ap (λ t. t ++ whole_within (n - total t + k) (drop (length t) (l ∷ ls))) now)
 more_by n k l ls false b f =
     let now : whole_within n (l ∷ ls) ≡ [] = within_no n l ls (grind (arith, nat_tests)) in
     let nothing : n + k ≡ n - 0 + k = omega arith in
-    ap (λ m. whole_within m (l ∷ ls)) nothing ∙ sym (ap (λ t. t ++ whole_within (n - total t + k) (drop (length t) (l ∷ ls))) now)
+    ap (λ m. whole_within m (l ∷ ls)) nothing
+    ∙ sym (ap (λ t. t ++ whole_within (n - total t + k) (drop (length t) (l ∷ ls))) now)
 
 within_more : (n k : ℕ) (ls : List LogRecord)
-    → whole_within (n + k) ls ≡ whole_within n ls ++ whole_within (n - total (whole_within n ls) + k) (drop (length (whole_within n ls)) ls)
+    → whole_within (n + k) ls ≡ whole_within n ls
+    ++ whole_within (n - total (whole_within n ls) + k) (drop (length (whole_within n ls)) ls)
 unfolding whole_within total
 within_more n k [] = refl
-within_more n k (l ∷ ls) = more_by n k l ls (nat_le (record_size l) n) refl (within_more (n - record_size l) k ls)
+within_more n k (l ∷ ls) = more_by n k l ls (nat_le (record_size l) n) refl
+    (within_more (n - record_size l) k ls)
 
 -- What a crash leaves.
 
-pub left_records : (p : Kind) (text : List ℕ) (forced keep failures room : ℕ) (failed : Bool) → 5 ≤ forced → forced ≤ length text
-    → records_in p 0 (body (take (forced + keep) text)) ≡ left_by (log_state p text forced failures room failed).sight keep
+pub left_records : (p : Kind) (text : List ℕ) (forced keep failures room : ℕ) (failed : Bool) → 5 ≤ forced
+    → forced ≤ length text
+    → records_in p 0 (body (take (forced + keep) text))
+    ≡ left_by (log_state p text forced failures room failed).sight keep
 left_records p text forced keep failures room failed h le =
     let all = records_in p 0 (body text) in
     let n = forced - 5 in
     let sum : forced + keep - 5 ≡ n + keep = omega arith in
     let now : records_in p 0 (front text forced) ≡ whole_within n all = records_taken p n (body text) in
-    let long : length (front text forced) ≡ n = length-take-le n (body text) (omega (arith, length-drop 5 text)) in
+    let long : length (front text forced) ≡ n =
+    length-take-le n (body text) (omega (arith, length-drop 5 text)) in
     let F = records_in p 0 (front text forced) in
-    let behind : n - total F ≡ length (front text forced) - whole_size p 0 (front text forced) = omega (arith, long, sized p (front text forced)) in
-    ap (records_in p 0) (body_taken (forced + keep) text (omega arith) ∙ ap (λ k. take k (body text)) sum) ∙ records_taken p (n + keep) (body text)
-    ∙ within_more n keep all ∙ ap (λ t. t ++ whole_within (n - total t + keep) (drop (length t) all)) (sym now)
+    let behind : n - total F ≡ length (front text forced) - whole_size p 0 (front text forced) =
+    omega (arith, long, sized p (front text forced)) in
+    ap (records_in p 0) (body_taken (forced + keep) text (omega arith) ∙ ap (λ k. take k (body text)) sum)
+    ∙ records_taken p (n + keep) (body text)
+    ∙ within_more n keep all ∙ ap (λ t. t ++ whole_within (n - total t + keep) (drop (length t) all))
+    (sym now)
     ∙ ap (λ t. F ++ whole_within (t + keep) (drop (length F) all)) behind
 
-pub left_of_view : (p : Kind) (text : List ℕ) (forced keep failures room : ℕ) (failed : Bool) (s : LogState) (ls : List LogRecord)
-    → log_state p text forced failures room failed ≡ s → 5 ≤ forced → forced ≤ length text → ls ≡ records_in p 0 (body (take (forced + keep) text)) → ls ≡ left_by s.sight keep
+pub left_of_view : (p : Kind) (text : List ℕ) (forced keep failures room : ℕ) (failed : Bool) (s : LogState)
+    (ls : List LogRecord)
+    → log_state p text forced failures room failed ≡ s → 5 ≤ forced → forced ≤ length text
+    → ls ≡ records_in p 0 (body (take (forced + keep) text)) → ls ≡ left_by s.sight keep
 left_of_view p text forced keep failures room failed s ls view h le e =
     e ∙ left_records p text forced keep failures room failed h le ∙ ap (λ z. left_by z.sight keep) view

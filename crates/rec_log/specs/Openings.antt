@@ -27,11 +27,13 @@ IsFault p bytes Memory = ⊤
 IsFault p bytes Device = ⊥
 IsFault p bytes (DamagedError place) = read_frames p 5 nothing_seen 0 bytes ≡ Damaged place
 
--- the bytes are an empty log without its header; or a header and sound frames, and a torn tail of so many bytes
+-- the bytes are an empty log without its header; or a header and sound frames, and a torn tail of so many
+-- bytes
 abbrev pub IsFound : Kind → List ℕ → Found → Type 0
 IsFound p bytes Empty = read_log p bytes ≡ Whole [] 0
 IsFound p bytes (Sound torn) =
-    (take 5 bytes ≡ header) × (5 ≤ length bytes) × Ends p (drop 5 bytes) torn × (read_log p bytes ≡ read_frames p 5 nothing_seen 0 (drop 5 bytes))
+    (take 5 bytes ≡ header) × (5 ≤ length bytes) × Ends p (drop 5 bytes) torn
+    × (read_log p bytes ≡ read_frames p 5 nothing_seen 0 (drop 5 bytes))
 
 -- the bytes are no log
 abbrev pub IsNoLog : Kind → List ℕ → OpenError → Type 0
@@ -42,7 +44,8 @@ IsNoLog p bytes (DamagedError place) = read_log p bytes ≡ Damaged place
 -- what is forced of the records of these bytes is forced as it was, or all of them are
 abbrev pub StaysForced : Kind → List ℕ → ℕ → LogSight → Type 0
 StaysForced p bytes forced s =
-    ((s.kept ≡ kept_of p bytes forced) × (s.behind ≡ bytes_behind p bytes forced)) ⊎ ((s.kept.unforced ≡ []) × (s.behind ≡ 0))
+    ((s.kept ≡ kept_of p bytes forced) × (s.behind ≡ bytes_behind p bytes forced))
+    ⊎ ((s.kept.unforced ≡ []) × (s.behind ≡ 0))
 
 -- the log of these bytes: their records, a torn tail gone, and what was forced of them
 pub record Opens (p : Kind) (bytes : List ℕ) (forced failures : ℕ) (log : LogState) : Type 0 where
@@ -57,7 +60,8 @@ pub record Opens (p : Kind) (bytes : List ℕ) (forced failures : ℕ) (log : Lo
 abbrev pub NotOpened : {S : Type 0} → (S → List ℕ) → (S → ℕ) → (S → ℕ) → Kind → S → S → OpenError → Type 0
 NotOpened bytes forced failures p old new Memory = SameStore bytes forced failures old new
 NotOpened bytes forced failures p old new Device = failures old < failures new
-NotOpened bytes forced failures p old new (DamagedError place) = (new ≡ old) × (read_log p (bytes old) ≡ Damaged place)
+NotOpened bytes forced failures p old new (DamagedError place) =
+    (new ≡ old) × (read_log p (bytes old) ≡ Damaged place)
 
 -- a text was not put in place
 abbrev pub IsRefused : {S : Type 0} → (S → List ℕ) → (S → ℕ) → (S → ℕ) → S → S → OpenError → Type 0
@@ -65,9 +69,10 @@ IsRefused bytes forced failures old new Memory = SameStore bytes forced failures
 IsRefused bytes forced failures old new Device = failures old < failures new
 IsRefused bytes forced failures old new (DamagedError place) = ⊥
 
--- a text of the records that these bytes are, whole, with its header forced: the bytes as they were, or a text that is all
--- forced
-pub record Settles (p : Kind) (bytes : List ℕ) (forced failures : ℕ) (text : List ℕ) (forced' failures' : ℕ) : Type 0 where
+-- a text of the records that these bytes are, whole, with its header forced: the bytes as they were, or a
+-- text that is all forced
+pub record Settles (p : Kind) (bytes : List ℕ) (forced failures : ℕ) (text : List ℕ)
+    (forced' failures' : ℕ) : Type 0 where
   pub begins : take 5 text ≡ header
   pub header_forced : 5 ≤ forced'
   pub front : ((text ≡ bytes) × (forced' ≡ forced)) ⊎ (forced' ≡ length text)

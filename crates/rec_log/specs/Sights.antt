@@ -15,6 +15,8 @@ pub record Kept : Type 0 where
   pub forced : List LogRecord
   pub unforced : List LogRecord
 
+-- what is seen of a log: its records, how many of the forced bytes stand behind the last one that is wholly
+-- forced, whether it has failed, and how often its device has
 pub record LogSight : Type 0 where
   pub kept : Kept
   pub behind : ℕ
@@ -27,6 +29,7 @@ pub record LogState : Type 0 where
   pub sight : LogSight
   pub room : ℕ
 
+-- the records of a log, in order
 abbrev pub records_of : Kept → List LogRecord
 records_of k = k.forced ++ k.unforced
 
@@ -49,6 +52,7 @@ kept_of p text forced = record {
 abbrev pub bytes_behind : Kind → List ℕ → ℕ → ℕ
 bytes_behind p text forced = length (front text forced) - whole_size p 0 (front text forced)
 
+-- what a contract sees of a log with this text, so many bytes of which are forced
 abbrev pub log_state : Kind → List ℕ → ℕ → ℕ → ℕ → Bool → LogState
 log_state p text forced failures room failed = record {
   kind = p;
@@ -103,7 +107,8 @@ SoundIsRecord = (p : Kind) (l : LogRecord) → IsSound p l → IsRecord p l
 
 -- what is written is read: the text of records reads as these records, and is whole
 abbrev pub WrittenIsRead : Type 0
-WrittenIsRead = (p : Kind) (ls : List LogRecord) → AreRecords p ls → (records_in p 0 (records_text ls) ≡ ls) × (is_whole p 0 (records_text ls) ≡ true)
+WrittenIsRead = (p : Kind) (ls : List LogRecord) → AreRecords p ls
+    → (records_in p 0 (records_text ls) ≡ ls) × (is_whole p 0 (records_text ls) ≡ true)
 
 -- how many bytes a record takes in a log
 abbrev pub record_size : LogRecord → ℕ
@@ -114,8 +119,8 @@ unfoldable pub whole_within : ℕ → List LogRecord → List LogRecord
 whole_within n [] = []
 whole_within n (l ∷ ls) = if nat_le (record_size l) n then l ∷ whole_within (n - record_size l) ls else []
 
--- what a crash leaves that keeps so many bytes behind the forced front: the forced records, and of the others those that
--- stand whole within what is forced of them and these bytes
+-- what a crash leaves that keeps so many bytes behind the forced front: the forced records, and of the others
+-- those that stand whole within what is forced of them and these bytes
 abbrev pub left_by : LogSight → ℕ → List LogRecord
 left_by s keep = s.kept.forced ++ whole_within (s.behind + keep) s.kept.unforced
 
@@ -123,8 +128,8 @@ left_by s keep = s.kept.forced ++ whole_within (s.behind + keep) s.kept.unforced
 abbrev pub longer : LogSight → List LogRecord → LogSight
 longer s ls = record s { kept = record { forced = s.kept.forced; unforced = s.kept.unforced ++ ls } }
 
--- the device failed: of these records a front was appended, and so many more bytes are forced, so a crash leaves what it
--- would leave of the log with that front if it kept so many bytes more
+-- the device failed: of these records a front was appended, and so many more bytes are forced, so a crash
+-- leaves what it would leave of the log with that front if it kept so many bytes more
 pub record Breaks (old new : LogState) (ls : List LogRecord) : Type 0 where
   pub kind : new.kind ≡ old.kind
   pub appended : ℕ
@@ -160,11 +165,12 @@ pub record Restarts (old new : LogState) (keep : ℕ) (rs : List LogRecord) : Ty
   pub works : new.sight.failed ≡ false
   pub failures : new.sight.failures ≡ old.sight.failures
 
--- the crash took place and the device failed: what it left stands, as much of it forced as was before; or it and the new
--- records do, all of them forced
+-- the crash took place and the device failed: what it left stands, as much of it forced as was before; or it
+-- and the new records do, all of them forced
 pub record RestartBreaks (old new : LogState) (keep : ℕ) (rs : List LogRecord) : Type 0 where
   pub kind : new.kind ≡ old.kind
-  pub either : ((records_of new.sight.kept ≡ left_by old.sight keep) × (new.sight.kept.forced ≡ old.sight.kept.forced))
+  pub either : ((records_of new.sight.kept ≡ left_by old.sight keep)
+      × (new.sight.kept.forced ≡ old.sight.kept.forced))
       ⊎ (new.sight.kept ≡ record { forced = left_by old.sight keep ++ rs; unforced = [] })
   pub failed : new.sight.failed ≡ true
   pub cause : old.sight.failures < new.sight.failures

@@ -5,13 +5,15 @@ use Rattle.tree_model.specs.declared.records.LogRecord.{LogRecord}
 use Rattle.log_text.specs.Frames.{Cut, first_frame}
 use Rattle.log_text.specs.Reading.{read_record}
 
--- What is read goes from frame to frame. Within a frame so many bytes are still passed over, and a frame begins where
--- none are.
+-- What is read goes from frame to frame. Within a frame so many bytes are still passed over, and a frame
+-- begins where none are.
 
+-- a record, where one was read, and those behind it
 abbrev pub and_records : Option LogRecord → List LogRecord → List LogRecord
 and_records None more = []
 and_records (Some l) more = l ∷ more
 
+-- the record of a frame, where one stands whole, and those behind it
 abbrev pub records_by : Kind → Option Cut → (ℕ → List LogRecord) → List LogRecord
 records_by p None more = []
 records_by p (Some c) more = and_records (read_record p c.0 c.1) (more (suc (suc (length c.1))))
@@ -22,10 +24,12 @@ records_in p k [] = []
 records_in p (suc k) (b ∷ bs) = records_in p k bs
 records_in p zero (b ∷ bs) = records_by p (first_frame (b ∷ bs)) (λ k. records_in p k bs)
 
+-- a record was read, and what is behind it is whole
 abbrev pub whole_if : Option LogRecord → Bool → Bool
 whole_if None more = false
 whole_if (Some l) more = more
 
+-- a frame stands whole and is a record, and what is behind it is whole
 abbrev pub whole_by : Kind → Option Cut → (ℕ → Bool) → Bool
 whole_by p None more = false
 whole_by p (Some c) more = whole_if (read_record p c.0 c.1) (more (suc (suc (length c.1))))
@@ -36,10 +40,12 @@ is_whole p k [] = k == 0
 is_whole p (suc k) (b ∷ bs) = is_whole p k bs
 is_whole p zero (b ∷ bs) = whole_by p (first_frame (b ∷ bs)) (λ k. is_whole p k bs)
 
+-- this size, where a record was read
 abbrev pub size_if : Option LogRecord → ℕ → ℕ
 size_if None more = 0
 size_if (Some l) more = more
 
+-- how many bytes a frame and those behind it are, where it stands whole and is a record
 abbrev pub size_by : Kind → Option Cut → (ℕ → ℕ) → ℕ
 size_by p None more = 0
 size_by p (Some c) more = size_if (read_record p c.0 c.1) (3 + length c.1 + more (suc (suc (length c.1))))

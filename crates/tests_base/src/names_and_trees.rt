@@ -2,10 +2,8 @@
 
 use std::alloc::{AllocError, Global};
 use std::test::Fail;
-use tree_model::{
-    ForeignXid, Kind, Presumption, ProcessId, Ticket, Tree, TreeEntry, TreeError, Txn, branch_xid,
-    read_branch,
-};
+use tree_model::{Kind, Presumption, ProcessId, Ticket, Tree, TreeEntry, TreeError, Txn};
+use tree_xids::{ForeignXid, branch_xid, read_branch};
 use xa_xid::Xid;
 
 const ROOT: ProcessId = ProcessId(1);

@@ -7,7 +7,7 @@ use Rattle.tree_model.specs.declared.names.Txn.{Txn}
 use Rattle.tree_model.specs.declared.records.Branch.TheVariants.{Case as CaseBranch}
 use Rattle.tree_model.specs.declared.records.Record.TheVariants.{Opened, Commit, End}
 use Rattle.tree_model.specs.Branches.{branch_parts}
-use Rattle.tree_model.proofs.BranchLaws.{length-txn_bytes}
+use Rattle.tree_xids.proofs.BranchLaws.{length-txn_bytes}
 use Rattle.log_text.specs.Payloads.{FitsFrame, name_text, ticket_text, tickets_text}
 
 size_of_xid : (x : XidParts) → length (xid_bytes x) ≡ 6 + length x.gtrid + length x.bqual

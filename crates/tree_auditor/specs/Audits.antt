@@ -64,7 +64,8 @@ since_promise c (r ∷ rs) = if has (is_prepared c) rs then since_promise c rs e
 abbrev pub own_decision : Case → List Record → Option Outcome
 own_decision c rs =
     let kept_of = since_promise c rs in
-    decision_by (has (is_learnt_commit c) kept_of) (has (is_abort_learnt c) kept_of) (has (is_promise c) kept_of)
+    decision_by (has (is_learnt_commit c) kept_of) (has (is_abort_learnt c) kept_of)
+    (has (is_promise c) kept_of)
 
 -- The recursion upward.
 
@@ -135,6 +136,8 @@ logs_of_world w q = kept (w.at q)
 abbrev pub AllUp : List TreeEntry → World → Type 0
 AllUp tree w = (q : ProcessId) → is_listed tree q ≡ true → (w.at q).failed ≡ false
 
+-- An audit of the kept lists says what is so: the outcomes, and the mismatches that stand, each and no
+-- other.
 pub record AuditsAreTrue (tree : List TreeEntry) (w : World) : Type 0 where
   pub outcomes : (c : Case) → has_line tree (logs_of_world w) c ≡ true
       → audited tree (logs_of_world w) c ≡ outcome_of w c.txn

@@ -103,7 +103,27 @@ pub record Turn : Type 0 where
       (child_case c.txn t))) (wire c t net))
 
 module _ (turn : Turn) where
-  open turn use {c, t, p, tree, n, h, net, below, apart, pair, up, alike, row, pr, root, outcome, above, half, inv}
+  open turn use {
+    c,
+    t,
+    p,
+    tree,
+    n,
+    h,
+    net,
+    below,
+    apart,
+    pair,
+    up,
+    alike,
+    row,
+    pr,
+    root,
+    outcome,
+    above,
+    half,
+    inv,
+  }
 
   -- the ticket's case
   abbrev pub d : Case

@@ -51,7 +51,27 @@ first_no : (a b : Bool) → a ≡ false → (a && b) ≡ false
 first_no a b e = grind arith
 
 module _ (turn : Turn) where
-  open turn use {c, t, p, tree, n, h, net, up, promise_written, order, end_decided, stands, pr, of, root, outcome, above, half, inv}
+  open turn use {
+    c,
+    t,
+    p,
+    tree,
+    n,
+    h,
+    net,
+    up,
+    promise_written,
+    order,
+    end_decided,
+    stands,
+    pr,
+    of,
+    root,
+    outcome,
+    above,
+    half,
+    inv,
+  }
 
   abbrev d : Case
   d = own_case turn

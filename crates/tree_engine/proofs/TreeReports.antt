@@ -19,7 +19,8 @@ use Rattle.link_script.proofs.Admitted.{AreAdmitted, read_events_are_admitted, a
 use Rattle.report_io.specs.declared.status.Status.{Status}
 use Rattle.tree_engine.specs.Trees.{AgreesAndConsents, IsTreeReport, LeadsTo, Plays, Refusal, RefusesEvent, RefusesIn, RunsOver, RunsScript, Saying, ending, last_line, opened_text, trace_of}
 
-ends_so : (Holds : Saying) (refusal : Refusal) (status : Status) (input text : List ℕ) → status ≡ ending refusal
+ends_so : (Holds : Saying) (refusal : Refusal) (status : Status) (input text : List ℕ)
+    → status ≡ ending refusal
     → RunsScript Holds status input text → IsTreeReport Holds status input text
 ends_so Holds None status input text is runs = rw is (rw is at runs)
 ends_so Holds (Some refused) status input text is runs = rw is (rw is at runs)
@@ -52,11 +53,13 @@ module _ (tree : List TreeEntry) (moves : List Made) (w : World) (before end : F
   refused_event (Deliver k) e read stops =
       (stops.1, lost_messages (root_of tree) tree moves w before (stood stops.0) k stops.2)
   refused_event Settle e read stops =
-      let lost = stopped_settle (root_of tree) tree moves w before end follows stops.1 in (stops.0, lost.0, lost.1)
+      let lost = stopped_settle (root_of tree) tree moves w before end follows stops.1 in
+      (stops.0, lost.0, lost.1)
   refused_event (Restart q k) e read stops = absurd (cc)
   refused_event (Trim q) e read stops = absurd (cc)
 
-refused_in : (tree : List TreeEntry) (events : List Event) (start end : FlatState) (moves : List Made) (w : World)
+refused_in : (tree : List TreeEntry) (events : List Event) (start end : FlatState) (moves : List Made)
+    (w : World)
     (refusal : Refusal)
     → Follows (root_of tree) tree moves w end → AreAdmitted Flat events → LeadsTo start events refusal end
     → RefusesIn tree w events refusal
@@ -70,7 +73,8 @@ refused_in tree events start end moves w (Some refused) follows read leads =
     }
 
 -- the trace of what a script's events led to is the report of the script
-pub reported : {A E : Type 0} (text_of : A × Status → List ℕ) (input : List ℕ) (tree : List TreeEntry) (events : List Event) (refusal : Refusal) (end : FlatState)
+pub reported : {A E : Type 0} (text_of : A × Status → List ℕ) (input : List ℕ) (tree : List TreeEntry)
+    (events : List Event) (refusal : Refusal) (end : FlatState)
     (made : Result (A × Status) E) → IsScript Flat input tree events → Plays tree events refusal end
     → IsModelled (root_of tree) tree end
     → IfOk made (λ r. text_of r ≡ trace_of end.root.tree end ++ last_line refusal)
@@ -87,10 +91,12 @@ reported text_of input tree events refusal end (Ok r) script plays modelled text
       world = modelled.world;
       follows = modelled.follows;
       holds = (modelled.agreement, modelled.commit_rule);
-      refuses = refused_in tree events plays.start end modelled.moves modelled.world refusal modelled.follows read plays.leads;
+      refuses = refused_in tree events plays.start end modelled.moves modelled.world refusal modelled.follows
+          read plays.leads;
       status_is = status;
       text_is = text ∙ (ap (λ es. trace_of es end ++ last_line refusal) modelled.follows.root.has_tree
-          ∙ ap (λ es. (opened_text tree ++ entries_text 0 es) ++ last_line refusal) (sym modelled.follows.shown));
+          ∙ ap (λ es. (opened_text tree ++ entries_text 0 es) ++ last_line refusal)
+          (sym modelled.follows.shown));
     } in
     ends_so AgreesAndConsents refusal r.1 input (text_of r) status
     (record { tree = tree; events = events; script = script; runs = runs })

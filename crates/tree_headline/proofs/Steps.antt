@@ -58,7 +58,8 @@ module _ (tree : List TreeEntry) (is_tree : IsTree tree) (laws : ProcessLaws tre
       step : StepOf (place_of tree m.step.process) (w.at m.step.process) m e (w'.at m.step.process)
       step =
           let at = makes_at tree w m e w' made in
-          let here : w'.at q ≡ at.node = ap (λ (x : World). x.at q) at.world ∙ rw (same_process-refl q) refl in
+          let here : w'.at q ≡ at.node = ap (λ (x : World). x.at q) at.world
+          ∙ rw (same_process-refl q) refl in
           subst (λ (n : Node). StepOf (place_of tree q) (w.at q) m e n) (sym here)
           (step_of (place_of tree q) (w.at q) m e at.node at.made)
 
@@ -72,7 +73,8 @@ module _ (tree : List TreeEntry) (is_tree : IsTree tree) (laws : ProcessLaws tre
 
       accepts_still : (p : ProcessId) (c : Case) (t : Ticket) → has_accepted (w.at p) c t ≡ true
           → has_accepted (w'.at p) c t ≡ true
-      accepts_still p c t = by_process (λ n k. has_accepted n c t ≡ true → has_accepted k c t ≡ true) (λ n f. f)
+      accepts_still p c t = by_process (λ n k. has_accepted n c t ≡ true → has_accepted k c t ≡ true)
+          (λ n f. f)
           (accepted_still (place_of tree q) m c t (w.at q) e (w'.at q) step) p
 
       commits_still : (x : Txn) → is_commit_outcome w x ≡ true → is_commit_outcome w' x ≡ true
@@ -99,7 +101,8 @@ module _ (tree : List TreeEntry) (is_tree : IsTree tree) (laws : ProcessLaws tre
       }
 
       pub step_holds : WorldHolds tree w'
-      step_holds = subst (WorldHolds tree) same_world (world_holds tree is_tree w h q w'.at e.messages one_step)
+      step_holds = subst (WorldHolds tree) same_world
+          (world_holds tree is_tree w h q w'.at e.messages one_step)
 
       pub step_later : AllLater tree w w'
       step_later = subst (AllLater tree w) same_world

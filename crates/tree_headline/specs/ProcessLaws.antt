@@ -13,9 +13,8 @@ abbrev pub AllFrom : ProcessId → List Envelope → Type 0
 AllFrom q [] = Unit {0}
 AllFrom q (l ∷ ls) = (l.from ≡ q) × AllFrom q ls
 
--- What one step of a process keeps: the process's own part of the world's invariant, where its letters go
--- and of which
--- cases they are, and the invariant of each pair of which it has a half.
+-- What one step of a process keeps: the process's own part of the world's invariant, where its letters go and
+-- of which cases they are, and the invariant of each pair of which it has a half.
 pub record StepKeeps (place : Place) (net ls : List Envelope) (n n' : Node) : Type 0 where
   pub holds : NodeHolds place (net ++ ls) n'
   pub sent_here : AllFrom place.me ls
@@ -26,8 +25,7 @@ pub record StepKeeps (place : Place) (net ls : List Envelope) (n n' : Node) : Ty
   pub pairs_elsewhere : Elsewhere place ls
 
 -- The laws of the processes of a tree: where a run has led to a world in which the world's invariant holds,
--- each step of
--- each process keeps this.
+-- each step of each process keeps this.
 abbrev pub ProcessLaws : List TreeEntry → Type 0
 ProcessLaws tree = (es : List Made) (w : World) → IsRun tree es w → WorldHolds tree w
     → (m : Move) (e : Effect) (w' : World) → Stands w.net m.step.process m.step.happening

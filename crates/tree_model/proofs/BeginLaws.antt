@@ -64,7 +64,8 @@ begun_closes m Over = refl
 
 pub begun_accepts : (m : Memory) (t : Ticket) (ph : Phase) → (accepts_ticket m t ph).begun ≡ m.begun
 begun_accepts m t Idle = refl
-begun_accepts m t Open = begun_if (has_child m.accepted t.child) (record m { accepted = m.accepted ++ t ∷ [] }) m refl
+begun_accepts m t Open = begun_if (has_child m.accepted t.child)
+    (record m { accepted = m.accepted ++ t ∷ [] }) m refl
 begun_accepts m t Asked = refl
 begun_accepts m t Over = refl
 
@@ -80,27 +81,37 @@ begun_acks m t o Open = refl
 begun_acks m t o Asked = refl
 begun_acks m t o Over = refl
 
-pub begun_ticket : (o : Option Ticket) (m : Memory) (f : Ticket → Memory) → ((t : Ticket) → (f t).begun ≡ m.begun) → (of_ticket o m f).begun ≡ m.begun
+pub begun_ticket : (o : Option Ticket) (m : Memory) (f : Ticket → Memory)
+    → ((t : Ticket) → (f t).begun ≡ m.begun) → (of_ticket o m f).begun ≡ m.begun
 begun_ticket None m f k = refl
 begun_ticket (Some t) m f k = k t
 
-pub begun_child : (c d : Case) (m : Memory) (f : Ticket → Memory) → ((t : Ticket) → (f t).begun ≡ m.begun) → (of_child c d m f).begun ≡ m.begun
-begun_child c d m f k = begun_if (same_txn d.txn c.txn) m (of_ticket d.ticket m f) (begun_ticket d.ticket m f k)
+pub begun_child : (c d : Case) (m : Memory) (f : Ticket → Memory) → ((t : Ticket) → (f t).begun ≡ m.begun)
+    → (of_child c d m f).begun ≡ m.begun
+begun_child c d m f k = begun_if (same_txn d.txn c.txn) m (of_ticket d.ticket m f)
+    (begun_ticket d.ticket m f k)
 
 pub begun_hears : (c : Case) (m : Memory) (message : Message) → (hears_child c m message).begun ≡ m.begun
-begun_hears c m (Joined d t) = begun_if (same_case d c) m (accepts_ticket m t m.phase) (begun_accepts m t m.phase)
+begun_hears c m (Joined d t) = begun_if (same_case d c) m (accepts_ticket m t m.phase)
+    (begun_accepts m t m.phase)
 begun_hears c m (Yes d) = begun_child c d m _ (λ t. begun_takes m t VoteYes m.phase)
 begun_hears c m (No d) = begun_child c d m _ (λ t. begun_takes m t VoteNo m.phase)
 begun_hears c m (Read d) = begun_child c d m _ (λ t. begun_takes m t VoteRead m.phase)
 begun_hears c m (Ack d o) = begun_child c d m _ (λ t. begun_acks m t o m.phase)
 begun_hears c m message = refl
 
-pub begun_step : (me : ProcessId) (boot : ℕ) (c : Case) (m : Memory) (i : Input) → (root_remembers me boot c m i).begun ≡ begun_next m.begun i
+pub begun_step : (me : ProcessId) (boot : ℕ) (c : Case) (m : Memory) (i : Input)
+    → (root_remembers me boot c m i).begun ≡ begun_next m.begun i
 begun_step me boot c m (ActInput (Begin p)) =
-    begun_if (same_case (root_case (next_txn me boot m p)) c) (record m { begun = m.begun + 1 }) (opens_case (record m { begun = m.begun + 1 })) refl
-begun_step me boot c m (ActInput (WorkAct d r op)) = begun_if (same_case d c) m (sends_work m (ticket_of_child m.accepted r) m.phase) (begun_work m (ticket_of_child m.accepted r) m.phase)
-begun_step me boot c m (ActInput (CommitAct y)) = begun_if (same_case (root_case y) c) m (asks_votes m m.phase) (begun_asks m m.phase)
-begun_step me boot c m (ActInput (AbortAct y)) = begun_if (same_case (root_case y) c) m (closes m m.phase) (begun_closes m m.phase)
+    begun_if (same_case (root_case (next_txn me boot m p)) c) (record m { begun = m.begun + 1 })
+    (opens_case (record m { begun = m.begun + 1 })) refl
+begun_step me boot c m (ActInput (WorkAct d r op)) =
+    begun_if (same_case d c) m (sends_work m (ticket_of_child m.accepted r) m.phase)
+    (begun_work m (ticket_of_child m.accepted r) m.phase)
+begun_step me boot c m (ActInput (CommitAct y)) =
+    begun_if (same_case (root_case y) c) m (asks_votes m m.phase) (begun_asks m m.phase)
+begun_step me boot c m (ActInput (AbortAct y)) =
+    begun_if (same_case (root_case y) c) m (closes m m.phase) (begun_closes m m.phase)
 begun_step me boot c m (ActInput a) = refl
 begun_step me boot c m (MessageInput k message) = begun_hears c m message
 
@@ -108,24 +119,37 @@ pub begun_fold : (me : ProcessId) (boot : ℕ) (c : Case) (m : Memory) (hs : Lis
     → (fold (remembers me AtRoot boot c) m hs).begun ≡ fold (λ k h. begun_next k h.input) m.begun hs
 begun_fold me boot c m [] = refl
 begun_fold me boot c m (h ∷ hs) =
-    begun_fold me boot c (root_remembers me boot c m h.input) hs ∙ ap (λ k. fold (λ j g. begun_next j g.input) k hs) (begun_step me boot c m h.input)
+    begun_fold me boot c (root_remembers me boot c m h.input) hs
+    ∙ ap (λ k. fold (λ j g. begun_next j g.input) k hs) (begun_step me boot c m h.input)
 
 pub same_begun : (me : ProcessId) (tree : List TreeEntry) (n : Node) (c d : Case)
     → (memory_of (root_place me tree) n c).begun ≡ (memory_of (root_place me tree) n d).begun
 unfolding memory_of
 same_begun me tree n c d =
-    begun_fold me (boot_of (kept n)) c fresh_memory n.heard ∙ sym (begun_fold me (boot_of (kept n)) d fresh_memory n.heard)
+    begun_fold me (boot_of (kept n)) c fresh_memory n.heard
+    ∙ sym (begun_fold me (boot_of (kept n)) d fresh_memory n.heard)
 
 pub begun_pure : (rs : List Record) (c : Case) (m : Memory) → IsUnrecorded rs c
     → view_at (standing_with c.txn.presumption (rs ++ []) c (opens_case m)) (rs ++ []) c (opens_case m)
-    ≡ record { standing = Active; accepted = []; votes = []; works = []; promised = []; named = []; owed = [] }
-begun_pure rs c m u = simp (append-nil, u.no_end, u.no_commit, u.no_abort, u.no_prepare, u.no_collecting) (simp (u.promised, u.named, u.owing, owed_none) refl)
+    ≡ record {
+      standing = Active;
+      accepted = [];
+      votes = [];
+      works = [];
+      promised = [];
+      named = [];
+      owed = [];
+    }
+begun_pure rs c m u = simp (append-nil, u.no_end, u.no_commit, u.no_abort, u.no_prepare, u.no_collecting)
+    (simp (u.promised, u.named, u.owing, owed_none) refl)
 
 pub counted_pure : (rs : List Record) (c : Case) (m : Memory) (k : ℕ)
-    → view_at (coordinator_standing (rs ++ []) c (record m { begun = k })) (rs ++ []) c (record m { begun = k }) ≡ view_at (coordinator_standing rs c m) rs c m
+    → view_at (coordinator_standing (rs ++ []) c (record m { begun = k })) (rs ++ []) c
+    (record m { begun = k }) ≡ view_at (coordinator_standing rs c m) rs c m
 counted_pure rs c m k = simp append-nil refl
 
-pub root_begins : (me : ProcessId) (tree : List TreeEntry) (n : Node) (p : Presumption) (a : DataAnswer) → RootBegins me tree n p a
+pub root_begins : (me : ProcessId) (tree : List TreeEntry) (n : Node) (p : Presumption) (a : DataAnswer)
+    → RootBegins me tree n p a
 unfolding coordinator_view
 root_begins me tree n p a =
     let place = root_place me tree in
@@ -133,12 +157,18 @@ root_begins me tree n p a =
     let x = next_begun place n p in
     let h = hears_act (Begin p) a in
     let named : (c : Case) → next_txn me boot (memory_of place n c) p ≡ x =
-    λ c. ap (λ (k : ℕ). record { root = me; boot = boot; sequence = k + 1; presumption = p }) (same_begun me tree n c (some_case place)) in
+    λ c. ap (λ (k : ℕ). record { root = me; boot = boot; sequence = k + 1; presumption = p })
+    (same_begun me tree n c (some_case place)) in
     record {
       begun = λ u.
           view-after place n h (begin_effect x) (root_case x) (λ b. refl)
-          ∙ rw (named (root_case x), same_case-refl (root_case x)) (begun_pure (kept n) (root_case x) (record (memory_of place n (root_case x)) { begun = (memory_of place n (root_case x)).begun + 1 }) u);
+          ∙ rw (named (root_case x), same_case-refl (root_case x))
+          (begun_pure (kept n) (root_case x)
+          (record (memory_of place n (root_case x))
+          { begun = (memory_of place n (root_case x)).begun + 1 }) u);
       others = λ y o.
           view-after place n h (begin_effect x) (root_case y) (λ b. refl)
-          ∙ rw (named (root_case y), apart_case x y o) (counted_pure (kept n) (root_case y) (memory_of place n (root_case y)) ((memory_of place n (root_case y)).begun + 1));
+          ∙ rw (named (root_case y), apart_case x y o)
+          (counted_pure (kept n) (root_case y) (memory_of place n (root_case y))
+          ((memory_of place n (root_case y)).begun + 1));
     }

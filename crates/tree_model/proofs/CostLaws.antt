@@ -53,20 +53,24 @@ in-tail t u ts e = in-cons t u ts ∙ right (same_ticket t u) (in_list ts u) e
     right a b e = grind arith
 
 -- a ticket that is in a list, and one that is not
-apart : (t u : Ticket) (ts : List Ticket) → not (in_list ts t) ≡ true → in_list ts u ≡ true → same_ticket t u ≡ false
+apart : (t u : Ticket) (ts : List Ticket) → not (in_list ts t) ≡ true → in_list ts u ≡ true
+    → same_ticket t u ≡ false
 apart t u ts n e = by (same_ticket t u) refl
   where
     by : (b : Bool) → same_ticket t u ≡ b → same_ticket t u ≡ false
     by false s = s
-    by true s = absurd (let f : true ≡ false = sym e ∙ (ap (in_list ts) (sym (same_is t u s)) ∙ refused _ n) in cc)
+    by true s = absurd (let f : true ≡ false = sym e
+        ∙ (ap (in_list ts) (sym (same_is t u s)) ∙ refused _ n) in cc)
 
 -- a test that all tickets of a list pass
-all_pass : (q : Ticket → Bool) (ts : List Ticket) → ((u : Ticket) → in_list ts u ≡ true → q u ≡ true) → list_all q ts ≡ true
+all_pass : (q : Ticket → Bool) (ts : List Ticket) → ((u : Ticket) → in_list ts u ≡ true → q u ≡ true)
+    → list_all q ts ≡ true
 all_pass q [] f = refl
 all_pass q (t ∷ ts) f =
     and_from (q t) (list_all q ts) (f t (in-head t ts)) (all_pass q ts (λ u e. f u (in-tail t u ts e)))
 
-each_passes : (q : Ticket → Bool) (ts : List Ticket) (u : Ticket) → list_all q ts ≡ true → in_list ts u ≡ true → q u ≡ true
+each_passes : (q : Ticket → Bool) (ts : List Ticket) (u : Ticket) → list_all q ts ≡ true → in_list ts u ≡ true
+    → q u ≡ true
 each_passes q [] u f e = absurd (let g : false ≡ true = sym (in-none u) ∙ e in cc)
 each_passes q (t ∷ ts) u f e =
     let both = and_parts (q t) (list_all q ts) f in
@@ -75,11 +79,13 @@ each_passes q (t ∷ ts) u f e =
     later : (b c : Bool) → (b || c) ≡ true → b ≡ false → c ≡ true
     later b c g h = grind arith
 
-    passes_by : (b : Bool) → same_ticket t u ≡ b → q t ≡ true → (in_list ts u ≡ true → q u ≡ true) → q u ≡ true
+    passes_by : (b : Bool) → same_ticket t u ≡ b → q t ≡ true → (in_list ts u ≡ true → q u ≡ true)
+        → q u ≡ true
     passes_by true s now rest = subst (λ z. q z ≡ true) (same_is t u s) now
     passes_by false s now rest = rest (later (same_ticket t u) (in_list ts u) (sym (in-cons t u ts) ∙ e) s)
 
-one_fails : (q : Ticket → Bool) (ts : List Ticket) (u : Ticket) → in_list ts u ≡ true → q u ≡ false → list_all q ts ≡ false
+one_fails : (q : Ticket → Bool) (ts : List Ticket) (u : Ticket) → in_list ts u ≡ true → q u ≡ false
+    → list_all q ts ≡ false
 one_fails q ts u e f = by_all (list_all q ts) refl
   where
     by_all : (b : Bool) → list_all q ts ≡ b → list_all q ts ≡ false
@@ -101,7 +107,8 @@ unfolding none_of
 some [] u e = absurd (let g : false ≡ true = sym (in-none u) ∙ e in cc)
 some (t ∷ ts) u e = refl
 
-others : (t u : Ticket) (ts : List Ticket) → in_list (other_tickets t ts) u ≡ (in_list ts u && not (same_ticket t u))
+others : (t u : Ticket) (ts : List Ticket) → in_list (other_tickets t ts) u
+    ≡ (in_list ts u && not (same_ticket t u))
 unfolding other_tickets in_list
 others t u [] = refl
 others t u (v ∷ vs) = kept (same_ticket t v) refl (others t u vs)
@@ -186,14 +193,16 @@ module _ (me : ProcessId) (own : Case) (v : CoordinatorView) where
 
       row : Bool → List Ticket → Row
       row all ys =
-          if all then (if none_of ys then collecting_read_only s else root_commits s (waiting now) ys own.txn.presumption)
+          if all then (if none_of ys then collecting_read_only s
+          else root_commits s (waiting now) ys own.txn.presumption)
           else quiet (waiting now)
 
       counted : hears_yes s (walked c (waiting vs)) t
           ≡ walks (walked c (waiting vs)) (row (all_voted v.accepted now) (yes_of v.accepted now))
       counted =
           ap (λ (k : Bool). walks (walked c (waiting vs))
-          (if k then record (row (all_voted v.accepted now) (yes_of v.accepted now)) { counts = (t, VoteYes) ∷ [] }
+          (if k then record (row (all_voted v.accepted now) (yes_of v.accepted now))
+          { counts = (t, VoteYes) ∷ [] }
           else quiet (waiting vs))) (and_from (in_list v.accepted t) (not (has_voted vs t)) i (ap not f))
 
       by_all : (k : Bool) → all_voted v.accepted now ≡ k
@@ -241,18 +250,24 @@ module _ (me : ProcessId) (own : Case) (v : CoordinatorView) where
       alone a b e f = grind arith
 
   -- the last of them decides
-  votes_walk : (vs : List (Ticket × Vote)) (t : Ticket) (rest : List Ticket) (c : Cost) → none_of v.accepted ≡ false
+  votes_walk : (vs : List (Ticket × Vote)) (t : Ticket) (rest : List Ticket) (c : Cost)
+      → none_of v.accepted ≡ false
       → Votes vs (t ∷ rest)
-      → (final : List (Ticket × Vote)) × (fold (hears_yes s) (walked c (waiting vs)) (t ∷ rest) ≡ decided final c)
+      → (final : List (Ticket × Vote)) × (fold (hears_yes s) (walked c (waiting vs)) (t ∷ rest)
+      ≡ decided final c)
   unfolding all_voted yes_of
   votes_walk vs t [] c takes h =
       let now = vs ++ (t, VoteYes) ∷ [] in
       let h' = votes_then vs t [] h in
-      let voted : list_all (has_voted now) v.accepted ≡ true = all_pass (has_voted now) v.accepted (all_heard now h') in
+      let voted : list_all (has_voted now) v.accepted ≡ true =
+      all_pass (has_voted now) v.accepted (all_heard now h') in
       let all_yes : filter (voted_so VoteYes now) v.accepted ≡ v.accepted =
       filter_all (voted_so VoteYes now) v.accepted
-      (all_pass (voted_so VoteYes now) v.accepted (λ u e. sym (h'.said u) ∙ all_heard now h' u e)) in
-      (now, one_vote vs t c (h.among t (in-head t [])) (h.fresh t (in-head t [])) true voted (λ e. (takes, all_yes)))
+      (all_pass (voted_so VoteYes now) v.accepted (λ u e. sym (h'.said u) ∙ all_heard now h' u e)) in (
+        now,
+        one_vote vs t c (h.among t (in-head t [])) (h.fresh t (in-head t [])) true voted
+            (λ e. (takes, all_yes)),
+      )
   votes_walk vs t (u ∷ us) c takes h =
       let now = vs ++ (t, VoteYes) ∷ [] in
       let h' = votes_then vs t (u ∷ us) h in
@@ -310,7 +325,8 @@ module _ (me : ProcessId) (own : Case) (v : CoordinatorView) where
 
 -- The whole walk.
 
-same_tickets : (order tickets : List Ticket) → IsOrderOf order tickets → (u : Ticket) → in_list tickets u ≡ in_list order u
+same_tickets : (order tickets : List Ticket) → IsOrderOf order tickets → (u : Ticket)
+    → in_list tickets u ≡ in_list order u
 same_tickets order tickets is u =
     equal (in_list tickets u) (in_list order u) (λ e. each_passes (in_list order) tickets u is.all e)
     (λ e. each_passes (in_list tickets) order u is.among e)
@@ -338,7 +354,8 @@ unfolding none_of
 first_of (t ∷ ts) tickets takes is = record { first = t; rest = ts; is = refl }
 first_of [] [] takes is = absurd (cc)
 first_of [] (t ∷ ts) takes is =
-    absurd (let f : false ≡ true = sym (in-none t) ∙ (and_parts (in_list [] t) (list_all (in_list []) ts) is.all).0 in cc)
+    absurd (let f : false ≡ true = sym (in-none t)
+    ∙ (and_parts (in_list [] t) (list_all (in_list []) ts) is.all).0 in cc)
 
 no_votes : (t : Ticket) → has_voted [] t ≡ false
 unfolding has_voted
@@ -348,7 +365,8 @@ no_yes : (t : Ticket) → has_voted [] t ≡ voted_so VoteYes [] t
 unfolding has_voted voted_so
 no_yes t = refl
 
-no_votes_yet : (me : ProcessId) (own : Case) (v : CoordinatorView) (order : List Ticket) → IsOrderOf order v.accepted
+no_votes_yet : (me : ProcessId) (own : Case) (v : CoordinatorView) (order : List Ticket)
+    → IsOrderOf order v.accepted
     → Votes me own v [] order
 no_votes_yet me own v order is = record {
   distinct = is.distinct;
@@ -361,7 +379,15 @@ no_votes_yet me own v order is = record {
 module _ (me : ProcessId) (own : Case) (a : List Ticket) (works promised named owed : List Ticket)
     (takes : none_of a ≡ false) where
   abbrev begins : CoordinatorView
-  begins = record { standing = ActiveStanding; accepted = a; votes = []; works = works; promised = promised; named = named; owed = owed }
+  begins = record {
+    standing = ActiveStanding;
+    accepted = a;
+    votes = [];
+    works = works;
+    promised = promised;
+    named = named;
+    owed = owed;
+  }
 
   abbrev root : Seat
   root = record { me = me; parent = None; own = own }
@@ -373,29 +399,37 @@ module _ (me : ProcessId) (own : Case) (a : List Ticket) (works promised named o
   -- votes, under either presumption, from the view that the commit act leaves
   all_vote : (v : CoordinatorView) → v.accepted ≡ a → v.votes ≡ [] → v.standing ≡ Collecting → (c : Cost)
       → (votes : List Ticket) → IsOrderOf votes v.accepted
-      → (final : List (Ticket × Vote)) × (fold (hears_yes root) (record { cost = c; view = v }) votes ≡ decided me own v final c)
+      → (final : List (Ticket × Vote)) × (fold (hears_yes root) (record { cost = c; view = v }) votes
+      ≡ decided me own v final c)
   all_vote v is_a is_none is_collecting c votes is =
       let h = first_of votes v.accepted (rw is_a takes) is in
       let begun : v ≡ waiting me own v [] = rw (is_none, is_collecting) refl in
       let order = subst (λ l. IsOrderOf l v.accepted) h.is is in
-      let walk = votes_walk me own v [] h.first h.rest c (rw is_a takes) (no_votes_yet me own v (h.first ∷ h.rest) order) in (
+      let walk = votes_walk me own v [] h.first h.rest c (rw is_a takes)
+      (no_votes_yet me own v (h.first ∷ h.rest) order) in (
         walk.0,
         ap (λ l. fold (hears_yes root) (record { cost = c; view = v }) l) h.is
-            ∙ (ap (λ x. fold (hears_yes root) (record { cost = c; view = x }) (h.first ∷ h.rest)) begun ∙ walk.1),
+            ∙ (ap (λ x. fold (hears_yes root) (record { cost = c; view = x }) (h.first ∷ h.rest)) begun
+            ∙ walk.1),
       )
 
   -- the commit act
   asked : (q : Presumption) → own.txn.presumption ≡ q
-      → asks root begins ≡ record { cost = row_cost (active_commit_with root begins q); view = (active_commit_with root begins q).view }
+      → asks root begins ≡ record {
+        cost = row_cost (active_commit_with root begins q);
+        view = (active_commit_with root begins q).view;
+      }
   asked q e =
       let of_row : Row → Walked = λ r. record { cost = row_cost r; view = r.view } in
-      ap (λ (b : Bool). of_row (if b then active_commit_alone root else active_commit_with root begins own.txn.presumption)) takes
+      ap (λ (b : Bool). of_row (if b then active_commit_alone root
+      else active_commit_with root begins own.txn.presumption)) takes
       ∙ ap (λ p. of_row (active_commit_with root begins p)) e
 
   -- the decision
   abbrev agreed : Presumption → List (Ticket × Vote) → CoordinatorView → Cost → Walked
   agreed q final v c =
-      let r = root_commits root (waiting me own v final) a q in record { cost = together c (row_cost r); view = r.view }
+      let r = root_commits root (waiting me own v final) a q in
+      record { cost = together c (row_cost r); view = r.view }
 
   decides_as : (q : Presumption) → own.txn.presumption ≡ q → (v : CoordinatorView) → v.accepted ≡ a
       → (final : List (Ticket × Vote)) (c : Cost) → decided me own v final c ≡ agreed q final v c
@@ -437,7 +471,8 @@ module _ (me : ProcessId) (own : Case) (a : List Ticket) (works promised named o
       let c = row_cost (active_commit_with root begins PresumeAbort) in
       let waits : CoordinatorView = record (waiting me own w walk.0) { named = named ++ a } in
       let c' = together c (row_cost (root_commits root (waiting me own w walk.0) a PresumeAbort)) in
-      let at : agreed PresumeAbort walk.0 w c ≡ record { cost = c'; view = owing me own w a waits } = rw takes refl in
+      let at : agreed PresumeAbort walk.0 w c
+      ≡ record { cost = c'; view = owing me own w a waits } = rw takes refl in
       ap (λ x. fold (hears_ack root) x acks) (walk.1 ∙ at)
       ∙ (ap (λ l. fold (hears_ack root) (record { cost = c'; view = owing me own w a waits }) l) h.is
       ∙ (acks_walk me own w waits a h.first h.rest c' order.distinct (same_tickets (h.first ∷ h.rest) a order)
@@ -458,10 +493,19 @@ module _ (me : ProcessId) (own : Case) (a : List Ticket) (works promised named o
 same_number : (n : ℕ) → (n == n) ≡ true
 same_number n = grind arith
 
-managed : (me parent : ProcessId) (ticket : Option Ticket) (root : ProcessId) (boot sequence : ℕ) (p : Presumption) (n : ℕ)
+managed : (me parent : ProcessId) (ticket : Option Ticket) (root : ProcessId) (boot sequence : ℕ)
+    (p : Presumption) (n : ℕ)
     (ws : List Write) (told : Option Outcome)
-    → let l : Leaf = record { me = me; parent = parent; own = record { txn = record { root = root; boot = boot; sequence = sequence; presumption = p }; ticket = ticket } } in
-    manager_cost l n ws (record { standing = ActiveStanding; done = n; spoiled = false; told = told }) ≡ manager_price p
+    → let l : Leaf = record {
+      me = me;
+      parent = parent;
+      own = record {
+        txn = record { root = root; boot = boot; sequence = sequence; presumption = p };
+        ticket = ticket;
+      };
+    } in
+    manager_cost l n ws (record { standing = ActiveStanding; done = n; spoiled = false; told = told })
+    ≡ manager_price p
 managed me parent ticket root boot sequence PresumeAbort n ws told = rw (same_number n) refl
 managed me parent ticket root boot sequence PresumeCommit n ws told = rw (same_number n) refl
 
@@ -475,9 +519,12 @@ committed_update_costs s =
           let Q : CoordinatorView → Type 0 = λ x. root_walk (record s { parent = None }) x votes acks
           ≡ record { cost = root_price s.own.txn.presumption (length v.accepted); view = unknown_view } in
           subst P (sym at_root) (subst Q (sym begun)
-          (paid s.me s.own v.accepted v.works v.promised v.named v.owed takes s.own.txn.presumption refl votes acks is is'));
+          (paid s.me s.own v.accepted v.works v.promised v.named v.owed takes s.own.txn.presumption refl votes
+          acks is is'));
       manager = λ l n ws v active done sound.
-          let stands : v ≡ record { standing = ActiveStanding; done = n; spoiled = false; told = v.told } = rw (sym active, sym done, sym sound) refl in
+          let stands : v ≡ record { standing = ActiveStanding; done = n; spoiled = false; told = v.told } = rw
+          (sym active, sym done, sym sound) refl in
           ap (λ x. manager_cost l n ws x) stands
-          ∙ managed l.me l.parent l.own.ticket l.own.txn.root l.own.txn.boot l.own.txn.sequence l.own.txn.presumption n ws v.told;
+          ∙ managed l.me l.parent l.own.ticket l.own.txn.root l.own.txn.boot l.own.txn.sequence
+          l.own.txn.presumption n ws v.told;
     }

@@ -1,6 +1,4 @@
-pub mod RowLaws
 pub mod RunLaws
-pub mod BranchLaws
 pub mod ListLaws
 pub mod LogNameLaws
 pub mod ManagerViewLaws

@@ -15,7 +15,8 @@ pub has-push : (q : Record → Bool) (xs : List Record) (r : Record) → has q (
 unfolding has
 has-push q xs r = grind (arith, list_any-append)
 
-pub mark_of-push : (b : Branch) (xs : List Record) (r : Record) → mark_of b (xs ++ r ∷ []) ≡ mark_after b (mark_of b xs) r
+pub mark_of-push : (b : Branch) (xs : List Record) (r : Record)
+    → mark_of b (xs ++ r ∷ []) ≡ mark_after b (mark_of b xs) r
 unfolding mark_of
 mark_of-push b xs r = fold-append _ _ xs (r ∷ [])
 
@@ -36,13 +37,15 @@ kept-appends n ws =
     (append-nil (kept n ++ entries_written ws))
     (sym (append_assoc n.forced n.unforced (entries_written ws)))
 
-pub kept-after : (n : Node) (h : Heard) (e : Effect) → kept (after n h e) ≡ kept n ++ entries_written e.written
+pub kept-after : (n : Node) (h : Heard) (e : Effect)
+    → kept (after n h e) ≡ kept n ++ entries_written e.written
 kept-after n h e = kept-appends n e.written
 
 -- what is remembered after an input, where the boot stays
 pub memory_of-after : (place : Place) (n : Node) (h : Heard) (e : Effect) (c : Case)
     → boot_of (kept n ++ entries_written e.written) ≡ boot_of (kept n)
-    → memory_of place (after n h e) c ≡ remembers place.me place.role (boot_of (kept n)) c (memory_of place n c) h
+    → memory_of place (after n h e) c ≡ remembers place.me place.role (boot_of (kept n)) c
+    (memory_of place n c) h
 unfolding memory_of
 memory_of-after place n h e c boot =
     let same_boot : boot_of (kept (after n h e)) ≡ boot_of (kept n) = ap boot_of (kept-after n h e) ∙ boot in

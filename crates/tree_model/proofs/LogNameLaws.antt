@@ -10,7 +10,8 @@ use Rattle.tree_model.specs.LogNames.{ReadsBack, case_parent, foreign_to, is_own
 
 own_parent : (role : Role) (t : Option Ticket) (a b : Bool)
     → (a && (b && (is_ticketed role t && same_parent (parent_of role) (parent_of role)))) ≡ true
-    → (a && (b && (is_ticketed role t && same_parent (ticket_parent (parent_of role) t) (parent_of role)))) ≡ true
+    → (a && (b && (is_ticketed role t && same_parent (ticket_parent (parent_of role) t) (parent_of role))))
+    ≡ true
 own_parent AtRoot None a b h = h
 own_parent AtRoot (Some t) a b h = h
 own_parent (Below p) None a b h = h
@@ -22,8 +23,10 @@ own_again : (place : Place) (r : Record) (o : Option Case) → is_own_by place o
     → own_by place (record { entry = r; parent = case_parent (parent_of place.role) o }) o ≡ r ∷ []
 own_again place r None h = refl
 own_again place r (Some c) h =
-    let own : is_own place (ticket_parent (parent_of place.role) c.ticket) c ≡ true = own_parent place.role c.ticket _ _ h in
-    ap (λ b. if b then r ∷ [] else foreign_to place.role (ticket_parent (parent_of place.role) c.ticket) c r) own
+    let own : is_own place (ticket_parent (parent_of place.role) c.ticket) c ≡ true =
+    own_parent place.role c.ticket _ _ h in
+    ap (λ b. if b then r ∷ [] else foreign_to place.role (ticket_parent (parent_of place.role) c.ticket) c r)
+    own
 
 pub reads_back : (place : Place) (rs : List Record) → ReadsBack place rs
 unfolding own_records

@@ -48,11 +48,14 @@ boot_of-append xs ys = fold-append _ _ xs ys
 pub view-after : (place : Place) (n : Node) (h : Heard) (row : LeafRow) (c : Case)
     → ((b : ℕ) → fold boot_after b (entries_written row.written) ≡ b)
     → manager_view place (after n h (leaf_effect row)) c
-    ≡ marked_branch (remembers place.me place.role (boot_of (kept n)) c (memory_of place n c) h) (marks (CaseBranch c) (mark_of (CaseBranch c) (kept n)) (entries_written row.written))
+    ≡ marked_branch (remembers place.me place.role (boot_of (kept n)) c (memory_of place n c) h)
+    (marks (CaseBranch c) (mark_of (CaseBranch c) (kept n)) (entries_written row.written))
 unfolding manager_view
 view-after place n h row c boot =
-    let same : boot_of (kept n ++ entries_written row.written) ≡ boot_of (kept n) = boot_of-append (kept n) (entries_written row.written) ∙ boot (boot_of (kept n)) in
-    rw (memory_of-after place n h (leaf_effect row) c same, kept-after n h (leaf_effect row), mark_of-append) refl
+    let same : boot_of (kept n ++ entries_written row.written) ≡ boot_of (kept n) =
+    boot_of-append (kept n) (entries_written row.written) ∙ boot (boot_of (kept n)) in
+    rw (memory_of-after place n h (leaf_effect row) c same, kept-after n h (leaf_effect row), mark_of-append)
+    refl
 
 -- Facts of rows, over a memory and a mark.
 
@@ -65,7 +68,8 @@ unfolding same_branch
 other_branch d c o = o
 
 -- giving up a ticket changes no view
-heard_retires : (m : Memory) (d : Case) (phase : Phase) → heard_branch (retires m d) phase ≡ heard_branch m phase
+heard_retires : (m : Memory) (d : Case) (phase : Phase)
+    → heard_branch (retires m d) phase ≡ heard_branch m phase
 heard_retires m d Idle = refl
 heard_retires m d Open = refl
 heard_retires m d Asked = refl
@@ -79,7 +83,8 @@ view_retires m d (ToldOf o) = refl
 view_retires m d Finished = refl
 
 -- a case that is closed is not Active
-heard_closes : (m : Memory) (phase : Phase) → m.phase ≡ phase → heard_branch (closes m m.phase) (closes m m.phase).phase ≡ unknown_branch
+heard_closes : (m : Memory) (phase : Phase) → m.phase ≡ phase
+    → heard_branch (closes m m.phase) (closes m m.phase).phase ≡ unknown_branch
 heard_closes m Idle e = rw e refl
 heard_closes m Open e = rw e refl
 heard_closes m Asked e = rw e refl
@@ -88,21 +93,25 @@ heard_closes m Over e = rw e refl
 -- WORK
 
 active_works : (m : Memory) (i : ℕ) (does b : Bool) → m.phase ≡ Open
-    → marked_branch (if b then (if does then record m { done = i } else record m { spoiled = true }) else m) Unmarked
-    ≡ (if b then leaf.unmoved (if does then record (active_branch m) { done = i } else record (active_branch m) { spoiled = true }) else leaf.unmoved (active_branch m)).view
+    → marked_branch (if b then (if does then record m { done = i } else record m { spoiled = true }) else m)
+    Unmarked
+    ≡ (if b then leaf.unmoved (if does then record (active_branch m) { done = i }
+    else record (active_branch m) { spoiled = true }) else leaf.unmoved (active_branch m)).view
 active_works m i true true e = rw e refl
 active_works m i false true e = rw e refl
 active_works m i does false e = rw e refl
 
 work_heard : (m : Memory) (i : ℕ) (does : Bool) (phase : Phase) → m.phase ≡ phase
-    → let v = heard_branch m phase in marked_branch (works m i does phase) Unmarked ≡ (leaf.on_work i does v v.standing).view
+    → let v = heard_branch m phase in marked_branch (works m i does phase) Unmarked
+    ≡ (leaf.on_work i does v v.standing).view
 work_heard m i does Idle e = rw e refl
 work_heard m i does Open e = active_works m i does ((i == m.done + 1) && not m.spoiled) e
 work_heard m i does Asked e = rw e refl
 work_heard m i does Over e = rw e refl
 
 work_moves : (m : Memory) (i : ℕ) (does : Bool) (mark : Mark)
-    → let v = marked_branch m mark in marked_branch (works m i does m.phase) mark ≡ (leaf.on_work i does v v.standing).view
+    → let v = marked_branch m mark in marked_branch (works m i does m.phase) mark
+    ≡ (leaf.on_work i does v v.standing).view
 work_moves m i does Unmarked = work_heard m i does m.phase refl
 work_moves m i does Promised = refl
 work_moves m i does Decided = refl
@@ -114,8 +123,11 @@ active_writes : (b : Bool) (r q : LeafRow) → entries_written r.written ≡ [] 
 active_writes true r q h k = h
 active_writes false r q h k = k
 
-pub work_writes : (i : ℕ) (does : Bool) (v : ManagerView) (s : Standing) → entries_written (leaf.on_work i does v s).written ≡ []
-work_writes i does v Active = active_writes ((i == v.done + 1) && not v.spoiled) (leaf.unmoved (if does then record v { done = i } else record v { spoiled = true })) (leaf.unmoved v) refl refl
+pub work_writes : (i : ℕ) (does : Bool) (v : ManagerView) (s : Standing)
+    → entries_written (leaf.on_work i does v s).written ≡ []
+work_writes i does v Active = active_writes ((i == v.done + 1) && not v.spoiled)
+    (leaf.unmoved (if does then record v { done = i } else record v { spoiled = true }))
+    (leaf.unmoved v) refl refl
 work_writes i does v Unknown = refl
 work_writes i does v Collecting = refl
 work_writes i does v Prepared = refl
@@ -132,10 +144,12 @@ marks_of l mark row = marks (CaseBranch l.own) mark (entries_written row.written
 -- a row's records are of the branch: they move no other branch's mark and no boot
 pub record IsOwn (l : Leaf) (row : LeafRow) : Type 0 where
   pub boot : (b : ℕ) → fold boot_after b (entries_written row.written) ≡ b
-  pub others : (c : Case) (mark : Mark) → same_case l.own c ≡ false → marks (CaseBranch c) mark (entries_written row.written) ≡ mark
+  pub others : (c : Case) (mark : Mark) → same_case l.own c ≡ false
+      → marks (CaseBranch c) mark (entries_written row.written) ≡ mark
 
 prepare_choice : (l : Leaf) (m : Memory) (holding : Holding) (b : Bool)
-    → let row = if b then leaf.active_prepare_holding l holding else leaf.replies l (No l.own) unknown_branch in
+    → let row = if b then leaf.active_prepare_holding l holding
+    else leaf.replies l (No l.own) unknown_branch in
     marked_branch (record (retires m l.own) { phase = Over }) (marks_of l Unmarked row) ≡ row.view
 prepare_choice l m ReadsOnly true = refl
 prepare_choice l m (Holds ws) true = rw (same_branch-refl l.own) refl
@@ -171,8 +185,10 @@ prepares_own l (Holds ws) = record { boot = λ b. refl; others = λ c mark o. rw
 quiet_own : (l : Leaf) (row : LeafRow) → row.written ≡ [] → IsOwn l row
 quiet_own l row h = record { boot = λ b. rw h refl; others = λ c mark o. rw h refl }
 
-pub prepare_own : (l : Leaf) (i : ℕ) (holding : Holding) (v : ManagerView) (s : Standing) → IsOwn l (leaf.on_prepare l i holding v s)
-prepare_own l i holding v Active = choice_own l _ _ ((v.done == i) && not v.spoiled) (prepares_own l holding) (quiet_own l _ refl)
+pub prepare_own : (l : Leaf) (i : ℕ) (holding : Holding) (v : ManagerView) (s : Standing)
+    → IsOwn l (leaf.on_prepare l i holding v s)
+prepare_own l i holding v Active = choice_own l _ _ ((v.done == i) && not v.spoiled) (prepares_own l holding)
+    (quiet_own l _ refl)
 prepare_own l i holding v Unknown = quiet_own l _ refl
 prepare_own l i holding v Collecting = quiet_own l _ refl
 prepare_own l i holding v Prepared = quiet_own l _ refl
@@ -183,7 +199,8 @@ prepare_own l i holding v Heuristic = quiet_own l _ refl
 -- an outcome at a branch that an operator decided
 told_again : (l : Leaf) (m : Memory) (o told : Outcome) (b : Bool)
     → let v = marked_branch m (ToldOf told) in
-    let row = if b then record { written = []; messages = leaf.acknowledgement l o; view = v } else leaf.unmoved v in
+    let row = if b then record { written = []; messages = leaf.acknowledgement l o; view = v }
+    else leaf.unmoved v in
     marked_branch m (marks_of l (ToldOf told) row) ≡ row.view
 told_again l m o told true = refl
 told_again l m o told false = refl
@@ -197,7 +214,8 @@ commit_heard l m Open e = refl
 commit_heard l m Asked e = refl
 commit_heard l m Over e = refl
 
-commit_writes : (l : Leaf) (m : Memory) (phase : Phase) → let v = heard_branch m phase in (leaf.on_commit l v v.standing).written ≡ []
+commit_writes : (l : Leaf) (m : Memory) (phase : Phase) → let v = heard_branch m phase in
+    (leaf.on_commit l v v.standing).written ≡ []
 commit_writes l m Idle = refl
 commit_writes l m Open = refl
 commit_writes l m Asked = refl
@@ -214,12 +232,20 @@ commit_moves l m (ToldOf told) = told_again l m CommittedOutcome told (same_outc
 commit_moves l m Finished = refl
 
 outcome_own : (l : Leaf) (o : Outcome) → IsOwn l (leaf.prepared_outcome l o)
-outcome_own l CommittedOutcome = record { boot = λ b. refl; others = λ c mark q. rw (other_branch l.own c q) refl }
-outcome_own l AbortedOutcome = record { boot = λ b. refl; others = λ c mark q. rw (other_branch l.own c q) refl }
+outcome_own l CommittedOutcome = record {
+  boot = λ b. refl;
+  others = λ c mark q. rw (other_branch l.own c q) refl;
+}
+outcome_own l AbortedOutcome = record {
+  boot = λ b. refl;
+  others = λ c mark q. rw (other_branch l.own c q) refl;
+}
 
-heuristic_own : (l : Leaf) (o : Outcome) (v : ManagerView) (told : Option Outcome) → IsOwn l (leaf.heuristic_outcome l o v told)
+heuristic_own : (l : Leaf) (o : Outcome) (v : ManagerView) (told : Option Outcome)
+    → IsOwn l (leaf.heuristic_outcome l o v told)
 heuristic_own l o v None = record { boot = λ b. refl; others = λ c mark q. rw (other_branch l.own c q) refl }
-heuristic_own l o v (Some told) = choice_own l _ _ (same_outcome told o) (quiet_own l _ refl) (quiet_own l _ refl)
+heuristic_own l o v (Some told) = choice_own l _ _ (same_outcome told o) (quiet_own l _ refl)
+    (quiet_own l _ refl)
 
 pub commit_own : (l : Leaf) (v : ManagerView) (s : Standing) → IsOwn l (leaf.on_commit l v s)
 commit_own l v Prepared = outcome_own l CommittedOutcome
@@ -246,7 +272,8 @@ abort_moves : (l : Leaf) (m : Memory) (mark : Mark)
 abort_moves l m Unmarked = abort_heard l m m.phase refl
 abort_moves l m Promised = rw (same_branch-refl l.own) refl
 abort_moves l m Decided = rw (same_branch-refl l.own) refl
-abort_moves l m (ToldOf told) = told_again l (closes (retires m l.own) m.phase) AbortedOutcome told (same_outcome told AbortedOutcome)
+abort_moves l m (ToldOf told) = told_again l (closes (retires m l.own) m.phase) AbortedOutcome told
+    (same_outcome told AbortedOutcome)
 abort_moves l m Finished = refl
 
 pub abort_own : (l : Leaf) (v : ManagerView) (s : Standing) → IsOwn l (leaf.on_abort l v s)
@@ -261,9 +288,11 @@ abort_own l v Aborting = quiet_own l _ refl
 -- The whole of a row.
 
 assembled : (place : Place) (n : Node) (h : Heard) (l : Leaf) (row : LeafRow) → IsOwn l row
-    → marked_branch (remembers place.me place.role (boot_of (kept n)) l.own (memory_of place n l.own) h) (marks_of l (mark_of (CaseBranch l.own) (kept n)) row) ≡ row.view
+    → marked_branch (remembers place.me place.role (boot_of (kept n)) l.own (memory_of place n l.own) h)
+    (marks_of l (mark_of (CaseBranch l.own) (kept n)) row) ≡ row.view
     → ((c : Case) (mark : Mark) → same_case l.own c ≡ false
-    → marked_branch (remembers place.me place.role (boot_of (kept n)) c (memory_of place n c) h) mark ≡ marked_branch (memory_of place n c) mark)
+    → marked_branch (remembers place.me place.role (boot_of (kept n)) c (memory_of place n c) h) mark
+    ≡ marked_branch (memory_of place n c) mark)
     → MovesBranch place n h l.own row
 unfolding manager_view
 assembled place n h l row own moved others =
@@ -271,7 +300,8 @@ assembled place n h l row own moved others =
       moved = view-after place n h row l.own own.boot ∙ moved;
       others = λ c o.
           view-after place n h row c own.boot
-          ∙ rw (own.others c (mark_of (CaseBranch c) (kept n)) o) (others c (mark_of (CaseBranch c) (kept n)) o);
+          ∙ rw (own.others c (mark_of (CaseBranch c) (kept n)) o)
+          (others c (mark_of (CaseBranch c) (kept n)) o);
     }
 
 -- What a manager remembers of itself is the same in each case.
@@ -284,7 +314,11 @@ givens_of m = (m.given, m.active)
 
 abbrev pub gives_fresh : ProcessId → ℕ → Case → Givens → Option Ticket → Givens
 gives_fresh me boot d g (Some t) = g
-gives_fresh me boot d g None = (g.0 + 1, g.1 ++ (d, record { child = me; boot = boot; number = g.0 + 1 }) ∷ [])
+gives_fresh me boot d g None = (
+  g.0 + 1,
+  g.1 ++ (d, record { child = me; boot = boot; number = g.0 + 1 })
+      ∷ [],
+)
 
 abbrev pub gives_next : ProcessId → ℕ → Givens → DataAnswer → Message → Givens
 gives_next me boot g a (Join d) = if a.starts then gives_fresh me boot d g (active_ticket g.1 d) else g
@@ -303,20 +337,25 @@ opened_gives m false = refl
 joined_gives : (me : ProcessId) (boot : ℕ) (c d : Case) (m : Memory) (t : Option Ticket)
     → givens_of (joins me boot c d m t) ≡ gives_fresh me boot d (givens_of m) t
 joined_gives me boot c d m (Some t) = refl
-joined_gives me boot c d m None = opened_gives (gives m d (next_ticket me boot m)) (same_case c (child_case d.txn (next_ticket me boot m)))
+joined_gives me boot c d m None = opened_gives (gives m d (next_ticket me boot m))
+    (same_case c (child_case d.txn (next_ticket me boot m)))
 
-started_gives : (m r : Memory) (g : Givens) (b : Bool) → givens_of r ≡ g → givens_of (if b then r else m) ≡ (if b then g else givens_of m)
+started_gives : (m r : Memory) (g : Givens) (b : Bool) → givens_of r ≡ g
+    → givens_of (if b then r else m) ≡ (if b then g else givens_of m)
 started_gives m r g true h = h
 started_gives m r g false h = refl
 
-same_gives : (m r : Memory) (b : Bool) → givens_of r ≡ givens_of m → givens_of (if b then r else m) ≡ givens_of m
+same_gives : (m r : Memory) (b : Bool) → givens_of r ≡ givens_of m
+    → givens_of (if b then r else m) ≡ givens_of m
 same_gives m r true h = h
 same_gives m r false h = refl
 
-pub works_gives : (m : Memory) (i : ℕ) (does : Bool) (phase : Phase) → givens_of (works m i does phase) ≡ givens_of m
+pub works_gives : (m : Memory) (i : ℕ) (does : Bool) (phase : Phase)
+    → givens_of (works m i does phase) ≡ givens_of m
 works_gives m i does Idle = refl
 works_gives m i true Open = same_gives m (record m { done = i }) ((i == m.done + 1) && not m.spoiled) refl
-works_gives m i false Open = same_gives m (record m { spoiled = true }) ((i == m.done + 1) && not m.spoiled) refl
+works_gives m i false Open = same_gives m (record m { spoiled = true })
+    ((i == m.done + 1) && not m.spoiled) refl
 works_gives m i does Asked = refl
 works_gives m i does Over = refl
 
@@ -328,10 +367,13 @@ closes_gives m Over = refl
 
 pub hears_gives : (me : ProcessId) (boot : ℕ) (c : Case) (m : Memory) (a : DataAnswer) (message : Message)
     → givens_of (manager_hears me boot c m a message) ≡ gives_next me boot (givens_of m) a message
-hears_gives me boot c m a (Join d) = started_gives m _ _ a.starts (joined_gives me boot c d m (active_ticket m.active d))
+hears_gives me boot c m a (Join d) = started_gives m _ _ a.starts
+    (joined_gives me boot c d m (active_ticket m.active d))
 hears_gives me boot c m a (Work d i op) = same_gives m _ (same_case d c) (works_gives m i a.does m.phase)
-hears_gives me boot c m a (Prepare d n) = same_gives (retires m d) _ (same_case d c) (closes_gives (retires m d) m.phase)
-hears_gives me boot c m a (Abort d) = same_gives (retires m d) _ (same_case d c) (closes_gives (retires m d) m.phase)
+hears_gives me boot c m a (Prepare d n) = same_gives (retires m d) _ (same_case d c)
+    (closes_gives (retires m d) m.phase)
+hears_gives me boot c m a (Abort d) = same_gives (retires m d) _ (same_case d c)
+    (closes_gives (retires m d) m.phase)
 hears_gives me boot c m a (Joined d t) = refl
 hears_gives me boot c m a (Yes d) = refl
 hears_gives me boot c m a (No d) = refl
@@ -346,30 +388,35 @@ remembers_gives me p boot c m a (ActInput x) = refl
 remembers_gives me p boot c m a (MessageInput k message) = hears_gives me boot c m a message
 
 fold_gives : (me p : ProcessId) (boot : ℕ) (c : Case) (m : Memory) (hs : List Heard)
-    → givens_of (fold (remembers me (AtLeaf p) boot c) m hs) ≡ fold (λ g h. gives_heard me boot g h.data_answer h.input) (givens_of m) hs
+    → givens_of (fold (remembers me (AtLeaf p) boot c) m hs)
+    ≡ fold (λ g h. gives_heard me boot g h.data_answer h.input) (givens_of m) hs
 fold_gives me p boot c m [] = refl
 fold_gives me p boot c m (h ∷ hs) =
     fold_gives me p boot c (remembers me (AtLeaf p) boot c m h) hs
-    ∙ ap (λ g. fold (λ g' h'. gives_heard me boot g' h'.data_answer h'.input) g hs) (remembers_gives me p boot c m h.data_answer h.input)
+    ∙ ap (λ g. fold (λ g' h'. gives_heard me boot g' h'.data_answer h'.input) g hs)
+    (remembers_gives me p boot c m h.data_answer h.input)
 
 pub same_givens : (me p : ProcessId) (tree : List TreeEntry) (n : Node) (c d : Case)
     → givens_of (memory_of (leaf_place me p tree) n c) ≡ givens_of (memory_of (leaf_place me p tree) n d)
 unfolding memory_of
 same_givens me p tree n c d =
-    fold_gives me p (boot_of (kept n)) c fresh_memory n.heard ∙ sym (fold_gives me p (boot_of (kept n)) d fresh_memory n.heard)
+    fold_gives me p (boot_of (kept n)) c fresh_memory n.heard
+    ∙ sym (fold_gives me p (boot_of (kept n)) d fresh_memory n.heard)
 
 -- JOIN
 
 -- the view of a case after an effect that writes nothing
 pub quiet-after : (place : Place) (n : Node) (h : Heard) (e : Effect) (c : Case) → e.written ≡ []
     → manager_view place (after n h e) c
-    ≡ marked_branch (remembers place.me place.role (boot_of (kept n)) c (memory_of place n c) h) (mark_of (CaseBranch c) (kept n))
+    ≡ marked_branch (remembers place.me place.role (boot_of (kept n)) c (memory_of place n c) h)
+    (mark_of (CaseBranch c) (kept n))
 unfolding manager_view
 quiet-after place n h e c quiet =
     let same : kept n ++ entries_written e.written ≡ kept n = rw quiet (append-nil (kept n)) in
     rw (memory_of-after place n h e c (ap boot_of same), kept-after n h e, same) refl
 
-again : (me : ProcessId) (boot : ℕ) (c d : Case) (m : Memory) (t : Ticket) (starts : Bool) → active_ticket m.active d ≡ Some t
+again : (me : ProcessId) (boot : ℕ) (c d : Case) (m : Memory) (t : Ticket) (starts : Bool)
+    → active_ticket m.active d ≡ Some t
     → (if starts then joins me boot c d m (active_ticket m.active d) else m) ≡ m
 again me boot c d m t true h = rw h refl
 again me boot c d m t false h = refl
@@ -378,25 +425,30 @@ again me boot c d m t false h = refl
 abbrev pub issue : ProcessId → ℕ → Case → Memory → Memory
 issue me boot d m = gives m d (next_ticket me boot m)
 
-heard_gives : (m : Memory) (d : Case) (t : Ticket) (phase : Phase) → heard_branch (gives m d t) phase ≡ heard_branch m phase
+heard_gives : (m : Memory) (d : Case) (t : Ticket) (phase : Phase)
+    → heard_branch (gives m d t) phase ≡ heard_branch m phase
 heard_gives m d t Idle = refl
 heard_gives m d t Open = refl
 heard_gives m d t Asked = refl
 heard_gives m d t Over = refl
 
-view_gives : (m : Memory) (d : Case) (t : Ticket) (mark : Mark) → marked_branch (gives m d t) mark ≡ marked_branch m mark
+view_gives : (m : Memory) (d : Case) (t : Ticket) (mark : Mark)
+    → marked_branch (gives m d t) mark ≡ marked_branch m mark
 view_gives m d t Unmarked = heard_gives m d t m.phase
 view_gives m d t Promised = refl
 view_gives m d t Decided = refl
 view_gives m d t (ToldOf o) = refl
 view_gives m d t Finished = refl
 
-given_elsewhere : (me : ProcessId) (boot : ℕ) (c d : Case) (m : Memory) (mark : Mark) → same_case c (child_case d.txn (next_ticket me boot m)) ≡ false
+given_elsewhere : (me : ProcessId) (boot : ℕ) (c d : Case) (m : Memory) (mark : Mark)
+    → same_case c (child_case d.txn (next_ticket me boot m)) ≡ false
     → marked_branch (joins me boot c d m None) mark ≡ marked_branch m mark
 given_elsewhere me boot c d m mark h = rw h (view_gives m d (next_ticket me boot m) mark)
 
-given_here : (me : ProcessId) (boot : ℕ) (c d : Case) (m : Memory) → same_case c (child_case d.txn (next_ticket me boot m)) ≡ true
-    → marked_branch (joins me boot c d m None) Unmarked ≡ record { standing = Active; done = 0; spoiled = false; told = None }
+given_here : (me : ProcessId) (boot : ℕ) (c d : Case) (m : Memory)
+    → same_case c (child_case d.txn (next_ticket me boot m)) ≡ true
+    → marked_branch (joins me boot c d m None) Unmarked
+    ≡ record { standing = Active; done = 0; spoiled = false; told = None }
 given_here me boot c d m h = rw h refl
 
 module _ (me p : ProcessId) (tree : List TreeEntry) (n : Node) (d : Case) where
@@ -413,8 +465,10 @@ module _ (me p : ProcessId) (tree : List TreeEntry) (n : Node) (d : Case) where
       let m = memory_of place n d in
       let mark = mark_of (CaseBranch d) (kept n) in
       let v = marked_branch m mark in
-      let nothing : entries_written (leaf.on_work i a.does v v.standing).written ≡ [] = work_writes i a.does v v.standing in
-      let none : IsOwn own (leaf.on_work i a.does v v.standing) = record { boot = λ b. rw nothing refl; others = λ c w o. rw nothing refl } in
+      let nothing : entries_written (leaf.on_work i a.does v v.standing).written ≡ [] =
+      work_writes i a.does v v.standing in
+      let none : IsOwn own (leaf.on_work i a.does v v.standing) =
+      record { boot = λ b. rw nothing refl; others = λ c w o. rw nothing refl } in
       assembled place n _ own _ none
       (rw (nothing, same_case-refl d) (work_moves m i a.does mark))
       (λ c w o. rw o refl)
@@ -450,26 +504,34 @@ module _ (me p : ProcessId) (tree : List TreeEntry) (n : Node) (d : Case) where
       (rw (same_case-refl d) (abort_moves own m mark))
       (λ c w o. rw o (view_retires (memory_of place n c) d w))
 
-  pub ask_views : (a : DataAnswer) → MovesBranch place n (hears_act (Ask d) a) d (untold_ask own (manager_view place n d))
+  pub ask_views : (a : DataAnswer) → MovesBranch place n (hears_act (Ask d) a) d
+      (untold_ask own (manager_view place n d))
   unfolding manager_view
   ask_views a = assembled place n _ own _ (quiet_own own _ refl) refl (λ c w o. refl)
 
-  pub decide_views : (o : Outcome) (a : DataAnswer) → MovesBranch place n (hears_act (Decide d o) a) d (prepared_decide own o)
+  pub decide_views : (o : Outcome) (a : DataAnswer)
+      → MovesBranch place n (hears_act (Decide d o) a) d (prepared_decide own o)
   decide_views CommittedOutcome a =
-      assembled place n _ own _ (record { boot = λ b. refl; others = λ c w q. rw (other_branch d c q) refl }) (rw (same_branch-refl d) refl) (λ c w q. refl)
+      assembled place n _ own _ (record { boot = λ b. refl; others = λ c w q. rw (other_branch d c q) refl })
+      (rw (same_branch-refl d) refl) (λ c w q. refl)
   decide_views AbortedOutcome a =
-      assembled place n _ own _ (record { boot = λ b. refl; others = λ c w q. rw (other_branch d c q) refl }) (rw (same_branch-refl d) refl) (λ c w q. refl)
+      assembled place n _ own _ (record { boot = λ b. refl; others = λ c w q. rw (other_branch d c q) refl })
+      (rw (same_branch-refl d) refl) (λ c w q. refl)
 
   pub forget_views : (a : DataAnswer) → MovesBranch place n (hears_act (Forget d) a) d (heuristic_forget own)
   forget_views a =
-      assembled place n _ own _ (record { boot = λ b. refl; others = λ c w q. rw (other_branch d c q) refl }) (rw (same_branch-refl d) refl) (λ c w q. refl)
+      assembled place n _ own _ (record { boot = λ b. refl; others = λ c w q. rw (other_branch d c q) refl })
+      (rw (same_branch-refl d) refl) (λ c w q. refl)
 
   -- the active tickets, and the next one, are the same in each case
-  same_active : (c : Case) → active_ticket (memory_of place n c).active d ≡ active_ticket (memory_of place n d).active d
+  same_active : (c : Case) → active_ticket (memory_of place n c).active d
+      ≡ active_ticket (memory_of place n d).active d
   same_active c = ap (λ (g : Givens). active_ticket g.1 d) (same_givens me p tree n c d)
 
-  same_next : (c : Case) → next_ticket me (boot_of (kept n)) (memory_of place n c) ≡ next_ticket me (boot_of (kept n)) (memory_of place n d)
-  same_next c = ap (λ (g : Givens). record { child = me; boot = boot_of (kept n); number = g.0 + 1 }) (same_givens me p tree n c d)
+  same_next : (c : Case) → next_ticket me (boot_of (kept n)) (memory_of place n c)
+      ≡ next_ticket me (boot_of (kept n)) (memory_of place n d)
+  same_next c = ap (λ (g : Givens). record { child = me; boot = boot_of (kept n); number = g.0 + 1 })
+      (same_givens me p tree n c d)
 
   joins_quiet : (starts : Bool) → (leaf_joins place p n d (memory_of place n d) starts None).written ≡ []
   joins_quiet true = refl
@@ -480,19 +542,28 @@ module _ (me p : ProcessId) (tree : List TreeEntry) (n : Node) (d : Case) where
   join_views k a =
       record {
         given_again = λ t h c.
-            quiet-after place n (hears_message k (Join d) a) (leaf_joins place p n d (memory_of place n d) a.starts (Some t)) c refl
-            ∙ ap (λ (m : Memory). marked_branch m (mark_of (CaseBranch c) (kept n))) (again me (boot_of (kept n)) c d (memory_of place n c) t a.starts (same_active c ∙ h));
-        not_started = λ h s c. quiet-after place n (hears_message k (Join d) a) (leaf_joins place p n d (memory_of place n d) a.starts None) c (joins_quiet a.starts) ∙ rw s refl;
+            quiet-after place n (hears_message k (Join d) a)
+            (leaf_joins place p n d (memory_of place n d) a.starts (Some t)) c refl
+            ∙ ap (λ (m : Memory). marked_branch m (mark_of (CaseBranch c) (kept n)))
+            (again me (boot_of (kept n)) c d (memory_of place n c) t a.starts (same_active c ∙ h));
+        not_started = λ h s c. quiet-after place n (hears_message k (Join d) a)
+            (leaf_joins place p n d (memory_of place n d) a.starts None) c (joins_quiet a.starts) ∙ rw s refl;
         fresh = λ h s unmarked.
             let c = fresh_case place n d in
-            let alike : same_case c (child_case d.txn (next_ticket me (boot_of (kept n)) (memory_of place n c))) ≡ true =
+            let alike : same_case c (child_case d.txn
+            (next_ticket me (boot_of (kept n)) (memory_of place n c))) ≡ true =
             rw (same_next c) (same_case-refl c) in
-            quiet-after place n (hears_message k (Join d) a) (leaf_joins place p n d (memory_of place n d) a.starts None) c (joins_quiet a.starts)
-            ∙ rw (s, same_active c, h, unmarked) (given_here me (boot_of (kept n)) c d (memory_of place n c) alike);
+            quiet-after place n (hears_message k (Join d) a)
+            (leaf_joins place p n d (memory_of place n d) a.starts None) c (joins_quiet a.starts)
+            ∙ rw (s, same_active c, h, unmarked)
+            (given_here me (boot_of (kept n)) c d (memory_of place n c) alike);
         others = λ h s c o.
-            let apart : same_case c (child_case d.txn (next_ticket me (boot_of (kept n)) (memory_of place n c))) ≡ false = rw (same_next c) o in
-            quiet-after place n (hears_message k (Join d) a) (leaf_joins place p n d (memory_of place n d) a.starts None) c (joins_quiet a.starts)
-            ∙ rw (s, same_active c, h) (given_elsewhere me (boot_of (kept n)) c d (memory_of place n c) (mark_of (CaseBranch c) (kept n)) apart);
+            let apart : same_case c (child_case d.txn
+            (next_ticket me (boot_of (kept n)) (memory_of place n c))) ≡ false = rw (same_next c) o in
+            quiet-after place n (hears_message k (Join d) a)
+            (leaf_joins place p n d (memory_of place n d) a.starts None) c (joins_quiet a.starts)
+            ∙ rw (s, same_active c, h) (given_elsewhere me (boot_of (kept n)) c d (memory_of place n c)
+            (mark_of (CaseBranch c) (kept n)) apart);
       }
 
   pub manager_views : ManagerViews me p tree n d

@@ -42,7 +42,8 @@ quiet_work m (Some t) Open q = q
 quiet_work m (Some t) Asked q = q
 quiet_work m (Some t) Over q = q
 
-pub quiet_next : (b : Bool) (acks : List (Ticket × Outcome)) → acks ≡ [] → QuietAt (if b then Over else Asked) acks
+pub quiet_next : (b : Bool) (acks : List (Ticket × Outcome)) → acks ≡ []
+    → QuietAt (if b then Over else Asked) acks
 quiet_next true acks q = tt
 quiet_next false acks q = q
 
@@ -60,7 +61,8 @@ quiet_closes m Over e = tt
 
 pub quiet_accepts : (m : Memory) (t : Ticket) (ph : Phase) → Quiet m → Quiet (accepts_ticket m t ph)
 quiet_accepts m t Idle q = q
-quiet_accepts m t Open q = quiet_if (has_child m.accepted t.child) (record m { accepted = m.accepted ++ t ∷ [] }) m q q
+quiet_accepts m t Open q = quiet_if (has_child m.accepted t.child)
+    (record m { accepted = m.accepted ++ t ∷ [] }) m q q
 quiet_accepts m t Asked q = q
 quiet_accepts m t Over q = q
 
@@ -69,38 +71,48 @@ quiet_vote m t VoteNo q = tt
 quiet_vote m t VoteYes q = quiet_next (all_voted m.accepted (m.votes ++ (t, VoteYes) ∷ [])) m.acks q
 quiet_vote m t VoteRead q = quiet_next (all_voted m.accepted (m.votes ++ (t, VoteRead) ∷ [])) m.acks q
 
-pub quiet_takes : (m : Memory) (t : Ticket) (w : Vote) (ph : Phase) → QuietAt ph m.acks → m.phase ≡ ph → Quiet (takes_vote m t w ph)
+pub quiet_takes : (m : Memory) (t : Ticket) (w : Vote) (ph : Phase) → QuietAt ph m.acks → m.phase ≡ ph
+    → Quiet (takes_vote m t w ph)
 quiet_takes m t w Idle q e = rw e tt
 quiet_takes m t w Open q e = rw e q
-quiet_takes m t w Asked q e = quiet_if (is_counted m.accepted m.votes t) m (with_vote m t w) (rw e q) (quiet_vote m t w q)
+quiet_takes m t w Asked q e = quiet_if (is_counted m.accepted m.votes t) m (with_vote m t w) (rw e q)
+    (quiet_vote m t w q)
 quiet_takes m t w Over q e = rw e tt
 
-pub quiet_acks : (m : Memory) (t : Ticket) (o : Outcome) (ph : Phase) → QuietAt ph m.acks → m.phase ≡ ph → Quiet (takes_ack m t o ph)
+pub quiet_acks : (m : Memory) (t : Ticket) (o : Outcome) (ph : Phase) → QuietAt ph m.acks → m.phase ≡ ph
+    → Quiet (takes_ack m t o ph)
 quiet_acks m t o Idle q e = rw e tt
 quiet_acks m t o Open q e = rw e q
 quiet_acks m t o Asked q e = rw e q
 quiet_acks m t o Over q e = rw e tt
 
-pub quiet_ticket : (o : Option Ticket) (m : Memory) (f : Ticket → Memory) → Quiet m → ((t : Ticket) → Quiet (f t)) → Quiet (of_ticket o m f)
+pub quiet_ticket : (o : Option Ticket) (m : Memory) (f : Ticket → Memory) → Quiet m
+    → ((t : Ticket) → Quiet (f t)) → Quiet (of_ticket o m f)
 quiet_ticket None m f q k = q
 quiet_ticket (Some t) m f q k = k t
 
-pub quiet_child : (c d : Case) (m : Memory) (f : Ticket → Memory) → Quiet m → ((t : Ticket) → Quiet (f t)) → Quiet (of_child c d m f)
-quiet_child c d m f q k = quiet_if (same_txn d.txn c.txn) m (of_ticket d.ticket m f) q (quiet_ticket d.ticket m f q k)
+pub quiet_child : (c d : Case) (m : Memory) (f : Ticket → Memory) → Quiet m → ((t : Ticket) → Quiet (f t))
+    → Quiet (of_child c d m f)
+quiet_child c d m f q k = quiet_if (same_txn d.txn c.txn) m (of_ticket d.ticket m f) q
+    (quiet_ticket d.ticket m f q k)
 
 pub quiet_hears : (c : Case) (m : Memory) (message : Message) → Quiet m → Quiet (hears_child c m message)
-quiet_hears c m (Joined d t) q = quiet_if (same_case d c) m (accepts_ticket m t m.phase) q (quiet_accepts m t m.phase q)
+quiet_hears c m (Joined d t) q = quiet_if (same_case d c) m (accepts_ticket m t m.phase) q
+    (quiet_accepts m t m.phase q)
 quiet_hears c m (Yes d) q = quiet_child c d m _ q (λ t. quiet_takes m t VoteYes m.phase q refl)
 quiet_hears c m (No d) q = quiet_child c d m _ q (λ t. quiet_takes m t VoteNo m.phase q refl)
 quiet_hears c m (Read d) q = quiet_child c d m _ q (λ t. quiet_takes m t VoteRead m.phase q refl)
 quiet_hears c m (Ack d o) q = quiet_child c d m _ q (λ t. quiet_acks m t o m.phase q refl)
 quiet_hears c m message q = q
 
-pub quiet_step : (me : ProcessId) (boot : ℕ) (c : Case) (m : Memory) (i : Input) → Quiet m → Quiet (root_remembers me boot c m i)
+pub quiet_step : (me : ProcessId) (boot : ℕ) (c : Case) (m : Memory) (i : Input) → Quiet m
+    → Quiet (root_remembers me boot c m i)
 quiet_step me boot c m (ActInput (Begin p)) q =
-    quiet_if (same_case (root_case (next_txn me boot m p)) c) (record m { begun = m.begun + 1 }) (opens_case (record m { begun = m.begun + 1 })) q refl
+    quiet_if (same_case (root_case (next_txn me boot m p)) c) (record m { begun = m.begun + 1 })
+    (opens_case (record m { begun = m.begun + 1 })) q refl
 quiet_step me boot c m (ActInput (WorkAct d r op)) q =
-    quiet_if (same_case d c) m (sends_work m (ticket_of_child m.accepted r) m.phase) q (quiet_work m (ticket_of_child m.accepted r) m.phase q)
+    quiet_if (same_case d c) m (sends_work m (ticket_of_child m.accepted r) m.phase) q
+    (quiet_work m (ticket_of_child m.accepted r) m.phase q)
 quiet_step me boot c m (ActInput (CommitAct x)) q =
     quiet_if (same_case (root_case x) c) m (asks_votes m m.phase) q (quiet_asks m m.phase q refl)
 quiet_step me boot c m (ActInput (AbortAct x)) q =
@@ -108,11 +120,14 @@ quiet_step me boot c m (ActInput (AbortAct x)) q =
 quiet_step me boot c m (ActInput a) q = q
 quiet_step me boot c m (MessageInput k message) q = quiet_hears c m message q
 
-pub quiet_fold : (me : ProcessId) (boot : ℕ) (c : Case) (m : Memory) (hs : List Heard) → Quiet m → Quiet (fold (remembers me AtRoot boot c) m hs)
+pub quiet_fold : (me : ProcessId) (boot : ℕ) (c : Case) (m : Memory) (hs : List Heard) → Quiet m
+    → Quiet (fold (remembers me AtRoot boot c) m hs)
 quiet_fold me boot c m [] q = q
-quiet_fold me boot c m (h ∷ hs) q = quiet_fold me boot c (root_remembers me boot c m h.input) hs (quiet_step me boot c m h.input q)
+quiet_fold me boot c m (h ∷ hs) q = quiet_fold me boot c (root_remembers me boot c m h.input) hs
+    (quiet_step me boot c m h.input q)
 
-pub memory_quiet : (me : ProcessId) (tree : List TreeEntry) (n : Node) (c : Case) → Quiet (memory_of (root_place me tree) n c)
+pub memory_quiet : (me : ProcessId) (tree : List TreeEntry) (n : Node) (c : Case)
+    → Quiet (memory_of (root_place me tree) n c)
 unfolding memory_of
 memory_quiet me tree n c = quiet_fold me (boot_of (kept n)) c fresh_memory n.heard tt
 

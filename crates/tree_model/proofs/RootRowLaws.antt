@@ -24,26 +24,46 @@ abbrev pub commit_row : Seat → CoordinatorView → Presumption → Bool → Ro
 commit_row s v p b = if b then active_commit_alone s else active_commit_with s v p
 
 pub commit_pure : (me : ProcessId) (c : Case) (p : Presumption) (b : Bool) (rs : List Record) (m : Memory)
-    → ActiveFacts (has (is_end c) rs) (has (is_commit c) rs) (has (is_abort c) rs) (has (is_prepare c) rs) (has (is_collecting c) rs) Active
+    → ActiveFacts (has (is_end c) rs) (has (is_commit c) rs) (has (is_abort c) rs) (has (is_prepare c) rs)
+    (has (is_collecting c) rs) Active
     → let s : Seat = record { me = me; parent = None; own = c } in
     let row = commit_row s (view_at Active rs c m) p b in
     let rs' = rs ++ entries_written row.written in
     let m' : Memory = record m { phase = if b then Over else Asked } in
     view_at (standing_with p rs' c m') rs' c m' ≡ row.view
-commit_pure me c PresumeAbort true rs m f = simp (pushed, f.no_end, f.no_commit, f.no_abort, f.no_prepare, f.no_collecting) refl
-commit_pure me c PresumeCommit true rs m f = simp (pushed, f.no_end, f.no_commit, f.no_abort, f.no_prepare, f.no_collecting) refl
-commit_pure me c PresumeAbort false rs m f = simp (pushed, f.no_end, f.no_commit, f.no_abort, f.no_prepare, f.no_collecting) refl
-commit_pure me c PresumeCommit false rs m f = simp (pushed, f.no_end, f.no_commit, f.no_abort, f.no_prepare, f.no_collecting) refl
+commit_pure me c PresumeAbort true rs m f = simp
+    (pushed, f.no_end, f.no_commit, f.no_abort, f.no_prepare, f.no_collecting) refl
+commit_pure me c PresumeCommit true rs m f = simp
+    (pushed, f.no_end, f.no_commit, f.no_abort, f.no_prepare, f.no_collecting) refl
+commit_pure me c PresumeAbort false rs m f = simp
+    (pushed, f.no_end, f.no_commit, f.no_abort, f.no_prepare, f.no_collecting) refl
+commit_pure me c PresumeCommit false rs m f =
+    simp (pushed, f.no_end, f.no_commit, f.no_abort, f.no_prepare, f.no_collecting) refl
 
 -- An abort at an Active case.
 
 pub abort_pure : (me : ProcessId) (c : Case) (p : Presumption) (rs : List Record) (m : Memory)
-    → ActiveFacts (has (is_end c) rs) (has (is_commit c) rs) (has (is_abort c) rs) (has (is_prepare c) rs) (has (is_collecting c) rs) Active
+    → ActiveFacts (has (is_end c) rs) (has (is_commit c) rs) (has (is_abort c) rs) (has (is_prepare c) rs)
+    (has (is_collecting c) rs) Active
     → let rs' = rs ++ [] in
     let m' : Memory = record m { phase = Over } in
     view_at (standing_with p rs' c m') rs' c m' ≡ unknown_view
-abort_pure me c PresumeAbort rs m f = simp (pushed, f.no_end, f.no_commit, f.no_abort, f.no_prepare, f.no_collecting) refl
-abort_pure me c PresumeCommit rs m f = simp (pushed, f.no_end, f.no_commit, f.no_abort, f.no_prepare, f.no_collecting) refl
+abort_pure me c PresumeAbort rs m f = simp (
+  pushed,
+  f.no_end,
+  f.no_commit,
+  f.no_abort,
+  f.no_prepare,
+  f.no_collecting,
+) refl
+abort_pure me c PresumeCommit rs m f = simp (
+  pushed,
+  f.no_end,
+  f.no_commit,
+  f.no_abort,
+  f.no_prepare,
+  f.no_collecting,
+) refl
 
 -- Aborts of a case that collects votes.
 
@@ -63,14 +83,16 @@ phase_collecting PresumeCommit Idle e = absurd (cc)
 phase_collecting PresumeAbort Over e = absurd (cc)
 phase_collecting PresumeCommit Over e = absurd (cc)
 
-pub collecting_facts : (E C A P K N : Bool) (hs : Standing) → standing_by E C A P K N hs ≡ Collecting → CollectingFacts E C A P
+pub collecting_facts : (E C A P K N : Bool) (hs : Standing) → standing_by E C A P K N hs ≡ Collecting
+    → CollectingFacts E C A P
 collecting_facts true C A P K N hs e = absurd (cc)
 collecting_facts false true A P K true hs e = absurd (cc)
 collecting_facts false true A P K false hs e = absurd (cc)
 collecting_facts false false true P K true hs e = absurd (cc)
 collecting_facts false false true P K false hs e = absurd (cc)
 collecting_facts false false false true K N hs e = absurd (cc)
-collecting_facts false false false false K N hs e = record { no_end = refl; no_commit = refl; no_abort = refl; no_prepare = refl }
+collecting_facts false false false false K N hs
+    e = record { no_end = refl; no_commit = refl; no_abort = refl; no_prepare = refl }
 
 -- with no acknowledgement heard, all that are named owe one
 pub owed_by_all : (o : Outcome) (ts : List Ticket) → still_owed [] o ts ≡ ts
@@ -78,7 +100,8 @@ unfolding still_owed has_acked
 owed_by_all o [] = refl
 owed_by_all o (t ∷ ts) = ap (λ l. t ∷ l) (owed_by_all o ts)
 
-pub collecting_abort_pure : (me : ProcessId) (c : Case) (p : Presumption) (why : Reason) (none : Bool) (us : List Ticket) (rs : List Record) (m : Memory)
+pub collecting_abort_pure : (me : ProcessId) (c : Case) (p : Presumption) (why : Reason) (none : Bool)
+    (us : List Ticket) (rs : List Record) (m : Memory)
     → CollectingFacts (has (is_end c) rs) (has (is_commit c) rs) (has (is_abort c) rs) (has (is_prepare c) rs)
     → owing_by c rs ≡ [] → m.acks ≡ [] → none_of us ≡ none
     → let s : Seat = record { me = me; parent = None; own = c } in
@@ -86,9 +109,12 @@ pub collecting_abort_pure : (me : ProcessId) (c : Case) (p : Presumption) (why :
     let rs' = rs ++ entries_written row.written in
     let m' : Memory = record m { phase = Over } in
     view_at (standing_with p rs' c m') rs' c m' ≡ row.view
-collecting_abort_pure me c PresumeAbort why none us rs m f owes acks u = simp (pushed, f.no_end, f.no_commit, f.no_abort, f.no_prepare, owes) refl
-collecting_abort_pure me c PresumeCommit why true us rs m f owes acks u = simp (pushed, f.no_end, f.no_commit, f.no_abort, f.no_prepare, owes, u) refl
-collecting_abort_pure me c PresumeCommit why false us rs m f owes acks u = simp (pushed, f.no_end, f.no_commit, f.no_abort, f.no_prepare, owes, u, acks, owed_by_all) refl
+collecting_abort_pure me c PresumeAbort why none us rs m f owes acks u =
+    simp (pushed, f.no_end, f.no_commit, f.no_abort, f.no_prepare, owes) refl
+collecting_abort_pure me c PresumeCommit why true us rs m f owes acks u =
+    simp (pushed, f.no_end, f.no_commit, f.no_abort, f.no_prepare, owes, u) refl
+collecting_abort_pure me c PresumeCommit why false us rs m f owes acks u =
+    simp (pushed, f.no_end, f.no_commit, f.no_abort, f.no_prepare, owes, u, acks, owed_by_all) refl
 
 -- A vote of a case that collects votes.
 
@@ -110,7 +136,8 @@ read_only_pure me c PresumeAbort rs m f no_record =
     simp (pushed, f.no_end, f.no_commit, f.no_abort, f.no_prepare, none) refl
 read_only_pure me c PresumeCommit rs m f no_record = simp (pushed) refl
 
-pub root_commits_pure : (me : ProcessId) (c : Case) (p : Presumption) (ys : List Ticket) (rs : List Record) (m : Memory)
+pub root_commits_pure : (me : ProcessId) (c : Case) (p : Presumption) (ys : List Ticket) (rs : List Record)
+    (m : Memory)
     → CollectingFacts (has (is_end c) rs) (has (is_commit c) rs) (has (is_abort c) rs) (has (is_prepare c) rs)
     → owing_by c rs ≡ [] → m.acks ≡ [] → none_of ys ≡ false
     → let s : Seat = record { me = me; parent = None; own = c } in
@@ -118,5 +145,7 @@ pub root_commits_pure : (me : ProcessId) (c : Case) (p : Presumption) (ys : List
     let rs' = rs ++ entries_written row.written in
     let m' : Memory = record m { phase = Over } in
     view_at (standing_with p rs' c m') rs' c m' ≡ row.view
-root_commits_pure me c PresumeAbort ys rs m f owes acks some = simp (pushed, f.no_end, f.no_commit, f.no_abort, f.no_prepare, owes, some, acks, owed_by_all) refl
-root_commits_pure me c PresumeCommit ys rs m f owes acks some = simp (pushed, f.no_end, f.no_commit, f.no_abort, f.no_prepare, owes) refl
+root_commits_pure me c PresumeAbort ys rs m f owes acks some =
+    simp (pushed, f.no_end, f.no_commit, f.no_abort, f.no_prepare, owes, some, acks, owed_by_all) refl
+root_commits_pure me c PresumeCommit ys rs m f owes acks some =
+    simp (pushed, f.no_end, f.no_commit, f.no_abort, f.no_prepare, owes) refl

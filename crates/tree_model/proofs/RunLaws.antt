@@ -15,29 +15,40 @@ pub record MakesAt (tree : List TreeEntry) (w : World) (m : Move) (e : Effect) (
 pair_same : {A B : Type 0} (d : A × B) (p q : A × B) → Some p ≡ Some q → p ≡ q
 pair_same d p q h = cc
 
-stepped_at : (w : World) (q : ProcessId) (s : Stepped) (e : Effect) (w' : World) → world_stepped w q s ≡ Some (e, w')
+stepped_at : (w : World) (q : ProcessId) (s : Stepped) (e : Effect) (w' : World)
+    → world_stepped w q s ≡ Some (e, w')
     → (n : Node) × (s ≡ Makes e n) × (w' ≡ record { at = put_at q n w.at; net = w.net ++ e.messages })
 stepped_at w q (Refuses r) e w' h = absurd (cc)
 stepped_at w q (Makes f n) e w' h =
-    let same : (f, record { at = put_at q n w.at; net = w.net ++ f.messages }) ≡ (e, w') = pair_same (f, w) _ _ h in
+    let same : (f, record { at = put_at q n w.at; net = w.net ++ f.messages })
+    ≡ (e, w') = pair_same (f, w) _ _ h in
     let fe : f ≡ e = ap (λ (p : Effect × World). p.0) same in
-    let we : record { at = put_at q n w.at; net = w.net ++ f.messages } ≡ w' = ap (λ (p : Effect × World). p.1) same in
-    (n, ap (λ x. Makes x n) fe, sym we ∙ ap (λ (x : Effect). record { at = put_at q n w.at; net = w.net ++ x.messages }) fe)
+    let we : record { at = put_at q n w.at; net = w.net ++ f.messages }
+    ≡ w' = ap (λ (p : Effect × World). p.1) same in (
+      n,
+      ap (λ x. Makes x n) fe,
+      sym we ∙ ap (λ
+          (x : Effect). record { at = put_at q n w.at; net = w.net ++ x.messages }) fe,
+    )
 
 listed_makes : (tree : List TreeEntry) (w : World) (m : Move) (e : Effect) (w' : World) (b : Bool)
-    → (if b then world_stepped w m.step.process (node_makes (place_of tree m.step.process) (w.at m.step.process) m) else None) ≡ Some (e, w')
+    → (if b then world_stepped w m.step.process
+    (node_makes (place_of tree m.step.process) (w.at m.step.process) m) else None) ≡ Some (e, w')
     → MakesAt tree w m e w'
 listed_makes tree w m e w' true h =
-    let at = stepped_at w m.step.process (node_makes (place_of tree m.step.process) (w.at m.step.process) m) e w' h in
+    let at = stepped_at w m.step.process (node_makes (place_of tree m.step.process) (w.at m.step.process) m) e
+    w' h in
     record { node = at.0; made = at.1; world = at.2 }
 listed_makes tree w m e w' false h = absurd (cc)
 
-pub makes_at : (tree : List TreeEntry) (w : World) (m : Move) (e : Effect) (w' : World) → world_makes tree w m ≡ Some (e, w') → MakesAt tree w m e w'
+pub makes_at : (tree : List TreeEntry) (w : World) (m : Move) (e : Effect) (w' : World)
+    → world_makes tree w m ≡ Some (e, w') → MakesAt tree w m e w'
 unfolding world_makes
 makes_at tree w m e w' h = listed_makes tree w m e w' (is_listed tree m.step.process) h
 
 -- a process is what its own moves make of it, and the net is the messages of the moves
-node_step : (tree : List TreeEntry) (es : List Made) (w : World) (m : Move) (e : Effect) (w' : World) (p : ProcessId)
+node_step : (tree : List TreeEntry) (es : List Made) (w : World) (m : Move) (e : Effect) (w' : World)
+    (p : ProcessId)
     → (w.at p ≡ node_by (place_of tree p) (made_by p es)) → MakesAt tree w m e w'
     → w'.at p ≡ node_by (place_of tree p) (made_by p (record { move = m; effect = e } ∷ es))
 unfolding made_by node_by
@@ -46,12 +57,14 @@ node_step tree es w m e w' p before h =
       | inl t ↦
           let P : ProcessId → Type 0 = λ q. node_makes (place_of tree q) (w.at q) m ≡ Makes e h.node in
           let made : node_makes (place_of tree p) (w.at p) m ≡ Makes e h.node = subst P t.1 h.made in
-          let again : node_makes (place_of tree p) (node_by (place_of tree p) (made_by p es)) m ≡ Makes e h.node = rw before at made in
+          let again : node_makes (place_of tree p) (node_by (place_of tree p) (made_by p es)) m
+          ≡ Makes e h.node = rw before at made in
           rw (t.0, again) refl
       | inr f ↦ rw f.0 before
     ])
 
-pub node_by_run : (tree : List TreeEntry) (es : List Made) (w : World) → IsRun tree es w → (p : ProcessId) → w.at p ≡ node_by (place_of tree p) (made_by p es)
+pub node_by_run : (tree : List TreeEntry) (es : List Made) (w : World) → IsRun tree es w → (p : ProcessId)
+    → w.at p ≡ node_by (place_of tree p) (made_by p es)
 unfolding made_by node_by
 node_by_run tree _ _ opens p = refl
 node_by_run tree _ _ (makes es w m e w' run stands step) p =
@@ -61,4 +74,5 @@ pub net_by_run : (tree : List TreeEntry) (es : List Made) (w : World) → IsRun 
 unfolding net_by
 net_by_run tree _ _ opens = refl
 net_by_run tree _ _ (makes es w m e w' run stands step) =
-    ap (λ (x : World). x.net) (makes_at tree w m e w' step).world ∙ ap (λ l. l ++ e.messages) (net_by_run tree es w run)
+    ap (λ (x : World). x.net) (makes_at tree w m e w' step).world
+    ∙ ap (λ l. l ++ e.messages) (net_by_run tree es w run)

@@ -32,7 +32,8 @@ pub record ActiveFacts (E C A P K : Bool) (hs : Standing) : Type 0 where
   pub no_collecting : K ≡ false
   pub heard : hs ≡ Active
 
-pub active_facts : (E C A P K N : Bool) (hs : Standing) → standing_by E C A P K N hs ≡ Active → ActiveFacts E C A P K hs
+pub active_facts : (E C A P K N : Bool) (hs : Standing) → standing_by E C A P K N hs ≡ Active
+    → ActiveFacts E C A P K hs
 active_facts true C A P K N hs e = absurd (cc)
 active_facts false true A P K true hs e = absurd (cc)
 active_facts false true A P K false hs e = absurd (cc)
@@ -40,7 +41,15 @@ active_facts false false true P K true hs e = absurd (cc)
 active_facts false false true P K false hs e = absurd (cc)
 active_facts false false false true K N hs e = absurd (cc)
 active_facts false false false false true N hs e = absurd (cc)
-active_facts false false false false false N hs e = record { no_end = refl; no_commit = refl; no_abort = refl; no_prepare = refl; no_collecting = refl; heard = e }
+active_facts false false false false false N hs
+    e = record {
+      no_end = refl;
+      no_commit = refl;
+      no_abort = refl;
+      no_prepare = refl;
+      no_collecting = refl;
+      heard = e;
+    }
 
 pub phase_active : (p : Presumption) (ph : Phase) → phase_standing p ph ≡ Active → ph ≡ Open
 phase_active PresumeAbort Open e = refl
@@ -52,7 +61,8 @@ phase_active PresumeCommit Asked e = absurd (cc)
 phase_active PresumeAbort Over e = absurd (cc)
 phase_active PresumeCommit Over e = absurd (cc)
 
-pub view_standing : (s : Standing) (rs : List Record) (c : Case) (m : Memory) → (view_at s rs c m).standing ≡ s
+pub view_standing : (s : Standing) (rs : List Record) (c : Case) (m : Memory)
+    → (view_at s rs c m).standing ≡ s
 view_standing Unknown rs c m = refl
 view_standing Active rs c m = refl
 view_standing Collecting rs c m = refl
@@ -73,13 +83,15 @@ pub view-after : (place : Place) (n : Node) (h : Heard) (e : Effect) (c : Case)
     coordinator_view place (after n h e) c ≡ view_at (coordinator_standing rs c m) rs c m
 unfolding coordinator_view
 view-after place n h e c boot =
-    let same : boot_of (kept n ++ entries_written e.written) ≡ boot_of (kept n) = fold_boot (kept n) (entries_written e.written) ∙ boot (boot_of (kept n)) in
+    let same : boot_of (kept n ++ entries_written e.written) ≡ boot_of (kept n) =
+    fold_boot (kept n) (entries_written e.written) ∙ boot (boot_of (kept n)) in
     rw (memory_of-after place n h e c same, kept-after n h e) refl
 
 -- the standing with the presumption beside the case
 abbrev pub standing_with : Presumption → List Record → Case → Memory → Standing
 standing_with p rs c m =
-    standing_by (has (is_end c) rs) (has (is_commit c) rs) (has (is_abort c) rs) (has (is_prepare c) rs) (has (is_collecting c) rs) (none_of (owing_by c rs)) (phase_standing p m.phase)
+    standing_by (has (is_end c) rs) (has (is_commit c) rs) (has (is_abort c) rs) (has (is_prepare c) rs)
+    (has (is_collecting c) rs) (none_of (owing_by c rs)) (phase_standing p m.phase)
 
 -- What a phase lets in.
 
@@ -104,7 +116,8 @@ phase_standing_known PresumeCommit Idle e = cc
 phase_standing_known PresumeAbort Over e = cc
 phase_standing_known PresumeCommit Over e = cc
 
-pub never_heuristic : (E C A P K N : Bool) (hs : Standing) → (hs ≡ Heuristic → ⊥) → standing_by E C A P K N hs ≡ Heuristic → ⊥
+pub never_heuristic : (E C A P K N : Bool) (hs : Standing) → (hs ≡ Heuristic → ⊥)
+    → standing_by E C A P K N hs ≡ Heuristic → ⊥
 never_heuristic true C A P K N hs d e = cc
 never_heuristic false true A P K true hs d e = cc
 never_heuristic false true A P K false hs d e = cc
@@ -114,7 +127,8 @@ never_heuristic false false false true K N hs d e = cc
 never_heuristic false false false false true N hs d e = cc
 never_heuristic false false false false false N hs d e = d e
 
-pub prepared_facts : (E C A P K N : Bool) (hs : Standing) → (hs ≡ Prepared → ⊥) → standing_by E C A P K N hs ≡ Prepared → (C ≡ false) × (A ≡ false)
+pub prepared_facts : (E C A P K N : Bool) (hs : Standing) → (hs ≡ Prepared → ⊥)
+    → standing_by E C A P K N hs ≡ Prepared → (C ≡ false) × (A ≡ false)
 prepared_facts true C A P K N hs d e = absurd (cc)
 prepared_facts false true A P K true hs d e = absurd (cc)
 prepared_facts false true A P K false hs d e = absurd (cc)

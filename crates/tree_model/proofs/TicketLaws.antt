@@ -13,19 +13,24 @@ use Rattle.tree_model.proofs.ListLaws.{has-push, memory_of-after, kept-after}
 
 -- Lists of tickets that records name.
 
-pub flat_push : (f : Record → List Ticket) (xs : List Record) (r : Record) → flat_map f (xs ++ r ∷ []) ≡ flat_map f xs ++ f r
+pub flat_push : (f : Record → List Ticket) (xs : List Record) (r : Record)
+    → flat_map f (xs ++ r ∷ []) ≡ flat_map f xs ++ f r
 flat_push f [] r = append-nil (f r)
-flat_push f (x ∷ xs) r = ap (λ l. f x ++ l) (flat_push f xs r) ∙ sym (append_assoc (f x) (flat_map f xs) (f r))
+flat_push f (x ∷ xs) r = ap (λ l. f x ++ l) (flat_push f xs r)
+    ∙ sym (append_assoc (f x) (flat_map f xs) (f r))
 
-pub named_by-push : (c : Case) (xs : List Record) (r : Record) → named_by c (xs ++ r ∷ []) ≡ named_by c xs ++ named_in c r
+pub named_by-push : (c : Case) (xs : List Record) (r : Record)
+    → named_by c (xs ++ r ∷ []) ≡ named_by c xs ++ named_in c r
 unfolding named_by
 named_by-push c xs r = flat_push (named_in c) xs r
 
-pub promised_by-push : (c : Case) (xs : List Record) (r : Record) → promised_by c (xs ++ r ∷ []) ≡ promised_by c xs ++ promised_in c r
+pub promised_by-push : (c : Case) (xs : List Record) (r : Record)
+    → promised_by c (xs ++ r ∷ []) ≡ promised_by c xs ++ promised_in c r
 unfolding promised_by
 promised_by-push c xs r = flat_push (promised_in c) xs r
 
-pub owing_by-push : (c : Case) (xs : List Record) (r : Record) → owing_by c (xs ++ r ∷ []) ≡ owing_by c xs ++ owing_in c r
+pub owing_by-push : (c : Case) (xs : List Record) (r : Record)
+    → owing_by c (xs ++ r ∷ []) ≡ owing_by c xs ++ owing_in c r
 unfolding owing_by
 owing_by-push c xs r = flat_push (owing_in c) xs r
 
@@ -41,10 +46,19 @@ pub none_nil : none_of [] ≡ true
 unfolding none_of
 none_nil = refl
 
-pub ruleset pushed = (has-push, named_by-push, promised_by-push, owing_by-push, append-nil, same_case-refl, none_nil)
+pub ruleset pushed = (
+  has-push,
+  named_by-push,
+  promised_by-push,
+  owing_by-push,
+  append-nil,
+  same_case-refl,
+  none_nil,
+)
 
 -- where there is no decision nobody owes an acknowledgement
-pub undecided_owes : (c : Case) (rs : List Record) → has (is_commit c) rs ≡ false → has (is_abort c) rs ≡ false → owing_by c rs ≡ []
+pub undecided_owes : (c : Case) (rs : List Record) → has (is_commit c) rs ≡ false
+    → has (is_abort c) rs ≡ false → owing_by c rs ≡ []
 unfolding has owing_by
 undecided_owes c [] h k = refl
 undecided_owes c (CommitRecord d ts ∷ rs) h k =

@@ -17,8 +17,10 @@ branch_format PresumeCommit = pos 4002
 unfoldable pub txn_bytes : Txn → List ℕ
 txn_bytes x = big_bytes 4 x.root.0 ++ (big_bytes 8 x.boot ++ big_bytes 8 x.sequence)
 
+-- the parent, and the ticket's child, boot and number, big-endian
 unfoldable pub ticket_bytes : ProcessId × Ticket → List ℕ
-ticket_bytes b = big_bytes 4 b.0.0 ++ (big_bytes 4 b.1.child.0 ++ (big_bytes 8 b.1.boot ++ big_bytes 8 b.1.number))
+ticket_bytes b = big_bytes 4 b.0.0 ++ (big_bytes 4 b.1.child.0
+    ++ (big_bytes 8 b.1.boot ++ big_bytes 8 b.1.number))
 
 -- the branch's name: the parent, the child, its boot and the ticket's number; none at the root
 abbrev pub below_bytes : Option (ProcessId × Ticket) → List ℕ
@@ -27,7 +29,11 @@ below_bytes (Some b) = ticket_bytes b
 
 -- the XID of a case
 abbrev pub branch_parts : Txn → Option (ProcessId × Ticket) → XidParts
-branch_parts x below = record { format = branch_format x.presumption; gtrid = txn_bytes x; bqual = below_bytes below }
+branch_parts x below = record {
+  format = branch_format x.presumption;
+  gtrid = txn_bytes x;
+  bqual = below_bytes below;
+}
 
 -- numbers that a transaction's fields can be
 pub record FitsTxn (x : Txn) : Type 0 where
@@ -42,6 +48,7 @@ pub record FitsTicket (b : ProcessId × Ticket) : Type 0 where
   pub boot : b.1.boot < 2 ^ 64
   pub number : b.1.number < 2 ^ 64
 
+-- a parent and a ticket fit, where there are any
 abbrev pub FitsBelow : Option (ProcessId × Ticket) → Type 0
 FitsBelow None = ⊤
 FitsBelow (Some b) = FitsTicket b

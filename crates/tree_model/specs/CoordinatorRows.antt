@@ -1,5 +1,5 @@
--- The reaction table of coordinators (R*): for each standing and input of a case what is written, told and sent,
--- and the new view. One row, one definition, named by standing and input.
+-- The reaction table of coordinators (R*): for each standing and input of a case what is written, told and
+-- sent, and the new view. One row, one definition, named by standing and input.
 use Rattle.std.specs.Prelude.{◌+◌, true, false, if◌then◌else◌, Option, Some, None, List, [], ◌∷◌, ◌++◌, map, filter, not}
 use Rattle.tree_model.specs.declared.names.Case.{Case}
 use Rattle.tree_model.specs.declared.names.ProcessId.{ProcessId}
@@ -32,7 +32,8 @@ pub record Seat : Type 0 where
   pub parent : Option ProcessId
   pub own : Case
 
--- what a row does: at most one record, what is told, the messages, the ticket accepted, the first vote counted
+-- what a row does: at most one record, what is told, the messages, the ticket accepted, the first vote
+-- counted
 pub record Row : Type 0 where
   pub written : List Written
   pub told : Option Conclusion
@@ -91,7 +92,8 @@ sends ls v = record { written = []; told = None; messages = ls; accepts = []; co
 
 -- the case waits for these, or is forgotten where there are none
 abbrev pub awaits : Standing → List Ticket → CoordinatorView → CoordinatorView
-awaits s ts v = if none_of ts then unknown_view else record v { standing = s; named = v.named ++ ts; owed = ts }
+awaits s ts v =
+    if none_of ts then unknown_view else record v { standing = s; named = v.named ++ ts; owed = ts }
 
 -- Active.
 
@@ -103,17 +105,32 @@ active_join s q v = if has_child v.accepted q then quiet v else sends (post s.me
 abbrev pub active_joined : Ticket → CoordinatorView → Row
 active_joined t v =
     if has_child v.accepted t.child then quiet v
-    else record { written = []; told = None; messages = []; accepts = t ∷ []; counts = []; view = record v { accepted = v.accepted ++ t ∷ [] } }
+    else record {
+      written = [];
+      told = None;
+      messages = [];
+      accepts = t ∷ [];
+      counts = [];
+      view = record v { accepted = v.accepted ++ t ∷ [] };
+    }
 
 -- the work act: WORK to the ticket's child, with the ticket's next number
 abbrev pub active_work : Seat → Ticket → Op → CoordinatorView → Row
 active_work s t op v =
-    sends (post s.me t.child (Work (child_case s.own.txn t) (works_of v.works t + 1) op) ∷ []) (record v { works = v.works ++ t ∷ [] })
+    sends (post s.me t.child (Work (child_case s.own.txn t) (works_of v.works t + 1) op) ∷ [])
+    (record v { works = v.works ++ t ∷ [] })
 
 -- the commit act or PREPARE, where nobody takes part
 abbrev pub active_commit_alone : Seat → Row
 active_commit_alone s =
-    record { written = []; told = tells s ReadOnly; messages = up s (Read s.own); accepts = []; counts = []; view = unknown_view }
+    record {
+      written = [];
+      told = tells s ReadOnly;
+      messages = up s (Read s.own);
+      accepts = [];
+      counts = [];
+      view = unknown_view;
+    }
 
 -- PREPARE to the child of each accepted ticket, with the number of works sent to it
 abbrev pub prepares : Seat → CoordinatorView → List Envelope
@@ -134,7 +151,8 @@ active_commit_with s v PresumeCommit =
 
 -- the commit act, or PREPARE
 abbrev pub active_commit : Seat → CoordinatorView → Row
-active_commit s v = if none_of v.accepted then active_commit_alone s else active_commit_with s v s.own.txn.presumption
+active_commit s v =
+    if none_of v.accepted then active_commit_alone s else active_commit_with s v s.own.txn.presumption
 
 -- an abort under Presumed Commit is acknowledged
 abbrev pub acknowledges_abort : Seat → Presumption → List Envelope
@@ -347,7 +365,14 @@ other_tickets t ts = filter (λ u. not (same_ticket t u)) ts
 abbrev pub decided_ack_by : Seat → List Ticket → CoordinatorView → Row
 decided_ack_by s left v =
     if none_of left
-    then record { written = plain (EndRecord s.own); told = None; messages = []; accepts = []; counts = []; view = unknown_view }
+    then record {
+      written = plain (EndRecord s.own);
+      told = None;
+      messages = [];
+      accepts = [];
+      counts = [];
+      view = unknown_view;
+    }
     else quiet (record v { owed = left })
 
 -- an acknowledgement that agrees with the decision; the last one that is owed ends the case

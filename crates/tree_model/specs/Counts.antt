@@ -28,7 +28,11 @@ cost_of ws ls = record { records = length ws; forced = count_by (λ w. w.is_forc
 
 -- two costs, added
 abbrev pub together : Cost → Cost → Cost
-together a b = record { records = a.records + b.records; forced = a.forced + b.forced; messages = a.messages + b.messages }
+together a b = record {
+  records = a.records + b.records;
+  forced = a.forced + b.forced;
+  messages = a.messages + b.messages;
+}
 
 -- the cost of a coordinator's row
 abbrev pub row_cost : Row → Cost
@@ -101,12 +105,18 @@ abbrev pub manager_price : Presumption → Cost
 manager_price PresumeAbort = record { records = 2; forced = 2; messages = 2 }
 manager_price PresumeCommit = record { records = 2; forced = 1; messages = 1 }
 
--- A committed update of a flat tree of n managers: the root writes 2 records, 1 forced under Presumed Abort and 2 under
--- Presumed Commit, and sends 2 messages to each child, in whatever order the votes and the acknowledgements come; a child
--- writes 2 records, 2 or 1 forced, and sends 2 or 1 messages. At the end neither knows of the case.
+-- A committed update of a flat tree of n managers: the root writes 2 records, 1 forced under Presumed Abort
+-- and 2 under Presumed Commit, and sends 2 messages to each child, in whatever order the votes and the
+-- acknowledgements come; a child writes 2 records, 2 or 1 forced, and sends 2 or 1 messages. At the end
+-- neither knows of the case.
 pub record CommittedUpdateCosts (s : Seat) : Type 0 where
-  pub root : s.parent ≡ None → (v : CoordinatorView) → v.standing ≡ ActiveStanding → v.votes ≡ [] → none_of v.accepted ≡ false
+  pub root : s.parent ≡ None → (v : CoordinatorView) → v.standing ≡ ActiveStanding → v.votes ≡ []
+      → none_of v.accepted ≡ false
       → (votes acks : List Ticket) → IsOrderOf votes v.accepted → IsOrderOf acks v.accepted
-      → root_walk s v votes acks ≡ record { cost = root_price s.own.txn.presumption (length v.accepted); view = unknown_view }
-  pub manager : (l : Leaf) (n : ℕ) (ws : List Write) (v : ManagerView) → v.standing ≡ ActiveStanding → v.done ≡ n → v.spoiled ≡ false
+      → root_walk s v votes acks ≡ record {
+        cost = root_price s.own.txn.presumption (length v.accepted);
+        view = unknown_view;
+      }
+  pub manager : (l : Leaf) (n : ℕ) (ws : List Write) (v : ManagerView) → v.standing ≡ ActiveStanding
+      → v.done ≡ n → v.spoiled ≡ false
       → manager_cost l n ws v ≡ manager_price l.own.txn.presumption

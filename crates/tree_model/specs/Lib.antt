@@ -20,6 +20,3 @@ pub mod Plays
 pub mod Views
 pub mod Counts
 pub mod Rows
-pub mod FlatRuns
-pub mod TreeRuns
-pub mod DoubtRuns

@@ -1,6 +1,6 @@
--- Whole names: a log names a case by its XID, which below the root has the parent too, and a manager's branch by its
--- XID. So two names that differ in the parent alone are two. The process whose log it is knows its parent, and reads
--- its own names without it; what is not its own is foreign to it.
+-- Whole names: a log names a case by its XID, which below the root has the parent too, and a manager's branch
+-- by its XID. So two names that differ in the parent alone are two. The process whose log it is knows its
+-- parent, and reads its own names without it; what is not its own is foreign to it.
 use Rattle.std.specs.Prelude.{◌≡◌, ◌≢◌, Bool, true, false, ◌&&◌, if◌then◌else◌, Option, Some, None, List, [], ◌∷◌, map, is_some}
 use Rattle.std.specs.List.{flat_map, list_all}
 use Rattle.xa_xid.specs.Xids.{XidParts}
@@ -55,12 +55,14 @@ same_name_by _ _ _ _ = false
 abbrev pub same_name : LogRecord → LogRecord → Bool
 same_name l k = same_name_by l.parent (record_name l.entry) k.parent (record_name k.entry)
 
--- a name is whole: a case has a parent exactly below the root, nothing else has one, and a foreign XID is of no case
+-- a name is whole: a case has a parent exactly below the root, nothing else has one, and a foreign XID is of
+-- no case
 abbrev pub IsWholeName : Option ProcessId → Option Branch → Type 0
 IsWholeName p None = p ≡ None
 IsWholeName p (Some (CaseBranch c)) = is_some p ≡ is_some c.ticket
 IsWholeName p (Some (Foreign x)) =
-    (p ≡ None) × ((y : Txn) (b : Option (ProcessId × Ticket)) → FitsTxn y → FitsBelow b → branch_parts y b ≢ x)
+    (p ≡ None) × ((y : Txn) (b : Option (ProcessId × Ticket)) → FitsTxn y → FitsBelow b
+    → branch_parts y b ≢ x)
 
 -- the name of a record in a log is whole
 abbrev pub IsWhole : LogRecord → Type 0
@@ -123,7 +125,8 @@ foreign_to _ p c r = []
 -- a log's record as its process reads it: one of a case that is not its own is foreign to it
 abbrev pub own_by : Place → LogRecord → Option Case → List Record
 own_by place l None = l.entry ∷ []
-own_by place l (Some c) = if is_own place l.parent c then l.entry ∷ [] else foreign_to place.role l.parent c l.entry
+own_by place l (Some c) =
+    if is_own place l.parent c then l.entry ∷ [] else foreign_to place.role l.parent c l.entry
 
 -- the records of a log as the process whose log it is reads them
 unfoldable pub own_records : Place → List LogRecord → List Record
@@ -140,4 +143,5 @@ is_own_record place r = is_own_by place (record_case r)
 
 -- what a process wrote into its log it reads there again
 abbrev pub ReadsBack : Place → List Record → Type 0
-ReadsBack place rs = list_all (is_own_record place) rs ≡ true → own_records place (map (in_log (parent_of place.role)) rs) ≡ rs
+ReadsBack place rs = list_all (is_own_record place) rs ≡ true
+    → own_records place (map (in_log (parent_of place.role)) rs) ≡ rs

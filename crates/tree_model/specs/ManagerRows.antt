@@ -1,5 +1,5 @@
--- The reaction table of resource managers: for each standing and input of a branch what is written and sent, and
--- the new view. What the manager's data answer comes with the input.
+-- The reaction table of resource managers: for each standing and input of a branch what is written and sent,
+-- and the new view. What the manager's data answer comes with the input.
 use Rattle.std.specs.Prelude.{◌+◌, ℕ, Bool, true, false, ◌==◌, ◌&&◌, not, if◌then◌else◌, Option, Some, None, List, [], ◌∷◌}
 use Rattle.tree_model.specs.declared.names.Case.{Case}
 use Rattle.tree_model.specs.declared.names.ProcessId.{ProcessId}
@@ -53,7 +53,8 @@ is_acknowledged _ _ = false
 
 -- ACK of the outcome to the parent, unless the presumption covers the outcome
 abbrev pub acknowledgement : Leaf → Outcome → List Envelope
-acknowledgement l o = if is_acknowledged l.own.txn.presumption o then post l.me l.parent (Ack l.own o) ∷ [] else []
+acknowledgement l o =
+    if is_acknowledged l.own.txn.presumption o then post l.me l.parent (Ack l.own o) ∷ [] else []
 
 -- the record, forced unless the presumption covers the outcome
 abbrev pub written_as : Leaf → Outcome → Record → List Written
@@ -81,7 +82,8 @@ active_prepare_holding l (Holds ws) =
 -- PREPARE n: only where all n works are done
 abbrev pub active_prepare : Leaf → ℕ → Holding → ManagerView → LeafRow
 active_prepare l n holding v =
-    if (v.done == n) && not v.spoiled then active_prepare_holding l holding else replies l (No l.own) unknown_branch
+    if (v.done == n) && not v.spoiled then active_prepare_holding l holding
+    else replies l (No l.own) unknown_branch
 
 -- ABORT: the branch is forgotten without a record; under Presumed Commit it is acknowledged
 abbrev pub active_abort : Leaf → LeafRow
@@ -96,7 +98,11 @@ ends_record l AbortedOutcome = RolledBack (own_branch l)
 
 -- COMMIT or ABORT
 abbrev pub prepared_outcome : Leaf → Outcome → LeafRow
-prepared_outcome l o = record { written = written_as l o (ends_record l o); messages = acknowledgement l o; view = unknown_branch }
+prepared_outcome l o = record {
+  written = written_as l o (ends_record l o);
+  messages = acknowledgement l o;
+  view = unknown_branch;
+}
 
 -- Prepared and Heuristic
 
@@ -115,16 +121,25 @@ decides_record l AbortedOutcome = HeurRollback (own_branch l)
 
 -- an operator decides
 abbrev pub prepared_decide : Leaf → Outcome → LeafRow
-prepared_decide l o = record { written = forced (decides_record l o); messages = []; view = standing_branch Heuristic None }
+prepared_decide l o = record {
+  written = forced (decides_record l o);
+  messages = [];
+  view = standing_branch Heuristic None;
+}
 
 -- Heuristic.
 
 -- the outcome comes: the first one is noted, the same again is acknowledged again
 abbrev pub heuristic_outcome : Leaf → Outcome → ManagerView → Option Outcome → LeafRow
 heuristic_outcome l o v None =
-    record { written = written_as l o (Told (own_branch l) o); messages = acknowledgement l o; view = standing_branch Heuristic (Some o) }
+    record {
+      written = written_as l o (Told (own_branch l) o);
+      messages = acknowledgement l o;
+      view = standing_branch Heuristic (Some o);
+    }
 heuristic_outcome l o v (Some told) =
-    if same_outcome told o then record { written = []; messages = acknowledgement l o; view = v } else unmoved v
+    if same_outcome told o then record { written = []; messages = acknowledgement l o; view = v }
+    else unmoved v
 
 -- an operator forgets the branch, forced
 abbrev pub heuristic_forget : Leaf → LeafRow

@@ -76,10 +76,10 @@ pub data Phase : Type 0 where
   -- votes are no longer taken
   Over : Phase
 
--- Of the process: how many transactions it began and how many tickets it gave in this boot, the cases of those
--- tickets, and each parent's case with the active ticket given to it. Of the case: its phase, the accepted tickets,
--- their first votes, a ticket for each work sent, the acknowledgements; at a manager how many works are done, and
--- whether one was refused.
+-- Of the process: how many transactions it began and how many tickets it gave in this boot, the cases of
+-- those tickets, and each parent's case with the active ticket given to it. Of the case: its phase, the
+-- accepted tickets, their first votes, a ticket for each work sent, the acknowledgements; at a manager how
+-- many works are done, and whether one was refused.
 pub record Memory : Type 0 where
   pub begun : ℕ
   pub given : ℕ
@@ -95,11 +95,31 @@ pub record Memory : Type 0 where
 
 -- what is remembered at a restart: nothing
 abbrev pub fresh_memory : Memory
-fresh_memory = record { begun = 0; given = 0; issued = []; active = []; phase = Idle; accepted = []; votes = []; works = []; acks = []; done = 0; spoiled = false }
+fresh_memory = record {
+  begun = 0;
+  given = 0;
+  issued = [];
+  active = [];
+  phase = Idle;
+  accepted = [];
+  votes = [];
+  works = [];
+  acks = [];
+  done = 0;
+  spoiled = false;
+}
 
 -- a case that begins, or is joined
 abbrev pub opens_case : Memory → Memory
-opens_case m = record m { phase = Open; accepted = []; votes = []; works = []; acks = []; done = 0; spoiled = false }
+opens_case m = record m {
+  phase = Open;
+  accepted = [];
+  votes = [];
+  works = [];
+  acks = [];
+  done = 0;
+  spoiled = false;
+}
 
 -- Tickets.
 
@@ -122,7 +142,11 @@ without_ticket active c = filter (λ a. not (same_case (child_case a.0.txn a.1) 
 
 -- a ticket is given for the parent's case d: it is counted, issued and active
 abbrev pub gives : Memory → Case → Ticket → Memory
-gives m d t = record m { given = m.given + 1; issued = m.issued ++ child_case d.txn t ∷ []; active = m.active ++ (d, t) ∷ [] }
+gives m d t = record m {
+  given = m.given + 1;
+  issued = m.issued ++ child_case d.txn t ∷ [];
+  active = m.active ++ (d, t) ∷ [];
+}
 
 -- a parent's case d is joined: an active ticket is given again, else a fresh one, which opens its case
 abbrev pub joins : ProcessId → ℕ → Case → Case → Memory → Option Ticket → Memory
@@ -145,7 +169,8 @@ closes m _ = record m { phase = Over }
 
 -- JOINED: the first ticket of a child is accepted
 abbrev pub accepts_ticket : Memory → Ticket → Phase → Memory
-accepts_ticket m t Open = if has_child m.accepted t.child then m else record m { accepted = m.accepted ++ t ∷ [] }
+accepts_ticket m t Open =
+    if has_child m.accepted t.child then m else record m { accepted = m.accepted ++ t ∷ [] }
 accepts_ticket m t _ = m
 
 -- the work act: while the case takes work, one more is sent to the ticket
@@ -218,7 +243,8 @@ hears_child c m _ = m
 -- an input at the root
 abbrev pub root_remembers : ProcessId → ℕ → Case → Memory → Input → Memory
 root_remembers me boot c m (ActInput (Begin p)) = begins me boot c m p
-root_remembers me boot c m (ActInput (WorkAct d q op)) = if_same d c m (sends_work m (ticket_of_child m.accepted q) m.phase)
+root_remembers me boot c m (ActInput (WorkAct d q op)) =
+    if_same d c m (sends_work m (ticket_of_child m.accepted q) m.phase)
 root_remembers me boot c m (ActInput (CommitAct x)) = if_same (root_case x) c m (asks_votes m m.phase)
 root_remembers me boot c m (ActInput (AbortAct x)) = if_same (root_case x) c m (closes m m.phase)
 root_remembers me boot c m (ActInput _) = m
@@ -237,7 +263,8 @@ cascaded_hears me boot c m message = hears_child c m message
 
 -- an input at a coordinator below the root
 abbrev pub cascaded_remembers : ProcessId → ℕ → Case → Memory → Input → Memory
-cascaded_remembers me boot c m (ActInput (WorkAct d q op)) = if_same d c m (sends_work m (ticket_of_child m.accepted q) m.phase)
+cascaded_remembers me boot c m (ActInput (WorkAct d q op)) =
+    if_same d c m (sends_work m (ticket_of_child m.accepted q) m.phase)
 cascaded_remembers me boot c m (ActInput _) = m
 cascaded_remembers me boot c m (MessageInput k message) = cascaded_hears me boot c m message
 
@@ -251,7 +278,8 @@ works m i does _ = m
 
 -- a message at a manager, with what its data answer
 abbrev pub manager_hears : ProcessId → ℕ → Case → Memory → DataAnswer → Message → Memory
-manager_hears me boot c m data_answer (Join d) = if data_answer.starts then joins me boot c d m (active_ticket m.active d) else m
+manager_hears me boot c m data_answer (Join d) =
+    if data_answer.starts then joins me boot c d m (active_ticket m.active d) else m
 manager_hears me boot c m data_answer (Work d i op) = if_same d c m (works m i data_answer.does m.phase)
 manager_hears me boot c m data_answer (Prepare d n) = if_same d c (retires m d) (closes (retires m d) m.phase)
 manager_hears me boot c m data_answer (Abort d) = if_same d c (retires m d) (closes (retires m d) m.phase)
@@ -260,7 +288,8 @@ manager_hears me boot c m data_answer _ = m
 -- an input at a manager, with what its data answer
 abbrev pub manager_remembers : ProcessId → ℕ → Case → Memory → DataAnswer → Input → Memory
 manager_remembers me boot c m data_answer (ActInput _) = m
-manager_remembers me boot c m data_answer (MessageInput k message) = manager_hears me boot c m data_answer message
+manager_remembers me boot c m data_answer (MessageInput k message) =
+    manager_hears me boot c m data_answer message
 
 -- an input at a process of this role
 abbrev pub remembers : ProcessId → Role → ℕ → Case → Memory → Heard → Memory

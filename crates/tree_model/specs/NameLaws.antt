@@ -10,17 +10,20 @@ use Rattle.tree_model.specs.declared.names.Presumption.{Presumption}
 use Rattle.tree_model.specs.Names.{same_process, same_presumption, same_outcome, same_txn, same_ticket, same_owner, same_case}
 
 -- the test of processes tells whether they are one
-pub same_process_tells : (a b : ProcessId) → ((same_process a b ≡ true) × (a ≡ b)) ⊎ ((same_process a b ≡ false) × (a ≢ b))
+pub same_process_tells : (a b : ProcessId) → ((same_process a b ≡ true) × (a ≡ b))
+    ⊎ ((same_process a b ≡ false) × (a ≢ b))
 unfolding same_process
 same_process_tells a b = grind (arith, nat_tests)
 
 -- the test of presumptions tells whether they are one
-pub same_presumption_tells : (a b : Presumption) → ((same_presumption a b ≡ true) × (a ≡ b)) ⊎ ((same_presumption a b ≡ false) × (a ≢ b))
+pub same_presumption_tells : (a b : Presumption)
+    → ((same_presumption a b ≡ true) × (a ≡ b)) ⊎ ((same_presumption a b ≡ false) × (a ≢ b))
 unfolding same_presumption
 same_presumption_tells a b = grind arith
 
 -- the test of outcomes tells whether they are one
-pub same_outcome_tells : (a b : Outcome) → ((same_outcome a b ≡ true) × (a ≡ b)) ⊎ ((same_outcome a b ≡ false) × (a ≢ b))
+pub same_outcome_tells : (a b : Outcome) → ((same_outcome a b ≡ true) × (a ≡ b))
+    ⊎ ((same_outcome a b ≡ false) × (a ≢ b))
 unfolding same_outcome
 same_outcome_tells a b = grind arith
 
@@ -30,12 +33,14 @@ unfolding same_txn
 same_txn_tells a b = grind (arith, nat_tests, same_presumption_tells)
 
 -- the test of tickets tells whether they are one
-pub same_ticket_tells : (a b : Ticket) → ((same_ticket a b ≡ true) × (a ≡ b)) ⊎ ((same_ticket a b ≡ false) × (a ≢ b))
+pub same_ticket_tells : (a b : Ticket) → ((same_ticket a b ≡ true) × (a ≡ b))
+    ⊎ ((same_ticket a b ≡ false) × (a ≢ b))
 unfolding same_ticket
 same_ticket_tells a b = grind (arith, nat_tests)
 
 -- the test of tickets that may be missing tells whether they are one
-pub same_owner_tells : (a b : Option Ticket) → ((same_owner a b ≡ true) × (a ≡ b)) ⊎ ((same_owner a b ≡ false) × (a ≢ b))
+pub same_owner_tells : (a b : Option Ticket) → ((same_owner a b ≡ true) × (a ≡ b))
+    ⊎ ((same_owner a b ≡ false) × (a ≢ b))
 unfolding same_owner
 same_owner_tells a b = grind (arith, same_ticket_tells)
 

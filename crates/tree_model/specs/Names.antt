@@ -27,7 +27,8 @@ same_outcome _ _ = false
 
 -- two transactions are one: the same root, boot, sequence number and presumption
 unfoldable pub same_txn : Txn → Txn → Bool
-same_txn a b = (a.root.0 == b.root.0) && (a.boot == b.boot) && (a.sequence == b.sequence) && same_presumption a.presumption b.presumption
+same_txn a b = (a.root.0 == b.root.0) && (a.boot == b.boot) && (a.sequence == b.sequence)
+    && same_presumption a.presumption b.presumption
 
 -- two tickets are one: the same child, boot and number
 unfoldable pub same_ticket : Ticket → Ticket → Bool
@@ -61,5 +62,6 @@ abbrev pub owner_of : Option Ticket → Txn → ProcessId
 owner_of None x = x.root
 owner_of (Some t) x = t.child
 
+-- the process where a case stands
 abbrev pub process_of : Case → ProcessId
 process_of c = owner_of c.ticket c.txn

@@ -91,10 +91,11 @@ pub record Heard : Type 0 where
 
 -- A process.
 
--- The forced front of its log and the records behind it; what it has handled since its last restart; whether its
--- device failed; and histories that only grow, the newest first: the life list, which has every record once as it was
--- appended; every record that was ever in the forced front; the transactions begun; the tickets that each case
--- accepted; the first vote of each; what was told; and the transactions that a restart found undecided.
+-- The forced front of its log and the records behind it; what it has handled since its last restart; whether
+-- its device failed; and histories that only grow, the newest first: the life list, which has every record
+-- once as it was appended; every record that was ever in the forced front; the transactions begun; the
+-- tickets that each case accepted; the first vote of each; what was told; and the transactions that a restart
+-- found undecided.
 pub record Node : Type 0 where
   pub forced : List Record
   pub unforced : List Record
@@ -114,7 +115,19 @@ kept n = n.forced ++ n.unforced
 
 -- a process whose log was empty, as it opens
 abbrev pub opened_node : Node
-opened_node = record { forced = Opened 1 ∷ []; unforced = []; heard = []; failed = false; life = Opened 1 ∷ []; durable = Opened 1 ∷ []; begun = []; accepted = []; voted = []; told = []; found_undecided = [] }
+opened_node = record {
+  forced = Opened 1 ∷ [];
+  unforced = [];
+  heard = [];
+  failed = false;
+  life = Opened 1 ∷ [];
+  durable = Opened 1 ∷ [];
+  begun = [];
+  accepted = [];
+  voted = [];
+  told = [];
+  found_undecided = [];
+}
 
 -- What a step does.
 
@@ -136,7 +149,15 @@ pub record Effect : Type 0 where
 
 -- nothing is done
 abbrev pub no_effect : Effect
-no_effect = record { begun = None; written = []; told = None; messages = []; accepts = []; counts = []; remains = None }
+no_effect = record {
+  begun = None;
+  written = [];
+  told = None;
+  messages = [];
+  accepts = [];
+  counts = [];
+  remains = None;
+}
 
 -- the records, without their force
 abbrev pub entries_written : List Written → List Record
@@ -162,14 +183,25 @@ logged_of w = record { kind = kind_of w.entry; subject = subject_of w.entry; for
 
 -- how an entry of the journal shows an effect
 abbrev pub reaction_of : Effect → Reaction
-reaction_of e = record { begun = e.begun; written = map logged_of e.written; told = e.told; messages = e.messages; kept = e.remains }
+reaction_of e = record {
+  begun = e.begun;
+  written = map logged_of e.written;
+  told = e.told;
+  messages = e.messages;
+  kept = e.remains;
+}
 
 -- A process after an event that appended these records. One force makes the whole log the forced front.
 abbrev pub appends : Node → List Written → Node
 appends n ws =
     let new = entries_written ws in
     if is_any_forced ws
-    then record n { forced = kept n ++ new; unforced = []; life = reverse new ++ n.life; durable = new ++ (kept n ++ n.durable) }
+    then record n {
+      forced = kept n ++ new;
+      unforced = [];
+      life = reverse new ++ n.life;
+      durable = new ++ (kept n ++ n.durable);
+    }
     else record n { unforced = n.unforced ++ new; life = reverse new ++ n.life }
 
 -- a process after an input that it handled
@@ -202,4 +234,9 @@ fails_with n new appended forced =
 abbrev pub fails_in : Node → Heard → Effect → ℕ → ℕ → Node
 fails_in n h e appended forced =
     let failed = fails_with n (entries_written e.written) appended forced in
-    record failed { heard = n.heard ++ h ∷ []; begun = begun_first e.begun n.begun; accepted = e.accepts ++ n.accepted; voted = e.counts ++ n.voted }
+    record failed {
+      heard = n.heard ++ h ∷ [];
+      begun = begun_first e.begun n.begun;
+      accepted = e.accepts ++ n.accepted;
+      voted = e.counts ++ n.voted;
+    }

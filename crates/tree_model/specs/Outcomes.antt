@@ -59,7 +59,8 @@ is_outcome_message AbortedOutcome c _ = false
 abbrev pub has_accepted : Node → Case → Ticket → Bool
 has_accepted n c t = list_any (λ a. same_case a.0 c && same_ticket a.1 t) n.accepted
 
--- the first vote of the ticket that the case has heard, at some step of the run; the list has the newest first
+-- the first vote of the ticket that the case has heard, at some step of the run; the list has the newest
+-- first
 abbrev pub vote_in : Case × (Ticket × Vote) → Case → Ticket → Option Vote → Option Vote
 vote_in a c t (Some v) = Some v
 vote_in a c t None = if same_case a.0 c && same_ticket a.1.0 t then Some a.1.1 else None
@@ -73,7 +74,8 @@ first_vote (a ∷ as') c t = vote_in a c t (first_vote as' c t)
 abbrev pub has_heard_vote : Node → Case → Ticket → (Vote → Bool) → Bool
 has_heard_vote n c t q = list_any (λ a. same_case a.0 c && (same_ticket a.1.0 t && q a.1.1)) n.voted
 
--- a record that passes the first test was appended after one that passes the second; the list has the newest first
+-- a record that passes the first test was appended after one that passes the second; the list has the newest
+-- first
 abbrev pub follows : (Record → Bool) → (Record → Bool) → List Record → Bool
 follows q r [] = false
 follows q r (x ∷ xs) = (q x && has r xs) || follows q r xs
@@ -91,7 +93,8 @@ outcome_of w x = if is_commit_outcome w x then CommittedOutcome else AbortedOutc
 -- a ticket takes part: the root's case accepted it, or the case of a ticket that takes part
 pub data TakesPart (w : World) (x : Txn) : Ticket → Type 0 where
   at_root : (t : Ticket) → has_accepted (w.at x.root) (root_case x) t ≡ true → TakesPart w x t
-  below : (u t : Ticket) → TakesPart w x u → has_accepted (w.at u.child) (child_case x u) t ≡ true → TakesPart w x t
+  below : (u t : Ticket) → TakesPart w x u → has_accepted (w.at u.child) (child_case x u) t ≡ true
+      → TakesPart w x t
 
 -- the conclusion is `aborted`
 abbrev pub is_aborted : Conclusion → Bool
@@ -102,12 +105,13 @@ is_aborted _ = false
 abbrev pub is_told_aborted : Txn → Told → Bool
 is_told_aborted x t = same_txn t.txn x && is_aborted t.conclusion
 
--- the root ends a transaction: by a commit that was in its forced front; by an Abort record, by telling `aborted`, or
--- by a restart that finds it undecided
+-- the root ends a transaction: by a commit that was in its forced front; by an Abort record, by telling
+-- `aborted`, or by a restart that finds it undecided
 abbrev pub root_ends : Node → Txn → Outcome → Bool
 root_ends n x CommittedOutcome = has (is_commit (root_case x)) n.durable
 root_ends n x AbortedOutcome =
-    has (is_abort (root_case x)) n.life || list_any (is_told_aborted x) n.told || list_any (λ y. same_txn y x) n.found_undecided
+    has (is_abort (root_case x)) n.life || list_any (is_told_aborted x) n.told
+    || list_any (λ y. same_txn y x) n.found_undecided
 
 -- a cascaded coordinator ends a transaction by its decision after its promise
 abbrev pub cascaded_ends : Node → Case → Outcome → Bool
@@ -122,7 +126,8 @@ manager_ends n c AbortedOutcome = follows (is_rolled_back c) (is_prepared c) n.l
 -- a manager's ticket that takes part and is active no longer, without a promise and without the vote READ
 pub record DiesUnprepared (tree : List TreeEntry) (w : World) (x : Txn) (t : Ticket) : Type 0 where
   pub takes_part : TakesPart w x t
-  pub is_active_no_longer : (manager_view (place_of tree t.child) (w.at t.child) (child_case x t)).standing ≢ Active
+  pub is_active_no_longer : (manager_view (place_of tree t.child) (w.at t.child) (child_case x t)).standing ≢
+      Active
   pub never_promised : has (is_prepared (child_case x t)) (w.at t.child).life ≡ false
   pub never_read : sent (is_read_message (child_case x t)) w.net ≡ false
 
@@ -130,9 +135,11 @@ pub record DiesUnprepared (tree : List TreeEntry) (w : World) (x : Txn) (t : Tic
 abbrev pub EndsIn : Role → List TreeEntry → World → Txn → Ticket → Outcome → Type 0
 EndsIn AtRoot tree w x t o = ⊥
 EndsIn (Below p) tree w x t o = cascaded_ends (w.at t.child) (child_case x t) o ≡ true
-EndsIn (AtLeaf p) tree w x t o = (manager_ends (w.at t.child) (child_case x t) o ≡ true) ⊎ ((o ≡ AbortedOutcome) × DiesUnprepared tree w x t)
+EndsIn (AtLeaf p) tree w x t o = (manager_ends (w.at t.child) (child_case x t) o ≡ true)
+    ⊎ ((o ≡ AbortedOutcome) × DiesUnprepared tree w x t)
 
--- the process of the ticket ends the transaction by the outcome. `readonly`, heuristic records and Told are no ends.
+-- the process of the ticket ends the transaction by the outcome. `readonly`, heuristic records and Told are
+-- no ends.
 abbrev pub Ends : List TreeEntry → World → Txn → Ticket → Outcome → Type 0
 Ends tree w x t o = EndsIn (role_of tree t.child) tree w x t o
 
@@ -144,7 +151,8 @@ has_promised c r = is_prepare c r || is_prepared c r || is_heuristic c r
 
 -- a Commit, Abort, Committed, RolledBack, Told or Forgot record of the case
 abbrev pub has_concluded : Case → Record → Bool
-has_concluded c r = is_commit c r || is_abort c r || is_committed c r || is_rolled_back c r || is_told c r || is_forgot c r
+has_concluded c r = is_commit c r || is_abort c r || is_committed c r || is_rolled_back c r || is_told c r
+    || is_forgot c r
 
 -- the case has promised, or was decided by an operator, and no outcome has reached it
 pub record InDoubt (n : Node) (c : Case) : Type 0 where
@@ -155,7 +163,8 @@ pub record InDoubt (n : Node) (c : Case) : Type 0 where
 
 -- no two ends of one transaction differ: each is its outcome
 pub record Agreement (tree : List TreeEntry) (w : World) : Type 0 where
-  pub root_agrees : (x : Txn) (o : Outcome) → role_of tree x.root ≡ AtRoot → root_ends (w.at x.root) x o ≡ true → o ≡ outcome_of w x
+  pub root_agrees : (x : Txn) (o : Outcome) → role_of tree x.root ≡ AtRoot
+      → root_ends (w.at x.root) x o ≡ true → o ≡ outcome_of w x
   pub others_agree : (x : Txn) (t : Ticket) (o : Outcome) → Ends tree w x t o → o ≡ outcome_of w x
 
 -- the vote YES or READ
@@ -167,7 +176,8 @@ is_consent _ = false
 -- the case that accepted the ticket: the root's, or that of the ticket above
 pub data IsAcceptor (w : World) (x : Txn) (t : Ticket) : Case → Type 0 where
   by_root : has_accepted (w.at x.root) (root_case x) t ≡ true → IsAcceptor w x t (root_case x)
-  by_ticket : (u : Ticket) → has_accepted (w.at u.child) (child_case x u) t ≡ true → IsAcceptor w x t (child_case x u)
+  by_ticket : (u : Ticket) → has_accepted (w.at u.child) (child_case x u) t ≡ true
+      → IsAcceptor w x t (child_case x u)
 
 -- there is a vote, and it is YES or READ
 abbrev pub consents : Option Vote → Bool
@@ -176,26 +186,31 @@ consents (Some v) = is_consent v
 
 -- the promise of the case stands in the forced front of its process, where the moves have left it
 abbrev pub promise_is_forced : List TreeEntry → List Made → Case → Bool
-promise_is_forced tree es c = has (is_prepared c) (node_by (place_of tree (process_of c)) (made_by (process_of c) es)).forced
+promise_is_forced tree es c = has (is_prepared c)
+    (node_by (place_of tree (process_of c)) (made_by (process_of c) es)).forced
 
 -- each manager's YES, a repeated one too, was sent with its Prepared in the forced front, move by move
 abbrev pub YesIsForced : List TreeEntry → List Made → Type 0
 YesIsForced tree [] = Unit {0}
 YesIsForced tree (e ∷ es) =
-    ((c : Case) (p : ProcessId) → role_of tree (process_of c) ≡ AtLeaf p → sent (is_yes_message c) e.effect.messages ≡ true
+    ((c : Case) (p : ProcessId) → role_of tree (process_of c) ≡ AtLeaf p
+    → sent (is_yes_message c) e.effect.messages ≡ true
     → promise_is_forced tree (e ∷ es) c ≡ true)
     × YesIsForced tree es
 
--- commit is decided only where the first vote heard of every participant was yes or read-only, and a manager says yes
--- behind its forced promise
+-- commit is decided only where the first vote heard of every participant was yes or read-only, and a manager
+-- says yes behind its forced promise
 pub record CommitRule (tree : List TreeEntry) (es : List Made) (w : World) : Type 0 where
-  pub all_consented : (x : Txn) (t : Ticket) (c : Case) → is_commit_outcome w x ≡ true → TakesPart w x t → IsAcceptor w x t c
+  pub all_consented : (x : Txn) (t : Ticket) (c : Case) → is_commit_outcome w x ≡ true → TakesPart w x t
+      → IsAcceptor w x t c
       → consents (first_vote (w.at (process_of c)).voted c t) ≡ true
   pub yes_is_forced : YesIsForced tree es
 
--- each COMMIT and each ABORT that finds its case in doubt tells the outcome, in this world and in every later one
+-- each COMMIT and each ABORT that finds its case in doubt tells the outcome, in this world and in every later
+-- one
 pub record TrueAnswers (tree : List TreeEntry) (w : World) : Type 0 where
-  pub tells_outcome : (x : Txn) (t : Ticket) (o : Outcome) → sent (is_outcome_message o (child_case x t)) w.net ≡ true
+  pub tells_outcome : (x : Txn) (t : Ticket) (o : Outcome)
+      → sent (is_outcome_message o (child_case x t)) w.net ≡ true
       → InDoubt (w.at t.child) (child_case x t)
       → (es : List Made) (later : World) → Continues tree w es later → o ≡ outcome_of later x
 
@@ -204,7 +219,8 @@ pub record Mismatch (w : World) (c : Case) (o : Outcome) : Type 0 where
   pub decided : has (is_decided c o) (w.at (process_of c)).durable ≡ true
   pub differs : o ≢ outcome_of w c.txn
 
--- a record that passes the first test stands in the list, the oldest first, with none behind it that passes the second
+-- a record that passes the first test stands in the list, the oldest first, with none behind it that passes
+-- the second
 unfoldable pub has_last : (Record → Bool) → (Record → Bool) → List Record → Bool
 has_last q r [] = false
 has_last q r (x ∷ xs) = (q x && not (has r xs)) || has_last q r xs
@@ -214,15 +230,16 @@ pub record DecisionStands (n : Node) (c : Case) (o : Outcome) : Type 0 where
   pub is_forced : has (is_decided c o) n.forced ≡ true
   pub not_forgotten : has_last (is_decided c o) (is_forgot c) (kept n) ≡ true
 
--- an operator's decision that was ever in the forced front stands until a Forgot of its case was appended; so each
--- mismatch stands until then
+-- an operator's decision that was ever in the forced front stands until a Forgot of its case was appended; so
+-- each mismatch stands until then
 pub record StandingMismatches (tree : List TreeEntry) (w : World) : Type 0 where
   pub decisions_stand : (c : Case) (o : Outcome) → has (is_decided c o) (w.at (process_of c)).durable ≡ true
       → DecisionStands (w.at (process_of c)) c o ⊎ (has (is_forgot c) (w.at (process_of c)).life ≡ true)
   pub mismatches_stand : (c : Case) (o : Outcome) → Mismatch w c o
       → DecisionStands (w.at (process_of c)) c o ⊎ (has (is_forgot c) (w.at (process_of c)).life ≡ true)
 
--- a step that appends an operator's record, also where its device failed, handles the act that asks for just that
+-- a step that appends an operator's record, also where its device failed, handles the act that asks for just
+-- that
 pub record ByOperator (e : Made) : Type 0 where
   pub decided : (c : Case) (o : Outcome) → list_any (λ w. is_decided c o w.entry) e.effect.written ≡ true
       → e.move.step.happening ≡ Handles (ActInput (Decide c o))

@@ -1,5 +1,6 @@
--- A list of events as moves, where each manager is a plain leaf: it locks nothing, does all work that comes in order,
--- and votes YES if one of its works was a put or a del. Restarts name the number of records that stay.
+-- A list of events as moves, where each manager is a plain leaf: it locks nothing, does all work that comes
+-- in order, and votes YES if one of its works was a put or a del. Restarts name the number of records that
+-- stay.
 use Rattle.std.specs.Prelude.{◌+◌, ◌==◌, ℕ, zero, suc, Bool, true, ◌&&◌, if◌then◌else◌, Option, Some, None, List, [], ◌∷◌, ◌++◌, fold, length, slice_get}
 use Rattle.std.specs.List.{list_any}
 use Rattle.tree_model.specs.declared.names.Case.{Case}
@@ -35,7 +36,8 @@ pub record Worked : Type 0 where
 -- the writes with one more: it takes the place of its key's write, or comes last
 abbrev pub with_write : List Write → List ℕ → Option (List ℕ) → List Write
 with_write [] k v = record { key = k; value = v } ∷ []
-with_write (w ∷ ws) k v = if same_bytes w.key k then record { key = k; value = v } ∷ ws else w ∷ with_write ws k v
+with_write (w ∷ ws) k v =
+    if same_bytes w.key k then record { key = k; value = v } ∷ ws else w ∷ with_write ws k v
 
 -- the writes after an operation; a get writes nothing
 abbrev pub op_writes : List Write → Op → List Write
@@ -107,7 +109,10 @@ process_of_act root (Forget c) = process_of c
 
 -- a move in which no device fails
 abbrev pub move_of : ProcessId → Happening → DataAnswer → Move
-move_of q happening a = record { step = record { process = q; happening = happening; fault = None }; data_answer = a }
+move_of q happening a = record {
+  step = record { process = q; happening = happening; fault = None };
+  data_answer = a;
+}
 
 -- the player after a move, with what is delivered now; a refusal stops the run
 abbrev pub played : Player → Move → List ℕ → Stepped → Played
@@ -123,11 +128,13 @@ played p m delivered (Makes e n) =
 abbrev pub plays_move : List TreeEntry → Player → Move → List ℕ → Played
 plays_move tree p m delivered =
     let q = m.step.process in
-    if is_listed tree q then played p m delivered (node_makes (place_of tree q) (p.world.at q) m) else Stops NoSuch p
+    if is_listed tree q then played p m delivered (node_makes (place_of tree q) (p.world.at q) m)
+    else Stops NoSuch p
 
 -- an input at this process, where each manager is a plain leaf
 abbrev pub plays_input : List TreeEntry → Player → ProcessId → Input → List ℕ → Played
-plays_input tree p q i delivered = plays_move tree p (move_of q (Handles i) (plain_answer (p.world.at q) i)) delivered
+plays_input tree p q i delivered = plays_move tree p
+    (move_of q (Handles i) (plain_answer (p.world.at q) i)) delivered
 
 -- the message with this number comes to its receiver; where there is none, the run stops
 abbrev pub delivers : List TreeEntry → Player → ℕ → Option Envelope → Played
@@ -160,15 +167,18 @@ settle_next again tree p (Some k) = then_again (delivers tree p k (sent_as p.wor
 -- delivers the least numbered message not delivered yet, at most so many times
 abbrev pub settles : ℕ → List TreeEntry → Player → Played
 settles zero tree p = Goes p
-settles (suc fuel) tree p = settle_next (settles fuel tree) tree p (least_open p.delivered 1 (length p.world.net))
+settles (suc fuel) tree p = settle_next (settles fuel tree) tree p
+    (least_open p.delivered 1 (length p.world.net))
 
 -- one event
 abbrev pub plays : List TreeEntry → ProcessId → Player → Play → Played
 plays tree root p (Acts a) = plays_input tree p (process_of_act root a) (ActInput a) p.delivered
 plays tree root p (Delivers k) = delivers tree p k (sent_as p.world.net k)
 plays tree root p Settles = settles 10000 tree p
-plays tree root p (Restarts q k) = plays_move tree p (move_of q (Restart k) (record { starts = true; does = true; holding = ReadsOnly })) p.delivered
-plays tree root p (Trims q) = plays_move tree p (move_of q Trim (record { starts = true; does = true; holding = ReadsOnly })) p.delivered
+plays tree root p (Restarts q k) = plays_move tree p
+    (move_of q (Restart k) (record { starts = true; does = true; holding = ReadsOnly })) p.delivered
+plays tree root p (Trims q) = plays_move tree p
+    (move_of q Trim (record { starts = true; does = true; holding = ReadsOnly })) p.delivered
 
 -- one event more, unless the run has stopped
 abbrev pub plays_on : List TreeEntry → ProcessId → Played → Play → Played

@@ -1,6 +1,6 @@
--- What a process does with an input: an effect, or a refusal after which nothing has changed.
--- The refusals come in this order: no such process (9), the process has failed (6), no such case here (3), the case is
--- not in doubt (7) or has nothing to forget (8), it is closed (5), the child cannot take it (4).
+-- What a process does with an input: an effect, or a refusal after which nothing has changed. The refusals
+-- come in this order: no such process (9), the process has failed (6), no such case here (3), the case is not
+-- in doubt (7) or has nothing to forget (8), it is closed (5), the child cannot take it (4).
 use Rattle.std.specs.Prelude.{Bool, true, false, not, ◌&&◌, if◌then◌else◌, Option, Some, None, List, [], ◌∷◌, map}
 use Rattle.tree_model.specs.declared.names.Case.{Case}
 use Rattle.tree_model.specs.declared.names.ProcessId.{ProcessId}
@@ -61,11 +61,27 @@ row_effect c r =
 
 -- the effect of a manager's row
 abbrev pub leaf_effect : LeafRow → Effect
-leaf_effect r = record { begun = None; written = r.written; told = None; messages = r.messages; accepts = []; counts = []; remains = None }
+leaf_effect r = record {
+  begun = None;
+  written = r.written;
+  told = None;
+  messages = r.messages;
+  accepts = [];
+  counts = [];
+  remains = None;
+}
 
 -- these messages, and nothing else
 abbrev pub sends_only : List Envelope → Effect
-sends_only ls = record { begun = None; written = []; told = None; messages = ls; accepts = []; counts = []; remains = None }
+sends_only ls = record {
+  begun = None;
+  written = [];
+  told = None;
+  messages = ls;
+  accepts = [];
+  counts = [];
+  remains = None;
+}
 
 -- A coordinator.
 
@@ -84,7 +100,15 @@ seat_of place parent c = record { me = place.me; parent = parent; own = c }
 abbrev pub acts_begin : Place → Node → Presumption → Reacts
 acts_begin place n p =
     let c = root_case (next_txn place.me (boot_of (kept n)) (memory_of place n (some_case place)) p) in
-    Does (record { begun = Some c.txn; written = []; told = None; messages = []; accepts = []; counts = []; remains = None })
+    Does (record {
+      begun = Some c.txn;
+      written = [];
+      told = None;
+      messages = [];
+      accepts = [];
+      counts = [];
+      remains = None;
+    })
 
 -- transactions are begun at the root alone
 abbrev pub begins_at : Option ProcessId → Place → Node → Presumption → Reacts
@@ -94,14 +118,16 @@ begins_at (Some q) place n p = Refused NoSuch
 -- join: the case is Active, and the process is a child of this one
 abbrev pub join_by : Seat → List TreeEntry → ProcessId → CoordinatorView → Standing → Reacts
 join_by s tree q v Unknown = Refused UnknownTxn
-join_by s tree q v Active = if is_child tree q s.me then Does (row_effect s.own (active_join s q v)) else Refused NotAChild
+join_by s tree q v Active =
+    if is_child tree q s.me then Does (row_effect s.own (active_join s q v)) else Refused NotAChild
 join_by s tree q v _ = Refused Closed
 
 -- an accepted child that is a manager takes work
 abbrev pub work_for : Seat → List TreeEntry → Op → CoordinatorView → Option Ticket → Reacts
 work_for s tree op v None = Refused NotAChild
 work_for s tree op v (Some t) =
-    if is_leaf (role_of tree t.child) then Does (row_effect s.own (active_work s t op v)) else Refused NotAChild
+    if is_leaf (role_of tree t.child) then Does (row_effect s.own (active_work s t op v))
+    else Refused NotAChild
 
 -- work: the case is Active, and the process is an accepted child of it, and a manager
 abbrev pub work_by : Seat → List TreeEntry → ProcessId → Op → CoordinatorView → Standing → Reacts
@@ -141,9 +167,11 @@ coordinator_acts place parent n (JoinAct c q) =
 coordinator_acts place parent n (WorkAct c q op) =
     let v = coordinator_view place n c in work_by (seat_of place parent c) place.tree q op v v.standing
 coordinator_acts place parent n (CommitAct x) =
-    let v = coordinator_view place n (root_case x) in commit_by (seat_of place parent (root_case x)) v v.standing
+    let v = coordinator_view place n (root_case x) in
+    commit_by (seat_of place parent (root_case x)) v v.standing
 coordinator_acts place parent n (AbortAct x) =
-    let v = coordinator_view place n (root_case x) in abort_by (seat_of place parent (root_case x)) v v.standing
+    let v = coordinator_view place n (root_case x) in
+    abort_by (seat_of place parent (root_case x)) v v.standing
 coordinator_acts place parent n (Ask c) =
     let v = coordinator_view place n c in ask_by (seat_of place parent c) v v.standing
 coordinator_acts place parent n (Decide c o) = live_by NotInDoubt (coordinator_view place n c).standing
@@ -178,11 +206,16 @@ child_says d f = of_ticket d.ticket no_effect f
 abbrev pub hears_from_child : Place → Option ProcessId → Node → Message → Effect
 hears_from_child place parent n (Joined d t) =
     let v = coordinator_view place n d in row_effect d (on_joined t v v.standing)
-hears_from_child place parent n (Yes d) = child_says d (λ t. vote_for place parent n t VoteYes (case_of_child place n d.txn t))
-hears_from_child place parent n (No d) = child_says d (λ t. vote_for place parent n t VoteNo (case_of_child place n d.txn t))
-hears_from_child place parent n (Read d) = child_says d (λ t. vote_for place parent n t VoteRead (case_of_child place n d.txn t))
-hears_from_child place parent n (Ack d o) = child_says d (λ t. ack_for place parent n t o (case_of_child place n d.txn t))
-hears_from_child place parent n (Inquire d) = child_says d (λ t. inquiry_for place parent n d.txn t (case_of_child place n d.txn t))
+hears_from_child place parent n (Yes d) = child_says d
+    (λ t. vote_for place parent n t VoteYes (case_of_child place n d.txn t))
+hears_from_child place parent n (No d) = child_says d
+    (λ t. vote_for place parent n t VoteNo (case_of_child place n d.txn t))
+hears_from_child place parent n (Read d) = child_says d
+    (λ t. vote_for place parent n t VoteRead (case_of_child place n d.txn t))
+hears_from_child place parent n (Ack d o) = child_says d
+    (λ t. ack_for place parent n t o (case_of_child place n d.txn t))
+hears_from_child place parent n (Inquire d) =
+    child_says d (λ t. inquiry_for place parent n d.txn t (case_of_child place n d.txn t))
 hears_from_child place parent n _ = no_effect
 
 -- Messages of the parent.
@@ -190,7 +223,8 @@ hears_from_child place parent n _ = no_effect
 -- JOIN is answered by the active ticket of that case of the parent, else by a fresh one
 abbrev pub joins_with : Place → ProcessId → Node → Case → Memory → Option Ticket → Effect
 joins_with place p n d m (Some t) = sends_only (post place.me p (Joined d t) ∷ [])
-joins_with place p n d m None = sends_only (post place.me p (Joined d (next_ticket place.me (boot_of (kept n)) m)) ∷ [])
+joins_with place p n d m None = sends_only (post place.me p
+    (Joined d (next_ticket place.me (boot_of (kept n)) m)) ∷ [])
 
 -- the messages at a coordinator below the root: its parent's, then its children's
 abbrev pub cascaded_hears : Place → ProcessId → Node → Message → Effect
@@ -247,7 +281,8 @@ manager_acts place p n (JoinAct c q) = childless_by (manager_view place n c).sta
 manager_acts place p n (WorkAct c q op) = childless_by (manager_view place n c).standing
 manager_acts place p n (CommitAct x) = Refused UnknownTxn
 manager_acts place p n (AbortAct x) = Refused UnknownTxn
-manager_acts place p n (Ask c) = let v = manager_view place n c in leaf_ask_by (leaf_of place p c) v v.standing
+manager_acts place p n (Ask c) = let v = manager_view place n c in
+    leaf_ask_by (leaf_of place p c) v v.standing
 manager_acts place p n (Decide c o) = decide_by (leaf_of place p c) o (manager_view place n c).standing
 manager_acts place p n (Forget c) = forget_by (leaf_of place p c) (manager_view place n c).standing
 
@@ -264,7 +299,8 @@ manager_hears place p n a (Join d) =
 manager_hears place p n a (Work d i op) =
     let v = manager_view place n d in leaf_effect (leaf.on_work i a.does v v.standing)
 manager_hears place p n a (Prepare d k) =
-    let v = manager_view place n d in leaf_effect (leaf.on_prepare (leaf_of place p d) k a.holding v v.standing)
+    let v = manager_view place n d in leaf_effect
+    (leaf.on_prepare (leaf_of place p d) k a.holding v v.standing)
 manager_hears place p n a (Commit d) =
     let v = manager_view place n d in leaf_effect (leaf.on_commit (leaf_of place p d) v v.standing)
 manager_hears place p n a (Abort d) =
@@ -298,7 +334,8 @@ is_prepared_case place n (Some c) = is_prepared_standing (coordinator_view place
 
 -- an acknowledgement that comes while its case is Prepared
 abbrev pub is_early_ack : Place → Node → Message → Bool
-is_early_ack place n (Ack d o) = of_ticket d.ticket false (λ t. is_prepared_case place n (case_of_child place n d.txn t))
+is_early_ack place n (Ack d o) = of_ticket d.ticket false
+    (λ t. is_prepared_case place n (case_of_child place n d.txn t))
 is_early_ack place n _ = false
 
 -- such an acknowledgement does nothing, at a coordinator with a parent: a root is never Prepared
@@ -313,7 +350,8 @@ is_passed_over place n i = passes_at place.role place n i
 -- a failed process refuses each input; else acts may be refused, and messages never are
 abbrev pub handles : Place → Node → Heard → Input → Reacts
 handles place n h (ActInput a) = if n.failed then Refused Failed else acts place.role place n a
-handles place n h (MessageInput k m) = if n.failed then Refused Failed else Does (hears place.role place n h.data_answer m)
+handles place n h (MessageInput k m) =
+    if n.failed then Refused Failed else Does (hears place.role place n h.data_answer m)
 
 -- the child that an act names is listed; a message names none
 abbrev pub act_is_listed : List TreeEntry → Input → Bool

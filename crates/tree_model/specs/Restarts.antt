@@ -112,11 +112,12 @@ restart_effect place n k =
 abbrev pub is_concluded : List Told → Txn → Bool
 is_concluded ts x = list_any (λ t. same_txn t.txn x) ts
 
--- the transaction is undecided where these records are left: it was not concluded for the application, no Commit of it
--- was ever in the forced front, and none is left
+-- the transaction is undecided where these records are left: it was not concluded for the application, no
+-- Commit of it was ever in the forced front, and none is left
 abbrev pub is_undecided : Node → List Record → Txn → Bool
 is_undecided n left x =
-    not (is_concluded n.told x) && (not (has (is_commit (root_case x)) n.durable) && not (has (is_commit (root_case x)) left))
+    not (is_concluded n.told x) && (not (has (is_commit (root_case x)) n.durable)
+    && not (has (is_commit (root_case x)) left))
 
 -- the transactions, of all that the root ever began, that a restart finds undecided
 abbrev pub undecided_at : Role → Node → List Record → List Txn
@@ -181,27 +182,42 @@ stays _ rs behind r = case_stays rs (record_case r)
 -- the records of a log, or of an end of it, that stay
 abbrev pub staying : Role → List Record → List Record → List Record
 staying role rs [] = []
-staying role rs (r ∷ behind) = if stays role rs behind r then r ∷ staying role rs behind else staying role rs behind
+staying role rs (r ∷ behind) =
+    if stays role rs behind r then r ∷ staying role rs behind else staying role rs behind
 
 -- a manager's data as a trim writes them; a coordinator has none
 abbrev pub data_records : Role → List Record → List Record
 data_records (AtLeaf p) rs = base_records (stored rs)
 data_records _ rs = []
 
--- the log that a trim leaves: the last Opened, the records of the cases that are not forgotten, and a manager's data
+-- the log that a trim leaves: the last Opened, the records of the cases that are not forgotten, and a
+-- manager's data
 unfoldable pub trimmed : Role → List Record → List Record
 trimmed role rs = (Opened (boot_of rs) ∷ staying role rs rs) ++ data_records role rs
 
 -- what a trim does: nothing is sent or told, and so many records remain
 abbrev pub trim_effect : Place → Node → Effect
 trim_effect place n =
-    record { begun = None; written = []; told = None; messages = []; accepts = []; counts = []; remains = Some (length (trimmed place.role (kept n))) }
+    record {
+      begun = None;
+      written = [];
+      told = None;
+      messages = [];
+      accepts = [];
+      counts = [];
+      remains = Some (length (trimmed place.role (kept n)));
+    }
 
 -- one atomic, forced replacement; nothing but the data's records is new in it
 abbrev pub trims : Place → Node → Node
 trims place n =
     let new = trimmed place.role (kept n) in
-    record n { forced = new; unforced = []; life = reverse (data_records place.role (kept n)) ++ n.life; durable = new ++ n.durable }
+    record n {
+      forced = new;
+      unforced = [];
+      life = reverse (data_records place.role (kept n)) ++ n.life;
+      durable = new ++ n.durable;
+    }
 
 -- a trim whose device failed leaves the old log or the new one
 abbrev pub trim_fails : Place → Node → ℕ → Node

@@ -37,12 +37,15 @@ Runs w = played_lines (plays_all w.tree (process 1) w.events) ≡ w.lines
 
 -- root 1 with managers 2 and 3
 abbrev pub tree_a : List TreeEntry
-tree_a = listed 1 Coordinator None ∷ listed 2 Manager (Some (process 1)) ∷ listed 3 Manager (Some (process 1)) ∷ []
+tree_a = listed 1 Coordinator None ∷ listed 2 Manager (Some (process 1)) ∷ listed 3 Manager (Some (process 1))
+    ∷ []
 
 -- root 1, coordinator 2 under it, manager 3 under 2
 abbrev pub tree_b : List TreeEntry
-tree_b = listed 1 Coordinator None ∷ listed 2 Coordinator (Some (process 1)) ∷ listed 3 Manager (Some (process 2)) ∷ []
+tree_b = listed 1 Coordinator None ∷ listed 2 Coordinator (Some (process 1))
+    ∷ listed 3 Manager (Some (process 2)) ∷ []
 
 -- the same with manager 4 under the root
 abbrev pub tree_c : List TreeEntry
-tree_c = listed 1 Coordinator None ∷ listed 2 Coordinator (Some (process 1)) ∷ listed 3 Manager (Some (process 2)) ∷ listed 4 Manager (Some (process 1)) ∷ []
+tree_c = listed 1 Coordinator None ∷ listed 2 Coordinator (Some (process 1))
+    ∷ listed 3 Manager (Some (process 2)) ∷ listed 4 Manager (Some (process 1)) ∷ []

@@ -1,4 +1,5 @@
--- Where a case stands at a process, and the process's view of it: read off its kept records and the heard inputs.
+-- Where a case stands at a process, and the process's view of it: read off its kept records and the heard
+-- inputs.
 use Rattle.std.specs.Prelude.{ℕ, Bool, true, false, not, ◌||◌, if◌then◌else◌, Option, Some, None, List, [], ◌∷◌, ◌++◌, filter, find, fold}
 use Rattle.tree_model.specs.declared.names.Case.{Case}
 use Rattle.tree_model.specs.declared.names.Ticket.{Ticket}
@@ -21,8 +22,8 @@ use Rattle.tree_model.specs.Memory.{Memory, Phase, Open, Asked, memory_of, has_a
 
 -- A coordinator.
 
--- Its standing; the accepted tickets, their first votes, a ticket for each work sent; the tickets that its Prepare
--- record names, those that any of its records names, and those that still owe an acknowledgement.
+-- Its standing; the accepted tickets, their first votes, a ticket for each work sent; the tickets that its
+-- Prepare record names, those that any of its records names, and those that still owe an acknowledgement.
 pub record CoordinatorView : Type 0 where
   pub standing : Standing
   pub accepted : List Ticket
@@ -34,7 +35,15 @@ pub record CoordinatorView : Type 0 where
 
 -- the view of a case of which nothing is known
 abbrev pub unknown_view : CoordinatorView
-unknown_view = record { standing = Unknown; accepted = []; votes = []; works = []; promised = []; named = []; owed = [] }
+unknown_view = record {
+  standing = Unknown;
+  accepted = [];
+  votes = [];
+  works = [];
+  promised = [];
+  named = [];
+  owed = [];
+}
 
 -- the standing of a decided case, but Unknown where the decision names nobody
 abbrev pub unless_none : Bool → Standing → Standing
@@ -47,7 +56,8 @@ phase_standing p Open = Active
 phase_standing PresumeAbort Asked = Collecting
 phase_standing _ _ = Unknown
 
--- by the records End, Commit, Abort, Prepare, Collecting, whether the decision names nobody, and what was heard
+-- by the records End, Commit, Abort, Prepare, Collecting, whether the decision names nobody, and what was
+-- heard
 abbrev pub standing_by : Bool → Bool → Bool → Bool → Bool → Bool → Standing → Standing
 standing_by true _ _ _ _ none heard = Unknown
 standing_by false true _ _ _ none heard = unless_none none Committing
@@ -59,7 +69,8 @@ standing_by false false false false false none heard = heard
 -- where the case stands, by these records and this memory
 abbrev pub coordinator_standing : List Record → Case → Memory → Standing
 coordinator_standing rs c m =
-    standing_by (has (is_end c) rs) (has (is_commit c) rs) (has (is_abort c) rs) (has (is_prepare c) rs) (has (is_collecting c) rs) (none_of (owing_by c rs)) (phase_standing c.txn.presumption m.phase)
+    standing_by (has (is_end c) rs) (has (is_commit c) rs) (has (is_abort c) rs) (has (is_prepare c) rs)
+    (has (is_collecting c) rs) (none_of (owing_by c rs)) (phase_standing c.txn.presumption m.phase)
 
 -- the outcome by which a case that waits for acknowledgements was decided
 abbrev pub decided_outcome : Standing → Outcome
@@ -102,13 +113,22 @@ belongs m rs c t = in_list m.accepted t || in_list (named_by c rs) t
 
 -- any case of the process: what it remembers of itself is the same in each
 abbrev pub some_case : Place → Case
-some_case place = record { txn = record { root = place.me; boot = 0; sequence = 0; presumption = PresumeAbort }; ticket = None }
+some_case place = record {
+  txn = record {
+    root = place.me;
+    boot = 0;
+    sequence = 0;
+    presumption = PresumeAbort;
+  };
+  ticket = None;
+}
 
--- the cases of the transaction that may have children: at the root its own; below it the recorded ones, then those
--- issued in this boot
+-- the cases of the transaction that may have children: at the root its own; below it the recorded ones, then
+-- those issued in this boot
 abbrev pub own_cases : Role → Place → Node → Txn → List Case
 own_cases AtRoot place n x = root_case x ∷ []
-own_cases _ place n x = filter (λ c. same_txn c.txn x) (cases_in (kept n) ++ (memory_of place n (some_case place)).issued)
+own_cases _ place n x = filter (λ c. same_txn c.txn x)
+    (cases_in (kept n) ++ (memory_of place n (some_case place)).issued)
 
 -- the first case of the transaction to which the child belongs
 abbrev pub case_of_child : Place → Node → Txn → Ticket → Option Case

@@ -18,7 +18,8 @@ key_below (a ∷ as') (b ∷ bs) = if a == b then key_below as' bs else nat_lt a
 unfoldable pub with_pair : List ℕ → List ℕ → List (List ℕ × List ℕ) → List (List ℕ × List ℕ)
 with_pair k v [] = (k, v) ∷ []
 with_pair k v (p ∷ ps) =
-    if same_bytes k p.0 then (k, v) ∷ ps else if key_below k p.0 then (k, v) ∷ (p ∷ ps) else p ∷ with_pair k v ps
+    if same_bytes k p.0 then (k, v) ∷ ps else if key_below k p.0 then (k, v) ∷ (p ∷ ps)
+    else p ∷ with_pair k v ps
 
 -- the pairs without the first of this key
 unfoldable pub without_key : List ℕ → List (List ℕ × List ℕ) → List (List ℕ × List ℕ)
@@ -56,8 +57,8 @@ writes_of b (p ∷ ps) = if same_branch p.0 b then p.1 else writes_of b ps
 abbrev pub commits : List Write → Data → Data
 commits ws d = record d { count = d.count + 1; pairs = applied ws d.pairs }
 
--- Base empties the data and sets the count, Pair sets a key; Committed, Direct and an operator's commit apply the
--- branch's writes and add 1
+-- Base empties the data and sets the count, Pair sets a key; Committed, Direct and an operator's commit apply
+-- the branch's writes and add 1
 abbrev pub stored_after : Data → Record → Data
 stored_after d (Prepared b ws) = record d { promised = (b, ws) ∷ d.promised }
 stored_after d (Committed b) = commits (writes_of b d.promised) d

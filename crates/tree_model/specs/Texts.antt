@@ -76,7 +76,8 @@ message_text (Inquire c) = codes "INQUIRE " ++ case_text c
 
 -- a message with its number, its sender and its receiver
 abbrev pub envelope_text : ℕ → Envelope → List ℕ
-envelope_text n e = decimal n ++ codes " " ++ decimal e.from.0 ++ codes "->" ++ decimal e.to.0 ++ codes " " ++ message_text e.message
+envelope_text n e = decimal n ++ codes " " ++ decimal e.from.0 ++ codes "->" ++ decimal e.to.0 ++ codes " "
+    ++ message_text e.message
 
 -- Records and what was told.
 
@@ -112,7 +113,8 @@ force_word false = codes " plain"
 
 -- a record: its process, its kind, what it is of, and its force
 abbrev pub logged_text : ℕ → Logged → List ℕ
-logged_text p l = codes "log " ++ decimal p ++ codes " " ++ kind_word l.kind ++ subject_text l.subject ++ force_word l.forced
+logged_text p l = codes "log " ++ decimal p ++ codes " " ++ kind_word l.kind ++ subject_text l.subject
+    ++ force_word l.forced
 
 -- the word that tells the application how its transaction ended
 abbrev pub conclusion_word : Conclusion → List ℕ
@@ -154,7 +156,8 @@ kept_lines p (Some n) = (codes "trim " ++ decimal p ++ codes " " ++ decimal n) �
 -- the lines of a reaction of a process before which so many messages were sent
 abbrev pub reaction_lines : ℕ → ℕ → Reaction → List (List ℕ)
 reaction_lines p sent r =
-    begun_lines r.begun ++ logged_lines p r.written ++ told_lines r.told ++ envelope_lines sent r.messages ++ kept_lines p r.kept
+    begun_lines r.begun ++ logged_lines p r.written ++ told_lines r.told ++ envelope_lines sent r.messages
+    ++ kept_lines p r.kept
 
 -- Which names have a text of their own.
 

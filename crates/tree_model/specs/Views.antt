@@ -42,7 +42,8 @@ hears_message k m a = record { input = MessageInput k m; data_answer = a }
 -- the view of a case after a message about the case d, and of d itself the row's
 pub record MovesBranch (place : Place) (n : Node) (h : Heard) (d : Case) (row : LeafRow) : Type 0 where
   pub moved : manager_view place (after n h (leaf_effect row)) d ≡ row.view
-  pub others : (c : Case) → same_case d c ≡ false → manager_view place (after n h (leaf_effect row)) c ≡ manager_view place n c
+  pub others : (c : Case) → same_case d c ≡ false
+      → manager_view place (after n h (leaf_effect row)) c ≡ manager_view place n c
 
 -- an act, with what a manager's data answer to it
 abbrev pub hears_act : Act → DataAnswer → Heard
@@ -52,32 +53,42 @@ hears_act x a = record { input = ActInput x; data_answer = a }
 abbrev pub fresh_case : Place → Node → Case → Case
 fresh_case place n d = child_case d.txn (next_ticket place.me (boot_of (kept n)) (memory_of place n d))
 
--- JOIN: an active ticket is given again, or xa_start was refused, and nothing moves; else the fresh ticket's case, of
--- which there is no record, is Active, and no other moves
-pub record JoinsBranch (place : Place) (p : ProcessId) (n : Node) (h : Heard) (d : Case) (starts : Bool) : Type 0 where
+-- JOIN: an active ticket is given again, or xa_start was refused, and nothing moves; else the fresh ticket's
+-- case, of which there is no record, is Active, and no other moves
+pub record JoinsBranch (place : Place) (p : ProcessId) (n : Node) (h : Heard) (d : Case)
+    (starts : Bool) : Type 0 where
   pub given_again : (t : Ticket) → active_ticket (memory_of place n d).active d ≡ Some t
-      → (c : Case) → manager_view place (after n h (leaf_joins place p n d (memory_of place n d) starts (Some t))) c ≡ manager_view place n c
+      → (c : Case) → manager_view place (after n h
+      (leaf_joins place p n d (memory_of place n d) starts (Some t))) c ≡ manager_view place n c
   pub not_started : active_ticket (memory_of place n d).active d ≡ None → starts ≡ false
-      → (c : Case) → manager_view place (after n h (leaf_joins place p n d (memory_of place n d) starts None)) c ≡ manager_view place n c
+      → (c : Case) → manager_view place (after n h (leaf_joins place p n d (memory_of place n d) starts None))
+      c ≡ manager_view place n c
   pub fresh : active_ticket (memory_of place n d).active d ≡ None → starts ≡ true
       → mark_of (CaseBranch (fresh_case place n d)) (kept n) ≡ Unmarked
-      → manager_view place (after n h (leaf_joins place p n d (memory_of place n d) starts None)) (fresh_case place n d)
+      → manager_view place (after n h (leaf_joins place p n d (memory_of place n d) starts None))
+      (fresh_case place n d)
       ≡ record { standing = Active; done = 0; spoiled = false; told = None }
   pub others : active_ticket (memory_of place n d).active d ≡ None → starts ≡ true
       → (c : Case) → same_case c (fresh_case place n d) ≡ false
-      → manager_view place (after n h (leaf_joins place p n d (memory_of place n d) starts None)) c ≡ manager_view place n c
+      → manager_view place (after n h (leaf_joins place p n d (memory_of place n d) starts None)) c
+      ≡ manager_view place n c
 
 -- the rows of a manager
 pub record ManagerViews (me p : ProcessId) (tree : List TreeEntry) (n : Node) (d : Case) : Type 0 where
-  pub work : (k i : ℕ) (op : Op) (a : DataAnswer) → let place = leaf_place me p tree in let v = manager_view place n d in
+  pub work : (k i : ℕ) (op : Op) (a : DataAnswer) → let place = leaf_place me p tree in let v =
+      manager_view place n d in
       MovesBranch place n (hears_message k (Work d i op) a) d (leaf.on_work i a.does v v.standing)
-  pub prepare : (k i : ℕ) (a : DataAnswer) → let place = leaf_place me p tree in let v = manager_view place n d in
-      MovesBranch place n (hears_message k (Prepare d i) a) d (leaf.on_prepare (leaf_of place p d) i a.holding v v.standing)
-  pub commit : (k : ℕ) (a : DataAnswer) → let place = leaf_place me p tree in let v = manager_view place n d in
+  pub prepare : (k i : ℕ) (a : DataAnswer) → let place = leaf_place me p tree in let v =
+      manager_view place n d in
+      MovesBranch place n (hears_message k (Prepare d i) a) d
+      (leaf.on_prepare (leaf_of place p d) i a.holding v v.standing)
+  pub commit : (k : ℕ) (a : DataAnswer) → let place = leaf_place me p tree in let v =
+      manager_view place n d in
       MovesBranch place n (hears_message k (Commit d) a) d (leaf.on_commit (leaf_of place p d) v v.standing)
   pub abort : (k : ℕ) (a : DataAnswer) → let place = leaf_place me p tree in let v = manager_view place n d in
       MovesBranch place n (hears_message k (Abort d) a) d (leaf.on_abort (leaf_of place p d) v v.standing)
-  pub join : (k : ℕ) (a : DataAnswer) → JoinsBranch (leaf_place me p tree) p n (hears_message k (Join d) a) d a.starts
+  pub join : (k : ℕ) (a : DataAnswer) → JoinsBranch (leaf_place me p tree) p n
+      (hears_message k (Join d) a) d a.starts
   pub ask : (a : DataAnswer) → let place = leaf_place me p tree in let v = manager_view place n d in
       MovesBranch place n (hears_act (Ask d) a) d (untold_ask (leaf_of place p d) v)
   pub decide : (o : Outcome) (a : DataAnswer) → let place = leaf_place me p tree in
@@ -95,18 +106,22 @@ root_place me tree = record { me = me; role = AtRoot; tree = tree }
 abbrev pub root_seat : ProcessId → Case → Seat
 root_seat me c = record { me = me; parent = None; own = c }
 
--- What a case that is open has on its lists: while it takes children no record says that it went on, votes are taken
--- exactly while it stands at Collecting, and Presumed Abort collects them behind no record.
+-- What a case that is open has on its lists: while it takes children no record says that it went on, votes
+-- are taken exactly while it stands at Collecting, and Presumed Abort collects them behind no record.
 pub record IsOpenAlike (place : Place) (n : Node) (c : Case) : Type 0 where
   pub open_is_active : (memory_of place n c).phase ≡ Open → (coordinator_view place n c).standing ≡ Active
-  pub asked_is_collecting : (memory_of place n c).phase ≡ Asked → (coordinator_view place n c).standing ≡ Collecting
-  pub collecting_is_asked : (coordinator_view place n c).standing ≡ Collecting → (memory_of place n c).phase ≡ Asked
+  pub asked_is_collecting : (memory_of place n c).phase ≡ Asked
+      → (coordinator_view place n c).standing ≡ Collecting
+  pub collecting_is_asked : (coordinator_view place n c).standing ≡ Collecting
+      → (memory_of place n c).phase ≡ Asked
   pub no_record_collects : c.txn.presumption ≡ PresumeAbort → has (is_collecting c) (kept n) ≡ false
 
 -- the view of the transaction after an input is the row's, and no other transaction's moves
 pub record MovesTxn (place : Place) (n : Node) (h : Heard) (x : Txn) (row : Row) : Type 0 where
   pub moved : coordinator_view place (after n h (row_effect (root_case x) row)) (root_case x) ≡ row.view
-  pub others : (y : Txn) → same_txn x y ≡ false → coordinator_view place (after n h (row_effect (root_case x) row)) (root_case y) ≡ coordinator_view place n (root_case y)
+  pub others : (y : Txn) → same_txn x y ≡ false
+      → coordinator_view place (after n h (row_effect (root_case x) row)) (root_case y)
+      ≡ coordinator_view place n (root_case y)
 
 -- the message that brings a vote
 abbrev pub vote_message : Vote → Case → Message
@@ -131,12 +146,31 @@ next_begun place n p = next_txn place.me (boot_of (kept n)) (memory_of place n (
 
 -- a transaction that is begun, and of which there was no record, is Active, and no other moves
 pub record BeginsTxn (place : Place) (n : Node) (h : Heard) (e : Effect) (x : Txn) : Type 0 where
-  pub begun : IsUnrecorded (kept n) (root_case x) → coordinator_view place (after n h e) (root_case x) ≡ record { standing = Active; accepted = []; votes = []; works = []; promised = []; named = []; owed = [] }
-  pub others : (y : Txn) → same_txn x y ≡ false → coordinator_view place (after n h e) (root_case y) ≡ coordinator_view place n (root_case y)
+  pub begun : IsUnrecorded (kept n) (root_case x)
+      → coordinator_view place (after n h e) (root_case x)
+      ≡ record {
+        standing = Active;
+        accepted = [];
+        votes = [];
+        works = [];
+        promised = [];
+        named = [];
+        owed = [];
+      }
+  pub others : (y : Txn) → same_txn x y ≡ false
+      → coordinator_view place (after n h e) (root_case y) ≡ coordinator_view place n (root_case y)
 
 -- what a begin does beside naming its transaction
 abbrev pub begin_effect : Txn → Effect
-begin_effect x = record { begun = Some x; written = []; told = None; messages = []; accepts = []; counts = []; remains = None }
+begin_effect x = record {
+  begun = Some x;
+  written = [];
+  told = None;
+  messages = [];
+  accepts = [];
+  counts = [];
+  remains = None;
+}
 
 -- a transaction that begins
 abbrev pub RootBegins : ProcessId → List TreeEntry → Node → Presumption → DataAnswer → Type 0
@@ -147,21 +181,35 @@ RootBegins me tree n p a =
 
 -- the rows of the root
 pub record RootViews (me : ProcessId) (tree : List TreeEntry) (n : Node) (x : Txn) : Type 0 where
-  pub commit : (a : DataAnswer) → let place = root_place me tree in let c = root_case x in let v = coordinator_view place n c in
+  pub commit : (a : DataAnswer) → let place = root_place me tree in let c = root_case x in let v =
+      coordinator_view place n c in
       v.standing ≡ Active → MovesTxn place n (hears_act (CommitAct x) a) x (active_commit (root_seat me c) v)
-  pub abort_active : (a : DataAnswer) → let place = root_place me tree in let c = root_case x in let v = coordinator_view place n c in
+  pub abort_active : (a : DataAnswer) → let place = root_place me tree in let c = root_case x in let v =
+      coordinator_view place n c in
       v.standing ≡ Active → MovesTxn place n (hears_act (AbortAct x) a) x (active_abort (root_seat me c) v)
-  pub abort_collecting : (a : DataAnswer) → let place = root_place me tree in let c = root_case x in let v = coordinator_view place n c in
-      IsOpenAlike place n c → v.standing ≡ Collecting → MovesTxn place n (hears_act (AbortAct x) a) x (collecting_abort (root_seat me c) ByAct v)
-  pub join : (a : DataAnswer) (q : ProcessId) → let place = root_place me tree in let c = root_case x in let v = coordinator_view place n c in
+  pub abort_collecting : (a : DataAnswer) → let place = root_place me tree in let c = root_case x in let v =
+      coordinator_view place n c in
+      IsOpenAlike place n c → v.standing ≡ Collecting
+      → MovesTxn place n (hears_act (AbortAct x) a) x (collecting_abort (root_seat me c) ByAct v)
+  pub join : (a : DataAnswer) (q : ProcessId) → let place = root_place me tree in let c = root_case x in
+      let v = coordinator_view place n c in
       MovesTxn place n (hears_act (JoinAct c q) a) x (active_join (root_seat me c) q v)
-  pub work : (a : DataAnswer) (q : ProcessId) (t : Ticket) (op : Op) → let place = root_place me tree in let c = root_case x in let v = coordinator_view place n c in
-      v.standing ≡ Active → ticket_of_child v.accepted q ≡ Some t → MovesTxn place n (hears_act (WorkAct c q op) a) x (active_work (root_seat me c) t op v)
-  pub joined : (k : ℕ) (a : DataAnswer) (t : Ticket) → let place = root_place me tree in let c = root_case x in let v = coordinator_view place n c in
+  pub work : (a : DataAnswer) (q : ProcessId) (t : Ticket) (op : Op) → let place = root_place me tree in
+      let c = root_case x in let v = coordinator_view place n c in
+      v.standing ≡ Active → ticket_of_child v.accepted q ≡ Some t
+      → MovesTxn place n (hears_act (WorkAct c q op) a) x (active_work (root_seat me c) t op v)
+  pub joined : (k : ℕ) (a : DataAnswer) (t : Ticket) → let place = root_place me tree in let c =
+      root_case x in let v = coordinator_view place n c in
       IsOpenAlike place n c → MovesTxn place n (hears_message k (Joined c t) a) x (on_joined t v v.standing)
-  pub vote : (k : ℕ) (a : DataAnswer) (t : Ticket) (w : Vote) → let place = root_place me tree in let c = root_case x in let v = coordinator_view place n c in
-      IsOpenAlike place n c → MovesTxn place n (hears_message k (vote_message w (child_case x t)) a) x (on_vote (root_seat me c) t w v v.standing)
-  pub acknowledgement : (k : ℕ) (a : DataAnswer) (t : Ticket) (o : Outcome) → let place = root_place me tree in let c = root_case x in let v = coordinator_view place n c in
-      IsOpenAlike place n c → MovesTxn place n (hears_message k (Ack (child_case x t) o) a) x (on_ack (root_seat me c) t o v v.standing)
-  pub inquiry : (k : ℕ) (a : DataAnswer) (t : Ticket) → let place = root_place me tree in let c = root_case x in let v = coordinator_view place n c in
-      MovesTxn place n (hears_message k (Inquire (child_case x t)) a) x (on_inquiry (root_seat me c) t v v.standing)
+  pub vote : (k : ℕ) (a : DataAnswer) (t : Ticket) (w : Vote) → let place = root_place me tree in let c =
+      root_case x in let v = coordinator_view place n c in
+      IsOpenAlike place n c → MovesTxn place n (hears_message k (vote_message w (child_case x t)) a) x
+      (on_vote (root_seat me c) t w v v.standing)
+  pub acknowledgement : (k : ℕ) (a : DataAnswer) (t : Ticket) (o : Outcome) → let place =
+      root_place me tree in let c = root_case x in let v = coordinator_view place n c in
+      IsOpenAlike place n c → MovesTxn place n (hears_message k (Ack (child_case x t) o) a) x
+      (on_ack (root_seat me c) t o v v.standing)
+  pub inquiry : (k : ℕ) (a : DataAnswer) (t : Ticket) → let place = root_place me tree in let c =
+      root_case x in let v = coordinator_view place n c in
+      MovesTxn place n (hears_message k (Inquire (child_case x t)) a) x
+      (on_inquiry (root_seat me c) t v v.standing)

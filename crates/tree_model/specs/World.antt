@@ -31,10 +31,19 @@ pub data Stepped : Type 0 where
   Refuses : StepError → Stepped
   Makes : Effect → Node → Stepped
 
--- what a device's failure lets through of an effect: a front of the records that were appended; nothing is sent or told
+-- what a device's failure lets through of an effect: a front of the records that were appended; nothing is
+-- sent or told
 abbrev pub fault_effect : Effect → ℕ → Effect
 fault_effect e appended =
-    record { begun = None; written = take appended e.written; told = None; messages = []; accepts = e.accepts; counts = e.counts; remains = None }
+    record {
+      begun = None;
+      written = take appended e.written;
+      told = None;
+      messages = [];
+      accepts = e.accepts;
+      counts = e.counts;
+      remains = None;
+    }
 
 -- a move by an input: refused, or done, or broken off by a device's failure
 abbrev pub input_makes : Node → Heard → Option Fault → Reacts → Stepped
@@ -50,7 +59,8 @@ passes_over n (Some f) = Makes no_effect (record n { failed = true })
 -- a restart, with so many unforced records left; a device's failure breaks it off
 abbrev pub restart_makes : Place → Node → ℕ → Option Fault → Stepped
 restart_makes place n k None = Makes (restart_effect place n k) (restarted place n k)
-restart_makes place n k (Some f) = Makes (fault_effect (restart_effect place n k) f.appended) (restart_fails place n k f.appended f.forced)
+restart_makes place n k (Some f) = Makes (fault_effect (restart_effect place n k) f.appended)
+    (restart_fails place n k f.appended f.forced)
 
 -- a trim; a device's failure leaves the old log or the new one
 abbrev pub trim_makes : Place → Node → Option Fault → Stepped
@@ -61,7 +71,8 @@ trim_makes place n (Some f) = Makes (fault_effect (trim_effect place n) 0) (trim
 abbrev pub happening_makes : Place → Node → Move → Happening → Stepped
 happening_makes place n m (Handles i) =
     let h : Heard = record { input = i; data_answer = m.data_answer } in
-    if is_passed_over place n i then passes_over n m.step.fault else input_makes n h m.step.fault (reacts place n h)
+    if is_passed_over place n i then passes_over n m.step.fault
+    else input_makes n h m.step.fault (reacts place n h)
 happening_makes place n m (Restart k) = restart_makes place n k m.step.fault
 happening_makes place n m Trim = if n.failed then Refuses Failed else trim_makes place n m.step.fault
 
@@ -107,7 +118,8 @@ abbrev pub InputStands : List Envelope → ProcessId → Input → Type 0
 InputStands net q (ActInput a) = ⊤
 InputStands net q (MessageInput number message) = IsSent net q number message
 
--- a delivered message was sent to the process; a loss is a message that is not delivered, a repeat one delivered twice
+-- a delivered message was sent to the process; a loss is a message that is not delivered, a repeat one
+-- delivered twice
 abbrev pub Stands : List Envelope → ProcessId → Happening → Type 0
 Stands net q (Handles i) = InputStands net q i
 Stands net q _ = ⊤

@@ -1,7 +1,6 @@
 //! The names, messages, records and steps of the commit protocols.
 #![tactic(auto)]
 
-mod branches;
 mod events;
 pub mod law;
 mod lists;
@@ -11,7 +10,6 @@ mod records;
 mod standings;
 mod trees;
 
-pub use branches::{ForeignXid, branch_xid, read_branch};
 pub use events::{
     Act, Conclusion, Entry, Event, Fault, Happening, Input, Reaction, Step, StepError, Told,
 };

@@ -206,10 +206,12 @@ reopens_rise (Below p) rs = (
   others_rise (boot_of rs + 1) _ (all_none is_opened (λ c ts. refl) rs (cases_in rs)),
 )
 
-reopens_boot : (role : Role) (rs : List Record) → fold boot_after (boot_of rs) (reopens role rs) ≡ boot_of rs + 1
+reopens_boot : (role : Role) (rs : List Record)
+    → fold boot_after (boot_of rs) (reopens role rs) ≡ boot_of rs + 1
 reopens_boot (AtLeaf p) rs = refl
 reopens_boot AtRoot rs = others_boot (boot_of rs + 1) _ (all_none is_opened (λ c ts. refl) rs (cases_in rs))
-reopens_boot (Below p) rs = others_boot (boot_of rs + 1) _ (all_none is_opened (λ c ts. refl) rs (cases_in rs))
+reopens_boot (Below p) rs = others_boot (boot_of rs + 1) _
+    (all_none is_opened (λ c ts. refl) rs (cases_in rs))
 
 -- the boot behind a restart is the next
 pub reopened_boot : (role : Role) (rs : List Record) → boot_of (rs ++ reopens role rs) ≡ boot_of rs + 1
@@ -233,7 +235,8 @@ staying_none role whole [] = has-nil is_opened
 staying_none role whole (r ∷ rs) = no_more r (stays role whole rs r) (staying role whole rs)
     (stays_none role whole rs r) (staying_none role whole rs)
 
-left_none : (role : Role) (rs : List Record) → has is_opened (staying role rs rs ++ data_records role rs) ≡ false
+left_none : (role : Role) (rs : List Record) → has is_opened (staying role rs rs ++ data_records role rs)
+    ≡ false
 left_none role rs = in_none is_opened (staying role rs rs) (data_records role rs) (staying_none role rs rs)
     (data_is_other is_opened (λ k v. refl) (λ k. refl) role rs)
 
@@ -279,19 +282,25 @@ module _ (place : Place) (n : Node) (h : Booted (logs_of n)) where
 
   pub still_booted : (m : Move) (e : Effect) (k : Node) → StepOf place n m e k → Booted (logs_of k)
   still_booted m _ _ (handled i g hp np r) =
-      appended (heard_in m i) g (turn_none place.role place n (heard_in m i) g (turn_of place n (heard_in m i) g r).turn)
+      appended (heard_in m i) g (turn_none place.role place n (heard_in m i) g
+      (turn_of place n (heard_in m i) g r).turn)
   still_booted m _ _ (failed_in i f g fl hp np r) =
       let new = entries_written g.written in
       booted_breaks (logs_of n) new f.appended f.forced h.rises
       (others_rise (boot_of (kept n)) new
       (turn_none place.role place n (heard_in m i) g (turn_of place n (heard_in m i) g r).turn))
   still_booted m _ _ (passed i hp r) = h
-  still_booted m _ _ (failed_passing i f fl hp r) = record { rises = h.rises; boot_is_forced = λ up. absurd (cc) }
+  still_booted m _ _ (failed_passing i f fl hp r) =
+      record { rises = h.rises; boot_is_forced = λ up. absurd (cc) }
   still_booted m _ _ (reopened k hp) =
       let l = loses (logs_of n) k in
       let b = booted_forces l (reopens place.role (standing l)) (lost_rises (logs_of n) k h.rises)
       (reopens_rise place.role (standing l)) in
-      record { rises = b.rises; boot_is_forced = λ up. ap boot_of (append-nil (standing l ++ reopens place.role (standing l))) }
+      record {
+        rises = b.rises;
+        boot_is_forced = λ up. ap boot_of
+            (append-nil (standing l ++ reopens place.role (standing l)));
+      }
   still_booted m _ _ (failed_reopening k f fl hp) =
       let l = loses (logs_of n) k in
       booted_breaks l (reopens place.role (standing l)) f.appended f.forced (lost_rises (logs_of n) k h.rises)
@@ -301,7 +310,8 @@ module _ (place : Place) (n : Node) (h : Booted (logs_of n)) where
 
   -- The forced boot only rises, and a restart's is higher.
 
-  longer : (xs ys : List Record) → Rises ((n.forced ++ xs) ++ ys) → boot_of n.forced ≤ boot_of (n.forced ++ xs)
+  longer : (xs ys : List Record) → Rises ((n.forced ++ xs) ++ ys)
+      → boot_of n.forced ≤ boot_of (n.forced ++ xs)
   longer xs ys r = front_below n.forced xs (rise_front 0 (n.forced ++ xs) ys r)
 
   grown_by : (i : Heard) (e : Effect) → has is_opened (entries_written e.written) ≡ false
@@ -309,11 +319,13 @@ module _ (place : Place) (n : Node) (h : Booted (logs_of n)) where
   grown_by i e none =
       let new = entries_written e.written in
       either_logs n new (is_any_forced e.written) (λ (l : Logs). boot_of n.forced ≤ boot_of l.forced)
-      (λ b. subst (λ y. boot_of n.forced ≤ y) (sym (boot_others (kept n) new none)) (forced_below (logs_of n) h))
+      (λ b. subst (λ y. boot_of n.forced ≤ y) (sym (boot_others (kept n) new none))
+      (forced_below (logs_of n) h))
       (λ b. le_refl (boot_of n.forced))
 
   trimmed_below : boot_of n.forced ≤ boot_of (trims place n).forced
-  trimmed_below = subst (λ y. boot_of n.forced ≤ y) (sym (trimmed_boot place.role (kept n))) (forced_below (logs_of n) h)
+  trimmed_below = subst (λ y. boot_of n.forced ≤ y) (sym (trimmed_boot place.role (kept n)))
+      (forced_below (logs_of n) h)
 
   trim_failed_below : (a : ℕ) → boot_of n.forced ≤ boot_of (trim_fails place n a).forced
   trim_failed_below zero = le_refl (boot_of n.forced)
@@ -325,7 +337,8 @@ module _ (place : Place) (n : Node) (h : Booted (logs_of n)) where
   pub restart_rises : (k : ℕ) → boot_of n.forced < boot_of (kept (restarted place n k))
   restart_rises k =
       subst (λ y. boot_of n.forced < y)
-      (sym (ap boot_of (append-nil (left_of n k ++ reopens place.role (left_of n k))) ∙ reopened_boot place.role (left_of n k)))
+      (sym (ap boot_of (append-nil (left_of n k ++ reopens place.role (left_of n k)))
+      ∙ reopened_boot place.role (left_of n k)))
       (below_next (boot_of n.forced) (boot_of (left_of n k)) (left_below k))
     where
       below_next : (a b : ℕ) → a ≤ b → a < b + 1
@@ -341,20 +354,25 @@ module _ (place : Place) (n : Node) (h : Booted (logs_of n)) where
   pub forced_rises : (m : Move) (e : Effect) (k : Node) → StepOf place n m e k
       → boot_of n.forced ≤ boot_of k.forced
   forced_rises m _ _ (handled i g hp np r) =
-      grown_by (heard_in m i) g (turn_none place.role place n (heard_in m i) g (turn_of place n (heard_in m i) g r).turn)
+      grown_by (heard_in m i) g (turn_none place.role place n (heard_in m i) g
+      (turn_of place n (heard_in m i) g r).turn)
   forced_rises m _ _ (failed_in i f g fl hp np r) =
       fault_below (take f.forced (n.unforced ++ take f.appended (entries_written g.written))) m _ _
       (failed_in i f g fl hp np r) refl
   forced_rises m _ _ (passed i hp r) = le_refl (boot_of n.forced)
   forced_rises m _ _ (failed_passing i f fl hp r) = le_refl (boot_of n.forced)
   forced_rises m _ _ (reopened k hp) =
-      subst (λ y. boot_of n.forced ≤ y) (sym (reopened_boot place.role (left_of n k))) (le_trans (left_below k) (next_boot (boot_of (left_of n k))))
+      subst (λ y. boot_of n.forced ≤ y) (sym (reopened_boot place.role (left_of n k)))
+      (le_trans (left_below k) (next_boot (boot_of (left_of n k))))
   forced_rises m _ _ (failed_reopening k f fl hp) =
-      fault_below (take f.forced (take k n.unforced ++ take f.appended (reopens place.role (left_of n k)))) m _ _ (failed_reopening k f fl hp) refl
+      fault_below (take f.forced (take k n.unforced ++ take f.appended (reopens place.role (left_of n k)))) m
+      _ _ (failed_reopening k f fl hp) refl
   forced_rises m _ _ (trims_log hp up) = trimmed_below
   forced_rises m _ _ (failed_trimming f fl hp up) = trim_failed_below f.appended
 
 -- A trim leaves what is remembered.
-pub trims_memory : (place : Place) (n : Node) (c : Case) → memory_of place (trims place n) c ≡ memory_of place n c
+pub trims_memory : (place : Place) (n : Node) (c : Case)
+    → memory_of place (trims place n) c ≡ memory_of place n c
 unfolding memory_of
-trims_memory place n c = rw (ap boot_of (append-nil (trims place n).forced) ∙ trimmed_boot place.role (kept n)) refl
+trims_memory place n c = rw (ap boot_of (append-nil (trims place n).forced)
+    ∙ trimmed_boot place.role (kept n)) refl

@@ -1,5 +1,5 @@
--- What a cascaded coordinator records, remembers and accepts into is of cases that it gave, and it collects votes and
--- promises only where it was asked: through each of its steps.
+-- What a cascaded coordinator records, remembers and accepts into is of cases that it gave, and it collects
+-- votes and promises only where it was asked: through each of its steps.
 use Rattle.std.proofs.Common.{◌≡◌, ◌≢◌, ◌∙◌, ◌+◌, ◌||◌, inl, inr, ℕ, zero, suc, Bool, true, false, Some, List, [], ◌∷◌, ◌++◌, take, refl, sym, ap, subst, arith, ◌&&◌}
 use Rattle.std.specs.Prelude.{reverse, length}
 use Rattle.std.proofs.lemmas.List.Folds.{list_any-append}
@@ -115,7 +115,8 @@ module _ (me p : ProcessId) (tree : List TreeEntry) (net : List Envelope) (n : N
     written_given : (d : Case) → has (is_record_of d) new ≡ true → IsGiven me net d
     written_given d f = effect_writes place (Some p) n h (λ c. IsGiven me net c) (known_given up) e turn d f
 
-    asked_by : (d : Case) → IsToCommit (Some p) h d → IsGiven me net d → sent (is_prepare_message d) net ≡ true
+    asked_by : (d : Case) → IsToCommit (Some p) h d → IsGiven me net d
+        → sent (is_prepare_message d) net ≡ true
     asked_by d (prepare_comes q k below i) g =
         was_sent (is_prepare_message d) net me h.input i.0 (Prepare d k) stands i.1 (same_case-refl d)
     asked_by d (commit_act x is i) g =
@@ -161,7 +162,8 @@ module _ (me p : ProcessId) (tree : List TreeEntry) (net : List Envelope) (n : N
       abbrev m : Case → Memory
       m d = memory_of (record { me = me; role = Below p; tree = tree }) n d
 
-      memory_then : (d : Case) → memory_of place k d ≡ cascaded_remembers me (boot_of (kept n)) d (m d) h.input
+      memory_then : (d : Case) → memory_of place k d
+          ≡ cascaded_remembers me (boot_of (kept n)) d (m d) h.input
       memory_then d = memory_of-heard place n h e d
           (boot_written n h e (turn_none (Below p) place n h e t.turn))
 
@@ -303,7 +305,8 @@ module _ (me p : ProcessId) (tree : List TreeEntry) (net : List Envelope) (n : N
         (known.accepted_is_given d u (sym (ap (took d u) same) ∙ e));
     asked_was_prepared = λ up d f. absurd (let y : Idle ≡ Asked = sym (fresh_phase x d heard) ∙ f in cc);
     collected_was_prepared = λ d e. prepared_still net ls d
-        (life_by (is_collecting d) (sent (is_prepare_message d) net ≡ true) (reopens (Below p) (left_of n j)) a
+        (life_by (is_collecting d) (sent (is_prepare_message d) net ≡ true)
+        (reopens (Below p) (left_of n j)) a
         (none_reopened (is_collecting d) j (reopens_none (is_collecting d) (λ c ts. refl) (λ k. refl)
         (Below p) (left_of n j)))
         (known.collected_was_prepared d) (sym (ap (has (is_collecting d)) life) ∙ e));
@@ -346,7 +349,8 @@ module _ (me p : ProcessId) (tree : List TreeEntry) (net : List Envelope) (n : N
       handles_so (heard_in m i) t.up (subst (λ (x : Happening). Stands net me x) hp stands) g r t
   still_gives m stands _ _ (failed_in i f g fl hp np r) =
       let t = turn_of place n (heard_in m i) g r in
-      fails_so (heard_in m i) t.up (subst (λ (x : Happening). Stands net me x) hp stands) g r f.appended f.forced
+      fails_so (heard_in m i) t.up (subst (λ (x : Happening). Stands net me x) hp stands) g r f.appended
+      f.forced
   still_gives m stands _ _ (passed i hp r) = rests_so n refl refl (λ up. up) (λ d up. refl)
   still_gives m stands _ _ (failed_passing i f fl hp r) =
       rests_so _ refl refl (λ up. absurd (cc)) (λ d up. absurd (cc))

@@ -1,5 +1,5 @@
--- A case that a cascaded coordinator remembers is one whose ticket it gave since its last restart; of no other does it
--- remember an accepted ticket.
+-- A case that a cascaded coordinator remembers is one whose ticket it gave since its last restart; of no
+-- other does it remember an accepted ticket.
 use Rattle.std.proofs.Common.{◌≡◌, ◌≢◌, ◌∙◌, ℕ, Bool, true, false, Option, Some, None, List, [], ◌∷◌, ◌++◌, refl, sym, ap, subst, if◌then◌else◌}
 use Rattle.std.specs.Prelude.{fold}
 use Rattle.std.proofs.lemmas.List.Folds.{list_any-append}
@@ -141,7 +141,8 @@ kept_of : (place : Place) (p : ProcessId) → place.role ≡ Below p → (n : No
     → Kept c (memory_of place n c)
 unfolding memory_of
 kept_of place p e n c =
-    subst (λ (r : Role). Kept c (fold (remembers place.me r (boot_of (kept n)) c) fresh_memory n.heard)) (sym e)
+    subst (λ (r : Role). Kept c (fold (remembers place.me r (boot_of (kept n)) c) fresh_memory n.heard))
+    (sym e)
     (all_kept place.me p (boot_of (kept n)) c fresh_memory
     (record { awake = λ f. absurd (f refl); idle = λ f. refl }) n.heard)
 

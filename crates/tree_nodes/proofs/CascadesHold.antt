@@ -68,7 +68,8 @@ module _ (tree : List TreeEntry) (es : List Made) (w : World) (run : IsRun tree 
         given_once = numbers.given_once;
         given_before = numbers.given_before;
         recorded_is_given = g.recorded_is_given;
-        remembered_is_given = (subst (λ (r : Role). Gives (at r) w.net (w.at q)) (sym e) g).remembered_is_given;
+        remembered_is_given = (subst (λ (r : Role). Gives (at r) w.net (w.at q))
+            (sym e) g).remembered_is_given;
         active_was_joined = numbers.active_was_joined;
         promised_was_asked = g.promised_was_asked;
       }

@@ -136,7 +136,8 @@ module _ (me : ProcessId) (parent : Option ProcessId) (tree : List TreeEntry) (n
     other : (remembers_at parent me (boot_of (kept n)) c (memory_of (coordinator_place me parent tree) n c)
         h.input).phase ≡ (memory_of (coordinator_place me parent tree) n c).phase
         → SameLists (memory_of (coordinator_place me parent tree) n c)
-        (remembers_at parent me (boot_of (kept n)) c (memory_of (coordinator_place me parent tree) n c) h.input)
+        (remembers_at parent me (boot_of (kept n)) c
+        (memory_of (coordinator_place me parent tree) n c) h.input)
         → Silent c e → CaseStep c e
     begun : Opens parent me (boot_of (kept n)) c (memory_of (coordinator_place me parent tree) n c) h.input
         → (remembers_at parent me (boot_of (kept n)) c (memory_of (coordinator_place me parent tree) n c)
@@ -244,11 +245,13 @@ module _ (me : ProcessId) (parent : Option ProcessId) (tree : List TreeEntry) (n
         (unnamed_apart parent me (boot_of (kept n)) c (m c) h.input (k c) (ap named_case x ∙ none)
         (none_counts c (m c) h.input (ap is_vote_input x ∙ untaken)) (moved c))
 
-    pub case_step : (e : Effect) → CoordinatorTurn (coordinator_place me parent tree) parent n h e → (c : Case)
+    pub case_step : (e : Effect) → CoordinatorTurn (coordinator_place me parent tree) parent n h e
+        → (c : Case)
         → CaseStep c e
     case_step _ (of_case d row t) c = of_row c d row t
     case_step e (does_nothing i) c = of_none c e (quiet_silent c e refl refl refl) i
     case_step e (begins_txn p top i) c = of_quiet c e (quiet_silent c e refl refl refl) _ i refl refl
-    case_step e (gives_again p d t below i a) c = of_quiet c e (quiet_silent c e refl refl refl) _ i.1 refl refl
+    case_step e (gives_again p d t below i a) c =
+        of_quiet c e (quiet_silent c e refl refl refl) _ i.1 refl refl
     case_step e (gives_fresh p d below i a) c = of_quiet c e (quiet_silent c e refl refl refl) _ i.1 refl refl
     case_step e (presumes y t i none) c = of_quiet c e (quiet_silent c e refl refl refl) _ i.1 refl refl

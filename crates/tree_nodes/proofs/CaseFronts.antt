@@ -1,5 +1,5 @@
--- What a front of a coordinator's log holds of a case: each record stands behind the ones that it needs, and each kind of
--- record once.
+-- What a front of a coordinator's log holds of a case: each record stands behind the ones that it needs, and
+-- each kind of record once.
 use Rattle.std.proofs.Common.{◌≡◌, ◌∙◌, ◌||◌, ◌&&◌, ◌⊎◌, inl, inr, Bool, true, false, List, [], ◌∷◌, ◌++◌, refl, sym, ap, arith}
 use Rattle.tree_model.specs.declared.names.Case.{Case}
 use Rattle.tree_model.specs.declared.names.Ticket.{Ticket}
@@ -132,8 +132,10 @@ module _ (c : Case) (xs ys : List Record) (fit : AllFit [] (xs ++ ys)) where
     decided_once : (rs : List Record) (x : Record) → Fits rs x → is_decision x ≡ true
         → has is_decision rs ≡ false
     decided_once rs x f e = elim (either (is_commit c x) (is_abort c x) e) [
-      | inl commit ↦ neither_in rs (order.commit_is_once c rs x f commit) (order.commit_bars_abort c rs x f commit)
-      | inr abort ↦ neither_in rs (order.abort_bars_commit c rs x f abort) (order.abort_is_once c rs x f abort)
+      | inl commit ↦ neither_in rs (order.commit_is_once c rs x f commit)
+          (order.commit_bars_abort c rs x f commit)
+      | inr abort ↦ neither_in rs (order.abort_bars_commit c rs x f abort)
+          (order.abort_is_once c rs x f abort)
     ]
       where
         neither_in : (zs : List Record) → has (is_commit c) zs ≡ false → has (is_abort c) zs ≡ false

@@ -1,5 +1,5 @@
--- Each record of a coordinator fits what stands before it; so the records of a case stand in order, and decisions
--- name whom they should.
+-- Each record of a coordinator fits what stands before it; so the records of a case stand in order, and
+-- decisions name whom they should.
 use Rattle.std.proofs.Common.{◌≡◌, ◌∙◌, ◌&&◌, inl, inr, Bool, true, false, List, [], ◌∷◌, ◌++◌, refl, sym, ap, subst, append_assoc, if◌then◌else◌, ◌⊎◌}
 use Rattle.std.specs.List.{flat_map}
 use Rattle.std.proofs.lemmas.List.{append-nil}
@@ -76,7 +76,8 @@ module _ (q r : Record → Bool)
     none_later rs [] f e = has-nil q
     none_later rs (x ∷ xs) f e =
         has-cons q x xs
-        ∙ neither (q x) (has q xs) (now (q x) refl) (none_later (rs ++ x ∷ []) xs f.1 (in_first r rs (x ∷ []) e))
+        ∙ neither (q x) (has q xs) (now (q x) refl)
+        (none_later (rs ++ x ∷ []) xs f.1 (in_first r rs (x ∷ []) e))
       where
         now : (b : Bool) → q x ≡ b → q x ≡ false
         now true g = not_both r (has r rs) e (bars rs x f.0 g)
@@ -112,7 +113,8 @@ module _ (c : Case) where
 
   pub collecting_bars_commit : (rs : List Record) (x : Record) → Fits rs x → is_collecting c x ≡ true
       → has (is_commit c) rs ≡ false
-  collecting_bars_commit rs (Collecting d ts) f e = of_it (λ k. has (is_commit k) rs ≡ false) d e f.1.0.no_commit
+  collecting_bars_commit rs (Collecting d ts) f e =
+      of_it (λ k. has (is_commit k) rs ≡ false) d e f.1.0.no_commit
   collecting_bars_commit rs x f e = absurd (cc)
 
   pub collecting_bars_abort : (rs : List Record) (x : Record) → Fits rs x → is_collecting c x ≡ true
@@ -125,7 +127,8 @@ module _ (c : Case) where
   collecting_bars_end rs (Collecting d ts) f e = of_it (λ k. has (is_end k) rs ≡ false) d e f.1.0.no_end
   collecting_bars_end rs x f e = absurd (cc)
 
-  pub commit_bars_end : (rs : List Record) (x : Record) → Fits rs x → is_commit c x ≡ true → has (is_end c) rs ≡ false
+  pub commit_bars_end : (rs : List Record) (x : Record) → Fits rs x → is_commit c x ≡ true
+      → has (is_end c) rs ≡ false
   commit_bars_end rs (Commit d ts) f e = of_it (λ k. has (is_end k) rs ≡ false) d e f.1.no_end
   commit_bars_end rs x f e = absurd (cc)
 
@@ -134,7 +137,8 @@ module _ (c : Case) where
   commit_bars_abort rs (Commit d ts) f e = of_it (λ k. has (is_abort k) rs ≡ false) d e f.1.no_abort
   commit_bars_abort rs x f e = absurd (cc)
 
-  pub abort_bars_end : (rs : List Record) (x : Record) → Fits rs x → is_abort c x ≡ true → has (is_end c) rs ≡ false
+  pub abort_bars_end : (rs : List Record) (x : Record) → Fits rs x → is_abort c x ≡ true
+      → has (is_end c) rs ≡ false
   abort_bars_end rs (Abort d ts) f e = of_it (λ k. has (is_end k) rs ≡ false) d e f.1.no_end
   abort_bars_end rs x f e = absurd (cc)
 
@@ -182,11 +186,13 @@ module _ (c : Case) where
   not_one (Commit d ts) e f = cc
   not_one x e f = absurd (cc)
 
-  decided_once : (rs xs : List Record) → AllFit rs xs → has (is_commit c) xs ≡ true → has (is_abort c) xs ≡ true
+  decided_once : (rs xs : List Record) → AllFit rs xs → has (is_commit c) xs ≡ true
+      → has (is_abort c) xs ≡ true
       → ⊥
   decided_once rs [] f e g = not_both (is_commit c) _ e (has-nil (is_commit c))
   decided_once rs (x ∷ xs) f e g =
-      by_first (either _ _ (sym (has-cons (is_commit c) x xs) ∙ e)) (either _ _ (sym (has-cons (is_abort c) x xs) ∙ g))
+      by_first (either _ _ (sym (has-cons (is_commit c) x xs) ∙ e))
+      (either _ _ (sym (has-cons (is_abort c) x xs) ∙ g))
       (decided_once (rs ++ x ∷ []) xs f.1)
     where
       by_first : ((is_commit c x ≡ true) ⊎ (has (is_commit c) xs ≡ true))
@@ -199,7 +205,8 @@ module _ (c : Case) where
           (at_end (is_commit c) rs x now))
       by_first (inr rest) (inl now) k =
           not_both (is_commit c) _ rest
-          (none_later (is_commit c) (is_abort c) commit_bars_abort (rs ++ x ∷ []) xs f.1 (at_end (is_abort c) rs x now))
+          (none_later (is_commit c) (is_abort c) commit_bars_abort (rs ++ x ∷ []) xs f.1
+          (at_end (is_abort c) rs x now))
       by_first (inr rest) (inr more) k = k rest more
 
   unless : (q : Record → Bool) (rs : List Record) → (has q rs ≡ true → ⊥) → has q rs ≡ false
@@ -231,7 +238,8 @@ module _ (f : Record → List Ticket) (q : Record → Bool) where
       → (rs xs : List Record)
       → AllFit rs xs → has q xs ≡ true → none_of (flat_map f xs) ≡ false
   some_named g rs [] a e = not_both q _ e (has-nil q)
-  some_named g rs (x ∷ xs) a e = by_first (either _ _ (sym (has-cons q x xs) ∙ e)) (some_named g (rs ++ x ∷ []) xs a.1)
+  some_named g rs (x ∷ xs) a e = by_first (either _ _ (sym (has-cons q x xs) ∙ e))
+      (some_named g (rs ++ x ∷ []) xs a.1)
     where
       by_first : (q x ≡ true) ⊎ (has q xs ≡ true) → (has q xs ≡ true → none_of (flat_map f xs) ≡ false)
           → none_of (f x ++ flat_map f xs) ≡ false
@@ -267,15 +275,18 @@ module _ (c : Case) where
   presumed_of F p d e g k = subst F (ap (λ (x : Case). x.txn.presumption) (case_is d c g) ∙ e) k
 
   module _ (p : c.txn.presumption ≡ PresumeAbort) where
-    commit_names : (rs : List Record) (x : Record) → Fits rs x → is_commit c x ≡ true → none_of (owing_in c x) ≡ false
+    commit_names : (rs : List Record) (x : Record) → Fits rs x → is_commit c x ≡ true
+        → none_of (owing_in c x) ≡ false
     commit_names rs (Commit d ts) f e =
         named_so d ts false e (presumed_of (λ x. CommitNames x ts) PresumeAbort d p e f.0)
     commit_names rs x f e = absurd (cc)
 
-    abort_names : (rs : List Record) (x : Record) → Fits rs x → is_commit c x ≡ false → none_of (owing_in c x) ≡ true
+    abort_names : (rs : List Record) (x : Record) → Fits rs x → is_commit c x ≡ false
+        → none_of (owing_in c x) ≡ true
     unfolding none_of
     abort_names rs (Commit d ts) f e = rw e refl
-    abort_names rs (Abort d ts) f e = named_none d ts (λ g. presumed_of (λ x. AbortNames x ts) PresumeAbort d p g f.0)
+    abort_names rs (Abort d ts) f e = named_none d ts
+        (λ g. presumed_of (λ x. AbortNames x ts) PresumeAbort d p g f.0)
     abort_names rs x f e = refl
 
   module _ (p : c.txn.presumption ≡ PresumeCommit) where
@@ -315,7 +326,8 @@ module _ (c : Case) where
       → c.txn.presumption ≡ PresumeCommit
   collects_in rs [] f e = not_both (is_collecting c) _ e (has-nil (is_collecting c))
   collects_in rs (x ∷ xs) f e =
-      by_first x (either _ _ (sym (has-cons (is_collecting c) x xs) ∙ e)) f.0 (collects_in (rs ++ x ∷ []) xs f.1)
+      by_first x (either _ _ (sym (has-cons (is_collecting c) x xs) ∙ e)) f.0
+      (collects_in (rs ++ x ∷ []) xs f.1)
     where
       by_record : (y : Record) → is_collecting c y ≡ true → Fits rs y → c.txn.presumption ≡ PresumeCommit
       by_record (Collecting d ts) g k = of_it c (λ z. z.txn.presumption ≡ PresumeCommit) d g k.0

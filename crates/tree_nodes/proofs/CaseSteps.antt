@@ -213,11 +213,13 @@ says_unnamed _ (acknowledged o) j d = refl
 says_unnamed _ inquires j d = refl
 
 -- an input that names no case, and is no vote that counts, leaves the case or begins it
-pub unnamed_apart : (parent : Option ProcessId) (me : ProcessId) (boot : ℕ) (c : Case) (m : Memory) (i : Input)
+pub unnamed_apart : (parent : Option ProcessId) (me : ProcessId) (boot : ℕ) (c : Case) (m : Memory)
+    (i : Input)
     (k : Memory) → named_case i ≡ None → ((t : Ticket) (w : Vote) → CountedVote c m i t w → ⊥)
     → Moves parent me boot c m i k → Apart parent me boot c m i k
 unnamed_apart parent me boot c m i k e f (keeps v p l) = stays p l
-unnamed_apart parent me boot c m i k e f (asks a o p l) = absurd (let g = sym e ∙ asks_named parent c i a in cc)
+unnamed_apart parent me boot c m i k e f (asks a o p l) =
+    absurd (let g = sym e ∙ asks_named parent c i a in cc)
 unnamed_apart parent me boot c m i k e f (closes a o p l) =
     absurd (let g = sym e ∙ ends_named parent c i a in cc)
 unnamed_apart parent me boot c m i k e f (takes j u x o b p a v) =
@@ -231,7 +233,8 @@ not_other c d f e =
     absurd (let x = sym f ∙ subst (λ (y : Case). same_case d y ≡ true) g (same_case-refl d) in cc)
 
 -- an input that names another leaves it
-pub named_apart : (parent : Option ProcessId) (me : ProcessId) (boot : ℕ) (c d : Case) (m : Memory) (i : Input)
+pub named_apart : (parent : Option ProcessId) (me : ProcessId) (boot : ℕ) (c d : Case) (m : Memory)
+    (i : Input)
     (k : Memory) → named_case i ≡ Some d → same_case d c ≡ false
     → Moves parent me boot c m i k → Apart parent me boot c m i k
 named_apart parent me boot c d m i k e f (keeps v p l) = stays p l

@@ -42,13 +42,16 @@ step : (q r b : Bool) (x y z : Bool) → (q ≡ true → (r ≡ true) ⊎ (b ≡
 step q r b x y z f g e h = grind arith
 
 -- with no record that passes the third test, the first finds what the second finds
-same_found : (q r b : Record → Bool) (xs : List Record) → ((x : Record) → q x ≡ true → (r x ≡ true) ⊎ (b x ≡ true))
+same_found : (q r b : Record → Bool) (xs : List Record)
+    → ((x : Record) → q x ≡ true → (r x ≡ true) ⊎ (b x ≡ true))
     → ((x : Record) → r x ≡ true → q x ≡ true) → has b xs ≡ false → has q xs ≡ has r xs
 unfolding has
 same_found q r b [] f g e = refl
-same_found q r b (x ∷ xs) f g e = step (q x) (r x) (b x) _ _ (has b xs) (f x) (g x) e (same_found q r b xs f g)
+same_found q r b (x ∷ xs) f g e = step (q x) (r x) (b x) _ _ (has b xs) (f x) (g x) e
+    (same_found q r b xs f g)
 
-none_step : (q b x z : Bool) → (q ≡ true → b ≡ true) → (b || z) ≡ false → (z ≡ false → x ≡ false) → (q || x) ≡ false
+none_step : (q b x z : Bool) → (q ≡ true → b ≡ true) → (b || z) ≡ false → (z ≡ false → x ≡ false)
+    → (q || x) ≡ false
 none_step q b x z f e h = grind arith
 
 none_found : (q b : Record → Bool) (xs : List Record) → ((x : Record) → q x ≡ true → b x ≡ true) → has b xs
@@ -57,7 +60,8 @@ unfolding has
 none_found q b [] f e = refl
 none_found q b (x ∷ xs) f e = none_step (q x) (b x) _ (has b xs) (f x) e (none_found q b xs f)
 
-promises : (d : Case) (x : Record) → is_promise d x ≡ true → (is_prepare d x ≡ true) ⊎ (is_branch_record d x ≡ true)
+promises : (d : Case) (x : Record) → is_promise d x ≡ true
+    → (is_prepare d x ≡ true) ⊎ (is_branch_record d x ≡ true)
 promises d x e = grind arith
 
 promises_back : (d : Case) (x : Record) → is_prepare d x ≡ true → is_promise d x ≡ true
@@ -70,7 +74,8 @@ commits d x e = grind arith
 commits_back : (d : Case) (x : Record) → is_commit d x ≡ true → is_learnt_commit d x ≡ true
 commits_back d x e = grind arith
 
-ends : (d : Case) (x : Record) → is_committing d x ≡ true → (is_commit d x ≡ true) ⊎ (is_branch_record d x ≡ true)
+ends : (d : Case) (x : Record) → is_committing d x ≡ true
+    → (is_commit d x ≡ true) ⊎ (is_branch_record d x ≡ true)
 ends d x e = grind arith
 
 ends_back : (d : Case) (x : Record) → is_commit d x ≡ true → is_committing d x ≡ true
@@ -95,7 +100,8 @@ pub record NoBranch (d : Case) (n : Node) : Type 0 where
   pub life_none : has (is_branch_record d) n.life ≡ false
 
 pub half_as_child : (s : Standing) (m : Memory) (n : Node) (d : Case) (t : Ticket) → NoBranch d n
-    → child_half_at s n d ≡ child_of (parent_half_at s m n d t) (has (is_commit d) n.life) (has (is_abort d) n.forced)
+    → child_half_at s n d ≡ child_of (parent_half_at s m n d t) (has (is_commit d) n.life)
+    (has (is_abort d) n.forced)
 half_as_child s m n d t b =
     rw (
       same_found (is_promise d) (is_prepare d) (is_branch_record d) (kept n) (promises d) (promises_back d)
@@ -108,7 +114,8 @@ half_as_child s m n d t b =
           d) b.kept_none,
       same_found (is_learnt_commit d) (is_commit d) (is_branch_record d) n.forced (commits d) (commits_back
           d) b.forced_none,
-      same_found (is_committing d) (is_commit d) (is_branch_record d) n.life (ends d) (ends_back d) b.life_none,
+      same_found (is_committing d) (is_commit d) (is_branch_record d) n.life (ends d)
+          (ends_back d) b.life_none,
       none_found (is_learnt_abort d) (is_branch_record d) (kept n) (aborts d) b.kept_none,
       none_found (is_learnt_abort d) (is_branch_record d) n.forced (aborts d) b.forced_none,
       none_found (is_learnt_abort d) (is_branch_record d) n.life (aborts d) b.life_none,
@@ -116,7 +123,8 @@ half_as_child s m n d t b =
       none_found (is_heuristic d) (is_branch_record d) n.forced (decides d) b.forced_none,
       none_found (is_heuristic d) (is_branch_record d) n.durable (decides d) b.durable_none,
       none_found (is_decided d CommittedOutcome) (is_branch_record d) (kept n) (commits_alone d) b.kept_none,
-      none_found (is_decided d CommittedOutcome) (is_branch_record d) n.durable (commits_alone d) b.durable_none,
+      none_found (is_decided d CommittedOutcome) (is_branch_record d) n.durable
+          (commits_alone d) b.durable_none,
       none_found (is_forgot d) (is_branch_record d) (kept n) (forgets d) b.kept_none,
       none_found (is_forgot d) (is_branch_record d) n.forced (forgets d) b.forced_none,
       none_found (is_forgot d) (is_branch_record d) n.durable (forgets d) b.durable_none,
@@ -125,10 +133,12 @@ half_as_child s m n d t b =
 -- a coordinator writes no record of a branch
 pub no_branch : (d : Case) (n : Node) → Nested (logs_of n) → Coordinates (logs_of n) → NoBranch d n
 no_branch d n h k = record {
-  kept_none = none (has (is_branch_record d) (kept n)) refl (h.kept_was_written (is_branch_record d) (λ i. refl));
+  kept_none = none (has (is_branch_record d) (kept n)) refl
+      (h.kept_was_written (is_branch_record d) (λ i. refl));
   forced_none = none (has (is_branch_record d) n.forced) refl
       (λ e. h.old_was_written (is_branch_record d) (λ i. refl) (h.forced_is_old (is_branch_record d) e));
-  durable_none = none (has (is_branch_record d) n.durable) refl (h.old_was_written (is_branch_record d) (λ i. refl));
+  durable_none = none (has (is_branch_record d) n.durable) refl
+      (h.old_was_written (is_branch_record d) (λ i. refl));
   life_none = none (has (is_branch_record d) n.life) refl (λ e. e);
 }
   where

@@ -1,4 +1,5 @@
--- Who is remembered behind an input at a coordinator, or was heard to vote, or is named by a record, was accepted.
+-- Who is remembered behind an input at a coordinator, or was heard to vote, or is named by a record, was
+-- accepted.
 use Rattle.std.proofs.Common.{◌≡◌, ◌∙◌, ◌&&◌, ◌||◌, ◌⊎◌, inl, inr, ℕ, Bool, true, false, not, Option, Some, None, List, [], ◌∷◌, ◌++◌, refl, sym, ap, subst, arith, if◌then◌else◌}
 use Rattle.std.proofs.lemmas.List.Folds.{list_any-append}
 use Rattle.tree_model.specs.declared.names.Case.{Case}

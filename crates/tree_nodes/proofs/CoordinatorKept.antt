@@ -33,8 +33,8 @@ IsLive Asked = Unit {0}
 IsLive Idle = ⊥
 IsLive Over = ⊥
 
--- A case's phase goes with its records; who is remembered, has voted or is named was accepted; the votes of a live case
--- are those that were heard, and it has no Commit.
+-- A case's phase goes with its records; who is remembered, has voted or is named was accepted; the votes of a
+-- live case are those that were heard, and it has no Commit.
 pub record Coordinated (place : Place) (n : Node) : Type 0 where
   pub together : n.failed ≡ false → (c : Case) → Together (kept n) c (memory_of place n c).phase
   pub needless : has is_needless (kept n) ≡ false
@@ -56,7 +56,8 @@ remembers_so me None boot c m h = refl
 remembers_so me (Some p) boot c m h = refl
 
 -- what is remembered behind an input, where the boot stays
-pub memory_behind : (me : ProcessId) (parent : Option ProcessId) (tree : List TreeEntry) (n : Node) (h : Heard)
+pub memory_behind : (me : ProcessId) (parent : Option ProcessId) (tree : List TreeEntry) (n : Node)
+    (h : Heard)
     (k : Node) (c : Case) → k.heard ≡ n.heard ++ h ∷ [] → boot_of (kept k) ≡ boot_of (kept n)
     → memory_of (coordinator_place me parent tree) k c
     ≡ remembers_at parent me (boot_of (kept n)) c (memory_of (coordinator_place me parent tree) n c) h.input

@@ -46,7 +46,8 @@ record PromisedFacts (E C A P : Bool) : Type 0 where
   no_abort : A ≡ false
   promised : P ≡ true
 
-promised_facts : (E C A P K N : Bool) (s : Standing) → (s ≡ Prepared → ⊥) → standing_by E C A P K N s ≡ Prepared
+promised_facts : (E C A P K N : Bool) (s : Standing) → (s ≡ Prepared → ⊥)
+    → standing_by E C A P K N s ≡ Prepared
     → PromisedFacts E C A P
 promised_facts true C A P K N s f e = absurd (cc)
 promised_facts false true A P K true s f e = absurd (cc)
@@ -91,7 +92,8 @@ module _ (place : Place) (parent : Option ProcessId) (n : Node) (h : Heard) (c :
       → (coordinator_view place n c).promised ≡ promised_by c (kept n)
   unfolding coordinator_view
   promised_view e =
-      ap (λ (s : Standing). (view_at s (kept n) c (memory_of place n c)).promised) (sym (viewed place n c) ∙ e)
+      ap (λ (s : Standing). (view_at s (kept n) c (memory_of place n c)).promised)
+      (sym (viewed place n c) ∙ e)
 
   names_some : (ts : List Ticket) → c.txn.presumption ≡ PresumeAbort → none_of ts ≡ false
       → CommitNames c.txn.presumption ts
@@ -172,7 +174,8 @@ fits_effect place parent n h _ (presumes x t i e) a = tt
 -- what stands in neither is of the first alone, but for the Aborts that a restart appends for the cases seen
 abbrev NoMore : List Record → List Case → List Record → Type 0
 NoMore rs seen pre = (q : Record → Bool) → ((k : ℕ) → q (Opened k) ≡ false)
-    → ((d : Case) (ts : List Ticket) → has_case seen d ≡ true → q (AbortRecord d ts) ≡ false) → has q rs ≡ false
+    → ((d : Case) (ts : List Ticket) → has_case seen d ≡ true → q (AbortRecord d ts) ≡ false)
+    → has q rs ≡ false
     → has q pre ≡ false
 
 one_none : (q : Record → Bool) (r : Record) → q r ≡ false → has q (r ∷ []) ≡ false
@@ -240,7 +243,8 @@ module _ (rs : List Record) (whole : AllFit [] rs) where
   fits_reopens = (
     tt,
     fits_aborts (rs ++ Opened (boot_of rs + 1) ∷ []) []
-        (λ q f g e. in_none q rs (Opened (boot_of rs + 1) ∷ []) e (one_none q _ (f (boot_of rs + 1)))) (cases_in rs)
+        (λ q f g e. in_none q rs (Opened (boot_of rs + 1) ∷ []) e (one_none q _ (f (boot_of rs + 1))))
+        (cases_in rs)
         (each_once rs),
   )
 
@@ -281,12 +285,14 @@ fits_staying role whole rs less (x ∷ xs) l f =
     (fits_staying role whole (rs ++ x ∷ []) less xs
     (λ q g e. l q g (first_false _ _ (sym (has-append q rs (x ∷ [])) ∙ e))) f.1)
   where
-    by_test : (b : Bool) → AllFit (less ++ x ∷ []) (staying role whole xs) → AllFit less (staying role whole xs)
+    by_test : (b : Bool) → AllFit (less ++ x ∷ []) (staying role whole xs)
+        → AllFit less (staying role whole xs)
         → AllFit less (if b then x ∷ staying role whole xs else staying role whole xs)
     by_test true g k = (fits_less rs less l x f.0, g)
     by_test false g k = k
 
-fits_trimmed : (role : Role) (rs : List Record) → data_records role rs ≡ [] → AllFit [] rs → AllFit [] (trimmed role rs)
+fits_trimmed : (role : Role) (rs : List Record) → data_records role rs ≡ [] → AllFit [] rs
+    → AllFit [] (trimmed role rs)
 unfolding trimmed
 fits_trimmed role rs e f =
     subst (λ (ds : List Record). AllFit [] ((Opened (boot_of rs) ∷ staying role rs rs) ++ ds)) (sym e)
@@ -307,9 +313,11 @@ abbrev Fitting : Node → Type 0
 Fitting n = AllFit [] (kept n)
 
 module _ (place : Place) (role : Coordinating place.role) (n : Node) (old : Fitting n)
-    (turns : (h : Heard) (e : Effect) → reacts place n h ≡ Does e → AllFit (kept n) (entries_written e.written))
+    (turns : (h : Heard) (e : Effect) → reacts place n h ≡ Does e
+    → AllFit (kept n) (entries_written e.written))
   where
-    all_of : (h : Heard) (e : Effect) → reacts place n h ≡ Does e → AllFit [] (kept n ++ entries_written e.written)
+    all_of : (h : Heard) (e : Effect) → reacts place n h ≡ Does e
+        → AllFit [] (kept n ++ entries_written e.written)
     all_of h e r = fit_both [] (kept n) (entries_written e.written) old (turns h e r)
 
     a_front : (xs ys : List Record) (a : ℕ) → AllFit [] (xs ++ ys) → AllFit [] (xs ++ take a ys)
@@ -328,7 +336,8 @@ module _ (place : Place) (role : Coordinating place.role) (n : Node) (old : Fitt
     left_fits : (k : ℕ) → AllFit [] (n.forced ++ take k n.unforced)
     left_fits k = a_front n.forced n.unforced k old
 
-    reopened_fits : (k : ℕ) → let rs = n.forced ++ take k n.unforced in AllFit [] (rs ++ reopens place.role rs)
+    reopened_fits : (k : ℕ) → let rs = n.forced ++ take k n.unforced in
+        AllFit [] (rs ++ reopens place.role rs)
     reopened_fits k =
         let rs = n.forced ++ take k n.unforced in
         subst (λ (x : List Record). AllFit [] (rs ++ x)) (sym (role.reopens_so rs))

@@ -240,7 +240,8 @@ module _ (me : ProcessId) (parent : Option ProcessId) (tree : List TreeEntry) (n
       remembered_accepted = λ c t f.
           ap (took c t) a
           ∙ old.remembered_accepted c t (ap (λ (y : Memory). in_list y.accepted t) (sym (same c)) ∙ f);
-      voted_accepted = λ c t w f. ap (took c t) a ∙ old.voted_accepted c t w (ap (heard_so c t w) (sym v) ∙ f);
+      voted_accepted = λ c t w f. ap (took c t) a
+          ∙ old.voted_accepted c t w (ap (heard_so c t w) (sym v) ∙ f);
       named_accepted = λ c t f. ap (took c t) a
           ∙ old.named_accepted c t (ap (has (is_naming c t)) (sym life) ∙ f);
       votes = λ up. absurd (let y = sym down ∙ up in cc);

@@ -39,8 +39,8 @@ use Rattle.tree_nodes.proofs.RootKnown.{no_commit}
 use Rattle.tree_nodes.proofs.RowNeeds.{is_needless, none_needless, effect_needs}
 use Rattle.tree_nodes.proofs.Tests.{in_none, in_second, in_either, in_front, front_none, has-reverse, not_both}
 
--- What a step takes of its coordinator: a ticket belongs to one case, a case that is not Idle is the coordinator's, a
--- case that begins is new, and acts are for the root's cases alone.
+-- What a step takes of its coordinator: a ticket belongs to one case, a case that is not Idle is the
+-- coordinator's, a case that begins is new, and acts are for the root's cases alone.
 pub record Premises (me : ProcessId) (parent : Option ProcessId) (tree : List TreeEntry)
     (n : Node) : Type 0 where
   pub nested : Nested (logs_of n)
@@ -93,8 +93,10 @@ module _ (me : ProcessId) (parent : Option ProcessId) (tree : List TreeEntry) (n
             by_step : CaseStep me parent tree n h c e
                 → Together (kept n ++ entries_written e.written) c (m' c).phase
             by_step (own row turn same) =
-                subst (λ (x : Effect). Together (kept n ++ entries_written x.written) c (m' c).phase) (sym same)
-                (own_together me parent tree n h c (old.together t.up c) (none_needless (kept n) c old.needless)
+                subst (λ (x : Effect). Together (kept n ++ entries_written x.written) c (m' c).phase)
+                (sym same)
+                (own_together me parent tree n h c (old.together t.up c)
+                (none_needless (kept n) c old.needless)
                 (given.top t.up c) row turn)
             by_step (other p l s) =
                 subst (λ (ph : Phase). Together (kept n ++ new) c ph) (sym p)
@@ -117,7 +119,8 @@ module _ (me : ProcessId) (parent : Option ProcessId) (tree : List TreeEntry) (n
         live_uncommitted c Idle g live = absurd live
         live_uncommitted c Over g live = absurd live
 
-        none_written : (c : Case) → IsLive (m' c).phase → has (is_commit c) (entries_written e.written) ≡ false
+        none_written : (c : Case) → IsLive (m' c).phase
+            → has (is_commit c) (entries_written e.written) ≡ false
         none_written c live = by_test (has (is_commit c) new) refl
           where
             by_test : (b : Bool) → has (is_commit c) new ≡ b → has (is_commit c) new ≡ false
@@ -204,7 +207,8 @@ module _ (me : ProcessId) (parent : Option ProcessId) (tree : List TreeEntry) (n
             → (c : Case) (u : Ticket) (v : Vote) → has_heard_vote k c u (is_vote v) ≡ true
             → has_accepted k c u ≡ true
         voted_of k a w c u v f =
-            ap (took c u) a ∙ voted_then me parent tree n old h e t.up r c u v (ap (heard_so c u v) (sym w) ∙ f)
+            ap (took c u) a ∙ voted_then me parent tree n old h e t.up r c u v
+            (ap (heard_so c u v) (sym w) ∙ f)
 
         pub handled_so : Coordinated (coordinator_place me parent tree) (after n h e)
         handled_so = record {

@@ -182,7 +182,8 @@ module _ (me : ProcessId) (parent : Option ProcessId) (tree : List TreeEntry) (n
             λ o. absurd (g (viewed place n c ∙ old.asked_is_collecting o)),
           ))
 
-      pub own_together : (row : Row) → CaseTurn (coordinator_place me parent tree) parent n h c row → After row
+      pub own_together : (row : Row) → CaseTurn (coordinator_place me parent tree) parent n h c row
+          → After row
       own_together _ (rests r) = rested r
       own_together _ (invites q i e f g) = left (join_left me parent tree n h c c q i)
       own_together _ (accepts t i e f) = left (joined_left me parent tree n h c c t i.0 i.1)

@@ -57,7 +57,8 @@ one_test VoteRead VoteRead = refl
 
 -- A vote is answered by its row, at any coordinator.
 
-abbrev VoteReacts : ProcessId → Option ProcessId → List TreeEntry → Node → Heard → Txn → Ticket → Vote → Type 0
+abbrev VoteReacts : ProcessId → Option ProcessId → List TreeEntry → Node → Heard → Txn → Ticket → Vote
+    → Type 0
 VoteReacts me parent tree n h y u w =
     let place = coordinator_place me parent tree in
     reacts place n h ≡ Does (vote_for place parent n u w (case_of_child place n y u))
@@ -107,7 +108,8 @@ module _ (me : ProcessId) (parent : Option ProcessId) (tree : List TreeEntry) (n
     m = memory_of (coordinator_place me parent tree) n c
 
     abbrev m' : Memory
-    m' = remembers_at parent me (boot_of (kept n)) c (memory_of (coordinator_place me parent tree) n c) h.input
+    m' = remembers_at parent me (boot_of (kept n)) c
+        (memory_of (coordinator_place me parent tree) n c) h.input
 
     -- a vote that the row counts, memory counts
 
@@ -123,7 +125,8 @@ module _ (me : ProcessId) (parent : Option ProcessId) (tree : List TreeEntry) (n
           same = subst (λ (x : Txn). same_txn y x ≡ true)
               (sym (child_txn me parent tree n y u c i.hears.belongs)) (same_txn-refl y);
           asked = (old.together up c).collecting_is_asked (sym (viewed place n c) ∙ i.stands);
-          counts = ap (λ ts. is_counted ts m.votes u) (sym (collecting_accepted me parent tree n h c i.stands))
+          counts = ap (λ ts. is_counted ts m.votes u)
+              (sym (collecting_accepted me parent tree n h c i.stands))
               ∙ (ap (λ vs. is_counted v.accepted vs u) (sym
               (collecting_votes me parent tree n h c i.stands)) ∙ i.counts);
         }
@@ -212,7 +215,8 @@ module _ (me : ProcessId) (parent : Option ProcessId) (tree : List TreeEntry) (n
     both_parts t v = list_any-append _ e.counts n.voted
 
     -- a case that begins has heard no vote
-    begun_now : (k : Memory) (i : Input) → h.input ≡ i → Opens parent me (boot_of (kept n)) c m i → k.votes ≡ []
+    begun_now : (k : Memory) (i : Input) → h.input ≡ i → Opens parent me (boot_of (kept n)) c m i
+        → k.votes ≡ []
         → Same k
     unfolding voted_so
     begun_now k i at o none t v =

@@ -181,7 +181,8 @@ module _ (tree : List TreeEntry) where
       record {
         nested = nested;
         alone = one_owner q None tree w.net (w.at q) nested old
-            (all_joined tree es w run q (subst IsCoordinator (sym e) tt)) (tickets_have_one_case tree es w run);
+            (all_joined tree es w run q (subst IsCoordinator (sym e) tt))
+            (tickets_have_one_case tree es w run);
         listed = root_listed q tree (w.at q) cases;
         new = root_new q tree (w.at q) cases;
         top = λ up c known x f. refl;
@@ -194,7 +195,8 @@ module _ (tree : List TreeEntry) where
       record {
         nested = nested;
         alone = one_owner q (Some p) tree w.net (w.at q) nested old
-            (all_joined tree es w run q (subst IsCoordinator (sym e) tt)) (tickets_have_one_case tree es w run);
+            (all_joined tree es w run q (subst IsCoordinator (sym e) tt))
+            (tickets_have_one_case tree es w run);
         listed = cascaded_listed q p tree w.net (w.at q) nested gives issued;
         new = cascaded_new q p tree w.net (w.at q) nested gives issued;
         top = cascaded_top q p tree w.net (w.at q) nested gives issued;
@@ -231,7 +233,8 @@ module _ (tree : List TreeEntry) where
       own_case q _ _ c ((all_root_cases tree es w run q e).begun_before c (accepted t f))
   whose es w run q (Some p) e c t f = ((all_give tree es w run q p e).accepted_is_given c t f).0
 
-  pub coordinates : (es : List Made) (w : World) → IsRun tree es w → (q : ProcessId) (parent : Option ProcessId)
+  pub coordinates : (es : List Made) (w : World) → IsRun tree es w
+      → (q : ProcessId) (parent : Option ProcessId)
       → role_of tree q ≡ role_below parent → Coordinates (coordinator_place q parent tree) w.net (w.at q)
   coordinates es w run q parent e =
       let place = coordinator_place q parent tree in
@@ -261,11 +264,13 @@ module _ (tree : List TreeEntry) where
       → IsCoordinator (role_of tree q) → Coordinates (place_of tree q) w.net (w.at q)
   coordinators_hold es w run q i = by_role (role_of tree q) refl i
     where
-      by_role : (r : Role) → role_of tree q ≡ r → IsCoordinator r → Coordinates (place_of tree q) w.net (w.at q)
+      by_role : (r : Role) → role_of tree q ≡ r → IsCoordinator r
+          → Coordinates (place_of tree q) w.net (w.at q)
       by_role AtRoot e j =
           subst (λ (x : Role). Coordinates (at q x) w.net (w.at q)) (sym e) (coordinates es w run q None e)
       by_role (Below p) e j =
-          subst (λ (x : Role). Coordinates (at q x) w.net (w.at q)) (sym e) (coordinates es w run q (Some p) e)
+          subst (λ (x : Role). Coordinates (at q x) w.net (w.at q)) (sym e)
+          (coordinates es w run q (Some p) e)
       by_role (AtLeaf p) e j = absurd j
 
   -- All that the invariant says of a cascaded coordinator.

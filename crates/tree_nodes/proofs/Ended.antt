@@ -17,8 +17,8 @@ use Rattle.tree_nodes.proofs.RootCases.{InHistory, recorded, told, found_undecid
 use Rattle.tree_nodes.proofs.RootHistories.{among}
 use Rattle.tree_nodes.proofs.Worlds.{has_other}
 
--- The case was ended by an abort: `aborted` was told of it, an Abort of it was appended, or a restart found it
--- undecided.
+-- The case was ended by an abort: `aborted` was told of it, an Abort of it was appended, or a restart found
+-- it undecided.
 pub data IsEnded (n : Node) (c : Case) : Type 0 where
   by_telling : (x : Txn) → c ≡ root_case x → list_any (is_told_aborted x) n.told ≡ true → IsEnded n c
   by_abort : has (is_abort c) n.life ≡ true → IsEnded n c
@@ -48,7 +48,8 @@ told_any x (t ∷ ts) e = more _ _ _ _ (first_of _ _) (told_any x ts) e
     first_of : (a b : Bool) → (a && b) ≡ true → a ≡ true
     first_of a b f = grind arith
 
-    more : (a b c d : Bool) → (a ≡ true → b ≡ true) → (c ≡ true → d ≡ true) → (a || c) ≡ true → (b || d) ≡ true
+    more : (a b c d : Bool) → (a ≡ true → b ≡ true) → (c ≡ true → d ≡ true) → (a || c) ≡ true
+        → (b || d) ≡ true
     more true b c d f g h = rw (f refl) refl
     more false b c d f g h = later b d (g h)
       where

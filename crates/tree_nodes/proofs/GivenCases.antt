@@ -1,4 +1,5 @@
--- What a manager records and remembers is of cases that it gave: the statement, and tests of records and cases.
+-- What a manager records and remembers is of cases that it gave: the statement, and tests of records and
+-- cases.
 use Rattle.std.proofs.Common.{◌≡◌, ◌∙◌, ◌||◌, inl, inr, Bool, true, false, ◌≢◌, Some, List, [], ◌∷◌, ◌++◌, refl, arith}
 use Rattle.std.proofs.lemmas.Grind.{fold-append}
 use Rattle.tree_model.specs.declared.names.Case.{Case}
@@ -26,7 +27,8 @@ use Rattle.tree_nodes.proofs.Orders.{mark_is, mark_behind, other_leaves}
 abbrev pub IsGiven : ProcessId → List Envelope → Case → Type 0
 IsGiven me net d = (process_of d ≡ me) × (sent (gives_case d) net ≡ true)
 
-pub given_still : (me : ProcessId) (net ls : List Envelope) (d : Case) → IsGiven me net d → IsGiven me (net ++ ls) d
+pub given_still : (me : ProcessId) (net ls : List Envelope) (d : Case) → IsGiven me net d
+    → IsGiven me (net ++ ls) d
 given_still me net ls d g = (g.0, sent-append (gives_case d) net ls ∙ right _ _ g.1)
 
 pub sent_other : (q r : Message → Bool) (ls : List Envelope) → ((m : Message) → q m ≡ true → r m ≡ true)
@@ -71,7 +73,8 @@ unmarked_behind : (d : Case) (m : Mark) (rs : List Record) → has (is_branch_re
 unfolding has
 unmarked_behind d m [] e = refl
 unmarked_behind d m (r ∷ rs) e =
-    unmarked_behind d (mark_after (CaseBranch d) m r) rs (second_false (is_branch_record d r) (has (is_branch_record d) rs) e)
+    unmarked_behind d (mark_after (CaseBranch d) m r) rs
+    (second_false (is_branch_record d r) (has (is_branch_record d) rs) e)
     ∙ other_leaves d m r (first_false (is_branch_record d r) (has (is_branch_record d) rs) e)
 
 -- a branch without a record is unmarked
@@ -85,7 +88,8 @@ pub record Remembered (place : Place) (net : List Envelope) (n : Node) : Type 0 
   pub recorded_is_given : (d : Case) → has (is_record_of d) n.life ≡ true → IsGiven place.me net d
   pub remembered_is_given : n.failed ≡ false → (d : Case) → (memory_of place n d).phase ≢ Idle
       → IsGiven place.me net d
-  pub promised_was_asked : (d : Case) → has (is_promise d) n.life ≡ true → sent (is_prepare_message d) net ≡ true
+  pub promised_was_asked : (d : Case) → has (is_promise d) n.life ≡ true
+      → sent (is_prepare_message d) net ≡ true
   pub open_is_unmarked : n.failed ≡ false → (d : Case) → (memory_of place n d).phase ≡ Open
       → mark_of (CaseBranch d) (kept n) ≡ Unmarked
   pub accepts_none : n.accepted ≡ []
@@ -96,7 +100,8 @@ pub remembered_elsewhere : (place : Place) (net ls : List Envelope) (n : Node) �
 remembered_elsewhere place net ls n h = record {
   recorded_is_given = λ d e. given_still place.me net ls d (h.recorded_is_given d e);
   remembered_is_given = λ up d e. given_still place.me net ls d (h.remembered_is_given up d e);
-  promised_was_asked = λ d e. sent-append (is_prepare_message d) net ls ∙ right _ _ (h.promised_was_asked d e);
+  promised_was_asked = λ d e. sent-append (is_prepare_message d) net ls
+      ∙ right _ _ (h.promised_was_asked d e);
   open_is_unmarked = h.open_is_unmarked;
   accepts_none = h.accepts_none;
 }

@@ -51,8 +51,8 @@ nothing_sent d t e = absurd (cc)
 abbrev pub self_at : Place → Node → Self
 self_at place n = self_of (memory_of place n (some_case place))
 
--- What the net knows of the tickets of a process: each has a number that it gave out, also where it failed, and
--- each active one was sent.
+-- What the net knows of the tickets of a process: each has a number that it gave out, also where it failed,
+-- and each active one was sent.
 pub record Issued (place : Place) (net : List Envelope) (n : Node) : Type 0 where
   pub given_once : n.failed ≡ false → (d : Case) (t : Ticket) → t.child ≡ place.me
       → sent (is_joined_message d t) net ≡ true
@@ -80,8 +80,10 @@ issued_elsewhere place net ls n h none = record {
 }
 
 -- the next ticket was given to no case yet
-pub next_is_new : {A : Type 0} (place : Place) (net : List Envelope) (n : Node) → Issued place net n → n.failed ≡ false
-    → (d x : Case) → sent (is_joined_message d (next_ticket place.me (boot_of (kept n)) (memory_of place n x))) net ≡ true
+pub next_is_new : {A : Type 0} (place : Place) (net : List Envelope) (n : Node) → Issued place net n
+    → n.failed ≡ false
+    → (d x : Case) → sent (is_joined_message d
+    (next_ticket place.me (boot_of (kept n)) (memory_of place n x))) net ≡ true
     → A
 next_is_new {A} place net n h up d x e =
     let t = next_ticket place.me (boot_of (kept n)) (memory_of place n x) in
@@ -98,14 +100,16 @@ more_given boot number now a b (inl e) f = inl e
 more_given boot number now a b (inr e) f = inr (e.0, le_trans e.1 f)
 
 -- the next ticket is counted
-counts_next : (me : ProcessId) (boot : ℕ) (s : Self) (d : Case) (b : Bool) (o : Option Ticket) → b ≡ true → o ≡ None
+counts_next : (me : ProcessId) (boot : ℕ) (s : Self) (d : Case) (b : Bool) (o : Option Ticket) → b ≡ true
+    → o ≡ None
     → (starts_for b s (joins_self me boot s d o)).given ≡ s.given + 1
 counts_next me boot s d true None e f = refl
 counts_next me boot s d true (Some t) e f = absurd (cc)
 counts_next me boot s d false o e f = absurd (cc)
 
 -- A step of its own.
-module _ (place : Place) (net : List Envelope) (n : Node) (issuer : IsIssuer place.role) (booted : Booted (logs_of n))
+module _ (place : Place) (net : List Envelope) (n : Node) (issuer : IsIssuer place.role)
+    (booted : Booted (logs_of n))
     (issued : Issued place net n) where
   abbrev me : ProcessId
   me = place.me
@@ -140,7 +144,8 @@ module _ (place : Place) (net : List Envelope) (n : Node) (issuer : IsIssuer pla
 
     -- what it then remembers of itself
     self_moves : (role : Role) → IsIssuer role → (s : Self)
-        → self_after me role (boot_of (kept n)) s h ≡ issuer_self me (boot_of (kept n)) (starts_at role h) s h.input
+        → self_after me role (boot_of (kept n)) s h
+        ≡ issuer_self me (boot_of (kept n)) (starts_at role h) s h.input
     self_moves (Below p) i s = refl
     self_moves (AtLeaf p) i s = refl
     self_moves AtRoot i s = absurd i
@@ -148,14 +153,16 @@ module _ (place : Place) (net : List Envelope) (n : Node) (issuer : IsIssuer pla
     pub self_then : self_at place k ≡ issuer_self me (boot_of (kept n)) starts self h.input
     self_then =
         ap self_of (memory_of-heard place n h e (some_case place) same_boot)
-        ∙ (self_remembers me (boot_of (kept n)) (some_case place) place.role (memory_of place n (some_case place)) h
+        ∙ (self_remembers me (boot_of (kept n)) (some_case place) place.role
+        (memory_of place n (some_case place)) h
         ∙ self_moves place.role issuer self)
 
     -- the same of any case
     self_of_case : (d : Case) → self_of (memory_of place n d) ≡ self
     self_of_case d = self_same place n d (some_case place)
 
-    next_is : (d : Case) → next_ticket me (boot_of (kept n)) (memory_of place n d) ≡ next_of me (boot_of (kept n)) self
+    next_is : (d : Case) → next_ticket me (boot_of (kept n)) (memory_of place n d)
+        ≡ next_of me (boot_of (kept n)) self
     next_is d = ap (λ (s : Self). next_of me (boot_of (kept n)) s) (self_of_case d)
 
     active_is : (d : Case) → (memory_of place n d).active ≡ self.active
@@ -170,7 +177,8 @@ module _ (place : Place) (net : List Envelope) (n : Node) (issuer : IsIssuer pla
       next : t ≡ next_of me (boot_of (kept n)) self
       counted : (self_at place k).given ≡ self.given + 1
 
-    counts : (d : Case) (t : Ticket) → Answers place.role place n h d t → IsNext place.role place n h d t → New d t
+    counts : (d : Case) (t : Ticket) → Answers place.role place n h d t → IsNext place.role place n h d t
+        → New d t
     counts d t a x = record {
       next = x.next ∙ next_is d;
       counted = ap (λ (s : Self). s.given) self_then
@@ -194,7 +202,8 @@ module _ (place : Place) (net : List Envelope) (n : Node) (issuer : IsIssuer pla
     numbered d t x = inr (
       ap (λ (u : Ticket). u.boot) x.next,
       subst (λ y. t.number ≤ y) (sym x.counted)
-          (subst (λ y. y ≤ self.given + 1) (sym (ap (λ (u : Ticket). u.number) x.next)) (le_refl (self.given + 1))),
+          (subst (λ y. y ≤ self.given + 1) (sym (ap (λ (u : Ticket). u.number) x.next))
+          (le_refl (self.given + 1))),
     )
 
     old_number : (d : Case) (t : Ticket) → t.child ≡ me → sent (is_joined_message d t) net ≡ true
@@ -221,20 +230,26 @@ module _ (place : Place) (net : List Envelope) (n : Node) (issuer : IsIssuer pla
       | inr old ↦ le_trans (issued.given_before d t own old) b
     ]
 
-    active_then : AllActive (λ d t. sent (is_joined_message d t) (net ++ e.messages) ≡ true) (self_at place k).active
+    active_then : AllActive (λ d t. sent (is_joined_message d t) (net ++ e.messages) ≡ true)
+        (self_at place k).active
     active_then =
-        subst (λ (s : Self). AllActive (λ d t. sent (is_joined_message d t) (net ++ e.messages) ≡ true) s.active)
+        subst (λ (s : Self). AllActive (λ d t. sent (is_joined_message d t) (net ++ e.messages) ≡ true)
+        s.active)
         (sym self_then)
-        (active_after (λ d t. sent (is_joined_message d t) (net ++ e.messages) ≡ true) me (boot_of (kept n)) starts self
+        (active_after (λ d t. sent (is_joined_message d t) (net ++ e.messages) ≡ true) me
+        (boot_of (kept n)) starts self
         h.input
         (active_all _ _ (λ d t. sent_old d t net e.messages) self.active (issued.active_was_sent turn.up))
-        (λ j d i none st. subst (λ (u : Ticket). sent (is_joined_message d u) (net ++ e.messages) ≡ true) (next_is d)
+        (λ j d i none st. subst (λ (u : Ticket). sent (is_joined_message d u) (net ++ e.messages) ≡ true)
+        (next_is d)
         (sent_new d (next_ticket me (boot_of (kept n)) (memory_of place n d)) net e.messages
-        (join_said place n h e d j issuer i turn.up r (ap (λ l. active_ticket l d) (active_is d) ∙ none) st))))
+        (join_said place n h e d j issuer i turn.up r
+        (ap (λ l. active_ticket l d) (active_is d) ∙ none) st))))
 
     handles_so : boot_of n.forced ≤ boot_of k.forced → Issued place (net ++ e.messages) k
     handles_so b = record {
-      given_once = λ up d t own f. subst (λ y. IsGivenOut t.boot t.number y (self_at place k).given) (sym same_boot)
+      given_once = λ up d t own f. subst (λ y. IsGivenOut t.boot t.number y (self_at place k).given)
+          (sym same_boot)
           (once d t own f);
       given_before = before b;
       active_was_sent = λ up. active_then;
@@ -253,13 +268,17 @@ module _ (place : Place) (net : List Envelope) (n : Node) (issuer : IsIssuer pla
     | inr old ↦ old
   ]
 
-  restarts_so : (j : ℕ) (ls : List Envelope) → ((d : Case) (t : Ticket) → sent (is_joined_message d t) ls ≡ false)
-      → boot_of n.forced ≤ boot_of (restarted place n j).forced → Issued place (net ++ ls) (restarted place n j)
+  restarts_so : (j : ℕ) (ls : List Envelope) → ((d : Case) (t : Ticket)
+      → sent (is_joined_message d t) ls ≡ false)
+      → boot_of n.forced ≤ boot_of (restarted place n j).forced
+      → Issued place (net ++ ls) (restarted place n j)
   restarts_so j ls none b = record {
     given_once = λ up d t own e. inl
-        (later (issued.given_before d t own (resumes_none d t ls (none d t) e)) (restart_rises place n booted j));
+        (later (issued.given_before d t own (resumes_none d t ls (none d t) e))
+        (restart_rises place n booted j));
     given_before = λ d t own e. le_trans (issued.given_before d t own (resumes_none d t ls (none d t) e)) b;
-    active_was_sent = λ up. subst (λ (s : Self). AllActive (λ d t. sent (is_joined_message d t) (net ++ ls) ≡ true) s.active)
+    active_was_sent = λ up. subst (λ (s : Self). AllActive
+        (λ d t. sent (is_joined_message d t) (net ++ ls) ≡ true) s.active)
         (sym (fresh_self (restarted place n j) refl)) tt;
   }
     where
@@ -270,13 +289,17 @@ module _ (place : Place) (net : List Envelope) (n : Node) (issuer : IsIssuer pla
 
   trims_so : Issued place (net ++ []) (trims place n)
   trims_so = record {
-    given_once = λ up d t own e. subst (λ y. IsGivenOut t.boot t.number y (self_at place (trims place n)).given)
+    given_once = λ up d t own e. subst (λ y. IsGivenOut t.boot t.number y
+        (self_at place (trims place n)).given)
         (sym (ap boot_of (append-nil (trims place n).forced) ∙ trimmed_boot place.role (kept n)))
-        (subst (λ (m : Memory). IsGivenOut t.boot t.number (boot_of (kept n)) m.given) (sym (trims_memory place n (some_case place)))
+        (subst (λ (m : Memory). IsGivenOut t.boot t.number (boot_of (kept n)) m.given)
+        (sym (trims_memory place n (some_case place)))
         (issued.given_once up d t own (sym (sent-nil (is_joined_message d t) net) ∙ e)));
     given_before = silent_before (trims place n)
-        (subst (λ y. boot_of n.forced ≤ y) (sym (trimmed_boot place.role (kept n))) (forced_below (logs_of n) booted));
-    active_was_sent = λ up. subst (λ (m : Memory). AllActive (λ d t. sent (is_joined_message d t) (net ++ []) ≡ true) m.active)
+        (subst (λ y. boot_of n.forced ≤ y) (sym (trimmed_boot place.role (kept n)))
+        (forced_below (logs_of n) booted));
+    active_was_sent = λ up. subst (λ (m : Memory). AllActive
+        (λ d t. sent (is_joined_message d t) (net ++ []) ≡ true) m.active)
         (sym (trims_memory place n (some_case place)))
         (active_all _ _ (λ d t. sent_old d t net []) self.active (issued.active_was_sent up));
   }
@@ -285,13 +308,15 @@ module _ (place : Place) (net : List Envelope) (n : Node) (issuer : IsIssuer pla
   trim_failed zero = refl
   trim_failed (suc a) = refl
 
-  pub still_issued : (m : Move) (e : Effect) (k : Node) → StepOf place n m e k → Issued place (net ++ e.messages) k
+  pub still_issued : (m : Move) (e : Effect) (k : Node) → StepOf place n m e k
+      → Issued place (net ++ e.messages) k
   still_issued m _ _ (handled i g hp np r) =
       handles_so (heard_in m i) g r (turn_of place n (heard_in m i) g r)
       (forced_rises place n booted m _ _ (handled i g hp np r))
   still_issued m _ _ (failed_in i f g fl hp np r) =
       fallen _ refl (forced_rises place n booted m _ _ (failed_in i f g fl hp np r))
-  still_issued m _ _ (passed i hp r) = issued_elsewhere place net [] n issued (λ d t e own. nothing_sent d t e)
+  still_issued m _ _ (passed i hp r) = issued_elsewhere place net [] n issued
+      (λ d t e own. nothing_sent d t e)
   still_issued m _ _ (failed_passing i f fl hp r) =
       fallen _ refl (forced_rises place n booted m _ _ (failed_passing i f fl hp r))
   still_issued m _ _ (reopened j hp) =

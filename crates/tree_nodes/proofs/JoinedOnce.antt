@@ -69,7 +69,8 @@ module _ (place : Place) (n : Node) (h : Heard) (e : Effect) (root : place.role 
   root_silent : e.messages ≡ []
   unfolding reacts
   root_silent =
-      let there : ReactsTo (MessageInput j (Join d)) ≡ Does e = subst (λ (x : Input). ReactsTo x ≡ Does e) i r in
+      let there : ReactsTo (MessageInput j (Join d)) ≡ Does e =
+      subst (λ (x : Input). ReactsTo x ≡ Does e) i r in
       ap (λ (x : Effect). x.messages)
       (sym (does_so (hears place.role place n h.data_answer (Join d)) e
       (if_up (Does (hears place.role place n h.data_answer (Join d))) n.failed up there)))
@@ -99,7 +100,8 @@ module _ (place : Place) (net : List Envelope) (n : Node)
         let a = joined_answers place n h d t place.role e turn.turn g in
         let is = issuer_by place.role refl d t a g in
         elim a.answer [
-          | inl active ↦ inl (active_found (λ x u. sent (is_joined_message x u) net ≡ true) (self_at place n).active d t
+          | inl active ↦ inl (active_found (λ x u. sent (is_joined_message x u) net ≡ true)
+              (self_at place n).active d t
               ((issued is).active_was_sent turn.up)
               (ap (λ (s : Self). active_ticket s.active d) (self_same place n (some_case place) d) ∙ active))
           | inr x ↦ inr (record { number = a.number; hears = a.hears; next = x.next; issuer = is })
@@ -113,7 +115,8 @@ module _ (place : Place) (net : List Envelope) (n : Node)
     ]
 
     -- the next ticket was told of to nobody
-    new_to_all : {A : Type 0} (c d : Case) (t : Ticket) → Next c t → sent (is_joined_message d t) net ≡ true → A
+    new_to_all : {A : Type 0} (c d : Case) (t : Ticket) → Next c t → sent (is_joined_message d t) net ≡ true
+        → A
     new_to_all c d t x g =
         next_is_new place net n (issued x.issuer) turn.up d c
         (subst (λ (u : Ticket). sent (is_joined_message d u) net ≡ true) x.next g)
@@ -146,11 +149,13 @@ module _ (place : Place) (net : List Envelope) (n : Node)
   step_once m _ _ (trimmed hp up) = quiet_once net [] nothing_said once
   step_once m _ _ (failed_trimming f fl hp up) = quiet_once net [] nothing_said once
 
-pub tickets_have_one_case : (tree : List TreeEntry) (es : List Made) (w : World) → IsRun tree es w → JoinedOnce w.net
+pub tickets_have_one_case : (tree : List TreeEntry) (es : List Made) (w : World) → IsRun tree es w
+    → JoinedOnce w.net
 tickets_have_one_case tree _ _ opens = λ c d t e f. none_sent c t e
 tickets_have_one_case tree _ _ (makes es w m e w' run stands step) =
     let at = makes_at tree w m e w' step in
     let q = m.step.process in
     subst (λ (x : World). JoinedOnce x.net) (sym at.world)
-    (step_once (place_of tree q) w.net (w.at q) (all_issued tree es w run q) (tickets_have_one_case tree es w run) m e
+    (step_once (place_of tree q) w.net (w.at q) (all_issued tree es w run q)
+    (tickets_have_one_case tree es w run) m e
     at.node (step_of (place_of tree q) (w.at q) m e at.node at.made))

@@ -20,7 +20,8 @@ parent_by Coordinator (Some q) p h = ap Some h
 parent_by Manager None p h = absurd (h)
 parent_by Manager (Some q) p h = ap Some h
 
-pub parent_is : (tree : List TreeEntry) (q p : ProcessId) → IsChildRole (role_of tree q) p → parent_of tree q ≡ Some p
+pub parent_is : (tree : List TreeEntry) (q p : ProcessId) → IsChildRole (role_of tree q) p
+    → parent_of tree q ≡ Some p
 unfolding role_of parent_of
 parent_is [] q p h = absurd (h)
 parent_is (e ∷ es) q p h = by_id (same_process e.id q) (parent_is es q p) h
@@ -84,7 +85,8 @@ parent_elsewhere tree t q p listed h same =
     (climbs tree t q listed)
 
 -- a tree has an entry
-pub has_entry : (tree : List TreeEntry) (q : ProcessId) → is_listed tree q ≡ true → (k : ℕ) × (length tree ≡ suc k)
+pub has_entry : (tree : List TreeEntry) (q : ProcessId) → is_listed tree q ≡ true
+    → (k : ℕ) × (length tree ≡ suc k)
 unfolding is_listed
 has_entry [] q l = absurd (cc)
 has_entry (e ∷ es) q l = (length es, refl)

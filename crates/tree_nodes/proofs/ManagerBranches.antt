@@ -75,8 +75,10 @@ module _ (me p : ProcessId) (tree : List TreeEntry) (net : List Envelope) (n : N
       (open_promised d (kept n) (last.by_role.in_order d) (ap is_open (sym (mark_is d (kept n))) ∙ e))))
 
   module _ (h : Heard) (up : n.failed ≡ false) (stands : InputStands net me h.input) where
-    record_given : (d x : Case) (o : Option Case) → o ≡ Some x → IsGiven me net x → is_of d o ≡ true → IsGiven me net d
-    record_given d x o e g f = subst (λ (z : Case). IsGiven me net z) (same_of x d (sym (ap (is_of d) e) ∙ f)) g
+    record_given : (d x : Case) (o : Option Case) → o ≡ Some x → IsGiven me net x → is_of d o ≡ true
+        → IsGiven me net d
+    record_given d x o e g f = subst (λ (z : Case). IsGiven me net z)
+        (same_of x d (sym (ap (is_of d) e) ∙ f)) g
 
     one_of : (q : Record → Bool) (r : Record) → has q (r ∷ []) ≡ true → q r ≡ true
     unfolding has
@@ -94,7 +96,8 @@ module _ (me p : ProcessId) (tree : List TreeEntry) (net : List Envelope) (n : N
         (known.remembered_is_given up x (open_not_idle _ a.is_open))
         (one_of (is_record_of d) (PreparedRecord (CaseBranch x) ws) e)
     written_given _ (ending x r f) d e =
-        record_given d x (record_case r) (case_of r x f.of) (open_is_given x f.is_open) (one_of (is_record_of d) r e)
+        record_given d x (record_case r) (case_of r x f.of) (open_is_given x f.is_open)
+        (one_of (is_record_of d) r e)
 
     written_asked : (rs : List Record) → Wrote place n h rs → (d : Case) → has (is_promise d) rs ≡ true
         → sent (is_prepare_message d) net ≡ true
@@ -104,10 +107,12 @@ module _ (me p : ProcessId) (tree : List TreeEntry) (net : List Envelope) (n : N
         (promised_case x d ws (one_of (is_promise d) (PreparedRecord (CaseBranch x) ws) e))
         (was_sent (is_prepare_message x) net me h.input i.0 (Prepare x k) stands i.1 (same_case-refl x))
       where
-        promised_case : (x d : Case) (ws : List Write) → is_promise d (PreparedRecord (CaseBranch x) ws) ≡ true → x ≡ d
+        promised_case : (x d : Case) (ws : List Write)
+            → is_promise d (PreparedRecord (CaseBranch x) ws) ≡ true → x ≡ d
         promised_case x d ws e = elim (either (same_case x d) false e)
             [ inl now ↦ same_of x d now | inr rest ↦ absurd (cc) ]
-    written_asked _ (ending x r f) d e = not_both (is_promise d) (is_promise d r) (one_of (is_promise d) r e) (f.no_promise d)
+    written_asked _ (ending x r f) d e = not_both (is_promise d) (is_promise d r) (one_of (is_promise d) r e)
+        (f.no_promise d)
 
     -- what was written goes into the life list, newest first
     life_given : (rs : List Record) → Wrote place n h rs → (a : ℕ) (d : Case)
@@ -154,35 +159,45 @@ module _ (me p : ProcessId) (tree : List TreeEntry) (net : List Envelope) (n : N
           subst (λ (z : Case). IsGiven me (net ++ e.messages) z) (sym there) (
             refl,
             sent-append (gives_case (child_case w.parents.txn t)) net e.messages
-                ∙ left _ _ (sent_other (is_joined_message w.parents t) (gives_case (child_case w.parents.txn t)) e.messages
+                ∙ left _ _ (sent_other (is_joined_message w.parents t)
+                (gives_case (child_case w.parents.txn t)) e.messages
                 (joined_gives w.parents t) (said w t (next_same w))),
           )
         where
           next_same : (w : Woken d) → next_ticket me (boot_of (kept n)) (memory_of place n w.parents)
               ≡ next_ticket me (boot_of (kept n)) (memory_of place n d)
-          next_same w = ap (λ (s : Self). record { child = me; boot = boot_of (kept n); number = s.given + 1 })
+          next_same w = ap (λ (s : Self). record {
+            child = me;
+            boot = boot_of (kept n);
+            number = s.given + 1;
+          })
               (self_same place n w.parents d)
 
-          said : (w : Woken d) (t : Ticket) → next_ticket me (boot_of (kept n)) (memory_of place n w.parents) ≡ t
+          said : (w : Woken d) (t : Ticket) → next_ticket me (boot_of (kept n)) (memory_of place n w.parents)
+              ≡ t
               → sent (is_joined_message w.parents t) e.messages ≡ true
           said w t same =
               subst (λ (u : Ticket). sent (is_joined_message w.parents u) e.messages ≡ true) same
               (join_said place n h e w.parents w.number tt w.hears up r
-              (ap (λ (s : Self). active_ticket s.active w.parents) (self_same place n w.parents d) ∙ w.none_active)
+              (ap (λ (s : Self). active_ticket s.active w.parents) (self_same place n w.parents d)
+              ∙ w.none_active)
               w.starts)
 
       remembered_then : (d : Case) → (memory_of place k d).phase ≢ Idle → IsGiven me (net ++ e.messages) d
-      remembered_then d e' = elim (phase_moves me (boot_of (kept n)) d (memory_of place n d) h.data_answer h.input) [
-        | inl same ↦ given_still me net e.messages d (known.remembered_is_given up d
-            (λ idle. e' (ap (λ (m : Memory). m.phase) (memory_then d) ∙ (same ∙ idle))))
-        | inr moved ↦ ended_or_woken d moved e'
-      ]
+      remembered_then d e' = elim (phase_moves me (boot_of (kept n)) d
+          (memory_of place n d) h.data_answer h.input) [
+            | inl same ↦ given_still me net e.messages d (known.remembered_is_given up d
+                (λ idle. e' (ap (λ (m : Memory). m.phase) (memory_then d) ∙ (same ∙ idle))))
+            | inr moved ↦ ended_or_woken d moved e'
+          ]
         where
           ended_or_woken : (d : Case) → (((memory_of place n d).phase ≢ Idle)
-              × ((manager_remembers me (boot_of (kept n)) d (memory_of place n d) h.data_answer h.input).phase ≡ Over))
+              × ((manager_remembers me (boot_of (kept n)) d (memory_of place n d) h.data_answer h.input).phase
+              ≡ Over))
               ⊎ Woken d → (memory_of place k d).phase ≢ Idle → IsGiven me (net ++ e.messages) d
           ended_or_woken d (inr w) f = woken_given d w
-          ended_or_woken d (inl ended) f = given_still me net e.messages d (known.remembered_is_given up d ended.0)
+          ended_or_woken d (inl ended) f = given_still me net e.messages d
+              (known.remembered_is_given up d ended.0)
 
       -- The last record.
 
@@ -210,7 +225,8 @@ module _ (me p : ProcessId) (tree : List TreeEntry) (net : List Envelope) (n : N
           ∙ (ap (Mark' d) (append-nil (kept n))
           ∙ unmarked_so d (kept n) (by_test (has (is_branch_record d) (kept n)) refl))
         where
-          by_test : (b : Bool) → has (is_branch_record d) (kept n) ≡ b → has (is_branch_record d) (kept n) ≡ false
+          by_test : (b : Bool) → has (is_branch_record d) (kept n) ≡ b
+              → has (is_branch_record d) (kept n) ≡ false
           by_test true f = fresh d w
               (known.recorded_is_given d
               (last.nested.kept_was_written (is_record_of d) (λ x. refl)
@@ -218,8 +234,10 @@ module _ (me p : ProcessId) (tree : List TreeEntry) (net : List Envelope) (n : N
           by_test false f = f
 
       -- a branch that takes work on keeps to have no record
-      still_unmarked : (rs : List Record) → Wrote place n h rs → (d : Case) → (memory_of place n d).phase ≡ Open
-          → (manager_remembers me (boot_of (kept n)) d (memory_of place n d) h.data_answer h.input).phase ≡ Open
+      still_unmarked : (rs : List Record) → Wrote place n h rs → (d : Case)
+          → (memory_of place n d).phase ≡ Open
+          → (manager_remembers me (boot_of (kept n)) d (memory_of place n d) h.data_answer h.input).phase
+          ≡ Open
           → Mark' d (kept n ++ rs) ≡ Unmarked
       still_unmarked _ nothing d e' f = ap (Mark' d) (append-nil (kept n)) ∙ known.open_is_unmarked up d e'
       still_unmarked _ (promise x j ws i a) d e' f =
@@ -229,7 +247,8 @@ module _ (me p : ProcessId) (tree : List TreeEntry) (net : List Envelope) (n : N
         where
           by_test : (b : Bool) → same_case x d ≡ b → same_case x d ≡ false
           by_test true g =
-              over_not_open _ (prepare_ends me (boot_of (kept n)) d (memory_of place n d) h.data_answer i.0 j h.input
+              over_not_open _ (prepare_ends me (boot_of (kept n)) d
+              (memory_of place n d) h.data_answer i.0 j h.input
               (subst (λ (z : Case). h.input ≡ MessageInput i.0 (Prepare z j)) (same_of x d g) i.1) e') f
           by_test false g = g
       still_unmarked _ (ending x r' g) d e' f =
@@ -264,7 +283,8 @@ module _ (me p : ProcessId) (tree : List TreeEntry) (net : List Envelope) (n : N
 
       life_then : k.life ≡ reverse (take (length new) new) ++ n.life
       life_then =
-          either_logs n new (is_any_forced e.written) (λ (l : Logs). l.life ≡ reverse new ++ n.life) (λ b. refl) (λ b. refl)
+          either_logs n new (is_any_forced e.written) (λ (l : Logs). l.life ≡ reverse new ++ n.life)
+          (λ b. refl) (λ b. refl)
           ∙ ap (λ y. reverse y ++ n.life) (sym (whole_life new))
 
       handles_so : Remembered place (net ++ e.messages) k
@@ -283,7 +303,8 @@ module _ (me p : ProcessId) (tree : List TreeEntry) (net : List Envelope) (n : N
       fails_so a f = record {
         recorded_is_given = λ d g. given_still me net [] d (life_given new wrote a d g);
         remembered_is_given = λ still. absurd (cc);
-        promised_was_asked = λ d g. sent-append (is_prepare_message d) net [] ∙ right _ _ (life_asked new wrote a d g);
+        promised_was_asked = λ d g. sent-append (is_prepare_message d) net []
+            ∙ right _ _ (life_asked new wrote a d g);
         open_is_unmarked = λ still. absurd (cc);
         accepts_none = ap (λ l. l ++ n.accepted) (leaf_accepts place p n h e turn.turn) ∙ known.accepts_none;
       }
@@ -292,16 +313,20 @@ module _ (me p : ProcessId) (tree : List TreeEntry) (net : List Envelope) (n : N
 
   silent_given : (ls : List Envelope) (rs : List Record) (d : Case) → has (is_record_of d) rs ≡ false
       → has (is_record_of d) (reverse rs ++ n.life) ≡ true → IsGiven me (net ++ ls) d
-  silent_given ls rs d none e = given_still me net ls d (elim (in_either (is_record_of d) (reverse rs) n.life e) [
-    | inl now ↦ not_both (is_record_of d) (has (is_record_of d) rs) (sym (has-reverse (is_record_of d) rs) ∙ now) none
-    | inr old ↦ known.recorded_is_given d old
-  ])
+  silent_given ls rs d none e = given_still me net ls d
+      (elim (in_either (is_record_of d) (reverse rs) n.life e) [
+        | inl now ↦ not_both (is_record_of d) (has (is_record_of d) rs)
+            (sym (has-reverse (is_record_of d) rs) ∙ now) none
+        | inr old ↦ known.recorded_is_given d old
+      ])
 
   silent_asked : (ls : List Envelope) (rs : List Record) (d : Case) → has (is_promise d) rs ≡ false
       → has (is_promise d) (reverse rs ++ n.life) ≡ true → sent (is_prepare_message d) (net ++ ls) ≡ true
   silent_asked ls rs d none e = sent-append (is_prepare_message d) net ls
-      ∙ right (sent (is_prepare_message d) ls) (sent (is_prepare_message d) net) (elim (in_either (is_promise d) (reverse rs) n.life e) [
-        | inl now ↦ not_both (is_promise d) (has (is_promise d) rs) (sym (has-reverse (is_promise d) rs) ∙ now) none
+      ∙ right (sent (is_prepare_message d) ls) (sent (is_prepare_message d) net)
+      (elim (in_either (is_promise d) (reverse rs) n.life e) [
+        | inl now ↦ not_both (is_promise d) (has (is_promise d) rs)
+            (sym (has-reverse (is_promise d) rs) ∙ now) none
         | inr old ↦ known.promised_was_asked d old
       ])
 
@@ -318,9 +343,11 @@ module _ (me p : ProcessId) (tree : List TreeEntry) (net : List Envelope) (n : N
 
   restarts_so : (j : ℕ) (ls : List Envelope) → Remembered place (net ++ ls) (restarted place n j)
   restarts_so j ls = record {
-    recorded_is_given = λ d. silent_given ls (reopens (AtLeaf p) (left_of n j)) d (one_none (is_record_of d) _ refl);
+    recorded_is_given = λ d. silent_given ls (reopens (AtLeaf p) (left_of n j)) d
+        (one_none (is_record_of d) _ refl);
     remembered_is_given = λ up d f. absurd (f (fresh_phase (restarted place n j) d refl));
-    promised_was_asked = λ d. silent_asked ls (reopens (AtLeaf p) (left_of n j)) d (one_none (is_promise d) _ refl);
+    promised_was_asked = λ d. silent_asked ls (reopens (AtLeaf p) (left_of n j)) d
+        (one_none (is_promise d) _ refl);
     open_is_unmarked = λ up d f. absurd (let x = sym (fresh_phase (restarted place n j) d refl) ∙ f in cc);
     accepts_none = known.accepts_none;
   }
@@ -341,23 +368,27 @@ module _ (me p : ProcessId) (tree : List TreeEntry) (net : List Envelope) (n : N
   abbrev of_data : List Record
   of_data = data_records (AtLeaf p) (kept n)
 
-  trimmed_unmarked : (d : Case) → mark_at n d ≡ Unmarked → mark_of (CaseBranch d) (kept (trims place n)) ≡ Unmarked
+  trimmed_unmarked : (d : Case) → mark_at n d ≡ Unmarked
+      → mark_of (CaseBranch d) (kept (trims place n)) ≡ Unmarked
   trimmed_unmarked d e =
       ap (mark_of (CaseBranch d)) (append-nil (trimmed (AtLeaf p) (kept n)))
       ∙ unmarked_so d (trimmed (AtLeaf p) (kept n)) (trim_forgets p d (kept n) (ap is_open e))
 
   trims_so : n.failed ≡ false → Remembered place (net ++ []) (trims place n)
   trims_so up = record {
-    recorded_is_given = λ d. silent_given [] of_data d (data_is_other (is_record_of d) (λ k v. refl) (λ k. refl) (AtLeaf p) (kept n));
+    recorded_is_given = λ d. silent_given [] of_data d
+        (data_is_other (is_record_of d) (λ k v. refl) (λ k. refl) (AtLeaf p) (kept n));
     remembered_is_given = λ still d f. given_still me net [] d (known.remembered_is_given up d
         (λ idle. f (ap (λ (m : Memory). m.phase) (trims_memory place n d) ∙ idle)));
-    promised_was_asked = λ d. silent_asked [] of_data d (data_is_other (is_promise d) (λ k v. refl) (λ k. refl) (AtLeaf p) (kept n));
+    promised_was_asked = λ d. silent_asked [] of_data d
+        (data_is_other (is_promise d) (λ k v. refl) (λ k. refl) (AtLeaf p) (kept n));
     open_is_unmarked = λ still d f. trimmed_unmarked d
         (known.open_is_unmarked up d (sym (ap (λ (m : Memory). m.phase) (trims_memory place n d)) ∙ f));
     accepts_none = known.accepts_none;
   }
 
-  fallen : (x : Node) → x.failed ≡ true → x.life ≡ n.life → x.accepted ≡ n.accepted → Remembered place (net ++ []) x
+  fallen : (x : Node) → x.failed ≡ true → x.life ≡ n.life → x.accepted ≡ n.accepted
+      → Remembered place (net ++ []) x
   fallen x down life accepted = record {
     recorded_is_given = λ d e. given_still me net [] d
         (known.recorded_is_given d (sym (ap (has (is_record_of d)) life) ∙ e));
@@ -385,7 +416,8 @@ module _ (me p : ProcessId) (tree : List TreeEntry) (net : List Envelope) (n : N
       handles_so (heard_in m i) turn.up (subst (λ (x : Happening). Stands net me x) hp stands) g r turn
   still_remembered m stands _ _ (failed_in i f g fl hp np r) =
       let turn = turn_of place n (heard_in m i) g r in
-      fails_so (heard_in m i) turn.up (subst (λ (x : Happening). Stands net me x) hp stands) g r turn f.appended f.forced
+      fails_so (heard_in m i) turn.up (subst (λ (x : Happening). Stands net me x) hp stands) g r turn
+      f.appended f.forced
   still_remembered m stands _ _ (passed i hp r) = absurd (cc)
   still_remembered m stands _ _ (failed_passing i f fl hp r) = absurd (cc)
   still_remembered m stands _ _ (reopened j hp) = restarts_so j _

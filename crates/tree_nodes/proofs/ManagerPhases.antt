@@ -1,4 +1,5 @@
--- How the phase of a manager's branch moves: an input leaves it or ends it, and JOIN that gives its ticket opens it.
+-- How the phase of a manager's branch moves: an input leaves it or ends it, and JOIN that gives its ticket
+-- opens it.
 use Rattle.std.proofs.Common.{◌≡◌, ◌∙◌, ◌⊎◌, inl, inr, ◌&&◌, ◌==◌, ◌+◌, ℕ, Bool, true, false, ◌≢◌, Option, Some, None, refl, sym, if◌then◌else◌}
 use Rattle.std.specs.Prelude.{not}
 use Rattle.tree_model.specs.declared.names.Case.{Case}
@@ -14,7 +15,8 @@ use Rattle.tree_model.specs.Nodes.{DataAnswer}
 use Rattle.tree_model.specs.Memory.{Memory, Phase, Idle, Open, Asked, Over, manager_remembers, works, closes, retires, joins, gives, opens_case, next_ticket, active_ticket}
 
 -- JOIN of the parent's case finds none of its tickets active, and the next ticket is the branch's
-pub record Wakes (me : ProcessId) (boot : ℕ) (c : Case) (m : Memory) (a : DataAnswer) (i : Input) : Type 0 where
+pub record Wakes (me : ProcessId) (boot : ℕ) (c : Case) (m : Memory) (a : DataAnswer)
+    (i : Input) : Type 0 where
   pub number : ℕ
   pub parents : Case
   pub hears : i ≡ MessageInput number (Join parents)
@@ -71,7 +73,8 @@ module _ (me : ProcessId) (boot : ℕ) (c : Case) (m : Memory) (a : DataAnswer) 
 
   woken : (j : ℕ) (d : Case) → a.starts ≡ true → active_ticket m.active d ≡ None → (b : Bool)
       → same_case c (child_case d.txn (next_ticket me boot m)) ≡ b
-      → ((if b then opens_case (gives m d (next_ticket me boot m)) else gives m d (next_ticket me boot m)).phase
+      → ((if b then opens_case (gives m d (next_ticket me boot m))
+      else gives m d (next_ticket me boot m)).phase
       ≡ m.phase) ⊎ Woken j d
   woken j d s none true e = inr (record
       { number = j; parents = d; hears = refl; starts = s; none_active = none; is_next = e })

@@ -1,4 +1,5 @@
--- What an input lets a manager write: a promise of a branch that is Active, or what ends an open one, or nothing.
+-- What an input lets a manager write: a promise of a branch that is Active, or what ends an open one, or
+-- nothing.
 use Rattle.std.proofs.Common.{◌≡◌, ◌∙◌, ℕ, true, false, Some, List, [], ◌∷◌, ◌++◌, refl, sym, ap, append_assoc}
 use Rattle.std.proofs.lemmas.List.{append-nil}
 use Rattle.tree_model.specs.declared.names.Case.{Case}
@@ -121,7 +122,8 @@ module _ (place : Place) (p : ProcessId) (n : Node) (h : Heard) where
   leaf_accepts _ (asks d i k) = refl
 
 -- the records that stand behind an input
-pub kept_after : (n : Node) (h : Heard) (e : Effect) → kept (after n h e) ≡ kept n ++ entries_written e.written
+pub kept_after : (n : Node) (h : Heard) (e : Effect)
+    → kept (after n h e) ≡ kept n ++ entries_written e.written
 kept_after n h e =
     let new = entries_written e.written in
     either_logs n new (is_any_forced e.written) (λ (l : Logs). standing l ≡ kept n ++ new)

@@ -116,7 +116,8 @@ module _ (l : Logs) (h : Manages l) where
           | inr ever ↦ elim (h.decision_stands d o ever) [
             | inl stands ↦ kept_or d o (in_first (is_decided d o) l.forced l.unforced stands)
                 (has (is_forgot d) (standing l)) refl
-            | inr forgot ↦ inr (in_second (is_forgot d) (reverse (data_records (AtLeaf p) (standing l))) l.life
+            | inr forgot ↦ inr (in_second (is_forgot d)
+                (reverse (data_records (AtLeaf p) (standing l))) l.life
                 forgot)
           ]
         ];

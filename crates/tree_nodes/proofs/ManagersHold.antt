@@ -35,13 +35,15 @@ none_sent : {A : Type 0} (d : Case) (t : Ticket) → sent (is_joined_message d t
 unfolding sent
 none_sent d t e = absurd (cc)
 
-joined_is_own : (place : Place) (n : Node) (m : Move) (e : Effect) (k : Node) → StepOf place n m e k → (d : Case)
+joined_is_own : (place : Place) (n : Node) (m : Move) (e : Effect) (k : Node) → StepOf place n m e k
+    → (d : Case)
     (t : Ticket) → sent (is_joined_message d t) e.messages ≡ true → t.child ≡ place.me
 joined_is_own place n m _ _ (handled i g hp np r) d t e =
     answer_is_own place n (heard_in m i) d t place.role
     (joined_answers place n (heard_in m i) d t place.role g (turn_of place n (heard_in m i) g r).turn e)
 joined_is_own place n m _ _ (reopened k hp) d t e =
-    absurd (let x = sym (quiet_resumes (is_joined_message d t) (λ x. refl) (λ x. refl) (λ x. refl) place.role place.me
+    absurd (let x = sym (quiet_resumes (is_joined_message d t) (λ x. refl) (λ x. refl)
+    (λ x. refl) place.role place.me
     (left_of n k ++ reopens place.role (left_of n k))) ∙ e in cc)
 joined_is_own place n m _ _ (failed_in i f g fl hp np r) d t e = none_sent d t e
 joined_is_own place n m _ _ (passed i hp r) d t e = none_sent d t e
@@ -53,7 +55,8 @@ joined_is_own place n m _ _ (failed_trimming f fl hp up) d t e = none_sent d t e
 -- Runs.
 
 -- a process is put in its place: it made a step, or another one did
-pub put_or_other : (P Q : ProcessId → Node → Type 0) (q p : ProcessId) (k : Node) (at : ProcessId → Node) → Q q k
+pub put_or_other : (P Q : ProcessId → Node → Type 0) (q p : ProcessId) (k : Node) (at : ProcessId → Node)
+    → Q q k
     → ((q ≡ p → ⊥) → P p (at p) → Q p (at p)) → P p (at p) → Q p (put_at q k at p)
 put_or_other P Q q p k at now other old = elim (same_process_tells q p) [
   | inl t ↦ rw t.0 (subst (λ (x : ProcessId). Q x k) t.1 now)
@@ -80,7 +83,8 @@ all_issued tree _ _ (makes es w m e w' run stands step) p =
     let s = step_of (place_of tree q) (w.at q) m e at.node at.made in
     subst (λ (x : World). IssuedBy tree x.net p (x.at p)) (sym at.world)
     (put_or_other (IssuedBy tree w.net) (IssuedBy tree (w.net ++ e.messages)) q p at.node w.at
-    (λ i. still_issued (place_of tree q) w.net (w.at q) i (all_booted tree es w run q) (all_issued tree es w run q i)
+    (λ i. still_issued (place_of tree q) w.net (w.at q) i (all_booted tree es w run q)
+    (all_issued tree es w run q i)
     m e at.node s)
     (λ other old i. issued_elsewhere (place_of tree p) w.net e.messages (w.at p) (old i)
     (λ d t f own. other (sym (joined_is_own (place_of tree q) (w.at q) m e at.node s d t f) ∙ own)))
@@ -102,7 +106,8 @@ opened_remembered place = record {
 
 pub all_remembered : (tree : List TreeEntry) (es : List Made) (w : World) → IsRun tree es w → (p : ProcessId)
     → RememberedBy tree w.net p (w.at p)
-all_remembered tree _ _ opens p = λ q leaf. opened_remembered (record { me = p; role = AtLeaf q; tree = tree })
+all_remembered tree _ _ opens p = λ q leaf. opened_remembered
+    (record { me = p; role = AtLeaf q; tree = tree })
 all_remembered tree _ _ (makes es w m e w' run stands step) p =
     let at = makes_at tree w m e w' step in
     let x = m.step.process in
@@ -115,7 +120,8 @@ all_remembered tree _ _ (makes es w m e w' run stands step) p =
     (all_issued tree es w run x (subst IsIssuer (sym leaf) tt)))
     (all_remembered tree es w run x q leaf) m stands e at.node
     (subst (λ (r : Role). StepOf (record { me = x; role = r; tree = tree }) (w.at x) m e at.node) leaf s))
-    (λ other old q leaf. remembered_elsewhere (record { me = p; role = AtLeaf q; tree = tree }) w.net e.messages
+    (λ other old q leaf. remembered_elsewhere
+    (record { me = p; role = AtLeaf q; tree = tree }) w.net e.messages
     (w.at p) (old q leaf))
     (all_remembered tree es w run p))
 
@@ -127,13 +133,15 @@ numbers_of place net n h = record {
   given_before = h.given_before;
   active_was_joined = λ up d e t f. (
     active_is_own place n e d t f,
-    active_found (λ x u. sent (is_joined_message x u) net ≡ true) (self_at place n).active d t (h.active_was_sent up)
+    active_found (λ x u. sent (is_joined_message x u) net ≡ true) (self_at place n).active d t
+        (h.active_was_sent up)
         (ap (λ (s : Self). active_ticket s.active d) (self_same place n (some_case place) e) ∙ f),
   );
 }
 
 -- at each process that gives tickets
-pub numbers_are_given_once : (tree : List TreeEntry) (es : List Made) (w : World) → IsRun tree es w → (p : ProcessId)
+pub numbers_are_given_once : (tree : List TreeEntry) (es : List Made) (w : World) → IsRun tree es w
+    → (p : ProcessId)
     → IsIssuer (role_of tree p) → Numbers (place_of tree p) w.net (w.at p)
 numbers_are_given_once tree es w run p i =
     numbers_of (place_of tree p) w.net (w.at p) (all_issued tree es w run p i)
@@ -147,7 +155,8 @@ same_self place n c d =
       active = ap (λ (s : Self). s.active) e;
     }
 
-manager_holds : (me p : ProcessId) (tree : List TreeEntry) (net : List Envelope) (n : Node) → (let place : Place = record
+manager_holds : (me p : ProcessId) (tree : List TreeEntry) (net : List Envelope) (n : Node)
+    → (let place : Place = record
     { me = me; role = AtLeaf p; tree = tree } in Lasts (AtLeaf p) (logs_of n) → Booted (logs_of n)
     → Numbers place net n → Remembered place net n → NodeHolds place net n)
 manager_holds me p tree net n last booted numbers known = record {

@@ -124,7 +124,8 @@ promises_name c t (r ∷ rs) e = elim (in_both (promised_in c r) (flat_map (prom
 module _ (me : ProcessId) (parent : Option ProcessId) (tree : List TreeEntry) (n : Node) (h : Heard)
     (c : Case) (t : Ticket)
     (remembered : (d : Case) (u : Ticket)
-    → in_list (memory_of (coordinator_place me parent tree) n d).accepted u ≡ true → has_accepted n d u ≡ true)
+    → in_list (memory_of (coordinator_place me parent tree) n d).accepted u ≡ true
+    → has_accepted n d u ≡ true)
     (named : (d : Case) (u : Ticket) → has (is_naming d u) (kept n) ≡ true → has_accepted n d u ≡ true)
   where
     abbrev place : Place
@@ -141,7 +142,8 @@ module _ (me : ProcessId) (parent : Option ProcessId) (tree : List TreeEntry) (n
     -- who is in the view of a case that takes votes, or children, was accepted
     viewed_accepted : (d : Case) (ts : List Ticket)
         → (coordinator_view place n d).accepted ≡ (memory_of place n d).accepted
-        → same_case d c ≡ true → (in_list ts t ≡ true → in_list (coordinator_view place n d).accepted t ≡ true)
+        → same_case d c ≡ true → (in_list ts t ≡ true
+        → in_list (coordinator_view place n d).accepted t ≡ true)
         → in_list ts t ≡ true → has_accepted n c t ≡ true
     viewed_accepted d ts a s f e =
         subst (λ (x : Case). has_accepted n x t ≡ true) (case_is d c s)

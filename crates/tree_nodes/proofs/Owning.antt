@@ -81,7 +81,8 @@ module _ (place : Place) (p : ProcessId) (role : place.role ≡ Below p) (n : No
         own_one place.me c ws (of_parent place.me c m f (delivered net place.me i k m goes s e)) one
     own_written i ws ls s (presumes x t o e f) = ap (λ y. has (is_foreign place.me) (entries_written y)) e ∙
         has-nil (is_foreign place.me)
-    own_written i ws ls s (gives q d t e f k j a) = ap (λ x. has (is_foreign place.me) (entries_written x)) e ∙
+    own_written i ws ls s (gives q d t e f k j a) =
+        ap (λ x. has (is_foreign place.me) (entries_written x)) e ∙
         has-nil (is_foreign place.me)
 
 -- What a restart appends.

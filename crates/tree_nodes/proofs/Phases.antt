@@ -57,7 +57,8 @@ pub record Unrecorded (rs : List Record) (c : Case) : Type 0 where
   pub no_prepare : has (is_prepare c) rs ≡ false
   pub no_collecting : has (is_collecting c) rs ≡ false
 
-pub active_unrecorded : (rs : List Record) (c : Case) (ph : Phase) → standing_at rs c ph ≡ Active → Unrecorded rs c
+pub active_unrecorded : (rs : List Record) (c : Case) (ph : Phase) → standing_at rs c ph ≡ Active
+    → Unrecorded rs c
 active_unrecorded rs c ph e =
     let f = active_facts (has (is_end c) rs) (has (is_commit c) rs) (has (is_abort c) rs)
     (has (is_prepare c) rs) (has (is_collecting c) rs) (none_of (owing_by c rs))
@@ -97,7 +98,11 @@ open_asks rs c p h =
     let u = active_unrecorded rs c Open (h.open_is_active refl) in
     let s : standing_at rs c Asked ≡ Collecting =
     unrecorded_stands rs c Asked u ∙ ap (λ (q : Presumption). phase_standing q Asked) p in
-    record { open_is_active = λ e. absurd (cc); asked_is_collecting = λ e. s; collecting_is_asked = λ e. refl }
+    record {
+      open_is_active = λ e. absurd (cc);
+      asked_is_collecting = λ e. s;
+      collecting_is_asked = λ e. refl;
+    }
 
 -- the last vote came, and there is no record
 pub asked_ends : (rs : List Record) (c : Case) → c.txn.presumption ≡ PresumeAbort
@@ -119,7 +124,8 @@ asked_ends rs c p none h =
 
 -- A record is appended.
 
-one_more : (q : Record → Bool) (rs : List Record) (r : Record) → has q (rs ++ r ∷ []) ≡ (has q rs || (q r || false))
+one_more : (q : Record → Bool) (rs : List Record) (r : Record)
+    → has q (rs ++ r ∷ []) ≡ (has q rs || (q r || false))
 unfolding has
 one_more q rs r = has-append q rs (r ∷ [])
 
@@ -138,7 +144,8 @@ not_found q rs r e = one_more q rs r ∙ first (has q rs) (q r) e
 
 module _ (rs : List Record) (c : Case) where
   -- votes are asked for behind a record
-  pub open_collects : (ts : List Ticket) → Together rs c Open → Together (rs ++ CollectingRecord c ts ∷ []) c Asked
+  pub open_collects : (ts : List Ticket) → Together rs c Open
+      → Together (rs ++ CollectingRecord c ts ∷ []) c Asked
   open_collects ts h =
       let u = active_unrecorded rs c Open (h.open_is_active refl) in
       let s : standing_at (rs ++ CollectingRecord c ts ∷ []) c Asked ≡ Collecting =
@@ -149,7 +156,11 @@ module _ (rs : List Record) (c : Case) where
         not_found (is_prepare c) rs (CollectingRecord c ts) refl ∙ u.no_prepare,
         found (is_collecting c) rs (CollectingRecord c ts) (same_case-refl c),
       ) refl in
-      record { open_is_active = λ e. absurd (cc); asked_is_collecting = λ e. s; collecting_is_asked = λ e. refl }
+      record {
+        open_is_active = λ e. absurd (cc);
+        asked_is_collecting = λ e. s;
+        collecting_is_asked = λ e. refl;
+      }
 
   abbrev pub Closed : Phase → Type 0
   Closed ph = (ph ≡ Open → ⊥) × (ph ≡ Asked → ⊥)
@@ -169,7 +180,8 @@ module _ (rs : List Record) (c : Case) where
       (found (is_commit c) rs (CommitRecord c ts) (same_case-refl c))
       (collecting_undecided (rs ++ CommitRecord c ts ∷ []) c ph e).no_commit)
 
-  pub aborts_together : (ts : List Ticket) (ph : Phase) → Closed ph → Together (rs ++ AbortRecord c ts ∷ []) c ph
+  pub aborts_together : (ts : List Ticket) (ph : Phase) → Closed ph
+      → Together (rs ++ AbortRecord c ts ∷ []) c ph
   aborts_together ts ph k =
       over_together ph (standing_at (rs ++ AbortRecord c ts ∷ []) c ph) k.0 k.1
       (λ e. not_both (is_abort c) (has (is_abort c) (rs ++ AbortRecord c ts ∷ []))

@@ -68,8 +68,8 @@ pub record SameLists (m k : Memory) : Type 0 where
   pub accepted : k.accepted ≡ m.accepted
   pub votes : k.votes ≡ m.votes
 
--- What an input makes of a memory: it stays as far as it goes with records; or votes are asked for, or it ends; or
--- one ticket is taken, or one vote counted; or the case begins.
+-- What an input makes of a memory: it stays as far as it goes with records; or votes are asked for, or it
+-- ends; or one ticket is taken, or one vote counted; or the case begins.
 pub data Moves (parent : Option ProcessId) (me : ProcessId) (boot : ℕ) (c : Case) (m : Memory) (i : Input)
     (k : Memory) : Type 0 where
   keeps : ((t : Ticket) (w : Vote) → CountedVote c m i t w → ⊥) → k.phase ≡ m.phase → SameLists m k
@@ -213,7 +213,8 @@ module _ (parent : Option ProcessId) (me : ProcessId) (boot : ℕ) (c : Case) (m
 
     by_ticket : (o : Option Ticket) → d.ticket ≡ o → same_txn d.txn c.txn ≡ true
         → W (of_ticket o m (λ t. takes_vote m t w m.phase))
-    by_ticket None e s = uncounted (λ u v x. not_so u (sym e ∙ ap (λ (y : Case). y.ticket) (is_of_case u v x)))
+    by_ticket None e s = uncounted (λ u v x. not_so u
+        (sym e ∙ ap (λ (y : Case). y.ticket) (is_of_case u v x)))
       where
         not_so : (u : Ticket) → None ≡ Some u → ⊥
         not_so u f = cc
@@ -306,7 +307,8 @@ module _ (parent : Option ProcessId) (me : ProcessId) (boot : ℕ) (c : Case) (m
 
   -- Below the root.
 
-  given : (p : ProcessId) → parent ≡ Some p → (j : ℕ) (d : Case) → active_ticket m.active d ≡ None → (b : Bool)
+  given : (p : ProcessId) → parent ≡ Some p → (j : ℕ) (d : Case) → active_ticket m.active d ≡ None
+      → (b : Bool)
       → same_case c (child_case d.txn (next_ticket me boot m)) ≡ b
       → M (MessageInput j (Join d))
       (if b then opens_case (gives m d (next_ticket me boot m)) else gives m d (next_ticket me boot m))
@@ -337,10 +339,12 @@ module _ (parent : Option ProcessId) (me : ProcessId) (boot : ℕ) (c : Case) (m
   ]
 
   dropped : (p : ProcessId) → parent ≡ Some p → (j : ℕ) (d : Case)
-      → M (MessageInput j (Abort d)) (if same_case d c then closes_phase (retires m d) m.phase else retires m d)
+      → M (MessageInput j (Abort d)) (if same_case d c then closes_phase (retires m d) m.phase
+      else retires m d)
   dropped p below j d = elim (same_case_tells d c) [
     | inl t ↦ rw t.0 (closed _ refl
-        (subst (λ (x : Case). Ends parent x (MessageInput j (Abort d))) t.1 (by_abort p j below)) (retires m d)
+        (subst (λ (x : Case). Ends parent x (MessageInput j (Abort d))) t.1 (by_abort p j below))
+        (retires m d)
         refl (retired d) m.phase refl)
     | inr f ↦ rw f.0 (stays _ refl (retires m d) refl (retired d))
   ]

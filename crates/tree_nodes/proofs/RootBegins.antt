@@ -47,7 +47,8 @@ all_begun tree _ _ (makes es w m e w' run stands step) p at_top =
     let P : ProcessId → Node → Type 0 = λ x k. role_of tree x ≡ AtRoot → BegunSo x tree k in
     subst (λ (x : World). P p (x.at p)) (sym at.world)
     (put P q p at.node w.at
-    (λ role. begun_last q tree (w.at q) (all_last tree es w run q).nested (all_root_cases tree es w run q role)
+    (λ role. begun_last q tree (w.at q) (all_last tree es w run q).nested
+    (all_root_cases tree es w run q role)
     (all_begun tree es w run q role) m e at.node
     (subst (λ (x : Place). StepOf x (w.at q) m e at.node) (at_root tree q role) s))
     (all_begun tree es w run p)) at_top
@@ -73,7 +74,8 @@ module _ (me : ProcessId) (tree : List TreeEntry) (n : Node) (cases : RootCases 
         by_trace (inr (inr (inl y))) = h.in_histories (root_case x) (found_undecided x refl y)
         by_trace (inr (inr (inr y))) =
             h.in_histories (root_case x)
-            (recorded (has_other (is_commit (root_case x)) (is_record_of (root_case x)) n.life (λ r f. grind arith) y))
+            (recorded (has_other (is_commit (root_case x)) (is_record_of (root_case x)) n.life
+            (λ r f. grind arith) y))
 
     boot_before : (b k f : ℕ) → 1 ≤ k → IsGivenOut b k (f + 1) 0 → b ≤ f
     boot_before b k f c (inl l) = omega (arith, l)
@@ -102,11 +104,13 @@ module _ (me : ProcessId) (tree : List TreeEntry) (n : Node) (cases : RootCases 
           | inl idle ↦ absurd (f idle)
           | inr b ↦ (
             b.no_ticket,
-            subst (λ (o : Option Ticket). process_of (record { txn = d.txn; ticket = o }) ≡ me) (sym b.no_ticket) b.own,
+            subst (λ (o : Option Ticket). process_of (record { txn = d.txn; ticket = o }) ≡ me)
+                (sym b.no_ticket) b.own,
           )
         ]
 
-pub own_transactions : (tree : List TreeEntry) (es : List Made) (w : World) → IsRun tree es w → (p : ProcessId)
+pub own_transactions : (tree : List TreeEntry) (es : List Made) (w : World) → IsRun tree es w
+    → (p : ProcessId)
     → role_of tree p ≡ AtRoot → OwnTransactions (place_of tree p) (w.at p)
 own_transactions tree es w run p e =
     subst (λ (x : Place). OwnTransactions x (w.at p)) (sym (at_root tree p e))

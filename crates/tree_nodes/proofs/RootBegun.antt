@@ -1,4 +1,5 @@
--- All in a root's memory and histories is of transactions that it began, and those leave a trace: over every run.
+-- All in a root's memory and histories is of transactions that it began, and those leave a trace: over every
+-- run.
 use Rattle.std.proofs.Common.{◌≡◌, ◌∙◌, ◌⊎◌, inl, inr, ℕ, zero, suc, Bool, true, false, List, [], ◌++◌, take, refl, sym, ap}
 use Rattle.std.specs.Prelude.{filter, reverse, fold}
 use Rattle.std.specs.List.{list_any}
@@ -47,7 +48,8 @@ module _ (me : ProcessId) (tree : List TreeEntry) (n : Node) (nested : Nested (l
 
     -- Steps.
 
-    longer : (new : List Record) (q : Record → Bool) → has q n.life ≡ true → has q (reverse new ++ n.life) ≡ true
+    longer : (new : List Record) (q : Record → Bool) → has q n.life ≡ true
+        → has q (reverse new ++ n.life) ≡ true
     longer new q g = in_second q (reverse new) n.life g
 
     module _ (h : Heard) (e : Effect) (t : TurnOf (root_place me tree) n h e)
@@ -58,7 +60,8 @@ module _ (me : ProcessId) (tree : List TreeEntry) (n : Node) (nested : Nested (l
 
         leaves_boot : boot_of (kept n ++ new) ≡ boot_of (kept n)
         leaves_boot =
-            boot_append (kept n) new ∙ others_boot (boot_of (kept n)) new (turn_none AtRoot place n h e t.turn)
+            boot_append (kept n) new ∙ others_boot (boot_of (kept n)) new
+            (turn_none AtRoot place n h e t.turn)
 
         appended : BegunSo me tree (after n h e)
         appended =
@@ -84,7 +87,8 @@ module _ (me : ProcessId) (tree : List TreeEntry) (n : Node) (nested : Nested (l
         → ((c : Case) → InHistory k c → InHistory n c) → BegunSo me tree k
     quiet_holds k i b g t u l hist = record {
       remembered = λ c x. ap (among c.txn) g
-          ∙ old.remembered c (ap (λ (m : Memory). is_begun m.phase) (sym (same_memory me tree n k c i b)) ∙ x);
+          ∙ old.remembered c (ap (λ (m : Memory). is_begun m.phase) (sym (same_memory me tree n k c i b))
+          ∙ x);
       in_histories = λ c x. ap (among c.txn) g ∙ old.in_histories c (hist c x);
       known = λ x y. by_trace x (traces place n x (old.known x (ap (among x) (sym g) ∙ y)));
     }
@@ -103,7 +107,8 @@ module _ (me : ProcessId) (tree : List TreeEntry) (n : Node) (nested : Nested (l
     left_by j = n.forced ++ take j n.unforced
 
     -- a restart forgets, and finds undecided what was not told and has no Commit
-    restarted_holds : (j : ℕ) (k : Node) (new : List Record) → k.heard ≡ [] → k.begun ≡ n.begun → k.told ≡ n.told
+    restarted_holds : (j : ℕ) (k : Node) (new : List Record) → k.heard ≡ [] → k.begun ≡ n.begun
+        → k.told ≡ n.told
         → k.found_undecided ≡ filter (is_undecided n (left_by j)) n.begun ++ n.found_undecided
         → k.life ≡ reverse new ++ n.life
         → ((c : Case) → InHistory k c
@@ -113,7 +118,8 @@ module _ (me : ProcessId) (tree : List TreeEntry) (n : Node) (nested : Nested (l
       remembered = λ c x. absurd (asleep c x);
       in_histories = λ c x. ap (among c.txn) g ∙ by_history c (hist c x);
       known = λ x y. by_test x (ap (among x) (sym g) ∙ y) (list_any (is_told_of_txn x) n.told)
-          (has (is_commit (root_case x)) n.durable) (has (is_commit (root_case x)) (left_by j)) refl refl refl;
+          (has (is_commit (root_case x)) n.durable)
+          (has (is_commit (root_case x)) (left_by j)) refl refl refl;
     }
       where
         asleep : (c : Case) → is_begun (memory_of place k c).phase ≡ true → ⊥
@@ -135,7 +141,8 @@ module _ (me : ProcessId) (tree : List TreeEntry) (n : Node) (nested : Nested (l
             old.in_histories c (recorded (nested.kept_was_written (is_record_of c) (λ z. refl)
             (was_kept (is_record_of c) (reopened_record c (left_by j) now))))
 
-        in_life : (x : Txn) → has (is_commit (root_case x)) n.life ≡ true → has (is_commit (root_case x)) k.life ≡ true
+        in_life : (x : Txn) → has (is_commit (root_case x)) n.life ≡ true
+            → has (is_commit (root_case x)) k.life ≡ true
         in_life x y = ap (has (is_commit (root_case x))) l ∙ longer new (is_commit (root_case x)) y
 
         by_test : (x : Txn) → among x n.begun ≡ true → (a b c : Bool) → list_any (is_told_of_txn x) n.told ≡ a
@@ -143,10 +150,12 @@ module _ (me : ProcessId) (tree : List TreeEntry) (n : Node) (nested : Nested (l
             → has_begun place k x ≡ true
         by_test x y true b c p q r = if_told place k x (ap (list_any (is_told_of_txn x)) t ∙ p)
         by_test x y false true c p q r =
-            if_committed place k x (in_life x (nested.old_was_written (is_commit (root_case x)) (λ z. refl) q))
+            if_committed place k x (in_life x
+            (nested.old_was_written (is_commit (root_case x)) (λ z. refl) q))
         by_test x y false false true p q r =
             if_committed place k x (in_life x
-            (nested.kept_was_written (is_commit (root_case x)) (λ z. refl) (was_kept (is_commit (root_case x)) r)))
+            (nested.kept_was_written (is_commit (root_case x)) (λ z. refl)
+            (was_kept (is_commit (root_case x)) r)))
         by_test x y false false false p q r =
             if_found place k x
             (ap (among x) u
@@ -169,7 +178,8 @@ module _ (me : ProcessId) (tree : List TreeEntry) (n : Node) (nested : Nested (l
         → k.accepted ≡ n.accepted → BegunSo me tree k
     trimmed_begun k i b g t u l a =
         quiet_holds k i b g t u (λ q x. ap (has q) l ∙ longer [] q x)
-        (λ c x. same_history n k c (λ y. in_rest (is_record_of c) (ap (has (is_record_of c)) (sym l) ∙ y)) a g t u x)
+        (λ c x. same_history n k c (λ y. in_rest (is_record_of c) (ap (has (is_record_of c)) (sym l) ∙ y)) a g
+        t u x)
 
     falls : BegunSo me tree (record n { failed = true })
     falls =
@@ -181,18 +191,21 @@ module _ (me : ProcessId) (tree : List TreeEntry) (n : Node) (nested : Nested (l
     trim_failed zero = falls
     trim_failed (suc a) = trimmed_begun (trim_fails place n (suc a)) refl trims_boot refl refl refl refl refl
 
-    pub begun_last : (m : Move) (e : Effect) (k : Node) → StepOf (root_place me tree) n m e k → BegunSo me tree k
+    pub begun_last : (m : Move) (e : Effect) (k : Node) → StepOf (root_place me tree) n m e k
+        → BegunSo me tree k
     begun_last m _ _ (handled i g hp np r) = appended (heard_in m i) g (turn_of place n (heard_in m i) g r) r
     begun_last m _ _ (failed_in i f g fl hp np r) =
         broken (heard_in m i) g (turn_of place n (heard_in m i) g r) r f.appended f.forced
     begun_last m _ _ (passed i hp r) = old
     begun_last m _ _ (failed_passing i f fl hp r) = falls
     begun_last m _ _ (reopened k hp) =
-        restarted_holds k (restarted place n k) (reopens AtRoot (n.forced ++ take k n.unforced)) refl refl refl refl
+        restarted_holds k (restarted place n k)
+        (reopens AtRoot (n.forced ++ take k n.unforced)) refl refl refl refl
         refl (λ c x. reopened_history me tree n k c x)
     begun_last m _ _ (failed_reopening k f fl hp) =
         restarted_holds k (restart_fails place n k f.appended f.forced)
         (take f.appended (reopens AtRoot (n.forced ++ take k n.unforced))) refl refl refl refl refl
         (λ c x. reopening_history me tree n k c f.appended f.forced x)
-    begun_last m _ _ (trims_log hp up) = trimmed_begun (trims place n) refl trims_boot refl refl refl refl refl
+    begun_last m _ _ (trims_log hp up) = trimmed_begun
+        (trims place n) refl trims_boot refl refl refl refl refl
     begun_last m _ _ (failed_trimming f fl hp up) = trim_failed f.appended

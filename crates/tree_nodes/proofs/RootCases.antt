@@ -32,8 +32,8 @@ abbrev pub AllRoots : ProcessId → ℕ → ℕ → List Record → Type 0
 AllRoots me boot count [] = Unit {0}
 AllRoots me boot count (r ∷ rs) = IsRootsRecord me boot count (record_case r) × AllRoots me boot count rs
 
--- The histories have the case: a record of it was appended, or a ticket accepted into it; or its transaction was begun,
--- told of, or found undecided by a restart.
+-- The histories have the case: a record of it was appended, or a ticket accepted into it; or its transaction
+-- was begun, told of, or found undecided by a restart.
 pub data InHistory (n : Node) (c : Case) : Type 0 where
   recorded : has (is_record_of c) n.life ≡ true → InHistory n c
   accepted : (t : Ticket) → has_accepted n c t ≡ true → InHistory n c
@@ -42,7 +42,8 @@ pub data InHistory (n : Node) (c : Case) : Type 0 where
   found_undecided : (x : Txn) → c ≡ root_case x → list_any (λ y. same_txn y x) n.found_undecided ≡ true
       → InHistory n c
 
--- The cases in a root's histories are its own, begun before; where it is up, with the numbers given out by now.
+-- The cases in a root's histories are its own, begun before; where it is up, with the numbers given out by
+-- now.
 pub record RootCases (place : Place) (n : Node) : Type 0 where
   pub begun_before : (c : Case) → InHistory n c → IsRoots place.me (boot_of n.forced + 1) 0 c
   pub begun_now : n.failed ≡ false → (c : Case) → InHistory n c

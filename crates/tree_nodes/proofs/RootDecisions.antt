@@ -33,8 +33,8 @@ txn_is : (x y : Txn) → same_txn x y ≡ true → x ≡ y
 txn_is x y e = elim (same_txn_tells x y) [ inl t ↦ t.1 | inr f ↦ absurd (let g = f.0 in cc) ]
 
 module _ (place : Place) (n : Node) (h : Heard) where
-  -- the row of a case that collects commits it, or aborts it; that of one that takes children drops it; others decide
-  -- nothing
+  -- the row of a case that collects commits it, or aborts it; that of one that takes children drops it;
+  -- others decide nothing
   data Decision (c : Case) (e : Effect) : Type 0 where
     commit : (coordinator_view place n c).standing ≡ Collecting → ((d : Case) → aborts_now d e ≡ false)
         → ((d : Case) → commits_now d e ≡ true → c ≡ d) → ((x : Txn) → tells_now x e ≡ false) → Decision c e
@@ -104,7 +104,8 @@ module _ (place : Place) (n : Node) (h : Heard) where
   -- What an input that does so found.
 
   -- a Commit is of a case that collects
-  pub commits_collecting : (e : Effect) → CoordinatorTurn place None n h e → (d : Case) → commits_now d e ≡ true
+  pub commits_collecting : (e : Effect) → CoordinatorTurn place None n h e → (d : Case)
+      → commits_now d e ≡ true
       → (coordinator_view place n d).standing ≡ Collecting
   unfolding has
   commits_collecting _ (of_case c row t) d g = by_decision (row_decides c row t)

@@ -52,13 +52,15 @@ pub data NewIn (e : Effect) (c : Case) : Type 0 where
   writes_of : has (is_record_of c) (entries_written e.written) ≡ true → NewIn e c
   accepts_into : (t : Ticket) → took c t e.accepts ≡ true → NewIn e c
   begins_it : (x : Txn) → c ≡ root_case x → among x (begun_first e.begun []) ≡ true → NewIn e c
-  tells_of : (x : Txn) → c ≡ root_case x → list_any (is_told_of_txn x) (told_first e.told []) ≡ true → NewIn e c
+  tells_of : (x : Txn) → c ≡ root_case x → list_any (is_told_of_txn x) (told_first e.told []) ≡ true
+      → NewIn e c
 
 pub after_life : (n : Node) (h : Heard) (e : Effect)
     → (after n h e).life ≡ reverse (entries_written e.written) ++ n.life
 after_life n h e =
     let new = entries_written e.written in
-    either_logs n new (is_any_forced e.written) (λ (l : Logs). l.life ≡ reverse new ++ n.life) (λ b. refl) (λ b. refl)
+    either_logs n new (is_any_forced e.written) (λ (l : Logs). l.life ≡ reverse new ++ n.life) (λ b. refl)
+    (λ b. refl)
 
 pub after_found : (n : Node) (h : Heard) (e : Effect) → (after n h e).found_undecided ≡ n.found_undecided
 after_found n h e = by_force (is_any_forced e.written)
@@ -108,9 +110,11 @@ module _ (n : Node) (h : Heard) (e : Effect) (c : Case) where
   accepted_in t f = either _ _ (sym (list_any-append _ e.accepts n.accepted) ∙ f)
 
   or_new : (new : List Record) → ((r : has (is_record_of c) new ≡ true) → NewIn e c) → (k : Node)
-      → k.life ≡ reverse new ++ n.life → k.accepted ≡ e.accepts ++ n.accepted → k.begun ≡ begun_first e.begun n.begun
+      → k.life ≡ reverse new ++ n.life → k.accepted ≡ e.accepts ++ n.accepted
+      → k.begun ≡ begun_first e.begun n.begun
       → ((x : Txn) → list_any (is_told_of_txn x) k.told ≡ true
-      → (list_any (is_told_of_txn x) (told_first e.told []) ≡ true) ⊎ (list_any (is_told_of_txn x) n.told ≡ true))
+      → (list_any (is_told_of_txn x) (told_first e.told []) ≡ true)
+      ⊎ (list_any (is_told_of_txn x) n.told ≡ true))
       → k.found_undecided ≡ n.found_undecided → InHistory k c → InHistory n c ⊎ NewIn e c
   or_new new f k l a b t u (recorded g) = elim (life_in new (ap (has (is_record_of c)) (sym l) ∙ g)) [
     | inl now ↦ inr (f now)
@@ -138,7 +142,8 @@ module _ (n : Node) (h : Heard) (e : Effect) (c : Case) where
   pub fails_history : (a f : ℕ) → InHistory (fails_in n h e a f) c → InHistory n c ⊎ NewIn e c
   fails_history a f =
       let new = entries_written e.written in
-      or_new (take a new) (λ r. writes_of (in_front (is_record_of c) a new r)) (fails_in n h e a f) refl refl refl
+      or_new (take a new) (λ r. writes_of (in_front (is_record_of c) a new r))
+      (fails_in n h e a f) refl refl refl
       (λ x g. inr g) refl
 
 -- A restart adds what it appends; it finds undecided what was begun.
@@ -188,13 +193,15 @@ module _ (me : ProcessId) (tree : List TreeEntry) (n : Node) (k : ℕ) (c : Case
   pub reopening_history : (a f : ℕ) → InHistory (restart_fails (root_place me tree) n k a f) c
       → InHistory n c ⊎ (has (is_record_of c) (reopens AtRoot (n.forced ++ take k n.unforced)) ≡ true)
   reopening_history a f g =
-      elim (or_reopened (take a (reopens AtRoot left)) (restart_fails place n k a f) refl refl refl refl refl g) [
+      elim (or_reopened (take a (reopens AtRoot left))
+      (restart_fails place n k a f) refl refl refl refl refl g) [
         | inl before ↦ inl before
         | inr now ↦ inr (in_front (is_record_of c) a (reopens AtRoot left) now)
       ]
 
 -- the histories are the same but for the life list, which has no more records of cases
-pub same_history : (n m : Node) (c : Case) → (has (is_record_of c) m.life ≡ true → has (is_record_of c) n.life ≡ true)
+pub same_history : (n m : Node) (c : Case) → (has (is_record_of c) m.life ≡ true
+    → has (is_record_of c) n.life ≡ true)
     → m.accepted ≡ n.accepted → m.begun ≡ n.begun → m.told ≡ n.told → m.found_undecided ≡ n.found_undecided
     → InHistory m c → InHistory n c
 same_history n m c l a b t u (recorded g) = recorded (l g)
@@ -221,7 +228,8 @@ module _ (place : Place) (n : Node) (h : Heard) (A : Case → Type 0)
         → A d
     row_accepts c d t _ (accepts u i e f) g =
         subst A
-        (case_is c d (both (same_case c d) (same_ticket u t) (or_nothing _ g)).0) (as_known c Active e (λ x. cc))
+        (case_is c d (both (same_case c d) (same_ticket u t) (or_nothing _ g)).0)
+        (as_known c Active e (λ x. cc))
     row_accepts c d t _ (rests r) g = absurd (cc)
     row_accepts c d t _ (invites q i e f a) g = absurd (cc)
     row_accepts c d t _ (sends_work q u op i e f a) g = absurd (cc)
@@ -277,8 +285,10 @@ module _ (place : Place) (n : Node) (h : Heard) (A : Case → Type 0)
         told_so c x ConcludedAborted Collecting i.stands (λ y. cc) g
     row_tells c x _ (hears_no u us PresumeCommit i e f) g =
         told_so c x ConcludedAborted Collecting i.stands (λ y. cc) g
-    row_tells c x _ (aborts why us PresumeAbort i e f a) g = told_so c x ConcludedAborted Collecting e (λ y. cc) g
-    row_tells c x _ (aborts why us PresumeCommit i e f a) g = told_so c x ConcludedAborted Collecting e (λ y. cc) g
+    row_tells c x _ (aborts why us PresumeAbort i e f a) g =
+        told_so c x ConcludedAborted Collecting e (λ y. cc) g
+    row_tells c x _ (aborts why us PresumeCommit i e f a) g =
+        told_so c x ConcludedAborted Collecting e (λ y. cc) g
     row_tells c x _ (accepts u i e f) g = absurd (cc)
     row_tells c x _ (rests r) g = absurd (cc)
     row_tells c x _ (invites q i e f a) g = absurd (cc)
@@ -319,13 +329,19 @@ module _ (place : Place) (n : Node) (h : Heard) (A : Case → Type 0)
 begins_next : (me : ProcessId) (tree : List TreeEntry) (n : Node) (h : Heard) (p : Presumption) (x : Txn)
     → h.input ≡ ActInput (Begin p) → among x (next_begun (root_place me tree) n p ∷ []) ≡ true
     → IsRoots me (boot_of (kept n))
-    (begun_next (memory_of (root_place me tree) n (some_case (root_place me tree))).begun h.input) (root_case x)
+    (begun_next (memory_of (root_place me tree) n (some_case (root_place me tree))).begun h.input)
+    (root_case x)
 begins_next me tree n h p x i g =
     let count = (memory_of (root_place me tree) n (some_case (root_place me tree))).begun in
     subst (λ (j : Input). IsRoots me (boot_of (kept n)) (begun_next count j) (root_case x)) (sym i)
     (subst (λ (y : Txn). IsRoots me (boot_of (kept n)) (count + 1) (root_case y))
     (txn_is (next_begun (root_place me tree) n p) x (or_nothing _ g))
-    (record { no_ticket = refl; own = refl; counted = one_at_least count; number = inr (refl, whole (count + 1)) }))
+    (record {
+      no_ticket = refl;
+      own = refl;
+      counted = one_at_least count;
+      number = inr (refl, whole (count + 1));
+    }))
   where
     or_nothing : (b : Bool) → (b || false) ≡ true → b ≡ true
     or_nothing b f = grind arith
@@ -364,11 +380,13 @@ module _ (me : ProcessId) (tree : List TreeEntry) (n : Node) (h : Heard) where
       roots_case me b next c (entries_written e.written) g
       (effect_roots (root_place me tree) n h me b next own e t)
   effect_new own e t c (accepts_into u g) =
-      effect_accepts (root_place me tree) n h (IsRoots me (boot_of (kept n)) next) own (λ d k. (own d k).no_ticket) e t
+      effect_accepts (root_place me tree) n h (IsRoots me (boot_of (kept n)) next) own
+      (λ d k. (own d k).no_ticket) e t
       c u g
   effect_new own e t c (begins_it x i g) =
       subst (λ (d : Case). IsRoots me (boot_of (kept n)) next d) (sym i) (begun_new e t x g)
   effect_new own e t c (tells_of x i g) =
       subst (λ (d : Case). IsRoots me (boot_of (kept n)) next d) (sym i)
-      (effect_tells (root_place me tree) n h (IsRoots me (boot_of (kept n)) next) own (λ d k. (own d k).no_ticket) e t
+      (effect_tells (root_place me tree) n h (IsRoots me (boot_of (kept n)) next) own
+      (λ d k. (own d k).no_ticket) e t
       x g)

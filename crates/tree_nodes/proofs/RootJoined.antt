@@ -73,7 +73,8 @@ module _ (place : Place) (parent : Option ProcessId) (n : Node) (h : Heard) (c :
   row_accepts d _ (ends u o i e f a) g = absurd (cc)
   row_accepts d _ (answers u o i e) g = absurd (cc)
 
-  pub effect_accepts : (e : Effect) → CoordinatorTurn place parent n h e → took c t e.accepts ≡ true → HearsJoined
+  pub effect_accepts : (e : Effect) → CoordinatorTurn place parent n h e → took c t e.accepts ≡ true
+      → HearsJoined
   effect_accepts _ (of_case d row r) g = row_accepts d row r g
   effect_accepts _ (does_nothing i) g = absurd (cc)
   effect_accepts _ (begins p e i) g = absurd (cc)
@@ -82,29 +83,35 @@ module _ (place : Place) (parent : Option ProcessId) (n : Node) (h : Heard) (c :
   effect_accepts _ (presumes y u i e) g = absurd (cc)
 
 abbrev AllJoined : List Envelope → Node → Type 0
-AllJoined net n = (c : Case) (t : Ticket) → has_accepted n c t ≡ true → sent (is_joined_message c t) net ≡ true
+AllJoined net n = (c : Case) (t : Ticket) → has_accepted n c t ≡ true
+    → sent (is_joined_message c t) net ≡ true
 
-joined_by : (role : Role) → IsCoordinator role → (place : Place) (n : Node) (h : Heard) (c : Case) (t : Ticket)
+joined_by : (role : Role) → IsCoordinator role
+    → (place : Place) (n : Node) (h : Heard) (c : Case) (t : Ticket)
     (e : Effect) → CoordinatorTurnAt role place n h e → took c t e.accepts ≡ true
     → HearsJoined place None n h c t
 joined_by AtRoot i place n h c t e r g = effect_accepts place None n h c t e r g
 joined_by (Below p) i place n h c t e r g = effect_accepts place (Some p) n h c t e r g
 joined_by (AtLeaf p) i place n h c t e r g = absurd i
 
-module _ (place : Place) (net : List Envelope) (n : Node) (i : IsCoordinator place.role) (old : AllJoined net n) where
+module _ (place : Place) (net : List Envelope) (n : Node) (i : IsCoordinator place.role)
+    (old : AllJoined net n) where
   heard_joined : (m : Move) (x : Input) (e : Effect) → Stands net place.me m.step.happening
       → m.step.happening ≡ Handles x
-      → reacts place n (heard_in m x) ≡ Does e → (k : Node) → k.accepted ≡ e.accepts ++ n.accepted → AllJoined net k
+      → reacts place n (heard_in m x) ≡ Does e → (k : Node) → k.accepted ≡ e.accepts ++ n.accepted
+      → AllJoined net k
   heard_joined m x e stands hp r k a c t g =
       by_either (either _ _ (sym (list_any-append _ e.accepts n.accepted) ∙ (ap (took c t) (sym a) ∙ g)))
     where
       came : InputStands net place.me x
       came = subst (Stands net place.me) hp stands
 
-      by_either : (took c t e.accepts ≡ true) ⊎ (has_accepted n c t ≡ true) → sent (is_joined_message c t) net ≡ true
+      by_either : (took c t e.accepts ≡ true) ⊎ (has_accepted n c t ≡ true)
+          → sent (is_joined_message c t) net ≡ true
       by_either (inr before) = old c t before
       by_either (inl now) =
-          let j = joined_by place.role i place n (heard_in m x) c t e (coordinator_turn_of place n (heard_in m x) e r)
+          let j = joined_by place.role i place n (heard_in m x) c t e
+          (coordinator_turn_of place n (heard_in m x) e r)
           now in
           was_sent (is_joined_message c t) net place.me x j.0 (Joined j.1.0 j.1.1.0) came j.1.1.1.0 j.1.1.1.1
 
@@ -112,7 +119,8 @@ module _ (place : Place) (net : List Envelope) (n : Node) (i : IsCoordinator pla
   trim_failed zero = old
   trim_failed (suc a) = old
 
-  joined_last : (m : Move) → Stands net place.me m.step.happening → (e : Effect) (k : Node) → StepOf place n m e k
+  joined_last : (m : Move) → Stands net place.me m.step.happening → (e : Effect) (k : Node)
+      → StepOf place n m e k
       → AllJoined net k
   joined_last m stands _ _ (handled x g hp np r) =
       heard_joined m x g stands hp r (after n (heard_in m x) g) refl
@@ -139,7 +147,8 @@ all_joined tree _ _ (makes es w m e w' run stands step) p i =
     let at = makes_at tree w m e w' step in
     let q = m.step.process in
     let s = step_of (place_of tree q) (w.at q) m e at.node at.made in
-    let P : ProcessId → Node → Type 0 = λ x k. IsCoordinator (role_of tree x) → AllJoined (w.net ++ e.messages) k in
+    let P : ProcessId → Node → Type 0 = λ x k. IsCoordinator (role_of tree x)
+    → AllJoined (w.net ++ e.messages) k in
     subst (λ (x : World). IsCoordinator (role_of tree p) → AllJoined x.net (x.at p)) (sym at.world)
     (put P q p at.node w.at
     (λ c. more_sent w.net e.messages at.node
@@ -149,9 +158,11 @@ all_joined tree _ _ (makes es w m e w' run stands step) p i =
 -- a root's case is its own
 pub own_case : (me : ProcessId) (b k : ℕ) (c : Case) → IsRoots me b k c → process_of c ≡ me
 own_case me b k c r =
-    subst (λ (o : Option Ticket). process_of (record { txn = c.txn; ticket = o }) ≡ me) (sym r.no_ticket) r.own
+    subst (λ (o : Option Ticket). process_of (record { txn = c.txn; ticket = o }) ≡ me)
+    (sym r.no_ticket) r.own
 
-pub accepted_was_joined : (tree : List TreeEntry) (es : List Made) (w : World) → IsRun tree es w → (p : ProcessId)
+pub accepted_was_joined : (tree : List TreeEntry) (es : List Made) (w : World) → IsRun tree es w
+    → (p : ProcessId)
     → role_of tree p ≡ AtRoot → (c : Case) (t : Ticket) → has_accepted (w.at p) c t ≡ true
     → (process_of c ≡ p) × (sent (is_joined_message c t) w.net ≡ true)
 accepted_was_joined tree es w run p e c t g = (

@@ -34,7 +34,8 @@ idle_is_unknown PresumeAbort ph e = rw e refl
 idle_is_unknown PresumeCommit ph e = rw e refl
 
 module _ (c : Case) (rs : List Record) (none : has (is_record_of c) rs ≡ false) where
-  pub none_such : (q : Record → Bool) → ((r : Record) → q r ≡ true → is_record_of c r ≡ true) → has q rs ≡ false
+  pub none_such : (q : Record → Bool) → ((r : Record) → q r ≡ true → is_record_of c r ≡ true)
+      → has q rs ≡ false
   none_such q f = by_test (has q rs) refl
     where
       by_test : (b : Bool) → has q rs ≡ b → has q rs ≡ false
@@ -85,7 +86,12 @@ module _ (me : ProcessId) (tree : List TreeEntry) (n : Node) where
   remembered_roots c awake = elim (remembered_is_begun place refl n c) [
     | inl idle ↦ absurd (awake idle)
     | inr b ↦ subst (λ (k : ℕ). IsRoots me boot k c) (same_begun me tree n c (some_case place))
-        (record { no_ticket = b.no_ticket; own = b.own; counted = b.counted; number = inr (b.in_boot, b.number) })
+        (record {
+          no_ticket = b.no_ticket;
+          own = b.own;
+          counted = b.counted;
+          number = inr (b.in_boot, b.number);
+        })
   ]
 
   -- a case that is known is the root's

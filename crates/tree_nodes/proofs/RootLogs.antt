@@ -38,12 +38,14 @@ module _ (c : Case) where
   adds cs None e = absurd (cc)
   adds cs (Some d) e = found cs d c (has_case cs d) refl (is_same d e)
 
-  recorded_in : (rs : List Record) (cs : List Case) → (has_case cs c ≡ true) ⊎ (has (is_record_of c) rs ≡ true)
+  recorded_in : (rs : List Record) (cs : List Case)
+      → (has_case cs c ≡ true) ⊎ (has (is_record_of c) rs ≡ true)
       → has_case (fold with_record cs rs) c ≡ true
   unfolding has
   recorded_in [] cs (inl e) = e
   recorded_in [] cs (inr e) = absurd (cc)
-  recorded_in (r ∷ rs) cs (inl e) = recorded_in rs (with_record cs r) (inl (has_case-more cs (record_case r) c e))
+  recorded_in (r ∷ rs) cs (inl e) = recorded_in rs (with_record cs r)
+      (inl (has_case-more cs (record_case r) c e))
   recorded_in (r ∷ rs) cs (inr e) = elim (either (is_record_of c r) (has (is_record_of c) rs) e) [
     | inl now ↦ recorded_in rs (with_record cs r) (inl (adds cs (record_case r) now))
     | inr rest ↦ recorded_in rs (with_record cs r) (inr rest)
@@ -102,7 +104,8 @@ module _ (c : Case) where
   idle_collects PresumeCommit false false false true false N e = absurd (cc)
   idle_collects PresumeCommit false false false false false N e = absurd (cc)
 
-  pub idle_standing : (rs : List Record) → standing_at rs c Idle ≡ Collecting → has (is_collecting c) rs ≡ true
+  pub idle_standing : (rs : List Record) → standing_at rs c Idle ≡ Collecting
+      → has (is_collecting c) rs ≡ true
   idle_standing rs e =
       idle_collects c.txn.presumption (has (is_end c) rs) (has (is_commit c) rs) (has (is_abort c) rs)
       (has (is_prepare c) rs) (has (is_collecting c) rs) (none_of (owing_by c rs)) e
@@ -136,7 +139,8 @@ module _ (c : Case) where
       ∙ for_each (is_abort c) (aborts_collecting rs) (cases_in rs) (recorded_case rs k)
       (aborts_it v v.standing (view_standing (coordinator_standing rs c fresh_memory) rs c fresh_memory ∙ e))
 
-  pub reopened_collects_not : (rs : List Record) → standing_at (rs ++ reopens AtRoot rs) c Idle ≡ Collecting → ⊥
+  pub reopened_collects_not : (rs : List Record) → standing_at (rs ++ reopens AtRoot rs) c Idle ≡ Collecting
+      → ⊥
   reopened_collects_not rs e =
       let new = reopens AtRoot rs in
       let u = collecting_undecided (rs ++ new) c Idle e in
@@ -171,12 +175,18 @@ module _ (c : Case) where
       (idle_standing rs (sym (recorded_stands rs)
       ∙ subst (λ (x : Case). (recorded_view rs x).standing ≡ Collecting)
       (is_same d (of_one d (recorded_view rs d).named k)) e))
-  abort_recorded rs d Unknown e k = not_both (is_record_of c) (has (is_record_of c) []) k (has-nil (is_record_of c))
-  abort_recorded rs d Active e k = not_both (is_record_of c) (has (is_record_of c) []) k (has-nil (is_record_of c))
-  abort_recorded rs d Prepared e k = not_both (is_record_of c) (has (is_record_of c) []) k (has-nil (is_record_of c))
-  abort_recorded rs d Committing e k = not_both (is_record_of c) (has (is_record_of c) []) k (has-nil (is_record_of c))
-  abort_recorded rs d Aborting e k = not_both (is_record_of c) (has (is_record_of c) []) k (has-nil (is_record_of c))
-  abort_recorded rs d Heuristic e k = not_both (is_record_of c) (has (is_record_of c) []) k (has-nil (is_record_of c))
+  abort_recorded rs d Unknown e k = not_both (is_record_of c) (has (is_record_of c) []) k
+      (has-nil (is_record_of c))
+  abort_recorded rs d Active e k = not_both (is_record_of c) (has (is_record_of c) []) k
+      (has-nil (is_record_of c))
+  abort_recorded rs d Prepared e k = not_both (is_record_of c) (has (is_record_of c) []) k
+      (has-nil (is_record_of c))
+  abort_recorded rs d Committing e k = not_both (is_record_of c) (has (is_record_of c) []) k
+      (has-nil (is_record_of c))
+  abort_recorded rs d Aborting e k = not_both (is_record_of c) (has (is_record_of c) []) k
+      (has-nil (is_record_of c))
+  abort_recorded rs d Heuristic e k = not_both (is_record_of c) (has (is_record_of c) []) k
+      (has-nil (is_record_of c))
 
   aborts_recorded : (rs : List Record) (cs : List Case)
       → has (is_record_of c) (flat_map (aborts_collecting rs) cs) ≡ true → has (is_record_of c) rs ≡ true
@@ -191,7 +201,8 @@ module _ (c : Case) where
       → has (is_record_of c) rs ≡ true
   reopened_record rs k =
       aborts_recorded rs (cases_in rs)
-      (sym (has-cons (is_record_of c) (Opened (boot_of rs + 1)) (flat_map (aborts_collecting rs) (cases_in rs))) ∙ k)
+      (sym (has-cons (is_record_of c) (Opened (boot_of rs + 1))
+      (flat_map (aborts_collecting rs) (cases_in rs))) ∙ k)
 
   -- A trim.
 
@@ -243,7 +254,8 @@ module _ (c : Case) where
       by_test true f = not_both q (has q rs) (was_there q none rs f) e
       by_test false f = f
 
-  none_before : (q : Record → Bool) → ((r : Record) → q r ≡ true → is_record_of c r ≡ true) → (rs : List Record)
+  none_before : (q : Record → Bool) → ((r : Record) → q r ≡ true → is_record_of c r ≡ true)
+      → (rs : List Record)
       → is_known (recorded_view rs c).standing ≡ true → has q (trimmed AtRoot rs) ≡ false → has q rs ≡ false
   none_before q f rs k e = by_test (has q rs) refl
     where
@@ -316,7 +328,8 @@ module _ (c : Case) where
             old.collecting_is_asked
             (stands_collecting rs ph (undecided_before f (collecting_undecided new c ph e))
             (was_there (is_collecting c) (λ j. refl) rs k))
-        by_known false f = not_both (is_collecting c) (has (is_collecting c) new) k (gone rs c any f).collecting
+        by_known false f = not_both (is_collecting c) (has (is_collecting c) new) k
+            (gone rs c any f).collecting
 
     pub trim_together : Together (trimmed AtRoot rs) c ph
     trim_together = record {

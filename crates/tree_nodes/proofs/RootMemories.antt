@@ -123,8 +123,13 @@ module _ (me : ProcessId) (boot : ℕ) (c : Case) where
 
   counted : (m : Memory) → O m → O (record m { begun = m.begun + 1 })
   counted m (inl idle) = inl idle
-  counted m (inr b) = inr (record
-      { no_ticket = b.no_ticket; own = b.own; in_boot = b.in_boot; counted = b.counted; number = more c.txn.sequence m.begun b.number })
+  counted m (inr b) = inr (record {
+    no_ticket = b.no_ticket;
+    own = b.own;
+    in_boot = b.in_boot;
+    counted = b.counted;
+    number = more c.txn.sequence m.begun b.number;
+  })
 
   begun_if : (m : Memory) (p : Presumption) → O m → (b : Bool)
       → same_case (root_case (next_txn me boot m p)) c ≡ b
@@ -158,7 +163,8 @@ module _ (me : ProcessId) (boot : ℕ) (c : Case) where
 
   all_remembered : (m : Memory) → O m → (hs : List Heard) → O (fold (remembers me AtRoot boot c) m hs)
   all_remembered m o [] = o
-  all_remembered m o (h ∷ hs) = all_remembered (root_remembers me boot c m h.input) (remembered m o h.input) hs
+  all_remembered m o (h ∷ hs) = all_remembered (root_remembers me boot c m h.input)
+      (remembered m o h.input) hs
 
 -- a case that the root remembers was begun in this boot
 pub remembered_is_begun : (place : Place) → place.role ≡ AtRoot → (n : Node) (c : Case)

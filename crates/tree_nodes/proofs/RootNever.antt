@@ -136,7 +136,8 @@ module _ (me : ProcessId) (tree : List TreeEntry) (n : Node) (nested : Nested (l
         -- the root's own case of a transaction
 
         own_case_is : (c : Case) (x : Txn) → c.txn ≡ x
-            → ((coordinator_view (coordinator_place me None tree) n c).standing ≡ Unknown → ⊥) → c ≡ root_case x
+            → ((coordinator_view (coordinator_place me None tree) n c).standing ≡ Unknown → ⊥)
+            → c ≡ root_case x
         own_case_is c x e known =
             let k = known_roots me tree n t.up nested cases c (λ u. absurd (known u)) in
             ap (λ (o : Option Ticket). record { txn = c.txn; ticket = o }) k.no_ticket ∙ ap root_case e
@@ -172,7 +173,8 @@ module _ (me : ProcessId) (tree : List TreeEntry) (n : Node) (nested : Nested (l
 
         told_now : (x : Txn) (o : Option Told) (ts : List Told)
             → list_any (is_told_aborted x) (told_first o ts) ≡ true
-            → (list_any (is_told_aborted x) (told_first o []) ≡ true) ⊎ (list_any (is_told_aborted x) ts ≡ true)
+            → (list_any (is_told_aborted x) (told_first o []) ≡ true)
+            ⊎ (list_any (is_told_aborted x) ts ≡ true)
         told_now x None ts f = inr f
         told_now x (Some a) ts f = elim (either (is_told_aborted x a) (list_any (is_told_aborted x) ts) f) [
           | inl y ↦ inl (now_first (is_told_aborted x a) y)
@@ -333,7 +335,8 @@ module _ (me : ProcessId) (tree : List TreeEntry) (n : Node) (nested : Nested (l
             front_none q f (n.unforced ++ take a new)
             (in_none q n.unforced (take a new) (last_none q n.forced n.unforced g) (front_none q a new k))
           where
-            last_none : (q : Record → Bool) (xs ys : List Record) → has q (xs ++ ys) ≡ false → has q ys ≡ false
+            last_none : (q : Record → Bool) (xs ys : List Record) → has q (xs ++ ys) ≡ false
+                → has q ys ≡ false
             last_none q xs ys y = by_test (has q ys) refl
               where
                 by_test : (b : Bool) → has q ys ≡ b → has q ys ≡ false
@@ -361,7 +364,8 @@ module _ (me : ProcessId) (tree : List TreeEntry) (n : Node) (nested : Nested (l
           };
         }
           where
-            none_collects : (c : Case) → has (is_commit c) n.durable ≡ true → has (is_collecting c) new ≡ false
+            none_collects : (c : Case) → has (is_commit c) n.durable ≡ true
+                → has (is_collecting c) new ≡ false
             none_collects c g = by_test (has (is_collecting c) new) refl
               where
                 by_test : (b : Bool) → has (is_collecting c) new ≡ b → has (is_collecting c) new ≡ false

@@ -237,7 +237,8 @@ module _ (me : ProcessId) (tree : List TreeEntry) (n : Node) (nested : Nested (l
 
     in_front_none : (q : Record → Bool) (j a f : ℕ) → has q (n.forced ++ take j n.unforced) ≡ false
         → has q (reopens AtRoot (n.forced ++ take j n.unforced)) ≡ false
-        → has q (take f (take j n.unforced ++ take a (reopens AtRoot (n.forced ++ take j n.unforced)))) ≡ false
+        → has q (take f (take j n.unforced ++ take a (reopens AtRoot (n.forced ++ take j n.unforced))))
+        ≡ false
     in_front_none q j a f e g =
         let new = reopens AtRoot (left j) in
         front_none q f (take j n.unforced ++ take a new)
@@ -301,7 +302,8 @@ module _ (me : ProcessId) (tree : List TreeEntry) (n : Node) (nested : Nested (l
     stands_short c e = elim (old.stand c e) [
       | inl f ↦ by_known (is_known (recorded_view (kept n) c).standing) refl
           (in_first (is_commit c) n.forced n.unforced f)
-      | inr f ↦ inr (ap (has (is_collecting c)) (append-nil short) ∙ none_short (is_collecting c) (λ j. refl) f)
+      | inr f ↦ inr (ap (has (is_collecting c)) (append-nil short)
+          ∙ none_short (is_collecting c) (λ j. refl) f)
     ]
       where
         any : Ticket

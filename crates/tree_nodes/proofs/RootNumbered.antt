@@ -122,7 +122,8 @@ module _ (me : ProcessId) (tree : List TreeEntry) where
         new = entries_written e.written
 
         leaves_boot : boot_of (kept n ++ new) ≡ boot_of (kept n)
-        leaves_boot = boot_append (kept n) new ∙ others_boot (boot_of (kept n)) new (turn_none AtRoot place n i e t.turn)
+        leaves_boot = boot_append (kept n) new
+            ∙ others_boot (boot_of (kept n)) new (turn_none AtRoot place n i e t.turn)
 
         count_then : count (after n i e) ≡ begun_next (count n) i.input
         count_then =
@@ -132,7 +133,8 @@ module _ (me : ProcessId) (tree : List TreeEntry) where
         abbrev next : ℕ
         next = begun_next (count n) i.input
 
-        old_now : (c : Case) → IsRoots me (boot_of (kept n)) (count n) c → IsRoots me (boot_of (kept n)) next c
+        old_now : (c : Case) → IsRoots me (boot_of (kept n)) (count n) c
+            → IsRoots me (boot_of (kept n)) next c
         old_now c a =
             case_later me (boot_of (kept n)) (count n) (boot_of (kept n)) next
             (inr (refl, begun_more (count n) i.input)) c a
@@ -180,7 +182,8 @@ module _ (me : ProcessId) (tree : List TreeEntry) where
     left_rises k =
         front_below n.forced (take k n.unforced) (lost_rises (logs_of n) k boots.rises)
 
-    left_each : (k : ℕ) (c : Case) → has (is_record_of c) (left k) ≡ true → IsRoots me (boot_of n.forced + 1) 0 c
+    left_each : (k : ℕ) (c : Case) → has (is_record_of c) (left k) ≡ true
+        → IsRoots me (boot_of n.forced + 1) 0 c
     left_each k c e =
         h.begun_before c (recorded (nested.kept_was_written (is_record_of c) (λ j. refl)
         (was_kept (in_either (is_record_of c) n.forced (take k n.unforced) e))))
@@ -239,7 +242,8 @@ module _ (me : ProcessId) (tree : List TreeEntry) where
     trim_history m l a b t u c x =
         same_history n m c (λ e. in_rest c (ap (has (is_record_of c)) (sym l) ∙ e)) a b t u x
       where
-        in_rest : (c : Case) → has (is_record_of c) (reverse [] ++ n.life) ≡ true → has (is_record_of c) n.life ≡ true
+        in_rest : (c : Case) → has (is_record_of c) (reverse [] ++ n.life) ≡ true
+            → has (is_record_of c) n.life ≡ true
         in_rest c e = elim (in_either (is_record_of c) (reverse []) n.life e) [
           | inl now ↦ not_both (is_record_of c) (has (is_record_of c) [])
               (sym (has-reverse (is_record_of c) []) ∙ now) (has-nil (is_record_of c))
@@ -251,7 +255,8 @@ module _ (me : ProcessId) (tree : List TreeEntry) where
         let rs = kept n in
         let new = trimmed AtRoot rs in
         by_now (trims place n) boots' up
-        (subst (λ (xs : List Record). Each (boot_of xs) (count (trims place n)) (trims place n)) (sym (append-nil new))
+        (subst (λ (xs : List Record). Each (boot_of xs) (count (trims place n)) (trims place n))
+        (sym (append-nil new))
         (subst (λ (k : ℕ). Each (boot_of new) k (trims place n)) (sym same_count)
         (subst (λ (b : ℕ). Each b (count n) (trims place n)) (sym (trimmed_boot AtRoot rs))
         (λ c x. h.begun_now up c (trim_history (trims place n) refl refl refl refl refl c x)))))
@@ -295,7 +300,8 @@ none_opened c (found_undecided x i e) = absurd (cc)
 opened_root : (place : Place) → RootCases place opened_node
 opened_root place = record { begun_before = λ c x. none_opened c x; begun_now = λ up c x. none_opened c x }
 
-pub at_root : (tree : List TreeEntry) (q : ProcessId) → role_of tree q ≡ AtRoot → place_of tree q ≡ root_place q tree
+pub at_root : (tree : List TreeEntry) (q : ProcessId) → role_of tree q ≡ AtRoot
+    → place_of tree q ≡ root_place q tree
 at_root tree q e = ap (λ (r : Role). record { me = q; role = r; tree = tree }) e
 
 pub all_root_cases : (tree : List TreeEntry) (es : List Made) (w : World) → IsRun tree es w → (p : ProcessId)

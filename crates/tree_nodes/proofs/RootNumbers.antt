@@ -74,8 +74,11 @@ module _ (me : ProcessId) where
     pub roots_each : (rs : List Record)
         → ((c : Case) → has (is_record_of c) rs ≡ true → IsRoots me b k c) → A rs
     roots_each [] f = tt
-    roots_each (r ∷ rs) f =
-        (of_record (record_case r) refl, roots_each rs (λ c e. f c (has-cons (is_record_of c) r rs ∙ right _ _ e)))
+    roots_each (r ∷ rs) f = (
+      of_record (record_case r) refl,
+      roots_each rs
+          (λ c e. f c (has-cons (is_record_of c) r rs ∙ right _ _ e)),
+    )
       where
         of_record : (o : Option Case) → record_case r ≡ o → IsRootsRecord me b k o
         of_record None e = tt
@@ -109,7 +112,8 @@ module _ (me : ProcessId) where
     unfolding cases_in
     of_cases_in rs a = of_records [] rs tt a
 
-    roots_abort : (c : Case) (v : CoordinatorView) (st : Standing) → IsRoots me b k c → A (restart_abort c v st)
+    roots_abort : (c : Case) (v : CoordinatorView) (st : Standing) → IsRoots me b k c
+        → A (restart_abort c v st)
     roots_abort c v Collecting i = (i, tt)
     roots_abort c v Unknown i = tt
     roots_abort c v Active i = tt
@@ -122,7 +126,8 @@ module _ (me : ProcessId) where
     roots_aborts rs [] a = tt
     roots_aborts rs (c ∷ cs) a =
         let v = recorded_view rs c in
-        roots_both (aborts_collecting rs c) (flat_map (aborts_collecting rs) cs) (roots_abort c v v.standing a.0)
+        roots_both (aborts_collecting rs c) (flat_map (aborts_collecting rs) cs)
+        (roots_abort c v v.standing a.0)
         (roots_aborts rs cs a.1)
 
     pub roots_reopens : (rs : List Record) → A rs → A (reopens AtRoot rs)

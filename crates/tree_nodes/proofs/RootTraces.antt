@@ -1,4 +1,5 @@
--- What an input adds to a root's memory and histories is of transactions that it began, and those leave a trace.
+-- What an input adds to a root's memory and histories is of transactions that it began, and those leave a
+-- trace.
 use Rattle.std.proofs.Common.{◌≡◌, ◌≢◌, ◌∙◌, ◌||◌, ◌⊎◌, ◌+◌, inl, inr, ℕ, Bool, true, false, Option, Some, None, List, [], ◌∷◌, ◌++◌, refl, sym, ap, subst, arith, if◌then◌else◌}
 use Rattle.std.specs.Prelude.{filter}
 use Rattle.std.specs.List.{list_any}
@@ -99,7 +100,8 @@ awake Over f = refl
 txn_is : (y z : Txn) → same_txn y z ≡ true → y ≡ z
 txn_is y z f = elim (same_txn_tells y z) [ inl t ↦ t.1 | inr g ↦ absurd (let k = g.0 in cc) ]
 
-begun_more : (x : Txn) (o : Option Txn) (ys : List Txn) → among x ys ≡ true → among x (begun_first o ys) ≡ true
+begun_more : (x : Txn) (o : Option Txn) (ys : List Txn) → among x ys ≡ true
+    → among x (begun_first o ys) ≡ true
 begun_more x None ys e = e
 begun_more x (Some y) ys e = right (same_txn y x) (among x ys) e
 
@@ -113,18 +115,21 @@ pub among_kept : (x : Txn) (f : Txn → Bool) (ys : List Txn) → f x ≡ true �
 among_kept x f [] e g = g
 among_kept x f (y ∷ ys) e g = by_first (either (same_txn y x) (among x ys) g) (among_kept x f ys e)
   where
-    with_rest : (b : Bool) → among x (filter f ys) ≡ true → among x (if b then y ∷ filter f ys else filter f ys) ≡ true
+    with_rest : (b : Bool) → among x (filter f ys) ≡ true
+        → among x (if b then y ∷ filter f ys else filter f ys) ≡ true
     with_rest true k = right (same_txn y x) (among x (filter f ys)) k
     with_rest false k = k
 
-    by_first : (same_txn y x ≡ true) ⊎ (among x ys ≡ true) → (among x ys ≡ true → among x (filter f ys) ≡ true)
+    by_first : (same_txn y x ≡ true) ⊎ (among x ys ≡ true)
+        → (among x ys ≡ true → among x (filter f ys) ≡ true)
         → among x (if f y then y ∷ filter f ys else filter f ys) ≡ true
     by_first (inl now) k = rw (ap f (txn_is y x now) ∙ e) (rw now refl)
     by_first (inr rest) k = with_rest (f y) (k rest)
 
 -- What holds at each root.
 pub record BegunSo (me : ProcessId) (tree : List TreeEntry) (n : Node) : Type 0 where
-  pub remembered : (c : Case) → is_begun (memory_of (root_place me tree) n c).phase ≡ true → among c.txn n.begun ≡ true
+  pub remembered : (c : Case) → is_begun (memory_of (root_place me tree) n c).phase ≡ true
+      → among c.txn n.begun ≡ true
   pub in_histories : (c : Case) → InHistory n c → among c.txn n.begun ≡ true
   pub known : (x : Txn) → among x n.begun ≡ true → has_begun (root_place me tree) n x ≡ true
 
@@ -137,7 +142,8 @@ module _ (me : ProcessId) (tree : List TreeEntry) (n : Node) (nested : Nested (l
     abbrev boot : ℕ
     boot = boot_of (kept n)
 
-    module _ (h : Heard) (e : Effect) (up : n.failed ≡ false) (r : reacts (root_place me tree) n h ≡ Does e) where
+    module _ (h : Heard) (e : Effect) (up : n.failed ≡ false)
+        (r : reacts (root_place me tree) n h ≡ Does e) where
       turn : CoordinatorTurn (root_place me tree) None n h e
       turn = coordinator_turn_of place n h e r
 
@@ -150,7 +156,8 @@ module _ (me : ProcessId) (tree : List TreeEntry) (n : Node) (nested : Nested (l
       known_among : (c : Case) → (coordinator_view place n c).standing ≢ Unknown → among c.txn n.begun ≡ true
       known_among c f = elim (known_by place n c f) [
         | inl active ↦ old.remembered c (awake (memory_of place n c).phase active)
-        | inr stands ↦ old.in_histories c (recorded (nested.kept_was_written (is_record_of c) (λ k. refl) stands))
+        | inr stands ↦ old.in_histories c (recorded
+            (nested.kept_was_written (is_record_of c) (λ k. refl) stands))
       ]
 
       unticketed : (c : Case) → (coordinator_view place n c).standing ≢ Unknown → c.ticket ≡ None
@@ -194,7 +201,8 @@ module _ (me : ProcessId) (tree : List TreeEntry) (n : Node) (nested : Nested (l
       abbrev IsAmong : Case → Type 0
       IsAmong c = among c.txn n.begun ≡ true
 
-      first_of : (x : Txn) (o : Option Txn) → among x (begun_first o []) ≡ true → among x (begun_first o n.begun) ≡ true
+      first_of : (x : Txn) (o : Option Txn) → among x (begun_first o []) ≡ true
+          → among x (begun_first o n.begun) ≡ true
       first_of x None f = absurd (cc)
       first_of x (Some y) f = widen (same_txn y x) f
         where
@@ -207,7 +215,8 @@ module _ (me : ProcessId) (tree : List TreeEntry) (n : Node) (nested : Nested (l
       histories_then c (inr (writes_of g)) =
           begun_more c.txn e.begun n.begun (effect_writes place None n h IsAmong known_among e turn c g)
       histories_then c (inr (accepts_into t g)) =
-          begun_more c.txn e.begun n.begun (effect_accepts place n h IsAmong known_among unticketed e turn c t g)
+          begun_more c.txn e.begun n.begun (effect_accepts place n h IsAmong known_among unticketed e turn c t
+          g)
       histories_then c (inr (begins_it x i g)) =
           ap (λ (d : Case). among d.txn now) i ∙ first_of x e.begun g
       histories_then c (inr (tells_of x i g)) =
@@ -223,8 +232,10 @@ module _ (me : ProcessId) (tree : List TreeEntry) (n : Node) (nested : Nested (l
       ]
 
       -- a node behind the input
-      pub heard_holds : (k : Node) → k.heard ≡ n.heard ++ h ∷ [] → boot_of (kept k) ≡ boot_of (kept n) → k.begun ≡ now
-          → ((x : Txn) → list_any (is_told_of_txn x) n.told ≡ true → list_any (is_told_of_txn x) k.told ≡ true)
+      pub heard_holds : (k : Node) → k.heard ≡ n.heard ++ h ∷ [] → boot_of (kept k) ≡ boot_of (kept n)
+          → k.begun ≡ now
+          → ((x : Txn) → list_any (is_told_of_txn x) n.told ≡ true
+          → list_any (is_told_of_txn x) k.told ≡ true)
           → k.found_undecided ≡ n.found_undecided
           → ((q : Record → Bool) → has q n.life ≡ true → has q k.life ≡ true)
           → ((c : Case) → InHistory k c → InHistory n c ⊎ NewIn e c)
@@ -232,7 +243,8 @@ module _ (me : ProcessId) (tree : List TreeEntry) (n : Node) (nested : Nested (l
           → (among x n.begun ≡ true) ⊎ (is_begun (memory_then (root_case x)).phase ≡ true))
           → BegunSo me tree k
       heard_holds k i b g t u l hist born =
-          let same : (c : Case) → memory_of place k c ≡ memory_then c = λ c. memory_heard me tree n h k c i b in
+          let same : (c : Case) → memory_of place k c ≡ memory_then c =
+          λ c. memory_heard me tree n h k c i b in
           record {
             remembered = λ c x. ap (among c.txn) g
                 ∙ remembered_then c (ap (λ (m : Memory). is_begun m.phase) (sym (same c)) ∙ x);
@@ -242,7 +254,8 @@ module _ (me : ProcessId) (tree : List TreeEntry) (n : Node) (nested : Nested (l
         where
           phase_so : (x : Txn) → is_begun (memory_then (root_case x)).phase ≡ true
               → is_begun (memory_of place k (root_case x)).phase ≡ true
-          phase_so x y = ap (λ (m : Memory). is_begun m.phase) (memory_heard me tree n h k (root_case x) i b) ∙ y
+          phase_so x y = ap (λ (m : Memory). is_begun m.phase) (memory_heard me tree n h k (root_case x) i b)
+              ∙ y
 
           by_trace : (x : Txn) → (is_begun (memory_of place n (root_case x)).phase ≡ true)
               ⊎ ((list_any (is_told_of_txn x) n.told ≡ true)
@@ -253,7 +266,8 @@ module _ (me : ProcessId) (tree : List TreeEntry) (n : Node) (nested : Nested (l
           by_trace x (inr (inr (inl y))) = if_found place k x (ap (among x) u ∙ y)
           by_trace x (inr (inr (inr y))) = if_committed place k x (l (is_commit (root_case x)) y)
 
-          known_then : (x : Txn) → (among x n.begun ≡ true) ⊎ (is_begun (memory_then (root_case x)).phase ≡ true)
+          known_then : (x : Txn) → (among x n.begun ≡ true)
+              ⊎ (is_begun (memory_then (root_case x)).phase ≡ true)
               → has_begun place k x ≡ true
           known_then x (inl before) = by_trace x (traces place n x (old.known x before))
           known_then x (inr next) = if_remembered place k x (phase_so x next)

@@ -64,9 +64,11 @@ module _ (tree : List TreeEntry) where
       (λ role.
       let kept_so = all_coordinated tree es w run x None role in
       let did = subst (λ (r : Role). StepOf (at x r) (w.at x) m e now.node) role s in
-      never_last x tree (w.at x) (all_last tree es w run x).nested (all_root_cases tree es w run x role) kept_so
+      never_last x tree (w.at x) (all_last tree es w run x).nested
+      (all_root_cases tree es w run x role) kept_so
       (all_never es w run x role) m e now.node did
-      (coordinated_last x None tree (w.at x) (premises tree es w run x None role kept_so) kept_so m e now.node did))
+      (coordinated_last x None tree (w.at x) (premises tree es w run x None role kept_so) kept_so m e now.node
+      did))
       (all_never es w run q))
 
   -- What is stated of it.
@@ -112,7 +114,8 @@ module _ (tree : List TreeEntry) where
         by_failed true up = refl
         by_failed false up = by_standing up (coordinator_view place n c).standing refl
 
-    never : (x : Txn) → IsEnded (w.at q) (root_case x) → NeverCommits (coordinator_place q None tree) (w.at q) x
+    never : (x : Txn) → IsEnded (w.at q) (root_case x)
+        → NeverCommits (coordinator_place q None tree) (w.at q) x
     never x d =
         let dead = (all_never es w run q e).dead (root_case x) d in
         record {

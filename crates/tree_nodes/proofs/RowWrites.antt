@@ -33,7 +33,8 @@ module _ (place : Place) (parent : Option ProcessId) (n : Node) (h : Heard) (A :
         → has (is_record_of d) (entries_written row.written) ≡ true → A d
     unfolding has
     row_writes c d _ (asks_for_votes PresumeCommit i e f a) g = of_it c d g Active e (λ x. cc)
-    row_writes c d _ (reads_only t w ys PresumeCommit i e f) g = of_it c d g Collecting i.vote.stands (λ x. cc)
+    row_writes c d _ (reads_only t w ys PresumeCommit i e f) g =
+        of_it c d g Collecting i.vote.stands (λ x. cc)
     row_writes c d _ (commits t w ys PresumeAbort i e f a) g = of_it c d g Collecting i.vote.stands (λ x. cc)
     row_writes c d _ (commits t w ys PresumeCommit i e f a) g = of_it c d g Collecting i.vote.stands (λ x. cc)
     row_writes c d _ (hears_no t us PresumeAbort i e f) g = of_it c d g Collecting i.stands (λ x. cc)

@@ -1,4 +1,5 @@
--- What a process remembers of itself, whatever the case: the transactions begun, the tickets given, and which are active.
+-- What a process remembers of itself, whatever the case: the transactions begun, the tickets given, and which
+-- are active.
 use Rattle.std.proofs.Common.{◌≡◌, ◌∙◌, ◌+◌, ◌==◌, ◌&&◌, ℕ, Bool, true, false, Option, Some, None, List, [], ◌∷◌, ◌++◌, refl, sym, ap, if◌then◌else◌}
 use Rattle.std.specs.Prelude.{fold, not}
 use Rattle.tree_model.specs.declared.names.Case.{Case}
@@ -81,7 +82,8 @@ module _ (me : ProcessId) (boot : ℕ) (c : Case) where
   either_self m u v false e f = f
 
   joined_new : (m : Memory) (d : Case) (b : Bool)
-      → self_of (if b then opens_case (gives m d (next_ticket me boot m)) else gives m d (next_ticket me boot m))
+      → self_of (if b then opens_case (gives m d (next_ticket me boot m))
+      else gives m d (next_ticket me boot m))
       ≡ gives_next me boot (self_of m) d
   joined_new m d true = refl
   joined_new m d false = refl
@@ -174,7 +176,8 @@ module _ (me : ProcessId) (boot : ℕ) (c : Case) where
 
   -- at a manager
   done : (m : Memory) (i : ℕ) (does : Bool) (ph : Phase) → self_of (works m i does ph) ≡ self_of m
-  done m i does Open = either_self m _ m ((i == m.done + 1) && not m.spoiled) (either_self m _ _ does refl refl) refl
+  done m i does Open = either_self m _ m ((i == m.done + 1) && not m.spoiled)
+      (either_self m _ _ does refl refl) refl
   done m i does Idle = refl
   done m i does Asked = refl
   done m i does Over = refl
@@ -202,11 +205,14 @@ module _ (me : ProcessId) (boot : ℕ) (c : Case) where
   root_act : (m : Memory) (i : Input) → self_of (root_remembers me boot c m i) ≡ root_self (self_of m) i
   root_act m (MessageInput k x) = root_hear m x
   root_act m (ActInput (Begin p)) =
-      either_self (record m { begun = m.begun + 1 }) _ _ (same_case (root_case (next_txn me boot m p)) c) refl refl
+      either_self (record m { begun = m.begun + 1 }) _ _
+      (same_case (root_case (next_txn me boot m p)) c) refl refl
   root_act m (ActInput (WorkAct d q op)) = either_self m _ m (same_case d c)
       (worked m (ticket_of_child m.accepted q) m.phase) refl
-  root_act m (ActInput (CommitAct x)) = either_self m _ m (same_case (root_case x) c) (asked m m m.phase refl) refl
-  root_act m (ActInput (AbortAct x)) = either_self m _ m (same_case (root_case x) c) (closed m m m.phase refl) refl
+  root_act m (ActInput (CommitAct x)) = either_self m _ m (same_case (root_case x) c)
+      (asked m m m.phase refl) refl
+  root_act m (ActInput (AbortAct x)) = either_self m _ m (same_case (root_case x) c)
+      (closed m m m.phase refl) refl
   root_act m (ActInput (JoinAct d q)) = refl
   root_act m (ActInput (Ask d)) = refl
   root_act m (ActInput (Decide d u)) = refl
@@ -249,5 +255,6 @@ pub self_is : (place : Place) (n : Node) (c : Case) → self_of (memory_of place
 unfolding memory_of
 self_is place n c = folded place.me (boot_of (kept n)) c place.role fresh_memory n.heard
 
-pub self_same : (place : Place) (n : Node) (c d : Case) → self_of (memory_of place n c) ≡ self_of (memory_of place n d)
+pub self_same : (place : Place) (n : Node) (c d : Case)
+    → self_of (memory_of place n c) ≡ self_of (memory_of place n d)
 self_same place n c d = self_is place n c ∙ sym (self_is place n d)

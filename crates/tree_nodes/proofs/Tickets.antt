@@ -1,4 +1,5 @@
--- JOINED is sent only as JOIN is answered, and only for tickets of the sender; and what is active was so sent.
+-- JOINED is sent only as JOIN is answered, and only for tickets of the sender; and what is active was so
+-- sent.
 use Rattle.std.proofs.Common.{◌≡◌, ◌≤◌, ◌||◌, ◌⊎◌, inl, inr, ℕ, Bool, true, false, Option, Some, None, List, [], ◌∷◌, ◌++◌, refl, sym, ap, subst, if◌then◌else◌, arith}
 use Rattle.std.specs.Prelude.{not, fold}
 use Rattle.std.proofs.Math.Nat.{le_refl}
@@ -51,7 +52,8 @@ module _ (P : Case → Ticket → Type 0) where
 
       by_case : (b : Bool) → same_case a.0 d ≡ b → (if b then Some a.1 else active_ticket as' d) ≡ Some t
           → (active_ticket as' d ≡ Some t → P d t) → P d t
-      by_case true f g k = subst (λ (x : Case). P x t) (is_case f) (subst (λ (u : Ticket). P a.0 u) (some_is a.1 t g) h.0)
+      by_case true f g k = subst (λ (x : Case). P x t) (is_case f)
+          (subst (λ (u : Ticket). P a.0 u) (some_is a.1 t g) h.0)
       by_case false f g k = k g
 
   if_left : (b : Bool) (a : Case × Ticket) (rest : List (Case × Ticket)) → P a.0 a.1 → AllActive P rest
@@ -62,7 +64,8 @@ module _ (P : Case → Ticket → Type 0) where
   active_left : (as' : List (Case × Ticket)) (c : Case) → AllActive P as' → AllActive P (without_ticket as' c)
   unfolding without_ticket
   active_left [] c h = tt
-  active_left (a ∷ as') c h = if_left (not (same_case (child_case a.0.txn a.1) c)) a _ h.0 (active_left as' c h.1)
+  active_left (a ∷ as') c h = if_left (not (same_case (child_case a.0.txn a.1) c)) a _ h.0
+      (active_left as' c h.1)
 
   active_push : (as' : List (Case × Ticket)) (d : Case) (t : Ticket) → AllActive P as' → P d t
       → AllActive P (as' ++ (d, t) ∷ [])
@@ -100,7 +103,8 @@ module _ (P : Case → Ticket → Type 0) where
         → ((j : ℕ) (d : Case) → i ≡ MessageInput j (Join d) → active_ticket s.active d ≡ None → b ≡ true
         → P d (next_of me boot s))
         → AllActive P (issuer_self me boot b s i).active
-    active_after b s (MessageInput j m) h f = active_heard b s m h (λ d e. f j d (ap (λ x. MessageInput j x) e))
+    active_after b s (MessageInput j m) h f =
+        active_heard b s m h (λ d e. f j d (ap (λ x. MessageInput j x) e))
     active_after b s (ActInput a) h f = h
 
 pub active_all : (P Q : Case → Ticket → Type 0) → ((d : Case) (t : Ticket) → P d t → Q d t)
@@ -239,10 +243,11 @@ module _ (place : Place) (n : Node) (h : Heard) (d : Case) (t : Ticket) where
   none_of_all : {A : Type 0} (s : Seat) (ls : List Envelope) → AllSent s ls → Says ls → A
   unfolding sent
   none_of_all s [] a e = absurd (cc)
-  none_of_all {A} s (l ∷ ls) a e = elim (either (is_joined_message d t l.message) (sent (is_joined_message d t) ls) e) [
-    | inl now ↦ false_so (is_joined_message d t l.message) (none_sent s l a.0) now
-    | inr rest ↦ none_of_all s ls a.1 rest
-  ]
+  none_of_all {A} s (l ∷ ls) a e = elim (either (is_joined_message d t l.message)
+      (sent (is_joined_message d t) ls) e) [
+        | inl now ↦ false_so (is_joined_message d t l.message) (none_sent s l a.0) now
+        | inr rest ↦ none_of_all s ls a.1 rest
+      ]
 
   none_said : {A : Type 0} (ls : List Envelope) → ls ≡ [] → Says ls → A
   unfolding sent
@@ -251,8 +256,10 @@ module _ (place : Place) (n : Node) (h : Heard) (d : Case) (t : Ticket) where
   none_told : {A : Type 0} (ls : List Envelope) (c : Case) (q : ProcessId) (o : Outcome)
       → ls ≡ post place.me q (tells_outcome o c) ∷ [] → Says ls → A
   unfolding sent
-  none_told ls c q CommittedOutcome e f = let g : Says (post place.me q (Commit c) ∷ []) = subst Says e f in absurd (cc)
-  none_told ls c q AbortedOutcome e f = let g : Says (post place.me q (Abort c) ∷ []) = subst Says e f in absurd (cc)
+  none_told ls c q CommittedOutcome e f = let g : Says (post place.me q (Commit c) ∷ []) = subst Says e f in
+      absurd (cc)
+  none_told ls c q AbortedOutcome e f = let g : Says (post place.me q (Abort c) ∷ []) = subst Says e f in
+      absurd (cc)
 
   none_acknowledged : {A : Type 0} (l : Leaf) (o : Outcome) (b : Bool)
       → Says (if b then post l.me l.parent (Ack l.own o) ∷ [] else []) → A
@@ -289,21 +296,25 @@ module _ (place : Place) (n : Node) (h : Heard) (d : Case) (t : Ticket) where
   unfolding sent
   of_leaf p _ (gives_again x u i a) g = answered (AtLeaf p) i.0 x u i.1 (inl a) (same_joined x u g)
   of_leaf p _ (gives_fresh x i a s) g =
-      answered (AtLeaf p) i.0 x _ i.1 (inr (record { none_active = a; starts = s; next = refl })) (same_joined x _ g)
+      answered (AtLeaf p) i.0 x _ i.1 (inr (record { none_active = a; starts = s; next = refl }))
+      (same_joined x _ g)
   of_leaf p _ does_nothing g = absurd (cc)
   of_leaf p _ (votes_yes x k ws i a) g = absurd (cc)
   of_leaf p _ (votes_read x k i a) g = absurd (cc)
   of_leaf p _ (votes_no x k i a) g = absurd (cc)
   of_leaf p _ (repeats_yes x k i a) g = absurd (cc)
   of_leaf p _ (refuses x k i a) g = absurd (cc)
-  of_leaf p _ (obeys x o i k) g = none_acknowledged (leaf_of place p x) o (is_acknowledged x.txn.presumption o) g
-  of_leaf p _ (notes x o i k) g = none_acknowledged (leaf_of place p x) o (is_acknowledged x.txn.presumption o) g
+  of_leaf p _ (obeys x o i k) g = none_acknowledged (leaf_of place p x) o
+      (is_acknowledged x.txn.presumption o) g
+  of_leaf p _ (notes x o i k) g = none_acknowledged (leaf_of place p x) o
+      (is_acknowledged x.txn.presumption o) g
   of_leaf p _ (acknowledges_told x o i k) g =
       none_acknowledged (leaf_of place p x) o (is_acknowledged x.txn.presumption o) g
   of_leaf p _ (acknowledges x o i k) g =
       none_acknowledged (leaf_of place p x) o (is_acknowledged x.txn.presumption o) g
   of_leaf p _ (drops x i a) g =
-      none_acknowledged (leaf_of place p x) AbortedOutcome (is_acknowledged x.txn.presumption AbortedOutcome) g
+      none_acknowledged (leaf_of place p x) AbortedOutcome
+      (is_acknowledged x.txn.presumption AbortedOutcome) g
   of_leaf p _ (asks x i k) g = absurd (cc)
   of_leaf p _ (decides x o i k) g = absurd (cc)
   of_leaf p _ (forgets x i k) g = absurd (cc)
@@ -332,7 +343,8 @@ module _ (place : Place) (n : Node) (h : Heard) (e : Effect) (d : Case) (j : ℕ
   itself : (is_joined_message d next (Joined d next) || false) ≡ true
   itself = grind (arith, names)
 
-  gives_so : (p : ProcessId) (o : Option Ticket) → o ≡ None → SaysNext (joins_with place p n d (memory_of place n d) o)
+  gives_so : (p : ProcessId) (o : Option Ticket) → o ≡ None
+      → SaysNext (joins_with place p n d (memory_of place n d) o)
   unfolding sent
   gives_so p None f = itself
   gives_so p (Some u) f = absurd (cc)
@@ -355,7 +367,8 @@ module _ (place : Place) (n : Node) (h : Heard) (e : Effect) (d : Case) (j : ℕ
       → active_ticket (memory_of place n d).active d ≡ None
       → SaysNext (hears role place n h.data_answer (Join d))
   by_role (Below p) i s a = gives_so p (active_ticket (memory_of place n d).active d) a
-  by_role (AtLeaf p) i s a = leaf_gives p h.data_answer.starts (active_ticket (memory_of place n d).active d) s a
+  by_role (AtLeaf p) i s a = leaf_gives p h.data_answer.starts
+      (active_ticket (memory_of place n d).active d) s a
   by_role AtRoot i s a = absurd i
 
   abbrev ReactsTo : Input → Reacts

@@ -14,7 +14,8 @@ unfolding world_makes
 makes_listed tree w m e w' made = by_listed (is_listed tree m.step.process) refl made
   where
     by_listed : (b : Bool) → is_listed tree m.step.process ≡ b
-        → (if b then world_stepped w m.step.process (node_makes (place_of tree m.step.process) (w.at m.step.process) m)
+        → (if b then world_stepped w m.step.process
+        (node_makes (place_of tree m.step.process) (w.at m.step.process) m)
         else None) ≡ Some (e, w') → is_listed tree m.step.process ≡ true
     by_listed true f g = f
     by_listed false f g = absurd (cc)

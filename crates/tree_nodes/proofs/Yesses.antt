@@ -173,7 +173,8 @@ module _ (place : Place) (n : Node) (h : Lasts place.role (logs_of n)) (net : Li
   step_yes o _ _ (passed i hp r) c e = none_sent c e
   step_yes o _ _ (failed_passing i f fl hp r) c e = none_sent c e
   step_yes o _ _ (reopened k hp) c e =
-      not_so _ (quiet_resumes (is_yes_message c) (λ d. refl) (λ d. refl) (λ d. refl) place.role place.me (left_of n k ++ reopens place.role (left_of n k))) e
+      not_so _ (quiet_resumes (is_yes_message c) (λ d. refl) (λ d. refl) (λ d. refl) place.role place.me
+      (left_of n k ++ reopens place.role (left_of n k))) e
   step_yes o _ _ (failed_reopening k f fl hp) c e = none_sent c e
   step_yes o _ _ (trims_log hp up) c e = none_sent c e
   step_yes o _ _ (failed_trimming f fl hp up) c e = none_sent c e

@@ -12,8 +12,8 @@ IsCoordinator AtRoot = Unit {0}
 IsCoordinator (Below p) = Unit {0}
 IsCoordinator (AtLeaf p) = ⊥
 
--- the records of the case stand in the order in which they are written, decisions name whom they should by the
--- presumption, and a promise names somebody
+-- the records of the case stand in the order in which they are written, decisions name whom they should by
+-- the presumption, and a promise names somebody
 pub record CaseInOrder (c : Case) (rs : List Record) : Type 0 where
   pub in_order : InOrder c rs
   pub names : NamesBy c.txn.presumption c rs

@@ -18,6 +18,7 @@ pub record Logs : Type 0 where
   pub life : List Record
   pub durable : List Record
 
+-- A process's log with its histories.
 abbrev pub logs_of : Node → Logs
 logs_of n = record {
   forced = n.forced;
@@ -32,8 +33,8 @@ logs_of n = record {
 abbrev pub standing : Logs → List Record
 standing l = l.forced ++ l.unforced
 
--- what stands in the log, or ever stood in its forced front, was appended, the boots aside; and what stands in the
--- forced front ever stood there
+-- what stands in the log, or ever stood in its forced front, was appended, the boots aside; and what stands
+-- in the forced front ever stood there
 pub record Nested (l : Logs) : Type 0 where
   pub kept_was_written : (q : Record → Bool) → ((k : ℕ) → q (Opened k) ≡ false)
       → has q (standing l) ≡ true → has q l.life ≡ true
@@ -42,8 +43,7 @@ pub record Nested (l : Logs) : Type 0 where
   pub forced_is_old : (q : Record → Bool) → has q l.forced ≡ true → has q l.durable ≡ true
 
 -- A manager's log is in order; its promises are forced, while it is up; and an operator's decision that was
--- ever in
--- its forced front is there until a Forgot was appended.
+-- ever in its forced front is there until a Forgot was appended.
 pub record Manages (l : Logs) : Type 0 where
   pub in_order : (d : Case) → in_order_from d Unmarked (standing l) ≡ true
   pub promise_is_forced : l.failed ≡ false → (d : Case) → has (is_prepared d) l.unforced ≡ false
@@ -55,6 +55,7 @@ pub record Manages (l : Logs) : Type 0 where
 pub record Coordinates (l : Logs) : Type 0 where
   pub no_managers_record : has is_managers l.life ≡ false
 
+-- What lasts in the log of a process of this role, by what it is.
 abbrev pub RoleLasts : Role → Logs → Type 0
 RoleLasts (AtLeaf p) l = Manages l
 RoleLasts _ l = Coordinates l

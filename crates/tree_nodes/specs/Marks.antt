@@ -8,6 +8,7 @@ use Rattle.tree_model.specs.declared.records.Record.TheVariants.{Prepared, Commi
 use Rattle.tree_model.specs.Records.{is_branch, record_branch}
 use Rattle.tree_model.specs.Standings.{Mark, Unmarked, Promised, Decided, ToldOf, mark_after}
 
+-- the branch is there and is that of the case
 abbrev pub branch_is : Case → Option Branch → Bool
 branch_is d None = false
 branch_is d (Some b) = is_branch d b
@@ -16,6 +17,7 @@ branch_is d (Some b) = is_branch d b
 abbrev pub is_branch_record : Case → Record → Bool
 is_branch_record d r = branch_is d (record_branch r)
 
+-- a branch is there
 abbrev pub is_given : Option Branch → Bool
 is_given None = false
 is_given (Some b) = true
@@ -25,8 +27,7 @@ abbrev pub is_managers : Record → Bool
 is_managers r = is_given (record_branch r)
 
 -- which record may follow the last one of its branch: the promise first, then an outcome, or an operator's
--- decision, what
--- the branch is told of it, and the Forgot
+-- decision, what the branch is told of it, and the Forgot
 abbrev pub may_follow : Mark → Record → Bool
 may_follow Unmarked (Prepared b ws) = true
 may_follow Promised (Committed b) = true

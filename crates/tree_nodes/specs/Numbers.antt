@@ -16,8 +16,8 @@ IsIssuer AtRoot = ⊥
 IsIssuer (Below p) = Unit {0}
 IsIssuer (AtLeaf p) = Unit {0}
 
--- Each ticket of the process that JOINED told of has a number that it gave out; its boot is no later than that of
--- the forced front, also where the process failed; and each active ticket was told of.
+-- Each ticket of the process that JOINED told of has a number that it gave out; its boot is no later than
+-- that of the forced front, also where the process failed; and each active ticket was told of.
 pub record Numbers (place : Place) (net : List Envelope) (n : Node) : Type 0 where
   pub given_once : n.failed ≡ false → (d : Case) (t : Ticket) → t.child ≡ place.me
       → sent (is_joined_message d t) net ≡ true

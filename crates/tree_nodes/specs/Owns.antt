@@ -1,6 +1,5 @@
 -- Whose cases a cascaded coordinator keeps, and to whom a parent's messages go: a case with a ticket stands
--- at the
--- process that gave the ticket.
+-- at the process that gave the ticket.
 use Rattle.std.specs.Prelude.{◌≡◌, Bool, true, false, not, Option, Some, None, List, [], ◌∷◌}
 use Rattle.tree_model.specs.declared.names.Case.{Case}
 use Rattle.tree_model.specs.declared.names.ProcessId.{ProcessId}
@@ -14,6 +13,7 @@ use Rattle.tree_model.specs.Records.{has, record_case}
 use Rattle.tree_model.specs.Nodes.{Role, Below}
 use Rattle.tree_nodes.specs.Lasts.{Logs}
 
+-- there is a ticket, and the process gave it
 abbrev pub is_given_by : ProcessId → Option Ticket → Bool
 is_given_by me None = false
 is_given_by me (Some t) = same_process t.child me
@@ -22,6 +22,7 @@ is_given_by me (Some t) = same_process t.child me
 abbrev pub is_own_case : ProcessId → Case → Bool
 is_own_case me c = is_given_by me c.ticket
 
+-- there is a case, and the process did not give its ticket
 abbrev pub is_foreign_case : ProcessId → Option Case → Bool
 is_foreign_case me None = false
 is_foreign_case me (Some c) = not (is_own_case me c)
@@ -43,6 +44,7 @@ GoesToOwner to (Commit d) = is_own_case to d ≡ true
 GoesToOwner to (Abort d) = is_own_case to d ≡ true
 GoesToOwner to _ = Unit {0}
 
+-- each parent's message goes to the process that gave the ticket of its case
 abbrev pub AllGoToOwners : List Envelope → Type 0
 AllGoToOwners [] = Unit {0}
 AllGoToOwners (l ∷ ls) = GoesToOwner l.to l.message × AllGoToOwners ls

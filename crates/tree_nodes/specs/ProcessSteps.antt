@@ -24,6 +24,7 @@ pub record FromAbove (net : List Envelope) (c : Case) (s : Standing) (outcome ab
       → outcome ≡ true
   pub abort_is_true : sent (is_outcome_message AbortedOutcome c) net ≡ true → s ≡ Prepared → outcome ≡ false
 
+-- what the pair above a case says of it, at a cascaded coordinator
 abbrev pub Above : Role → List Envelope → Case → Standing → Bool → Bool → Type 0
 Above (Below p) net c s outcome above = FromAbove net c s outcome above
 Above _ net c s outcome above = Unit {0}
@@ -33,12 +34,14 @@ abbrev pub outcome_in : Role → Node → Case → Bool → Bool
 outcome_in AtRoot n c o = has (is_commit c) n.durable
 outcome_in _ n c o = o
 
+-- a pair below the process: its own half, and any half of the child's
 abbrev pub seen_below : Place → List Envelope → Node → Case → Ticket → Bool → Bool → Bool → ChildHalf
     → Reading
 seen_below place net n c t manager outcome above k =
     reading_from (is_root_ticket c.ticket) manager (outcome_in place.role n c outcome) above
     (parent_half place n c t) k (wire c t net)
 
+-- a pair above the process: its own half, and any half of the parent's
 abbrev pub seen_above : Place → List Envelope → Node → Case → Ticket → Bool → Bool → ParentHalf → Reading
 seen_above place net n c t outcome above p =
     reading_from (is_root_ticket c.ticket) (is_leaf place.role) outcome above p

@@ -11,8 +11,9 @@ use Rattle.tree_model.specs.Standings.{some_case}
 use Rattle.tree_model.specs.Outcomes.{has_accepted}
 use Rattle.tree_nodes.specs.WorldHolds.{IsGivenOut, is_record_of, has_begun}
 
--- A transaction that the root has begun is its own, with a number that it gave out, in a boot that is in the forced
--- front; and each case that it recorded, remembers, or accepted a ticket into, is of such a transaction.
+-- A transaction that the root has begun is its own, with a number that it gave out, in a boot that is in the
+-- forced front; and each case that it recorded, remembers, or accepted a ticket into, is of such a
+-- transaction.
 pub record OwnTransactions (place : Place) (n : Node) : Type 0 where
   pub begun_once : n.failed ≡ false → (x : Txn) → has_begun place n x ≡ true
       → (x.root ≡ place.me) × IsGivenOut x.boot x.sequence (boot_of (kept n))

@@ -1,6 +1,5 @@
--- The world's invariant: which pairs there are, and what holds of each process, of the net and of each
--- pair. (Stated here;
--- the README says which parts are proved.)
+-- The world's invariant: which pairs there are, and what holds of each process, of the net and of each pair.
+-- (Stated here; the README says which parts are proved.)
 use Rattle.std.specs.Prelude.{◌≡◌, ◌≤◌, ◌<◌, ◌⊎◌, ⊤, ℕ, zero, suc, Bool, true, false, not, ◌&&◌, ◌||◌, ◌≢◌, Option, Some, None, List, [], ◌∷◌, length}
 use Rattle.std.specs.List.{list_any}
 use Rattle.tree_model.specs.declared.names.Case.{Case}
@@ -37,6 +36,7 @@ use Rattle.tree_nodes.specs.Lasts.{logs_of, Lasts}
 
 -- Who takes part, as a test.
 
+-- the parent of a process of this role; the process itself at the root
 abbrev pub parent_in : Role → ProcessId → ProcessId
 parent_in (Below p) q = p
 parent_in (AtLeaf p) q = p
@@ -46,6 +46,7 @@ parent_in AtRoot q = q
 abbrev pub accepted_by : (Case → Bool) → Node → Txn → Ticket → Bool
 accepted_by up n x u = list_any (λ a. (same_txn a.0.txn x && same_ticket a.1 u) && up a.0) n.accepted
 
+-- the root's case takes part; another one where a case that takes part accepted its ticket
 abbrev pub part_by : (Case → Bool) → List TreeEntry → World → Txn → Option Ticket → Bool
 part_by up tree w x None = true
 part_by up tree w x (Some u) = accepted_by up (w.at (parent_in (role_of tree u.child) u.child)) x u
@@ -55,6 +56,7 @@ abbrev pub part_within : ℕ → List TreeEntry → World → Case → Bool
 part_within zero tree w c = is_root_ticket c.ticket
 part_within (suc k) tree w c = part_by (part_within k tree w) tree w c.txn c.ticket
 
+-- the case takes part: so many levels as the tree lists processes are enough
 unfoldable pub takes_part : List TreeEntry → World → Case → Bool
 takes_part tree w c = part_within (length tree) tree w c
 
@@ -65,11 +67,13 @@ pub record TellsPart (tree : List TreeEntry) (w : World) (x : Txn) (t : Ticket) 
 
 -- Pairs.
 
+-- a case with this ticket, or none, is that of a coordinator of this role
 abbrev pub IsParentRole : Role → Option Ticket → Type 0
 IsParentRole AtRoot None = ⊤
 IsParentRole (Below p) (Some u) = ⊤
 IsParentRole _ _ = ⊥
 
+-- a process of this role is a child of that process
 abbrev pub IsChildRole : Role → ProcessId → Type 0
 IsChildRole (Below p) q = p ≡ q
 IsChildRole (AtLeaf p) q = p ≡ q
@@ -93,21 +97,26 @@ abbrev pub gives_other : Case → Ticket → Message → Bool
 gives_other c t (Joined d u) = same_ticket u t && not (same_case d c)
 gives_other c t _ = false
 
+-- the ticket was given to no other case
 abbrev pub IsFree : List Envelope → Case → Ticket → Type 0
 IsFree net c t = sent (gives_other c t) net ≡ false
 
+-- a pair's invariant, by the transaction's presumption
 abbrev pub InvariantOf : Presumption → Reading → Type 0
 InvariantOf PresumeAbort = PresumedAbort
 InvariantOf PresumeCommit = PresumedCommit
 
+-- the pair of a case and a ticket, as the world has it
 abbrev pub pair_reading : List TreeEntry → World → Case → Ticket → Reading
 pair_reading tree w c t = reading_of tree w (takes_part tree w c) c t
 
+-- the pair keeps the invariant of its presumption
 abbrev pub PairHolds : List TreeEntry → World → Case → Ticket → Type 0
 PairHolds tree w c t = InvariantOf c.txn.presumption (pair_reading tree w c t)
 
 -- One process.
 
+-- there is a case, and it is this one
 abbrev pub is_of : Case → Option Case → Bool
 is_of c None = false
 is_of c (Some d) = same_case d c
@@ -178,6 +187,7 @@ pub record SameSelf (m m' : Memory) : Type 0 where
   pub issued : m'.issued ≡ m.issued
   pub active : m'.active ≡ m.active
 
+-- What a coordinator keeps.
 pub record Coordinates (place : Place) (net : List Envelope) (n : Node) : Type 0 where
   pub alike : n.failed ≡ false → (c : Case) → IsOpenAlike place n c
   pub votes : n.failed ≡ false → (c : Case) (t : Ticket) (v : Vote)
@@ -250,11 +260,13 @@ pub record Branches (place : Place) (n : Node) : Type 0 where
 
 -- Any process.
 
+-- What a process of this role keeps, by what it is.
 abbrev pub RoleHolds : Role → Place → List Envelope → Node → Type 0
 RoleHolds AtRoot place net n = Coordinates place net n × Begins place n
 RoleHolds (Below p) place net n = Coordinates place net n × (Cascades place net n × Issues place net n)
 RoleHolds (AtLeaf p) place net n = Branches place n × Issues place net n
 
+-- What a process of the tree keeps.
 pub record NodeHolds (place : Place) (net : List Envelope) (n : Node) : Type 0 where
   pub lasts : Lasts place.role (logs_of n)
   pub boots : Boots n
@@ -267,9 +279,12 @@ pub record NodeHolds (place : Place) (net : List Envelope) (n : Node) : Type 0 w
 abbrev pub GoesUp : List TreeEntry → Envelope → Case → Type 0
 GoesUp tree l d = (process_of d ≡ l.from) × IsChildRole (role_of tree l.from) l.to
 
+-- a parent's message about a case goes to that case's process, which is a child of the sender
 abbrev pub GoesDown : List TreeEntry → Envelope → Case → Type 0
 GoesDown tree l d = (process_of d ≡ l.to) × IsChildRole (role_of tree l.to) l.from
 
+-- a message goes between a parent and a child, from the process that may send it to the one whose case it
+-- is about
 abbrev pub GoesBy : List TreeEntry → Envelope → Message → Type 0
 GoesBy tree l (Join d) = (process_of d ≡ l.from) ×
     (IsParent tree d × IsChildRole (role_of tree l.to) l.from)
@@ -284,6 +299,7 @@ GoesBy tree l (Read d) = GoesUp tree l d
 GoesBy tree l (Ack d o) = GoesUp tree l d
 GoesBy tree l (Inquire d) = GoesUp tree l d
 
+-- each message of the net goes so
 abbrev pub AllGo : List TreeEntry → List Envelope → Type 0
 AllGo tree [] = Unit {0}
 AllGo tree (l ∷ ls) = GoesBy tree l l.message × AllGo tree ls
@@ -313,6 +329,7 @@ AboutGiven net = (d : Case) → sent (is_about d) net ≡ true → sent (gives_c
 
 -- The world.
 
+-- The invariant of the world: what each process keeps, how messages go, and the invariant of each pair.
 pub record WorldHolds (tree : List TreeEntry) (w : World) : Type 0 where
   pub nodes : (q : ProcessId) → is_listed tree q ≡ true → NodeHolds (place_of tree q) w.net (w.at q)
   pub unlisted : (q : ProcessId) → is_listed tree q ≡ false → w.at q ≡ opened_node

@@ -5,9 +5,8 @@ use Rattle.tree_pairs.specs.Standing.{Consents, IsInDoubt}
 use Rattle.tree_pairs.specs.RootMoves.{MayDecide}
 use Rattle.tree_pairs.specs.CascadedMoves.{MayCommitAbove}
 
--- One cascaded coordinator, seen from the pair above as a child and from the pair below as a parent: the
--- same process,
--- the same case, the same records.
+-- One cascaded coordinator, seen from the pair above as a child and from the pair below as a parent: the same
+-- process, the same case, the same records.
 pub record IsBelow (above below : Reading) : Type 0 where
   pub coordinator : above.child_is_manager ≡ false
   pub cascaded : below.parent_is_root ≡ false

@@ -3,8 +3,7 @@ use Rattle.std.specs.Prelude.{◌≡◌, true}
 use Rattle.tree_pairs.specs.Reading.{Reading}
 
 -- What was once true of a pair and is true for ever: the outcome, who took part, who ended how, what was
--- promised, what
--- was heard and what was said.
+-- promised, what was heard and what was said.
 pub record Later (old new : Reading) : Type 0 where
   pub outcome : old.outcome ≡ true → new.outcome ≡ true
   pub born : old.born ≡ true → new.born ≡ true

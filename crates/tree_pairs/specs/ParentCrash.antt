@@ -11,9 +11,8 @@ pub record ParentFront : Type 0 where
   pub abort : Bool
   pub end : Bool
 
--- A front of the kept list that holds the forced front: nothing of it was lost, nothing is new, and no
--- record stands
--- behind a lost one. (A forced Abort or End may be lost here too: nothing rests on them.)
+-- A front of the kept list that holds the forced front: nothing of it was lost, nothing is new, and no record
+-- stands behind a lost one. (A forced Abort or End may be lost here too: nothing rests on them.)
 pub record IsParentFront (front : ParentFront) (r : Reading) : Type 0 where
   pub holds_collecting : r.collecting_forced ≡ true → front.collecting ≡ true
   pub holds_own_prepare : r.own_prepare_forced ≡ true → front.own_prepare ≡ true
@@ -151,8 +150,7 @@ hardens_failed_parent front r = record r {
 }
 
 -- The first half of a restart: memory is gone, and the log is cut to a front that holds the forced one. The
--- case is
--- refused if it could still be decided, or if its Commit (the root's) or its Prepare was lost.
+-- case is refused if it could still be decided, or if its Commit (the root's) or its Prepare was lost.
 abbrev pub parent_loses : ParentFront → Reading → Reading
 parent_loses front r = record r {
   failed = true;
@@ -171,9 +169,8 @@ parent_loses front r = record r {
   owed = (front.commit || front.abort) && r.owed;
 }
 
--- Presumed Commit: a Collecting with nothing behind it is undecided. The restart writes its Abort, naming
--- all that it
--- names; if that fails too, the Abort stands unforced.
+-- Presumed Commit: a Collecting with nothing behind it is undecided. The restart writes its Abort, naming all
+-- that it names; if that fails too, the Abort stands unforced.
 abbrev pub is_undecided : Reading → Bool
 is_undecided r = r.collecting_kept && not r.own_prepare_kept && not r.commit_kept && not r.abort_kept &&
     not r.end_kept
@@ -187,9 +184,8 @@ pub record MayAbortAtRestart (r : Reading) : Type 0 where
 abbrev pub fails_to_abort_at_restart : Reading → Reading
 fails_to_abort_at_restart r = record r { abort_kept = true; owed = r.collects }
 
--- The second half: all that is left is forced with the new boot. Presumed Abort: a decided case sends
--- COMMIT to all that
--- it owes it.
+-- The second half: all that is left is forced with the new boot. Presumed Abort: a decided case sends COMMIT
+-- to all that it owes it.
 pub record MayReopenParent (r : Reading) : Type 0 where
   pub failed : r.failed ≡ true
 

@@ -14,8 +14,7 @@ abbrev pub accepts : Reading → Reading
 accepts r = record r { accepted = true; took_part = true }
 
 -- The commit act at the root, or PREPARE at a cascaded case, found children: each is asked. (The pair above
--- says that a
--- case which got PREPARE takes part.)
+-- says that a case which got PREPARE takes part.)
 pub record MayAskForVotes (r : Reading) : Type 0 where
   pub active : r.phase ≡ Active
   pub asked_above : r.parent_is_root ≡ false → r.took_part_up ≡ true

@@ -59,6 +59,7 @@ pub data Said : Type 0 where
   -- No kept case names it.
   Presumes : Said
 
+-- What a kept case says that names the ticket or not, by its Commit, its Abort and its Prepare.
 abbrev pub said_by : Bool → Bool → Bool → Bool → Said
 said_by false _ _ _ = Presumes
 said_by true true _ _ = SaysCommit

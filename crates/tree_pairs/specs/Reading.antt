@@ -4,8 +4,8 @@
 use Rattle.std.specs.Prelude.{Bool, true, false}
 
 -- What a process that is up holds of a coordinator's case in memory: it joins children and does work, it
--- waits for
--- the votes, or it holds nothing (nobody began it, it was decided, or the process has been down since).
+-- waits for the votes, or it holds nothing (nobody began it, it was decided, or the process has been down
+-- since).
 pub data Phase : Type 0 where
   Active : Phase
   Collecting : Phase
@@ -17,6 +17,8 @@ is_live Active = true
 is_live Collecting = true
 is_live Closed = false
 
+-- A pair of a parent's case and a child's ticket, as the world has it: what each process keeps, remembers
+-- and once did, and what the net holds.
 pub record Reading : Type 0 where
   -- The pair and its transaction.
   -- The parent is the root: it decides. Else it is a cascaded coordinator: it is a child of another pair.

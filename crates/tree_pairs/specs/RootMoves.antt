@@ -9,6 +9,7 @@ pub record MayBegin (r : Reading) : Type 0 where
   pub fresh : r.born ≡ false
   pub up : r.failed ≡ false
 
+-- The case is open, and takes part.
 abbrev pub begins : Reading → Reading
 begins r = record r { born = true; phase = Active; took_part_up = true }
 
@@ -18,6 +19,7 @@ pub record MayEndEmpty (r : Reading) : Type 0 where
   pub active : r.phase ≡ Active
   pub empty : r.accepted ≡ false
 
+-- The case is closed, and nobody commits.
 abbrev pub ends_empty : Reading → Reading
 ends_empty r = record r { phase = Closed; refused = true }
 
@@ -27,6 +29,7 @@ pub record MayEndReadOnly (r : Reading) : Type 0 where
   pub waiting : r.phase ≡ Collecting
   pub all_read : r.accepted ≡ true → r.first_read ≡ true
 
+-- The case is closed, and nobody commits.
 abbrev pub ends_read_only : Reading → Reading
 ends_read_only r = record r { phase = Closed; refused = true }
 

@@ -19,8 +19,7 @@ pub record IsInDoubt (r : Reading) : Type 0 where
   pub not_forgotten : r.forgot_kept ≡ false
 
 -- The child knows the ticket no more (at a coordinator also: it has begun to abort). It keeps no promise of
--- it, or its
--- operator forgot it, or it obeyed the outcome and no operator had decided before.
+-- it, or its operator forgot it, or it obeyed the outcome and no operator had decided before.
 pub record IsForgotten (r : Reading) : Type 0 where
   pub closed : r.ticket_open ≡ false
   pub nothing : (r.prepared_kept ≡ false)
@@ -65,6 +64,7 @@ pub record IsCommitting (r : Reading) : Type 0 where
   pub decided : r.commit_kept ≡ true
   pub not_ended : r.end_kept ≡ false
 
+-- The parent has an abort whose end is still to come.
 pub record IsAborting (r : Reading) : Type 0 where
   pub up : r.failed ≡ false
   pub decided : r.abort_kept ≡ true

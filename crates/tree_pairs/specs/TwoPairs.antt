@@ -1,6 +1,5 @@
--- One step of a cascaded coordinator, seen from the pair above it and from a pair below it: the two
--- readings of the one
--- case change alike. So what one pair proves of its child, the next may use of its parent.
+-- One step of a cascaded coordinator, seen from the pair above it and from a pair below it: the two readings
+-- of the one case change alike. So what one pair proves of its child, the next may use of its parent.
 use Rattle.std.specs.Prelude.{◌≡◌, true, false, ◌&&◌}
 use Rattle.tree_pairs.specs.Reading.{Reading}
 use Rattle.tree_pairs.specs.Invariant.{Common}
@@ -31,6 +30,7 @@ pub record SameFront (above : ChildFront) (below : ParentFront) : Type 0 where
   pub no_heuristic : above.heuristic ≡ false
   pub no_forgot : above.forgot ≡ false
 
+-- One step of the process that two pairs share moves both: how it moves each.
 pub record OneStep : Type 0 where
   -- A JOIN makes the case.
   pub join_makes_a_case : Together (λ a b. child.MayIssue a) child.issues cascaded.is_born

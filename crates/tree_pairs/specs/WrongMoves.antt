@@ -1,6 +1,5 @@
 -- Wrong moves, each close to a right one. There is a reading that has the invariant and the wrong move's
--- guard, and the
--- moved reading does not have the invariant: so no proof can let the move pass.
+-- guard, and the moved reading does not have the invariant: so no proof can let the move pass.
 use Rattle.std.specs.Prelude.{◌≡◌, true, false, ◌||◌}
 use Rattle.tree_pairs.specs.Reading.{Reading, Collecting}
 use Rattle.tree_pairs.specs.Standing.{IsCommitting, IsUnknownUnderCommit}
@@ -66,13 +65,16 @@ told_drops_decision r = record r {
 abbrev pub commits_on_votes_so_far : Reading → Reading
 commits_on_votes_so_far r = decides_naming r
 
+-- The root waits for votes.
 pub record Waiting (r : Reading) : Type 0 where
   pub root : r.parent_is_root ≡ true
   pub waiting : r.phase ≡ Collecting
 
+-- The child is up.
 pub record IsUp (r : Reading) : Type 0 where
   pub up : r.child_failed ≡ false
 
+-- Each wrong move breaks the invariant at a reading that a run reaches.
 pub record WrongMoves : Type 0 where
   pub forgets_after_first_ack_breaks : Breaks PresumedAbort IsCommitting forgets_after_first_ack
       under_abort.flat_commit_decided

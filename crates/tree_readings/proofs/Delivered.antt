@@ -45,7 +45,8 @@ delivered tree w q i message a e w' taken s =
     (hears (role_of tree q) (place_of tree q) (w.at q) a message) e w'
     (subst (λ (b : Bool). (if is_listed tree q then world_stepped w q (if b then passes_over (w.at q) None
     else input_makes (w.at q) h None (if (w.at q).failed then Refused Failed
-    else Does (hears (role_of tree q) (place_of tree q) (w.at q) a message))) else None) ≡ Some (e, w')) taken s)
+    else Does (hears (role_of tree q) (place_of tree q) (w.at q) a message))) else None) ≡ Some (e, w')) taken
+    s)
 
 -- the same, where the process's role is known
 pub delivered_as : (tree : List TreeEntry) (w : World) (q : ProcessId) (role : Role) (i : ℕ)
@@ -96,7 +97,8 @@ failed_in tree w q i message a f e w' taken s =
     (hears (role_of tree q) (place_of tree q) (w.at q) a message) f e w'
     (subst (λ (b : Bool). (if is_listed tree q then world_stepped w q (if b then passes_over (w.at q) (Some f)
     else input_makes (w.at q) h (Some f) (if (w.at q).failed then Refused Failed
-    else Does (hears (role_of tree q) (place_of tree q) (w.at q) a message))) else None) ≡ Some (e, w')) taken s)
+    else Does (hears (role_of tree q) (place_of tree q) (w.at q) a message))) else None) ≡ Some (e, w')) taken
+    s)
 
 pub failed_as : (tree : List TreeEntry) (w : World) (q : ProcessId) (role : Role) (i : ℕ)
     (message : Message) (a : DataAnswer) (f : Fault) (e : Effect) (w' : World)

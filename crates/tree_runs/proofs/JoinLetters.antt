@@ -35,7 +35,8 @@ down_joins_none c d (Abort e) i f = absurd (cc)
 down_joins_none c d (Ack e o) i f = absurd i
 down_joins_none c d (Inquire e) i f = absurd i
 
-pub up_joins_none : {A : Type 0} → (c : Case) → (d : Case) (m : Message) → IsFromCase d m → is_join c m ≡ true → A
+pub up_joins_none : {A : Type 0} → (c : Case) → (d : Case) (m : Message) → IsFromCase d m → is_join c m ≡ true
+    → A
 up_joins_none c d (Join e) i f = absurd i
 up_joins_none c d (Joined e t) i f = absurd i
 up_joins_none c d (Work e k op) i f = absurd i
@@ -81,7 +82,8 @@ joins_own c s _ (down t m i) e = down_joins_none c (child_case s.own.txn t) m i 
 joins_own c s _ (upward p m f i) e = up_joins_none c s.own m i e
 joins_own c s _ (invites q) e = case_is s.own c e
 
-pub all_join : (c : Case) (s : Seat) (ls : List Envelope) → AllSent s ls → sent (is_join c) ls ≡ true → s.own ≡ c
+pub all_join : (c : Case) (s : Seat) (ls : List Envelope) → AllSent s ls → sent (is_join c) ls ≡ true
+    → s.own ≡ c
 unfolding sent
 all_join c s [] a e = absurd (cc)
 all_join c s (l ∷ ls) a e = elim (either (is_join c l.message) _ e) [

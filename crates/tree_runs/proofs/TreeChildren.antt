@@ -18,7 +18,8 @@ use Rattle.tree_model.specs.Standings.{phase_standing, standing_by}
 use Rattle.tree_nodes.specs.WorldHolds.{IsChildRole}
 use Rattle.tree_nodes.proofs.Tests.{left, right}
 
-pub found_listed : (f : Ticket → Bool) (ts : List Ticket) (t : Ticket) → find f ts ≡ Some t → in_list ts t ≡ true
+pub found_listed : (f : Ticket → Bool) (ts : List Ticket) (t : Ticket) → find f ts ≡ Some t
+    → in_list ts t ≡ true
 unfolding in_list
 found_listed f [] t e = absurd (cc)
 found_listed f (u ∷ us) t e = by_test (f u) e (found_listed f us t)

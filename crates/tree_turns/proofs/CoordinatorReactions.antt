@@ -53,14 +53,16 @@ module _ (place : Place) (parent : Option ProcessId) (n : Node) (h : Heard) wher
     invites_if : (q : ProcessId) → h.input ≡ ActInput (JoinAct c q) → v.standing ≡ Active
         → (b k : Bool) → has_child v.accepted q ≡ b → is_child place.tree q place.me ≡ k
         → T (if k then Does
-        (row_effect c (if b then quiet v else sends (post place.me q (Join c) ∷ []) v)) else Refused NotAChild)
+        (row_effect c (if b then quiet v else sends (post place.me q (Join c) ∷ []) v))
+        else Refused NotAChild)
     invites_if q i e true true f g = of_case c _ (rests (invited_already q i))
     invites_if q i e false true f g = of_case c _ (invites q i e g f)
     invites_if q i e b false f g = tt
 
     join_turn : (q : ProcessId) → h.input ≡ ActInput (JoinAct c q) → (st : Standing) → v.standing ≡ st
         → T (join_by (seat_of place parent c) place.tree q v st)
-    join_turn q i Active e = invites_if q i e (has_child v.accepted q) (is_child place.tree q place.me) refl refl
+    join_turn q i Active e = invites_if q i e (has_child v.accepted q)
+        (is_child place.tree q place.me) refl refl
     join_turn q i Unknown e = tt
     join_turn q i Collecting e = tt
     join_turn q i Prepared e = tt
@@ -71,7 +73,8 @@ module _ (place : Place) (parent : Option ProcessId) (n : Node) (h : Heard) wher
     works_if : (q : ProcessId) (t : Ticket) (op : Op) → h.input ≡ ActInput (WorkAct c q op)
         → v.standing ≡ Active → ticket_of_child v.accepted q ≡ Some t → (b : Bool)
         → is_leaf (role_of place.tree t.child) ≡ b
-        → T (if b then Does (row_effect c (active_work (seat_of place parent c) t op v)) else Refused NotAChild)
+        → T (if b then Does (row_effect c (active_work (seat_of place parent c) t op v))
+        else Refused NotAChild)
     works_if q t op i e f true g = of_case c _ (sends_work q t op i e f g)
     works_if q t op i e f false g = tt
 
@@ -140,7 +143,8 @@ module _ (place : Place) (parent : Option ProcessId) (n : Node) (h : Heard) wher
   coordinator_act_turn (Begin p) i = begin_turn p i parent refl
   coordinator_act_turn (JoinAct c q) i = join_turn c q i (coordinator_view place n c).standing refl
   coordinator_act_turn (WorkAct c q op) i = work_turn c q op i (coordinator_view place n c).standing refl
-  coordinator_act_turn (CommitAct x) i = commits_turn x i (coordinator_view place n (root_case x)).standing refl
+  coordinator_act_turn (CommitAct x) i = commits_turn x i
+      (coordinator_view place n (root_case x)).standing refl
   coordinator_act_turn (AbortAct x) i = aborts_turn x (abort_act x refl i)
       (coordinator_view place n (root_case x)).standing refl
   coordinator_act_turn (Ask c) i = ask_turn c i (coordinator_view place n c).standing refl

@@ -162,7 +162,8 @@ module _ (place : Place) (parent : Option ProcessId) (n : Node) (h : Heard) (c :
 
   -- Inquiries.
 
-  answers_as : (t : Ticket) (o : Outcome) → HearsChild place n h c t Inquire → (st : Standing) → v.standing ≡ st
+  answers_as : (t : Ticket) (o : Outcome) → HearsChild place n h c t Inquire → (st : Standing)
+      → v.standing ≡ st
       → Answers c.txn.presumption st o
       → Answers c.txn.presumption v.standing o
   answers_as t o i st e a = subst (λ x. Answers c.txn.presumption x o) (sym e) a
@@ -245,6 +246,7 @@ module _ (place : Place) (parent : Option ProcessId) (n : Node) (h : Heard) (c :
   abort_turn i Aborting e = acknowledged AbortedOutcome i Aborting e (abort_again _)
   abort_turn i Unknown e = unknown_aborts i e c.txn.presumption refl
   abort_turn i Committing e =
-      rests (aborts_nothing i (is_not Committing Active e (λ g. cc)) (is_not Committing Collecting e (λ g. cc)))
+      rests (aborts_nothing i (is_not Committing Active e (λ g. cc))
+      (is_not Committing Collecting e (λ g. cc)))
   abort_turn i Heuristic e =
       rests (aborts_nothing i (is_not Heuristic Active e (λ g. cc)) (is_not Heuristic Collecting e (λ g. cc)))

@@ -98,8 +98,10 @@ pub record CountsLast (place : Place) (n : Node) (h : Heard) (c : Case) (t : Tic
     (yesses : List Ticket) : Type 0 where
   pub vote : CountsVote place n h c t w
   pub consents : Consents w
-  pub all : all_voted (coordinator_view place n c).accepted (voted (coordinator_view place n c) t w).votes ≡ true
-  pub yes : yes_of (coordinator_view place n c).accepted (voted (coordinator_view place n c) t w).votes ≡ yesses
+  pub all : all_voted (coordinator_view place n c).accepted (voted (coordinator_view place n c) t w).votes
+      ≡ true
+  pub yes : yes_of (coordinator_view place n c).accepted (voted (coordinator_view place n c) t w).votes
+      ≡ yesses
 
 -- What finds nothing to do in its case.
 pub data Rests (place : Place) (parent : Option ProcessId) (n : Node) (h : Heard) (c : Case) : Type 0 where
@@ -152,7 +154,8 @@ pub data CaseTurn (place : Place) (parent : Option ProcessId) (n : Node) (h : He
   asks_for_votes : (p : Presumption) → IsToCommit parent h c
       → (coordinator_view place n c).standing ≡ Active
       → none_of (coordinator_view place n c).accepted ≡ false → c.txn.presumption ≡ p
-      → CaseTurn place parent n h c (active_commit_with (seat_of place parent c) (coordinator_view place n c) p)
+      → CaseTurn place parent n h c (active_commit_with (seat_of place parent c)
+      (coordinator_view place n c) p)
   -- or to abort
   gives_up : (why : Reason) (p : Presumption) → IsToAbort parent h c why
       → (coordinator_view place n c).standing ≡ Active → c.txn.presumption ≡ p
@@ -183,11 +186,13 @@ pub data CaseTurn (place : Place) (parent : Option ProcessId) (n : Node) (h : He
       (counting t w (cascaded_prepares (seat_of place parent c) (voted (coordinator_view place n c) t w) ys))
   -- the first NO, or it is to abort
   hears_no : (t : Ticket) (us : List Ticket) (p : Presumption) → CountsVote place n h c t VoteNo
-      → undecided_of (coordinator_view place n c).accepted (voted (coordinator_view place n c) t VoteNo).votes ≡ us
+      → undecided_of (coordinator_view place n c).accepted (voted (coordinator_view place n c) t VoteNo).votes
+      ≡ us
       → c.txn.presumption ≡ p
       → CaseTurn place parent n h c
       (counting t VoteNo
-      (collecting_abort_by (seat_of place parent c) ByVote (voted (coordinator_view place n c) t VoteNo) us p))
+      (collecting_abort_by (seat_of place parent c) ByVote
+      (voted (coordinator_view place n c) t VoteNo) us p))
   aborts : (why : Reason) (us : List Ticket) (p : Presumption) → IsToAbort parent h c why
       → (coordinator_view place n c).standing ≡ Collecting
       → undecided_of (coordinator_view place n c).accepted (coordinator_view place n c).votes ≡ us
@@ -197,10 +202,12 @@ pub data CaseTurn (place : Place) (parent : Option ProcessId) (n : Node) (h : He
   -- Prepared: the outcome comes, or the parent is asked for it
   passes_commit : (p : Presumption) → HearsParent parent h (Commit c)
       → (coordinator_view place n c).standing ≡ Prepared → c.txn.presumption ≡ p
-      → CaseTurn place parent n h c (prepared_commit_by (seat_of place parent c) (coordinator_view place n c) p)
+      → CaseTurn place parent n h c (prepared_commit_by (seat_of place parent c)
+      (coordinator_view place n c) p)
   passes_abort : (p : Presumption) → HearsParent parent h (Abort c)
       → (coordinator_view place n c).standing ≡ Prepared → c.txn.presumption ≡ p
-      → CaseTurn place parent n h c (prepared_abort_by (seat_of place parent c) (coordinator_view place n c) p)
+      → CaseTurn place parent n h c (prepared_abort_by (seat_of place parent c)
+      (coordinator_view place n c) p)
   repeats_yes : (k : ℕ) → HearsParent parent h (Prepare c k)
       → (coordinator_view place n c).standing ≡ Prepared
       → CaseTurn place parent n h c

@@ -61,6 +61,7 @@ pub data Sends (s : Seat) : Envelope → Type 0 where
   upward : (p : ProcessId) (m : Message) → s.parent ≡ Some p → IsFromCase s.own m → Sends s (post s.me p m)
   invites : (q : ProcessId) → Sends s (post s.me q (Join s.own))
 
+-- each of these is what a coordinator's case sends
 abbrev pub AllSent : Seat → List Envelope → Type 0
 AllSent s [] = Unit {0}
 AllSent s (l ∷ ls) = Sends s l × AllSent s ls
@@ -72,8 +73,7 @@ pub data IsAnswer (place : Place) (n : Node) (d : Case) : Ticket → Type 0 wher
       → IsAnswer place n d (next_ticket place.me (boot_of (kept n)) (memory_of place n d))
 
 -- What an input lets a coordinator write and send: a row of the act's case, which is known, of the child's
--- case, or of the
--- parent's message's; an answer to a stranger's inquiry; or a ticket.
+-- case, or of the parent's message's; an answer to a stranger's inquiry; or a ticket.
 pub data Writes (place : Place) (parent : Option ProcessId) (n : Node) (i : Input) (ws : List Written)
     (ls : List Envelope) : Type 0 where
   writes_nothing : ws ≡ [] → ls ≡ [] → Writes place parent n i ws ls

@@ -22,7 +22,8 @@ unfolding other_tickets has_child ticket_of_child voted_so has_voted all_voted y
     same_txn same_ticket same_owner same_case is_listed is_child role_of sent is_commit_outcome
     writes_heard reacts first_vote has in_list none_of same_bytes same_xid same_branch named_by promised_by
     owing_by boot_of has_case cases_in recorded_view recorded_branch trimmed still_owed coordinator_view
-    mark_of manager_view key_below with_pair without_key applied writes_of stored node_makes world_makes made_by
+    mark_of manager_view key_below with_pair without_key applied writes_of stored node_makes world_makes
+    made_by
     node_by net_by times_listed lists_twice has_unknown_parent parent_of has_cycle root_of has_wrong_roots
     is_listed_manager has_managed_child is_too_deep takes_part is_dead
 computing = tt

@@ -31,13 +31,15 @@ use Rattle.tree_wrong.specs.WrongSteps.{WrongStep}
 abbrev pub top : Presumption → Case
 top p = root_case (txn 1 1 p)
 
+-- the transaction's case at the process of a ticket
 abbrev pub case_at : Presumption → Ticket → Case
 case_at p t = child_case (txn 1 1 p) t
 
--- the ticket that a child gives first
+-- the ticket that process 2 gives first
 abbrev pub second : Ticket
 second = ticket 2 1 1
 
+-- the ticket that process 3 gives first
 abbrev pub third : Ticket
 third = ticket 3 1 1
 

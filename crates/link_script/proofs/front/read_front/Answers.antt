@@ -11,7 +11,8 @@ returns-in-Err-TreeText-clause-err c =
       tt,
       (
         text.1,
-        no_tree c.args.bytes.now c.in-Some.document.now h.0 h.1 (ap (λ t. around_rule (pieces t)) (sym text.0) ∙ h.2) h.3
+        no_tree c.args.bytes.now c.in-Some.document.now h.0 h.1
+            (ap (λ t. around_rule (pieces t)) (sym text.0) ∙ h.2) h.3
             (c.in-Err-TreeText.ensures.none c.in-Err-TreeText.field-0-is),
       ),
     )

@@ -13,7 +13,8 @@ returns-then-is_rule c =
 pub overflow_add-number : goal.overflow_add-number
 overflow_add-number c =
     let h = c.loop-line.invariant in
-    let f = fewer_lines c.args.text.now c.loop-line.rest.now c.in-Some.line.now c.in-Some.more.now h.0 h.1 (sym c.in-Some.ensures) in
+    let f = fewer_lines c.args.text.now c.loop-line.rest.now c.in-Some.line.now c.in-Some.more.now h.0 h.1
+    (sym c.in-Some.ensures) in
     record { fits = omega (arith, h.2, f) }
 
 pub loop-line-preserved : goal.loop-line-preserved
@@ -31,11 +32,13 @@ loop-line-preserved c =
 pub returns-then-eq : goal.returns-then-eq
 returns-then-eq c =
     let h = c.loop-line.invariant in
-    let f = last_found c.args.text.now c.loop-line.rest.now h.0 h.1 (sym c.in_default.ensures) h.3 (sym c.eq.ensures ∙ c.if-eq.true) in
+    let f = last_found c.args.text.now c.loop-line.rest.now h.0 h.1 (sym c.in_default.ensures) h.3
+    (sym c.eq.ensures ∙ c.if-eq.true) in
     let d = c.range-then-eq.ensures.value ∙ document_range c.args.text.now c.loop-line.rest.now h.0 h.1 in
     (h.0, [], f.0, d, h.2, refl, rw d f.1)
 
 pub returns-else-eq : goal.returns-else-eq
 returns-else-eq c =
     let h = c.loop-line.invariant in
-    last_none c.args.text.now c.loop-line.rest.now h.0 (sym c.in_default.ensures) h.3 (sym c.eq.ensures ∙ c.if-eq.false)
+    last_none c.args.text.now c.loop-line.rest.now h.0 (sym c.in_default.ensures) h.3
+    (sym c.eq.ensures ∙ c.if-eq.false)

@@ -5,5 +5,6 @@ use Rattle.link_script.proofs.lines.events_of.Given as goal
 
 abbrev pub invariant-loop-i : goal.invariant-loop-i
 invariant-loop-i l =
-    with_front l.events.items (events_at (reading l.stage l.root) (l.before + l.i + 1) (drop l.i (map (λ s. s.now) l.lines)))
+    with_front l.events.items (events_at (reading l.stage l.root) (l.before + l.i + 1)
+    (drop l.i (map (λ s. s.now) l.lines)))
     ≡ events_at (reading l.stage l.root) (l.before + 1) (map (λ s. s.now) l.lines)

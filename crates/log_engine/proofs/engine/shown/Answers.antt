@@ -8,8 +8,11 @@ use Rattle.log_engine.proofs.engine.shown.Goals as goal
 pub returns : goal.returns
 returns c =
     let end = drop_all c.loop-entry.entry-index c.args.entries.now (omega (arith, c.loop-entry-test.false)) in (
-      sym c.loop-entry.invariant.1 ∙ ap (λ es. first_damage es c.args.logs.now) end ∙ none_damaged c.args.logs.now,
-      sym (append-nil c.loop-entry.out.items) ∙ sym (ap (λ t. c.loop-entry.out.items ++ t) (ap (λ es. shown_text es c.args.logs.now) end ∙ shown_none c.args.logs.now))
+      sym c.loop-entry.invariant.1 ∙ ap (λ es. first_damage es c.args.logs.now) end
+          ∙ none_damaged c.args.logs.now,
+      sym (append-nil c.loop-entry.out.items)
+          ∙ sym (ap (λ t. c.loop-entry.out.items ++ t)
+          (ap (λ es. shown_text es c.args.logs.now) end ∙ shown_none c.args.logs.now))
           ∙ c.loop-entry.invariant.0,
     )
 
@@ -19,10 +22,14 @@ loop-entry-preserved c =
     let rest = at_drop_more (λ xs. xs) c.args.entries.now c.loop-entry.entry-index e c.loop-entry-test.true
     ∙ ap (λ x. x ∷ drop (c.loop-entry.entry-index + 1) c.args.entries.now) (sym c.entry-item.is) in
     let found = sound_found e.kind c.bytes_of-bytes.result.now c.in-Ok.found c.in-Ok.ensures.ok in (
-      text_more c.loop-entry.out.items c.push_log.new.out.items _ e (drop (c.loop-entry.entry-index + 1) c.args.entries.now) _ c.args.logs.now
-          (c.in_ok-push_log-in-Ok.ensures ∙ ap (λ t. c.loop-entry.out.items ++ held_text e.id e.kind t) c.bytes_of-bytes.ensures) rest c.loop-entry.invariant.0,
+      text_more c.loop-entry.out.items c.push_log.new.out.items _ e
+          (drop (c.loop-entry.entry-index + 1) c.args.entries.now) _ c.args.logs.now
+          (c.in_ok-push_log-in-Ok.ensures ∙ ap
+          (λ t. c.loop-entry.out.items ++ held_text e.id e.kind t) c.bytes_of-bytes.ensures) rest
+          c.loop-entry.invariant.0,
       sym (ap (λ es. first_damage es c.args.logs.now) rest
-          ∙ sound_more e (drop (c.loop-entry.entry-index + 1) c.args.entries.now) c.args.logs.now found.0 found.1
+          ∙ sound_more e (drop (c.loop-entry.entry-index + 1) c.args.entries.now) c.args.logs.now found.0
+          found.1
           (ap (λ t. read_log e.kind t) (sym c.bytes_of-bytes.ensures) ∙ found.2))
           ∙ c.loop-entry.invariant.1,
     )
@@ -32,11 +39,13 @@ returns-in-Err-Damaged c =
     let e = c.entry-item.result in
     let rest = at_drop_more (λ xs. xs) c.args.entries.now c.loop-entry.entry-index e c.loop-entry-test.true
     ∙ ap (λ x. x ∷ drop (c.loop-entry.entry-index + 1) c.args.entries.now) (sym c.entry-item.is) in
-    let is = no_log e.kind c.bytes_of-bytes.result.now c.in-Err-Damaged.field-0 c.in-Err-Damaged.place c.in-Err-Damaged.ensures.err c.in-Err-Damaged.field-0-is in (
+    let is = no_log e.kind c.bytes_of-bytes.result.now c.in-Err-Damaged.field-0 c.in-Err-Damaged.place
+    c.in-Err-Damaged.ensures.err c.in-Err-Damaged.field-0-is in (
       e.id,
       c.in-Err-Damaged.place,
       sym c.loop-entry.invariant.1 ∙ ap (λ es. first_damage es c.args.logs.now) rest
-          ∙ damaged_here e (drop (c.loop-entry.entry-index + 1) c.args.entries.now) c.args.logs.now c.in-Err-Damaged.place
+          ∙ damaged_here e (drop (c.loop-entry.entry-index + 1) c.args.entries.now) c.args.logs.now
+          c.in-Err-Damaged.place
           (ap (λ t. read_log e.kind t) (sym c.bytes_of-bytes.ensures) ∙ is),
       c.in_ok-damaged-in-Err-Damaged.ensures ∙ ap (λ n. damage_text e.id n) c.in-Err-Damaged.place-is,
     )

@@ -3,4 +3,5 @@ use Rattle.log_engine.specs.Lines.{writes_words}
 use Rattle.log_engine.proofs.lines.push_writes.Given as goal
 
 abbrev pub invariant-loop-write : goal.invariant-loop-write
-invariant-loop-write l = l.out.items ++ writes_words (drop l.write-index l.writes) ≡ l.initial.out.items ++ writes_words l.writes
+invariant-loop-write l = l.out.items ++ writes_words (drop l.write-index l.writes) ≡ l.initial.out.items
+    ++ writes_words l.writes

@@ -4,5 +4,7 @@ use Rattle.log_text.proofs.names.child_name.Goals as goal
 
 pub returns : goal.returns
 returns c =
-    sym (case_of c.args.txn (Some (c.args.parent, c.args.ticket)) c.args.xid.now (record { root = omega arith; boot = omega arith; sequence = omega arith })
-    (record { parent = omega arith; child = omega arith; boot = omega arith; number = omega arith }) c.requires)
+    sym (case_of c.args.txn (Some (c.args.parent, c.args.ticket)) c.args.xid.now
+    (record { root = omega arith; boot = omega arith; sequence = omega arith })
+    (record { parent = omega arith; child = omega arith; boot = omega arith; number = omega arith })
+    c.requires)

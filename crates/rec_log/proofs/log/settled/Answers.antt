@@ -8,14 +8,22 @@ use Rattle.rec_log.proofs.log.settled.Goals as goal
 pub returns-in-Ok-Empty-clause-ok : goal.returns-in-Ok-Empty-clause-ok
 returns-in-Ok-Empty-clause-ok g c =
     let found : IsFound c.args.kind (g.L.LogStore.bytes c.args.store) Empty =
-    subst (λ xs. IsFound c.args.kind xs Empty) c.bytes.ensures (subst (IsFound c.args.kind c.bytes.result.now) c.in-Ok-Empty.field-0-is c.in-Ok-Empty.ensures.ok) in
-    IfOk-weaker c.replaced.result _ _ (λ new r. settles_empty _ _ _ _ _ _ _ found r.text_stands r.all r.failures_stay) c.replaced.ensures.ok
+    subst (λ xs. IsFound c.args.kind xs Empty) c.bytes.ensures
+    (subst (IsFound c.args.kind c.bytes.result.now) c.in-Ok-Empty.field-0-is c.in-Ok-Empty.ensures.ok) in
+    IfOk-weaker c.replaced.result _ _ (λ new r. settles_empty _ _ _ _ _ _ _ found r.text_stands r.all
+    r.failures_stay) c.replaced.ensures.ok
 
 pub returns-in-Ok-clause-ok : goal.returns-in-Ok-clause-ok
 returns-in-Ok-clause-ok g c =
     let torn = c.in-Ok-Sound.torn in
     let found : IsFound c.args.kind (g.L.LogStore.bytes c.args.store) (Sound torn) =
-    subst (λ xs. IsFound c.args.kind xs (Sound torn)) c.bytes.ensures (subst (IsFound c.args.kind c.bytes.result.now) c.in-Ok-Sound.field-0-is c.in-Ok-Sound.ensures.ok) in
-    let front : c.deref.result.now ≡ take (length (g.L.LogStore.bytes c.args.store) - torn) (g.L.LogStore.bytes c.args.store) =
-    c.deref.ensures.value ∙ c.in-Ok.ensures ∙ ap (λ t. take (length t - torn) c.bytes-3.result.now) c.bytes-2.ensures ∙ ap (take (length (g.L.LogStore.bytes c.args.store) - torn)) c.bytes-3.ensures in
-    IfOk-weaker c.replaced-in-Ok.result _ _ (λ new r. settles_front _ _ _ _ _ _ _ torn found (r.text_stands ∙ front) (r.all ∙ ap length (sym r.text_stands)) r.failures_stay) c.replaced-in-Ok.ensures.ok
+    subst (λ xs. IsFound c.args.kind xs (Sound torn)) c.bytes.ensures
+    (subst (IsFound c.args.kind c.bytes.result.now) c.in-Ok-Sound.field-0-is c.in-Ok-Sound.ensures.ok) in
+    let front : c.deref.result.now ≡ take (length (g.L.LogStore.bytes c.args.store) - torn)
+    (g.L.LogStore.bytes c.args.store) =
+    c.deref.ensures.value ∙ c.in-Ok.ensures ∙ ap
+    (λ t. take (length t - torn) c.bytes-3.result.now) c.bytes-2.ensures
+    ∙ ap (take (length (g.L.LogStore.bytes c.args.store) - torn)) c.bytes-3.ensures in
+    IfOk-weaker c.replaced-in-Ok.result _ _ (λ new r. settles_front _ _ _ _ _ _ _ torn found
+    (r.text_stands ∙ front) (r.all ∙ ap length (sym r.text_stands)) r.failures_stay)
+    c.replaced-in-Ok.ensures.ok

@@ -8,6 +8,8 @@ use Rattle.rec_log.proofs.opening.find.Goals as goal
 
 pub returns-clause-ok : goal.returns-clause-ok
 returns-clause-ok c =
-    let t : same_bytes c.split_at.result.0.now header ≡ true = grind (arith, common_steps, c.if-not-is_same.false, c.is_same-2.ensures) in
-    found_sound c.args.kind c.args.bytes.now c.in_ok-torn.torn (omega arith) (ap (λ h. same_bytes h header) (sym c.split_at.ensures.front) ∙ t)
+    let t : same_bytes c.split_at.result.0.now header ≡ true =
+    grind (arith, common_steps, c.if-not-is_same.false, c.is_same-2.ensures) in
+    found_sound c.args.kind c.args.bytes.now c.in_ok-torn.torn (omega arith)
+    (ap (λ h. same_bytes h header) (sym c.split_at.ensures.front) ∙ t)
     (subst (λ xs. Ends c.args.kind xs c.in_ok-torn.torn) c.split_at.ensures.back c.in_ok-torn.ensures.ok)

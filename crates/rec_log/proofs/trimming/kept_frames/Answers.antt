@@ -11,8 +11,10 @@ loop-left-preserved c =
     let ok = c.in_ok-kept.ensures in (
       omega (arith, c.loop-left.invariant.0, ap length e),
       omega (arith, c.loop-left.invariant.1, ok.one),
-      keeps_on _ _ _ _ _ _ c.entry-item.result _ _ _ _ _ _ _ _ c.loop-left.invariant.2 e (omega arith) c.frame_at.ensures
-          (ok.frames ∙ ap (λ b. c.loop-left.frames.items ++ (if b then c.frame_at.result.0.now else [])) c.keeps.ensures)
+      keeps_on _ _ _ _ _ _ c.entry-item.result _ _ _ _ _ _ _ _ c.loop-left.invariant.2 e
+          (omega arith) c.frame_at.ensures
+          (ok.frames ∙ ap (λ b. c.loop-left.frames.items ++ (if b then c.frame_at.result.0.now else []))
+          c.keeps.ensures)
           (ok.count ∙ ap (λ b. if b then 1 else 0) c.keeps.ensures),
     )
 

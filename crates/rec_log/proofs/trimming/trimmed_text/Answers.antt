@@ -7,11 +7,15 @@ use Rattle.rec_log.proofs.trimming.trimmed_text.Goals as goal
 pub returns-clause-text : goal.returns-clause-text
 returns-clause-text c =
     let records = c.in_ok-records.ensures in
-    text_of_trim _ _ _ _ _ _ _ _ _ _ (c.deref.ensures.value ∙ records) (c.deref-2.ensures.value ∙ records) (c.deref-3.ensures.value ∙ records)
-    c.in_ok-lives.ensures (search rules) c.opened_frame-first.ensures.frame c.in_ok-frames.ensures.frames.0 c.requires
+    text_of_trim _ _ _ _ _ _ _ _ _ _ (c.deref.ensures.value ∙ records) (c.deref-2.ensures.value ∙ records)
+    (c.deref-3.ensures.value ∙ records)
+    c.in_ok-lives.ensures (search rules) c.opened_frame-first.ensures.frame c.in_ok-frames.ensures.frames.0
+    c.requires
 
 pub returns-clause-count : goal.returns-clause-count
 returns-clause-count c =
     let records = c.in_ok-records.ensures in
-    count_of_trim _ _ _ _ _ _ _ _ _ (c.deref.ensures.value ∙ records) (c.deref-2.ensures.value ∙ records) (c.deref-3.ensures.value ∙ records)
-    c.in_ok-lives.ensures c.opened_frame-first.ensures.count c.in_ok-frames.ensures.frames.1 (sym (length-map c.args.behind.now frame_record))
+    count_of_trim _ _ _ _ _ _ _ _ _ (c.deref.ensures.value ∙ records) (c.deref-2.ensures.value ∙ records)
+    (c.deref-3.ensures.value ∙ records)
+    c.in_ok-lives.ensures c.opened_frame-first.ensures.count c.in_ok-frames.ensures.frames.1
+    (sym (length-map c.args.behind.now frame_record))

@@ -2,4 +2,5 @@ use Rattle.std.specs.Io.KnownBytes.{Consumes}
 use Rattle.report_io.proofs.streams.read_all.Given as goal
 
 abbrev pub invariant-loop : goal.invariant-loop
-invariant-loop g l = Consumes (g.R.Read.remaining l.initial.reader) (g.R.Read.remaining l.reader) l.bytes.items
+invariant-loop g l = Consumes (g.R.Read.remaining l.initial.reader)
+    (g.R.Read.remaining l.reader) l.bytes.items

@@ -2,4 +2,9 @@ use Rattle.tree_model.proofs.NameTests.{process_tells, txn_tells, ticket_tells, 
 use Rattle.tree_model.proofs.law.names_tell.Goals as goal
 
 pub returns : goal.returns
-returns c = record { process = λ a b. process_tells a b; txn = λ a b. txn_tells a b; ticket = λ a b. ticket_tells a b; case = λ a b. case_tells a b }
+returns c = record {
+  process = λ a b. process_tells a b;
+  txn = λ a b. txn_tells a b;
+  ticket = λ a b. ticket_tells a b;
+  case = λ a b. case_tells a b;
+}

@@ -2,4 +2,7 @@ use Rattle.tree_model.proofs.RunLaws.{node_by_run, net_by_run}
 use Rattle.tree_model.proofs.law.processes_are_their_moves.Goals as goal
 
 pub returns : goal.returns
-returns c = record { processes = λ tree es w run p. node_by_run tree es w run p; net = λ tree es w run. net_by_run tree es w run }
+returns c = record {
+  processes = λ tree es w run p. node_by_run tree es w run p;
+  net = λ tree es w run. net_by_run tree es w run;
+}

@@ -3,4 +3,7 @@ use Rattle.tree_model.proofs.BeginLaws.{root_begins}
 use Rattle.tree_model.proofs.law.root_views_follow_the_table.Goals as goal
 
 pub returns : goal.returns
-returns c = record { rows = λ me tree n x. root_views me tree n x; begins = λ me tree n p a. root_begins me tree n p a }
+returns c = record {
+  rows = λ me tree n x. root_views me tree n x;
+  begins = λ me tree n p a. root_begins me tree n p a;
+}

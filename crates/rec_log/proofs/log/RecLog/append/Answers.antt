@@ -9,23 +9,45 @@ returns-in-Err-clause-err g c =
     let works : c.self.inside.failed ≡ false = ap (λ s. s.sight.failed) c.self.view_is ∙ c.requires.works in
     let room = ap (λ s. s.room) c.self.view_is in
     let size = ap length c.bytes.ensures in
-    let b = by_device c.in-Err.field-0 _ _ c.in-Err.ensures.memory (λ m. omega (arith, record_long (frame_record c.args.frame.now), m.small, room, size, c.requires.room)) c.in-Err.ensures.device in (
+    let b = by_device c.in-Err.field-0 _ _ c.in-Err.ensures.memory
+    (λ m. omega (
+      arith,
+      record_long (frame_record c.args.frame.now),
+      m.small,
+      room,
+      size,
+      c.requires.room,
+    )) c.in-Err.ensures.device in (
       refl,
       breaks_of _ _ _ _ c.self.view_is
-          (append_breaks _ _ _ _ _ _ _ (g.L.LogStore.room c.self.inside.store) (g.L.LogStore.room c.append.new.self) b.came _ _ works (subst (λ k. IsRecord k (frame_record c.args.frame.now)) (sym (ap (λ s. s.kind) c.self.view_is)) c.requires.sound) c.self.invariant (g.met.L.LogStore.front c.self.inside.store)
-          (b.text ∙ ap (λ t. g.L.LogStore.bytes c.self.inside.store ++ take b.came t) c.bytes.ensures) b.forced_stays b.cause),
+          (append_breaks _ _ _ _ _ _ _ (g.L.LogStore.room c.self.inside.store)
+          (g.L.LogStore.room c.append.new.self) b.came _ _ works
+          (subst (λ k. IsRecord k (frame_record c.args.frame.now))
+          (sym (ap (λ s. s.kind) c.self.view_is)) c.requires.sound) c.self.invariant
+          (g.met.L.LogStore.front c.self.inside.store)
+          (b.text ∙ ap (λ t. g.L.LogStore.bytes c.self.inside.store ++ take b.came t) c.bytes.ensures)
+          b.forced_stays b.cause),
     )
 
 pub invariant_of-self-in_default : goal.invariant_of-self-in_default
 invariant_of-self-in_default g c =
     let works : c.self.inside.failed ≡ false = ap (λ s. s.sight.failed) c.self.view_is ∙ c.requires.works in
     let a = c.in_default.ensures.ok in
-    text_goes_on _ _ _ _ _ _ _ works (subst (λ k. IsRecord k (frame_record c.args.frame.now)) (sym (ap (λ s. s.kind) c.self.view_is)) c.requires.sound) c.self.invariant (g.met.L.LogStore.front c.self.inside.store) (a.text ∙ ap (λ t. g.L.LogStore.bytes c.self.inside.store ++ t) c.bytes.ensures) a.forced_stays
+    text_goes_on _ _ _ _ _ _ _ works (subst (λ k. IsRecord k (frame_record c.args.frame.now))
+    (sym (ap (λ s. s.kind) c.self.view_is)) c.requires.sound) c.self.invariant
+    (g.met.L.LogStore.front c.self.inside.store)
+    (a.text ∙ ap (λ t. g.L.LogStore.bytes c.self.inside.store ++ t) c.bytes.ensures)
+    a.forced_stays
 
 pub returns-clause-ok : goal.returns-clause-ok
 returns-clause-ok g c =
     let works : c.self.inside.failed ≡ false = ap (λ s. s.sight.failed) c.self.view_is ∙ c.requires.works in
     let a = c.in_default.ensures.ok in
     appended_of _ _ _ _ c.self.view_is
-    (appended _ _ _ _ _ _ _ (g.L.LogStore.room c.self.inside.store) (g.L.LogStore.room c.append.new.self) _ _ works (subst (λ k. IsRecord k (frame_record c.args.frame.now)) (sym (ap (λ s. s.kind) c.self.view_is)) c.requires.sound) c.self.invariant (g.met.L.LogStore.front c.self.inside.store)
-    (a.text ∙ ap (λ t. g.L.LogStore.bytes c.self.inside.store ++ t) c.bytes.ensures) a.forced_stays a.failures_stay c.in_default.ensures.room)
+    (appended _ _ _ _ _ _ _ (g.L.LogStore.room c.self.inside.store)
+    (g.L.LogStore.room c.append.new.self) _ _ works
+    (subst (λ k. IsRecord k (frame_record c.args.frame.now))
+    (sym (ap (λ s. s.kind) c.self.view_is)) c.requires.sound) c.self.invariant
+    (g.met.L.LogStore.front c.self.inside.store)
+    (a.text ∙ ap (λ t. g.L.LogStore.bytes c.self.inside.store ++ t) c.bytes.ensures) a.forced_stays
+    a.failures_stay c.in_default.ensures.room)

@@ -9,8 +9,11 @@ returns-in-Err-replace-clause-err g c =
     let stays = c.in_default.ensures.stays in
     let b = by_device c.in-Err-replace.field-0 _ _ c.in-Err-replace.ensures.memory
     (λ m. omega (arith, m.small, c.in_default.ensures.room)) c.in-Err-replace.ensures.device in
-    let came = came_of (g.L.LogStore.bytes c.self.inside.store) _ _ c.args.text.now (g.L.LogStore.forced c.self.inside.store) _ _ b.either stays.bytes_stay stays.forced_stays in
-    rewrite_breaks _ _ _ c.args.text.now _ _ _ _ (g.L.LogStore.room c.self.inside.store) (g.L.LogStore.room c.replace.new.self) _ _ _ c.self.view_is spells came (omega (arith, b.cause, stays.failures_stay))
+    let came = came_of (g.L.LogStore.bytes c.self.inside.store) _ _ c.args.text.now
+    (g.L.LogStore.forced c.self.inside.store) _ _ b.either stays.bytes_stay stays.forced_stays in
+    rewrite_breaks _ _ _ c.args.text.now _ _ _ _ (g.L.LogStore.room c.self.inside.store)
+    (g.L.LogStore.room c.replace.new.self) _ _ _ c.self.view_is spells came
+    (omega (arith, b.cause, stays.failures_stay))
 
 pub invariant_of-self-in_default-replace : goal.invariant_of-self-in_default-replace
 invariant_of-self-in_default-replace g c =
@@ -23,4 +26,6 @@ returns-clause-ok g c =
     let spells = spells_inside _ _ c.args.text.now _ _ _ _ _ c.self.view_is c.requires.sound in
     let works = ap (λ s. s.sight.failed) c.self.view_is ∙ c.requires.works in
     let ok = c.in_default-replace.ensures.ok in
-    rewritten _ _ c.args.text.now _ _ _ _ _ (g.L.LogStore.room c.self.inside.store) (g.L.LogStore.room c.replace.new.self) _ _ _ c.self.view_is works spells ok.text_stands ok.all (ok.failures_stay ∙ c.in_default.ensures.stays.failures_stay)
+    rewritten _ _ c.args.text.now _ _ _ _ _ (g.L.LogStore.room c.self.inside.store)
+    (g.L.LogStore.room c.replace.new.self) _ _ _ c.self.view_is works spells ok.text_stands ok.all
+    (ok.failures_stay ∙ c.in_default.ensures.stays.failures_stay)

@@ -3,7 +3,8 @@ use Rattle.rec_log.proofs.Rewriting.{alone, not_rewritten_as, rewritten_as, spel
 use Rattle.rec_log.proofs.log.RecLog.rewrite.Goals as goal
 
 pub put-requires-clause-sound : goal.put-requires-clause-sound
-put-requires-clause-sound g c = spells_own _ _ _ (alone _ _ _ c.requires.sound (c.deref.ensures.value ∙ c.in-Ok.ensures))
+put-requires-clause-sound g c = spells_own _ _ _
+    (alone _ _ _ c.requires.sound (c.deref.ensures.value ∙ c.in-Ok.ensures))
 
 pub returns-in-Ok-clause-ok : goal.returns-in-Ok-clause-ok
 returns-in-Ok-clause-ok g c =

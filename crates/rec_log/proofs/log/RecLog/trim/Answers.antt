@@ -5,11 +5,14 @@ use Rattle.rec_log.proofs.log.RecLog.trim.Goals as goal
 
 pub returns-clause-err : goal.returns-clause-err
 returns-clause-err g c =
-    let read = trim_read _ _ _ _ c.deref.result.now _ _ _ _ _ _ c.self.view_is (c.body.ensures ∙ ap body c.bytes.ensures) c.deref.ensures.value c.in-Ok.ensures.text in
+    let read = trim_read _ _ _ _ c.deref.result.now _ _ _ _ _ _ c.self.view_is
+    (c.body.ensures ∙ ap body c.bytes.ensures) c.deref.ensures.value c.in-Ok.ensures.text in
     not_trimmed _ _ _ _ _ read c.in-Err-put.ensures.err
 
 pub returns-in-Ok-put-clause-ok : goal.returns-in-Ok-put-clause-ok
 returns-in-Ok-put-clause-ok g c =
     let bytes = c.body.ensures ∙ ap body c.bytes.ensures in
-    let read = trim_read _ _ _ _ c.deref.result.now _ _ _ _ _ _ c.self.view_is bytes c.deref.ensures.value c.in-Ok.ensures.text in
-    trimmed _ _ _ _ _ read c.in-Ok-put.ensures.ok (trim_counted _ _ _ _ _ _ _ _ _ _ c.self.view_is bytes c.in-Ok.ensures.count)
+    let read = trim_read _ _ _ _ c.deref.result.now _ _ _ _ _ _ c.self.view_is bytes c.deref.ensures.value
+    c.in-Ok.ensures.text in
+    trimmed _ _ _ _ _ read c.in-Ok-put.ensures.ok
+    (trim_counted _ _ _ _ _ _ _ _ _ _ c.self.view_is bytes c.in-Ok.ensures.count)

@@ -15,13 +15,19 @@ use Rattle.tree_model.specs.Standings.{still_owed, coordinator_view, mark_of, ma
 use Rattle.tree_model.specs.Store.{key_below, with_pair, without_key, applied, writes_of, stored}
 use Rattle.tree_model.specs.World.{node_makes, world_makes, made_by, node_by, net_by, entries_of, journal_of}
 use Rattle.tree_model.specs.Rows.{Runs}
-use Rattle.tree_model.specs.FlatRuns.{flat_pa_commit, flat_pc_commit, late_no_vote_pa, late_no_vote_pc, readonly_transactions, forgotten_ticket_votes_no, commit_again_after_end, commit_again_before_votes}
-use Rattle.tree_model.specs.TreeRuns.{cascaded_abort_after_prepare_pc, cascaded_readonly_vote_end_lost_pc, cascaded_restart_pa, cascaded_pa_commit, cascaded_in_doubt_pa}
-use Rattle.tree_model.specs.DoubtRuns.{root_restart_collecting_pc, late_inquiry_after_trim_pa, heuristic_rollback_mismatch, root_restart_committing_pa, heuristic_rollback_forgotten, heuristic_forgotten_before_vote, ask_before_prepare, ask_after_commit, trim_manager_twice, collecting_in_doubt_pc}
+use Rattle.tree_worked.specs.FlatRuns.{flat_pa_commit, flat_pc_commit, late_no_vote_pa, late_no_vote_pc, readonly_transactions, forgotten_ticket_votes_no, commit_again_after_end, commit_again_before_votes}
+use Rattle.tree_worked.specs.TreeRuns.{cascaded_abort_after_prepare_pc, cascaded_readonly_vote_end_lost_pc, cascaded_restart_pa, cascaded_pa_commit, cascaded_in_doubt_pa}
+use Rattle.tree_worked.specs.DoubtRuns.{root_restart_collecting_pc, late_inquiry_after_trim_pa, heuristic_rollback_mismatch, root_restart_committing_pa, heuristic_rollback_forgotten, heuristic_forgotten_before_vote, ask_before_prepare, ask_after_commit, trim_manager_twice, collecting_in_doubt_pc}
 
 -- what a run computes with
 unfoldable computing : ⊤
-unfolding digits other_tickets has_child ticket_of_child voted_so has_voted all_voted yes_of undecided_of works_of has_acked active_ticket without_ticket memory_of same_process same_presumption same_outcome same_txn same_ticket same_owner same_case is_listed is_child role_of sent is_commit_outcome writes_heard reacts has in_list none_of same_bytes same_xid same_branch named_by promised_by owing_by boot_of has_case cases_in recorded_view recorded_branch trimmed still_owed coordinator_view mark_of manager_view key_below with_pair without_key applied writes_of stored node_makes world_makes made_by node_by net_by entries_of journal_of
+unfolding digits other_tickets has_child ticket_of_child voted_so has_voted all_voted yes_of undecided_of
+    works_of has_acked active_ticket without_ticket memory_of same_process same_presumption same_outcome
+    same_txn same_ticket same_owner same_case is_listed is_child role_of sent is_commit_outcome
+    writes_heard reacts has in_list none_of same_bytes same_xid same_branch named_by promised_by
+    owing_by boot_of has_case cases_in recorded_view recorded_branch trimmed still_owed
+    coordinator_view mark_of manager_view key_below with_pair without_key applied writes_of
+    stored node_makes world_makes made_by node_by net_by entries_of journal_of
 computing = tt
 
 pub flat_pa_commit_runs : Runs flat_pa_commit

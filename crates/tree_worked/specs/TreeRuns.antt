@@ -7,6 +7,8 @@ use Rattle.tree_model.specs.Names.{root_case, child_case}
 use Rattle.tree_model.specs.Plays.{Acts, Delivers, Settles, Restarts}
 use Rattle.tree_model.specs.Rows.{process, txn, ticket, Worked, tree_b, tree_c}
 
+-- the application gives up behind the promise of a cascaded coordinator, which asks meanwhile: a COMMIT
+-- presumed for its question comes behind the ABORT, and is not obeyed
 abbrev pub cascaded_abort_after_prepare_pc : Worked
 cascaded_abort_after_prepare_pc =
     record {
@@ -17,7 +19,8 @@ cascaded_abort_after_prepare_pc =
           ∷ Settles
           ∷ Acts (Join (child_case (txn 1 1 PresumeCommit) (ticket 2 1 1)) (process 3))
           ∷ Settles
-          ∷ Acts (Work (child_case (txn 1 1 PresumeCommit) (ticket 2 1 1)) (process 3) (Put (codes "k") (codes "v")))
+          ∷ Acts (Work (child_case (txn 1 1 PresumeCommit) (ticket 2 1 1)) (process 3)
+          (Put (codes "k") (codes "v")))
           ∷ Settles
           ∷ Acts (Commit (txn 1 1 PresumeCommit))
           ∷ Delivers 6
@@ -62,6 +65,8 @@ cascaded_abort_after_prepare_pc =
           ∷ [];
     }
 
+-- a cascaded coordinator votes READ, and a restart loses its End: it aborts below, and the commit above
+-- stands
 abbrev pub cascaded_readonly_vote_end_lost_pc : Worked
 cascaded_readonly_vote_end_lost_pc =
     record {
@@ -115,6 +120,8 @@ cascaded_readonly_vote_end_lost_pc =
           ∷ [];
     }
 
+-- a cascaded coordinator restarts before its promise: what it asked below is answered ABORT, and it votes
+-- NO
 abbrev pub cascaded_restart_pa : Worked
 cascaded_restart_pa =
     record {
@@ -125,7 +132,8 @@ cascaded_restart_pa =
           ∷ Settles
           ∷ Acts (Join (child_case (txn 1 1 PresumeAbort) (ticket 2 1 1)) (process 3))
           ∷ Settles
-          ∷ Acts (Work (child_case (txn 1 1 PresumeAbort) (ticket 2 1 1)) (process 3) (Put (codes "k") (codes "v")))
+          ∷ Acts (Work (child_case (txn 1 1 PresumeAbort) (ticket 2 1 1)) (process 3)
+          (Put (codes "k") (codes "v")))
           ∷ Settles
           ∷ Acts (Commit (txn 1 1 PresumeAbort))
           ∷ Delivers 6
@@ -157,6 +165,7 @@ cascaded_restart_pa =
           ∷ [];
     }
 
+-- a commit through a cascaded coordinator
 abbrev pub cascaded_pa_commit : Worked
 cascaded_pa_commit =
     record {
@@ -167,7 +176,8 @@ cascaded_pa_commit =
           ∷ Settles
           ∷ Acts (Join (child_case (txn 1 1 PresumeAbort) (ticket 2 1 1)) (process 3))
           ∷ Settles
-          ∷ Acts (Work (child_case (txn 1 1 PresumeAbort) (ticket 2 1 1)) (process 3) (Put (codes "k") (codes "v")))
+          ∷ Acts (Work (child_case (txn 1 1 PresumeAbort) (ticket 2 1 1)) (process 3)
+          (Put (codes "k") (codes "v")))
           ∷ Settles
           ∷ Acts (Commit (txn 1 1 PresumeAbort))
           ∷ Delivers 6
@@ -205,6 +215,7 @@ cascaded_pa_commit =
           ∷ [];
     }
 
+-- the same, up to where the cascaded coordinator is in doubt and the root has committed
 abbrev pub cascaded_in_doubt_pa : Worked
 cascaded_in_doubt_pa =
     record {
@@ -215,7 +226,8 @@ cascaded_in_doubt_pa =
           ∷ Settles
           ∷ Acts (Join (child_case (txn 1 1 PresumeAbort) (ticket 2 1 1)) (process 3))
           ∷ Settles
-          ∷ Acts (Work (child_case (txn 1 1 PresumeAbort) (ticket 2 1 1)) (process 3) (Put (codes "k") (codes "v")))
+          ∷ Acts (Work (child_case (txn 1 1 PresumeAbort) (ticket 2 1 1)) (process 3)
+          (Put (codes "k") (codes "v")))
           ∷ Settles
           ∷ Acts (Commit (txn 1 1 PresumeAbort))
           ∷ Delivers 6

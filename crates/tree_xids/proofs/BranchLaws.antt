@@ -32,7 +32,8 @@ txn_again x h =
     let s = big_bytes 8 x.sequence in
     let at4 : drop 4 (r ++ (b ++ s)) ≡ b ++ s = behind 4 0 r (b ++ s) (length-bytes_high_first 4 x.root.0) in
     let at12 : drop 12 (r ++ (b ++ s)) ≡ s =
-    behind 4 8 r (b ++ s) (length-bytes_high_first 4 x.root.0) ∙ behind 8 0 b s (length-bytes_high_first 8 x.boot) in
+    behind 4 8 r (b ++ s) (length-bytes_high_first 4 x.root.0)
+    ∙ behind 8 0 b s (length-bytes_high_first 8 x.boot) in
     record {
       root = big_number-reads_back 4 x.root.0 (b ++ s) h.root;
       boot = ap (λ (l : List ℕ). big_number 8 l) at4 ∙ big_number-reads_back 8 x.boot s h.boot;
@@ -57,7 +58,8 @@ ticket_again x h =
     let lc : length c ≡ 4 = length-bytes_high_first 4 x.1.child.0 in
     let lb : length b ≡ 8 = length-bytes_high_first 8 x.1.boot in
     let at4 : drop 4 (p ++ (c ++ (b ++ n))) ≡ c ++ (b ++ n) = behind 4 0 p (c ++ (b ++ n)) lp in
-    let at8 : drop 8 (p ++ (c ++ (b ++ n))) ≡ b ++ n = behind 4 4 p (c ++ (b ++ n)) lp ∙ behind 4 0 c (b ++ n) lc in
+    let at8 : drop 8 (p ++ (c ++ (b ++ n))) ≡ b ++ n = behind 4 4 p (c ++ (b ++ n)) lp
+    ∙ behind 4 0 c (b ++ n) lc in
     let at16 : drop 16 (p ++ (c ++ (b ++ n))) ≡ n =
     behind 4 12 p (c ++ (b ++ n)) lp ∙ (behind 4 8 c (b ++ n) lc ∙ behind 8 0 b n lb) in
     record {
@@ -79,25 +81,34 @@ length-ticket_bytes b = refl
 pub number_behind : (n k v : ℕ) (bytes name : List ℕ) → bytes ≡ name → big_number n (drop k bytes) ≡ v
     → big_number n (take (length name - k) (drop k name)) ≡ v
 number_behind n k v bytes name e h =
-    let rest : take (length name - k) (drop k name) ≡ drop k name = take_all (length name - k) (drop k name) (omega (arith, length-drop k name)) in
+    let rest : take (length name - k) (drop k name) ≡ drop k name =
+    take_all (length name - k) (drop k name) (omega (arith, length-drop k name)) in
     ap (λ (l : List ℕ). big_number n l) rest ∙ ap (λ (l : List ℕ). big_number n (drop k l)) (sym e) ∙ h
 
 -- a number that stands at the front of a name
-pub number_first : (n v : ℕ) (bytes name : List ℕ) → bytes ≡ name → big_number n bytes ≡ v → big_number n name ≡ v
+pub number_first : (n v : ℕ) (bytes name : List ℕ) → bytes ≡ name → big_number n bytes ≡ v
+    → big_number n name ≡ v
 number_first n v bytes name e h = ap (λ (l : List ℕ). big_number n l) (sym e) ∙ h
 
-pub txn_is : (root boot sequence : ℕ) (p : Presumption) (x : Txn) → root ≡ x.root.0 → boot ≡ x.boot → sequence ≡ x.sequence → x.presumption ≡ p
+pub txn_is : (root boot sequence : ℕ) (p : Presumption) (x : Txn) → root ≡ x.root.0 → boot ≡ x.boot
+    → sequence ≡ x.sequence → x.presumption ≡ p
     → record { root = record { 0 = root }; boot = boot; sequence = sequence; presumption = p } ≡ x
 txn_is root boot sequence p x r b s q = rw (r, b, s, ← q) refl
 
-pub ticket_is : (parent child boot number : ℕ) (b : ProcessId × Ticket) → parent ≡ b.0.0 → child ≡ b.1.child.0 → boot ≡ b.1.boot → number ≡ b.1.number
-    → ◌≡◌ {A = ProcessId × Ticket} (record { 0 = parent }, record { child = record { 0 = child }; boot = boot; number = number }) b
+pub ticket_is : (parent child boot number : ℕ) (b : ProcessId × Ticket) → parent ≡ b.0.0 → child ≡ b.1.child.0
+    → boot ≡ b.1.boot → number ≡ b.1.number
+    → ◌≡◌ {A = ProcessId × Ticket} (
+      record { 0 = parent },
+      record { child = record { 0 = child }; boot = boot; number = number },
+    ) b
 ticket_is parent child boot number b p c o n = rw (p, c, o, n) refl
 
-pub no_ticket : (b : Option (ProcessId × Ticket)) (name : List ℕ) → below_bytes b ≡ name → length name ≡ 0 → b ≡ None
+pub no_ticket : (b : Option (ProcessId × Ticket)) (name : List ℕ) → below_bytes b ≡ name → length name ≡ 0
+    → b ≡ None
 no_ticket None name e h = refl
 no_ticket (Some t) name e h = absurd (omega (arith, length-ticket_bytes t, ap length e))
 
-pub one_ticket : (b : Option (ProcessId × Ticket)) (name : List ℕ) → below_bytes b ≡ name → length name ≢ 0 → length name ≡ 24
+pub one_ticket : (b : Option (ProcessId × Ticket)) (name : List ℕ) → below_bytes b ≡ name → length name ≢ 0
+    → length name ≡ 24
 one_ticket None name e h = absurd (h (sym (ap length e)))
 one_ticket (Some t) name e h = omega (arith, length-ticket_bytes t, ap length e)

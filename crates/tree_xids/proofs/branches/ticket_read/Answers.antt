@@ -1,6 +1,6 @@
 use Rattle.std.proofs.Common.{◌∙◌}
-use Rattle.tree_model.proofs.BranchLaws.{ticket_again, number_first, number_behind, ticket_is}
-use Rattle.tree_model.proofs.branches.ticket_read.Goals as goal
+use Rattle.tree_xids.proofs.BranchLaws.{ticket_again, number_first, number_behind, ticket_is}
+use Rattle.tree_xids.proofs.branches.ticket_read.Goals as goal
 
 pub returns : goal.returns
 returns c = λ b fits e.

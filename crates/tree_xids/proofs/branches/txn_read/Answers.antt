@@ -1,6 +1,6 @@
 use Rattle.std.proofs.Common.{◌∙◌, ap, Some, length, arith}
-use Rattle.tree_model.proofs.BranchLaws.{txn_again, number_first, number_behind, txn_is, length-txn_bytes}
-use Rattle.tree_model.proofs.branches.txn_read.Goals as goal
+use Rattle.tree_xids.proofs.BranchLaws.{txn_again, number_first, number_behind, txn_is, length-txn_bytes}
+use Rattle.tree_xids.proofs.branches.txn_read.Goals as goal
 
 pub returns : goal.returns
 returns c = λ x fits same e.

@@ -1,4 +1,4 @@
-//! A case as a branch at a resource manager: its XID, and back.
+//! The XID of a case, and the case of an XID.
 
 ghost use Rattle.std.specs.Prelude.{◌≡◌, ◌≢◌, ◌↔◌, Option, IfOk, OnErr, IfSome, IfNone, IsTrue, length};
 ghost use Rattle.tree_model.specs.Branches.{
@@ -16,9 +16,9 @@ ghost use Rattle.tree_model.specs.declared.names.Presumption.{Presumption as Any
 ghost use Rattle.tree_model.specs.declared.names.Ticket.{Ticket as AnyTicket};
 ghost use Rattle.tree_model.specs.declared.names.Txn.{Txn as AnyTxn};
 
-use crate::names::{Presumption, ProcessId, Ticket, Txn};
 use byteorder::{BigEndian, ByteOrder};
 use thiserror::Error;
+use tree_model::{Presumption, ProcessId, Ticket, Txn};
 use xa_xid::Xid;
 
 /// An XID that names no case of a tree.
@@ -63,7 +63,7 @@ fn presumption_of(format: i32) -> Option<Presumption>
     }
 }
 
-#[tactic(auto, unfolding(crate::specs::Branches::txn_bytes))]
+#[tactic(auto, unfolding(tree_model::specs::Branches::txn_bytes))]
 fn txn_name(txn: Txn) -> [u8; 20]
     ensures { result ≡ txn_bytes txn }
 {
@@ -74,7 +74,7 @@ fn txn_name(txn: Txn) -> [u8; 20]
     name
 }
 
-#[tactic(auto, unfolding(crate::specs::Branches::ticket_bytes))]
+#[tactic(auto, unfolding(tree_model::specs::Branches::ticket_bytes))]
 fn ticket_name(parent: ProcessId, ticket: Ticket) -> [u8; 24]
     ensures { result ≡ ticket_bytes (parent, ticket) }
 {

@@ -1,0 +1,3 @@
+pub mod FlatRuns
+pub mod TreeRuns
+pub mod DoubtRuns
