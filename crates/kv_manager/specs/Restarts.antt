@@ -5,7 +5,7 @@ use Rattle.xa_states.specs.Restored.{Restored}
 use Rattle.tree_model.specs.declared.records.LogRecord.{LogRecord}
 use Rattle.tree_model.specs.declared.records.Record.TheVariants.{Opened}
 use Rattle.log_order.specs.Orders.{SeenLog, left_by as in_doubt_by, promised}
-use Rattle.rec_log.specs.Sights.{RestartBreaks, Restarts, left_by}
+use Rattle.rec_log.specs.Sights.{LogState, RestartBreaks, Restarts, left_by}
 use Rattle.kv_writes.specs.Writes.{writes_of}
 use Rattle.kv_replay.specs.declared.fault.ReplayError.{ReplayError}
 use Rattle.kv_replay.specs.declared.fault.ReplayError.TheVariants as replays
@@ -14,7 +14,6 @@ use Rattle.kv_replay.specs.Replays.{HoldPromises, seen_of}
 use Rattle.kv_core.specs.Stores.{KeySight}
 use Rattle.kv_manager.specs.declared.restart.RestartError.{RestartError}
 use Rattle.kv_manager.specs.declared.restart.RestartError.TheVariants.{Damaged, Device, Exhausted, Memory}
-use Rattle.kv_manager.specs.Sights.{KvSight, SameManager}
 
 -- why records leave no manager
 abbrev pub error_of : ReplayError → RestartError
@@ -42,14 +41,13 @@ pub record LeavesStore (ls : List LogRecord) (s : KeySight) (boot : ℕ) : Type 
   pub locks_held : HoldPromises seen s.locks
   pub next : next_boot seen.boot ≡ Some boot
 
--- a manager restarted, after a crash that kept so many unforced bytes: it is what the records that are left leave, and the
--- log has them and the next boot, all forced
-pub record RestartsManager (old new : KvSight) (keep : ℕ) : Type 0 where
-  pub left : LeavesStore (left_by old.log.sight keep) new.store new.boot
-  pub log : Restarts old.log new.log keep (opened new.boot ∷ [])
+-- a log restarted, after a crash that kept so many unforced bytes: the store is what the records that are left leave, and
+-- the log has them and the next boot, all forced
+pub record LogLeaves (old new : LogState) (keep : ℕ) (s : KeySight) (boot : ℕ) : Type 0 where
+  pub left : LeavesStore (left_by old.sight keep) s boot
+  pub log : Restarts old new keep (opened boot ∷ [])
 
--- it did not: nothing changed, or the device failed
-abbrev pub NotRestarted : KvSight → KvSight → ℕ → RestartError → Type 0
-NotRestarted old new keep Device =
-    (boot : ℕ) × RestartBreaks old.log new.log keep (opened boot ∷ []) × (new.store ≡ old.store) × (new.boot ≡ old.boot)
-NotRestarted old new keep e = SameManager old new
+-- a log did not restart: nothing changed, or the device failed
+abbrev pub LogStays : LogState → LogState → ℕ → RestartError → Type 0
+LogStays old new keep Device = (boot : ℕ) × RestartBreaks old new keep (opened boot ∷ [])
+LogStays old new keep e = (new.sight ≡ old.sight) × (new.kind ≡ old.kind)

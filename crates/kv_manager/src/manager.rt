@@ -3,8 +3,6 @@
 ghost use Rattle.std.specs.Prelude.{◌≡◌, ◌<◌, ◌≤◌, ◌+◌, ◌^◌, length, false, true, IfOk, IfErr, OnOk, OnErr, Err, Some, None};
 ghost use Rattle.kv_locks.specs.declared.holders.Mode.TheVariants as mode;
 ghost use Rattle.kv_core.specs.Stores.{MovesTables, has_numbers, state_of};
-ghost use Rattle.xa_branch.specs.Branches.{in_doubt};
-ghost use Rattle.kv_manager.specs.Restarts.{NotRestarted, RestartsManager};
 ghost use Rattle.kv_core.specs.Works.{Reads, Writes, work_refusal};
 ghost use Rattle.kv_core.specs.Ends.{IsDue};
 ghost use Rattle.xa_states.specs.Answers.{Answers, Closes, Opens, Recovers, Wanted, map_ok};
@@ -19,12 +17,11 @@ ghost use Rattle.kv_turns.specs.Turns.{applies, entry_record};
 ghost use Rattle.kv_manager.specs.Turns.{Calls, Finishes, HasWrites, IsDueTurn, OnlyRoom, Refuses, Takes};
 
 use crate::log::write;
-use crate::restart::{RestartError, opened, rebuilt};
 use kv_core::KeyStore;
 use kv_turns::{Entry, Turn};
 use log_store::LogStore;
 use log_text::Frame;
-use rec_log::{LogError, RecLog};
+use rec_log::RecLog;
 use std::alloc::{AllocError, Global};
 use std::marker::Model;
 use tree_model::Bytes;
@@ -306,28 +303,5 @@ impl<L: LogStore> KvManager<L> {
         ensures err { OnErr result (SameManager self.old self.new) }
     {
         self.work_call(Verb::End, thread, xid, flags)
-    }
-
-    /// A crash that keeps so many unforced bytes of the log, and the manager behind it: not open, with the branches in
-    /// doubt, which it gives in the order of their promises, and the next boot. All memory is taken before the crash.
-    /// Memory, Damaged, Exhausted: nothing changed. Device: the manager has failed until another restart.
-    pub fn restart(&mut self, keep: usize) -> Result<Vec<Xid>, RestartError>
-        ensures ok { IfOk result (λ xids. RestartsManager self.old self.new keep
-            × (xids.items ≡ in_doubt self.new.store.tables.branches.branches)) }
-        ensures err { IfErr result (NotRestarted self.old self.new keep) }
-    {
-        let records = self.log.kept(keep, self.alloc)?;
-        let (store, boot) = rebuilt(records, self.alloc)?;
-        let xids = store.in_doubt()?;
-        let opened = opened(boot, self.alloc)?;
-        match self.log.restart(keep, &[opened], self.alloc) {
-            Ok(()) => {
-                self.store = store;
-                self.boot = boot;
-                Ok(xids)
-            }
-            Err(LogError::Memory) => Err(RestartError::Memory),
-            Err(LogError::Device) => Err(RestartError::Device),
-        }
     }
 }

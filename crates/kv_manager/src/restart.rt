@@ -9,7 +9,6 @@ ghost use Rattle.kv_manager.specs.Restarts.{LeavesStore, error_of, next_boot, op
 use kv_core::KeyStore;
 use kv_replay::{ReplayError, Replayed, replay};
 use log_text::Frame;
-use rec_log::LogError;
 use std::alloc::{AllocError, Global};
 use thiserror::Error;
 use tree_model::{LogRecord, Record};
@@ -66,8 +65,8 @@ fn next_boot(last: Option<u64>) -> Option<u64>
 /// The last boot that a log holds.
 const BOOTS: u64 = 0x7fff_ffff_ffff_ffff;
 
-/// The record of a boot, as it stands in a log.
-pub(crate) fn opened(boot: u64, alloc: Global) -> Result<Frame, AllocError>
+/// The record of a boot, below 2^63, as it stands in a log.
+pub fn opened(boot: u64, alloc: Global) -> Result<Frame, AllocError>
     requires { boot < 2 ^ 63 }
     ensures frame { IfOk result (λ frame. frame_record frame ≡ opened boot) }
     ensures sound { IfOk result (λ frame. IsRecord kind.Manager (frame_record frame)) }
@@ -76,8 +75,9 @@ pub(crate) fn opened(boot: u64, alloc: Global) -> Result<Frame, AllocError>
     Frame::new(LogRecord { entry, parent: None }, alloc)
 }
 
-/// What the records of a log leave of a key store, and the boot behind them.
-pub(crate) fn rebuilt(records: Vec<LogRecord>, alloc: Global) -> Result<(KeyStore, u64), RestartError>
+/// What the records of a log leave of a key store, and the boot behind them. Memory: there was none. Damaged: they are
+/// not the records of a key store. Exhausted: the boots or the commits count 2^63.
+pub fn rebuilt(records: Vec<LogRecord>, alloc: Global) -> Result<(KeyStore, u64), RestartError>
     ensures ok { IfOk result (λ made. LeavesStore records.items made.0 made.1) }
     ensures err { IfErr result (λ e. e ≡ RestartError.Device → ⊥) }
 {
