@@ -2,6 +2,8 @@
 #![tactic(auto)]
 
 #[cfg(test)]
+mod manager_tables;
+#[cfg(test)]
 mod numbers;
 #[cfg(test)]
 mod xa_parts;
@@ -9,8 +11,6 @@ mod xa_parts;
 mod xa_random;
 #[cfg(test)]
 mod xa_rows;
-#[cfg(test)]
-mod xa_states;
 #[cfg(test)]
 mod xa_steps;
 #[cfg(test)]
