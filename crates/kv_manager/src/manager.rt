@@ -171,7 +171,13 @@ impl<L: LogStore> KvManager<L> {
     }
 
     /// A branch takes a turn whose record leaves the data as they are.
-    fn take_noted(&mut self, xid: &Xid, call: Call, turn: Turn, entry: Entry) -> Result<Code, AllocError>
+    fn take_noted(
+        &mut self,
+        xid: &Xid,
+        call: Call,
+        turn: Turn,
+        entry: Entry,
+    ) -> Result<Code, AllocError>
         requires due { IsDueTurn self.old xid.now call turn }
         requires entry { turn.entry ≡ Some entry }
         requires data { applies entry ≡ false }
@@ -190,7 +196,13 @@ impl<L: LogStore> KvManager<L> {
 
     /// A branch takes a turn that makes its writes data. They are staged before the record is written, and published
     /// behind it.
-    fn take_committed(&mut self, xid: &Xid, call: Call, turn: Turn, entry: Entry) -> Result<Code, AllocError>
+    fn take_committed(
+        &mut self,
+        xid: &Xid,
+        call: Call,
+        turn: Turn,
+        entry: Entry,
+    ) -> Result<Code, AllocError>
         requires due { IsDueTurn self.old xid.now call turn }
         requires entry { turn.entry ≡ Some entry }
         requires data { applies entry ≡ true }

@@ -72,7 +72,13 @@ pub fn opened(boot: u64, alloc: Global) -> Result<Frame, AllocError>
     ensures sound { IfOk result (λ frame. IsRecord kind.Manager (frame_record frame)) }
 {
     let entry = Record::Opened(boot);
-    Frame::new(LogRecord { entry, parent: None }, alloc)
+    Frame::new(
+        LogRecord {
+            entry,
+            parent: None,
+        },
+        alloc,
+    )
 }
 
 /// What the records of a log leave of a key store, and the boot behind them. Memory: there was none. Damaged: they are
