@@ -6,4 +6,4 @@ mod manager;
 mod restart;
 
 pub use manager::KvManager;
-pub use restart::{RestartError, opened, rebuilt};
+pub use restart::{RestartError, rebuilt};

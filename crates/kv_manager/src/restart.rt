@@ -1,17 +1,13 @@
 //! What the records of a log leave of a manager.
 
-ghost use Rattle.std.specs.Prelude.{◌≡◌, ◌<◌, ◌^◌, IfOk, IfErr, OnErr, Some, None};
-ghost use Rattle.tree_model.specs.declared.names.Kind.TheVariants as kind;
-ghost use Rattle.log_text.specs.Made.{frame_record};
-ghost use Rattle.rec_log.specs.Sights.{IsRecord};
-ghost use Rattle.kv_manager.specs.Restarts.{LeavesStore, error_of, next_boot, opened};
+ghost use Rattle.std.specs.Prelude.{◌≡◌, IfOk, IfErr};
+ghost use Rattle.kv_manager.specs.Restarts.{LeavesStore, error_of, next_boot};
 
 use kv_core::KeyStore;
 use kv_replay::{ReplayError, Replayed, replay};
-use log_text::Frame;
 use std::alloc::{AllocError, Global};
 use thiserror::Error;
-use tree_model::{LogRecord, Record};
+use tree_model::LogRecord;
 
 /// Why a manager did not restart.
 #[derive(Clone, Copy, Debug, PartialEq, Eq, Error)]
@@ -64,22 +60,6 @@ fn next_boot(last: Option<u64>) -> Option<u64>
 
 /// The last boot that a log holds.
 const BOOTS: u64 = 0x7fff_ffff_ffff_ffff;
-
-/// The record of a boot, below 2^63, as it stands in a log.
-pub fn opened(boot: u64, alloc: Global) -> Result<Frame, AllocError>
-    requires { boot < 2 ^ 63 }
-    ensures frame { IfOk result (λ frame. frame_record frame ≡ opened boot) }
-    ensures sound { IfOk result (λ frame. IsRecord kind.Manager (frame_record frame)) }
-{
-    let entry = Record::Opened(boot);
-    Frame::new(
-        LogRecord {
-            entry,
-            parent: None,
-        },
-        alloc,
-    )
-}
 
 /// What the records of a log leave of a key store, and the boot behind them. Memory: there was none. Damaged: they are
 /// not the records of a key store. Exhausted: the boots or the commits count 2^63.
