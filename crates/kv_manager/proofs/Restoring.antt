@@ -31,6 +31,7 @@ use Rattle.kv_replay.proofs.Lawful.{lawful_of}
 use Rattle.kv_replay.proofs.Lookups.{same_is, same_itself}
 use Rattle.tree_model.specs.declared.names.Kind.TheVariants.{Manager}
 use Rattle.log_text.specs.Made.{frame_record}
+use Rattle.core_log.specs.Writes.{Writes}
 use Rattle.rec_log.specs.Sights.{LogSight, LogState, Restarts, left_by as left_by_crash, records_of}
 use Rattle.kv_manager.specs.declared.restart.Ready.{Ready}
 use Rattle.kv_manager.specs.declared.restart.RestartError.{RestartError}
@@ -170,6 +171,16 @@ pub kept_restarted : (old log : LogState) (keep : ℕ) (r : Ready) → old.kind 
 kept_restarted old log keep r kind ready made =
     kept_left (record { store = r.store; log = log; boot = r.boot }) (left_by_crash old.sight keep) (made.kind ∙ kind) ready.left
     (made.forced ∙ ap (λ l. left_by_crash old.sight keep ++ l ∷ []) ready.spells) made.unforced
+
+-- a log that was opened, with the record of the boot behind its own
+pub kept_started : (log mid new : LogState) (r : Ready) → log.kind ≡ Manager → mid.kind ≡ log.kind → mid.sight ≡ log.sight
+    → IsReady (records_of log.sight.kept) r → Writes mid new (frame_record r.opened) true
+    → IsKept (record { store = r.store; log = new; boot = r.boot })
+kept_started log mid new r kind same_kind same ready made =
+    kept_left (record { store = r.store; log = new; boot = r.boot }) (records_of log.sight.kept) (made.kind ∙ same_kind ∙ kind) ready.left
+    (ap (λ (k : LogSight). k.kept.forced) made.sight ∙ ap (λ (k : LogSight). records_of k.kept ++ frame_record r.opened ∷ []) same
+    ∙ ap (λ l. records_of log.sight.kept ++ l ∷ []) ready.spells)
+    (ap (λ (k : LogSight). k.kept.unforced) made.sight)
 
 -- a log that did not restart leaves a manager that stands, or that has failed
 pub kept_unstarted : (s : KvSight) (log : LogState) (keep : ℕ) (l : LogRecord) (e : RestartError) → IsKept s → log.kind ≡ s.log.kind

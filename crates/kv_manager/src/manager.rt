@@ -390,7 +390,7 @@ impl<L: LogStore> KvManager<L> {
         requires works { log.sight.failed ≡ false }
         requires kind { log.kind ≡ kind.Manager }
         ensures ok { IfOk result (StartsOver log) }
-        ensures err { IfErr result (λ e. LeavesNone log e.1 e.0) }
+        ensures err { IfErr result (λ e. LeavesNone log e.1 e.0 × (e.1.kind ≡ kind.Manager)) }
     {
         let ready = match ready_over(&mut log, alloc) {
             Ok(ready) => ready,
