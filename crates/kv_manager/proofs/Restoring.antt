@@ -1,5 +1,5 @@
 -- What the records of a log leave is tidy, and stands with them.
-use Rattle.std.proofs.Common.{◌≡◌, ◌<◌, ◌+◌, ◌-◌, ◌^◌, arith, ℕ, Bool, true, false, not, ◌||◌, cond, List, [], ◌∷◌, ◌++◌, Option, Some, None, map, refl, sym, ap, subst, ◌∙◌, ◌⊎◌, inl, inr, rules}
+use Rattle.std.proofs.Common.{◌≡◌, ◌<◌, ◌+◌, ◌-◌, ◌^◌, arith, ℕ, Bool, true, false, not, ◌||◌, cond, List, [], ◌∷◌, ◌++◌, Option, Some, None, map, refl, sym, ap, subst, ◌∙◌, ◌⊎◌, inl, inr}
 use Rattle.std.proofs.lemmas.List.{append-nil}
 use Rattle.std.specs.Map.{lookup}
 use Rattle.std.proofs.lemmas.Bool.{ltb-true}
@@ -7,13 +7,12 @@ use Rattle.std.specs.Prelude.{is_some, nat_lt, unwrap_or}
 use Rattle.std.specs.List.{AllByRecursion}
 use Rattle.xa_xid.specs.declared.xid.Xid.{Xid}
 use Rattle.xa_tables.specs.declared.states.BranchState.{BranchState}
-use Rattle.xa_tables.specs.declared.states.BranchState.TheVariants.{S0, S3, S5}
+use Rattle.xa_tables.specs.declared.states.BranchState.TheVariants.{S0, S3}
 use Rattle.xa_states.specs.declared.states.States.{States}
 use Rattle.xa_states.specs.Answers.{state_at}
 use Rattle.xa_states.specs.Restored.{Restored, state_left, states_left}
 use Rattle.tree_model.specs.declared.records.Branch.TheVariants.{Foreign}
 use Rattle.tree_model.specs.declared.records.LogRecord.{LogRecord}
-use Rattle.tree_model.specs.declared.records.Write.{Write}
 use Rattle.tree_model.specs.Store.{Data, writes_of as promised_of}
 use Rattle.log_order.specs.declared.seen.Promise.{Promise}
 use Rattle.log_order.specs.Orders.{SeenLog, found, is_open, left_by, names_key, opens, promised, promised_by, same}
@@ -23,12 +22,12 @@ use Rattle.kv_store.specs.Pairs.{keys_rise}
 use Rattle.kv_store.specs.Versions.{VersionTable}
 use Rattle.kv_writes.specs.Writes.{WriteTable, writes_of}
 use Rattle.kv_replay.specs.Folds.{AreData, data_of}
-use Rattle.kv_replay.specs.Replays.{HoldPromises, Leaves, seen_of}
+use Rattle.kv_replay.specs.Replays.{HoldPromises, Leaves}
 use Rattle.kv_replay.specs.declared.fault.ReplayError.{ReplayError}
 use Rattle.kv_replay.specs.declared.fault.ReplayError.TheVariants.{Memory, Malformed, Exhausted}
 use Rattle.kv_replay.specs.Replays.{Fails}
 use Rattle.kv_replay.proofs.Lawful.{lawful_of}
-use Rattle.kv_replay.proofs.Lookups.{same_is, same_itself}
+use Rattle.kv_replay.proofs.Lookups.{same_is}
 use Rattle.tree_model.specs.declared.names.Kind.TheVariants.{Manager}
 use Rattle.log_text.specs.Made.{frame_record}
 use Rattle.core_log.specs.Writes.{Writes}
@@ -36,7 +35,7 @@ use Rattle.rec_log.specs.Sights.{LogSight, LogState, Restarts, left_by as left_b
 use Rattle.kv_manager.specs.declared.restart.Ready.{Ready}
 use Rattle.kv_manager.specs.declared.restart.RestartError.{RestartError}
 use Rattle.kv_manager.specs.declared.restart.RestartError.TheVariants.{Device, Exhausted as ExhaustedRestart, Memory as MemoryRestart, Unfit}
-use Rattle.kv_core.specs.Stores.{IsTidy, KeySight, Rebuilt, is_let_go, state_of}
+use Rattle.kv_core.specs.Stores.{IsTidy, KeySight, Rebuilt, is_let_go}
 use Rattle.kv_manager.specs.Restarts.{FailsToRestart, IsReady, LeavesStore, NotRebuilt, error_of, next_boot, opened}
 use Rattle.kv_manager.specs.Sights.{IsKept, IsLogged, KvSight, logged}
 use Rattle.kv_manager.proofs.Turns.{data_behind}

@@ -1,6 +1,5 @@
 -- What a turn makes of the data and of the promises.
-use Rattle.std.proofs.Common.{◌≡◌, ◌≤◌, ◌<◌, ℕ, ◌+◌, Bool, true, false, cond, List, [], ◌∷◌, ◌++◌, length, take, append_assoc, fold, map, Option, Some, None, refl, sym, ap, subst, ◌∙◌, arith, rules}
-use Rattle.std.proofs.lemmas.Grind.{common_steps}
+use Rattle.std.proofs.Common.{◌≡◌, ◌≤◌, ◌<◌, ◌+◌, Bool, true, false, cond, List, [], ◌∷◌, ◌++◌, length, take, append_assoc, fold, map, Some, None, refl, sym, ap, subst, ◌∙◌, arith, rules}
 use Rattle.std.proofs.lemmas.List.{append-nil}
 use Rattle.std.proofs.lemmas.List.Elements.{All-contains, All-from_recursion}
 use Rattle.std.specs.Prelude.{Contains, MatchBool}
@@ -19,18 +18,16 @@ use Rattle.xa_branch.specs.Branches.{is_known}
 use Rattle.xa_assoc.proofs.Sound.{same_is}
 use Rattle.xa_states.specs.Answers.{Takes as TakesRow}
 use Rattle.tree_model.specs.declared.names.Presumption.{Presumption}
-use Rattle.tree_model.specs.declared.records.Branch.{Branch}
 use Rattle.tree_model.specs.declared.records.Branch.TheVariants.{Foreign}
 use Rattle.tree_model.specs.declared.records.LogRecord.{LogRecord}
-use Rattle.tree_model.specs.declared.records.Record.{Record}
 use Rattle.tree_model.specs.declared.records.Write.{Write}
 use Rattle.tree_model.specs.Records.{same_branch, same_xid}
-use Rattle.tree_model.specs.Store.{Data, applied, commits, stored, stored_after, writes_of as promised_of}
+use Rattle.tree_model.specs.Store.{Data, commits, stored, stored_after, writes_of as promised_of}
 use Rattle.log_text.proofs.NameReading.{same_xid_is, same_xid_refl}
 use Rattle.log_sound.proofs.CutNames.{name_again}
-use Rattle.rec_log.specs.Sights.{Breaks, LogSight, LogState, left_by, longer, records_of}
+use Rattle.rec_log.specs.Sights.{Breaks, LogSight, left_by, longer, records_of}
 use Rattle.kv_store.specs.Pairs.{found_in, keys_rise}
-use Rattle.kv_store.specs.Versions.{Applies, Publishes, Stages, VersionTable, written}
+use Rattle.kv_store.specs.Versions.{Applies, VersionTable, written}
 use Rattle.kv_store.proofs.Pairs.{writes_pairs}
 use Rattle.kv_store.proofs.Stages.{applies as applies_staged}
 use Rattle.kv_writes.specs.Writes.{AreWrites, Leaves, writes_of}

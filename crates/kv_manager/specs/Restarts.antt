@@ -1,5 +1,5 @@
 -- A key store behind a restart: what the records say that its log keeps.
-use Rattle.std.specs.Prelude.{◌≡◌, ◌+◌, ◌-◌, ◌^◌, ◌⊎◌, ⊤, ℕ, true, false, nat_lt, if◌then◌else◌, List, [], ◌∷◌, ◌++◌, Option, Some, None}
+use Rattle.std.specs.Prelude.{◌≡◌, ◌+◌, ◌-◌, ◌^◌, ◌⊎◌, ⊤, ℕ, false, nat_lt, if◌then◌else◌, List, [], ◌∷◌, ◌++◌, Option, Some, None}
 use Rattle.xa_codes.specs.declared.code.Code.{Code}
 use Rattle.xa_xid.specs.declared.xid.Xid.{Xid}
 use Rattle.xa_branch.specs.Branches.{in_doubt}
@@ -9,7 +9,6 @@ use Rattle.tree_model.specs.declared.records.Record.TheVariants.{Opened}
 use Rattle.log_order.specs.Orders.{SeenLog, left_by as in_doubt_by, promised}
 use Rattle.tree_model.specs.declared.names.Kind.TheVariants.{Manager}
 use Rattle.log_text.specs.Made.{frame_record}
-use Rattle.rec_log.specs.declared.opening.OpenError.{OpenError}
 use Rattle.rec_log.specs.Openings.{NotOpened, Opens}
 use Rattle.rec_log.specs.Sights.{Breaks, IsRecord, LogState, RestartBreaks, Restarts, left_by, log_state, records_of}
 use Rattle.kv_writes.specs.Writes.{writes_of}
@@ -24,7 +23,6 @@ use Rattle.kv_manager.specs.declared.restart.Ready.{Ready}
 use Rattle.kv_manager.specs.declared.manager.RestoreError.{RestoreError}
 use Rattle.kv_manager.specs.declared.manager.RestoreError.TheVariants.{Log, Records}
 use Rattle.kv_manager.specs.Sights.{KvSight, SameManager}
-use Rattle.kv_manager.specs.Turns.{with_record}
 
 -- why records leave no manager
 abbrev pub error_of : ReplayError → RestartError
@@ -41,8 +39,9 @@ next_boot (Some b) = if nat_lt b (2 ^ 63 - 1) then Some (b + 1) else None
 abbrev pub opened : ℕ → LogRecord
 opened b = record { entry = Opened b; parent = None }
 
--- what the records of a log leave: a manager that is not open, with the branches in doubt in the order of their promises,
--- the data that the records make, and of the branches that are prepared their writes and their locks; and the next boot
+-- what the records of a log leave: a manager that is not open, with the branches in doubt in the order of
+-- their promises, the data that the records make, and of the branches that are prepared their writes and
+-- their locks; and the next boot
 pub record LeavesStore (ls : List LogRecord) (s : KeySight) (boot : ℕ) : Type 0 where
   pub seen : SeenLog
   pub read : seen_of ls ≡ Some seen
@@ -72,7 +71,8 @@ NotRebuilt ls Device = ⊥
 NotRebuilt ls Unfit = AreMalformed ls ⊎ AreTooMany ls
 NotRebuilt ls Exhausted = CountTooFar ls ⊎ AreLastBoots ls
 
--- all is made that a manager restarts as where these records are left: with the branches in doubt, and the frame of its boot
+-- all is made that a manager restarts as where these records are left: with the branches in doubt, and the
+-- frame of its boot
 pub record IsReady (ls : List LogRecord) (r : Ready) : Type 0 where
   pub left : LeavesStore ls r.store r.boot
   pub listed : r.in_doubt.items ≡ in_doubt r.store.tables.branches.branches
@@ -81,8 +81,8 @@ pub record IsReady (ls : List LogRecord) (r : Ready) : Type 0 where
 
 -- Restart.
 
--- a manager restarted, after a crash that kept so many unforced bytes: the store is what the records that are left leave, the
--- log has these and the next boot, all forced, and these branches are in doubt
+-- a manager restarted, after a crash that kept so many unforced bytes: the store is what the records that are
+-- left leave, the log has these and the next boot, all forced, and these branches are in doubt
 pub record Restarted (old new : KvSight) (keep : ℕ) (given : List Xid) : Type 0 where
   pub left : LeavesStore (left_by old.log.sight keep) new.store new.boot
   pub log : Restarts old.log new.log keep (opened new.boot ∷ [])
@@ -101,8 +101,8 @@ NotRestarted old new keep e = NotRebuilt (left_by old.log.sight keep) e × SameM
 
 -- Restoring from a store.
 
--- a manager over a log that was opened: the store is what the log's records leave, and the log has these and the next boot, all
--- forced
+-- a manager over a log that was opened: the store is what the log's records leave, and the log has these and
+-- the next boot, all forced
 pub record StartsOver (log : LogState) (s : KvSight) : Type 0 where
   pub left : LeavesStore (records_of log.sight.kept) s.store s.boot
   pub forced : s.log.sight.kept.forced ≡ records_of log.sight.kept ++ opened s.boot ∷ []

@@ -1,11 +1,10 @@
 -- The calls on a key store with a log.
-use Rattle.std.specs.Prelude.{◌≡◌, ⊤, ℕ, Bool, true, false, List, [], ◌∷◌, ◌++◌, Option, Some, None, MatchBool}
+use Rattle.std.specs.Prelude.{◌≡◌, ⊤, ℕ, Bool, true, false, List, [], ◌∷◌, Option, Some, None, MatchBool}
 use Rattle.xa_codes.specs.declared.code.Code.{Code}
 use Rattle.xa_codes.specs.declared.code.Code.TheVariants as code
 use Rattle.xa_tables.specs.declared.call.Call.{Call}
 use Rattle.xa_tables.specs.declared.call.Verb.{Verb}
 use Rattle.xa_xid.specs.declared.xid.Xid.{Xid}
-use Rattle.xa_states.specs.declared.states.States.{States}
 use Rattle.xa_branch.specs.Branches.{is_known}
 use Rattle.xa_states.specs.Answers.{Takes as TakesRow}
 use Rattle.tree_model.specs.declared.records.LogRecord.{LogRecord}
@@ -20,7 +19,7 @@ use Rattle.kv_turns.specs.Turns.{applies, entry_record}
 use Rattle.kv_writes.specs.Writes.{writes_of}
 use Rattle.xa_manager.specs.declared.errors.WorkError.{WorkError}
 use Rattle.xa_manager.specs.declared.errors.WorkError.TheVariants.{RmFail}
-use Rattle.kv_core.specs.Stores.{KeySight, MovesTables, has_numbers}
+use Rattle.kv_core.specs.Stores.{KeySight, has_numbers}
 use Rattle.kv_core.specs.Works.{IsRefused}
 use Rattle.kv_core.specs.Ends.{IsDue, IsListed, IsOff, LetsGo, turn_for, wrote_some}
 use Rattle.kv_manager.specs.Sights.{KvSight, SameManager}
@@ -61,16 +60,16 @@ pub record Fails (old new : KvSight) (x : Xid) (turn : Turn) : Type 0 where
   pub locks : new.store.locks ≡ old.store.locks
   pub boot : new.boot ≡ old.boot
 
--- what a turn that is due makes of a manager: the branch takes it, or the device fails; or it is a commit that can no longer
--- be counted, which is refused
+-- what a turn that is due makes of a manager: the branch takes it, or the device fails; or it is a commit
+-- that can no longer be counted, which is refused
 pub data Takes (old new : KvSight) (x : Xid) (turn : Turn) (answer : Code) : Type 0 where
   Made : answer ≡ turn.code → Makes old new x turn → Takes old new x turn answer
   Broke : answer ≡ code.RmFail → Fails old new x turn → Takes old new x turn answer
   Spent : answer ≡ code.RmErr → commits turn.entry ≡ true → has_numbers old.store ≡ false → SameManager old new
       → Takes old new x turn answer
 
--- what a prepare, commit, rollback or forget answers and does: a failed manager refuses it, then the first check, and
--- else its turn is taken
+-- what a prepare, commit, rollback or forget answers and does: a failed manager refuses it, then the first
+-- check, and else its turn is taken
 pub data Finishes (old new : KvSight) (v : Verb) (x : Xid) (flags : ℕ) (answer : Code) : Type 0 where
   Failed : old.log.sight.failed ≡ true → answer ≡ code.RmFail → SameManager old new → Finishes old new v x flags answer
   Refused : old.log.sight.failed ≡ false → IsOff old.store v x flags answer → SameManager old new

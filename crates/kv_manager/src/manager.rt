@@ -26,8 +26,7 @@ use log_text::Frame;
 use rec_log::{LogError, OpenError, RecLog};
 use std::alloc::{AllocError, Global};
 use std::marker::Model;
-use std::mem;
-use std::slice;
+use std::{mem, slice};
 use thiserror::Error;
 use tree_model::{Bytes, Kind};
 use xa_codes::{Code, Flags};
@@ -84,8 +83,8 @@ fn restart_log<L: LogStore>(
     }
 }
 
-/// What a manager over a log that was opened starts as, with room in the log for the record of its boot. The errors are
-/// those of `rebuilt`.
+/// What a manager over a log that was opened starts as, with room in the log for the record of its boot. The
+/// errors are those of `rebuilt`.
 fn ready_over<L: LogStore>(log: &mut RecLog<L>, alloc: Global) -> Result<Ready, RestartError>
     ensures ok { IfOk result (IsReady (records_of log.old.sight.kept)) }
     ensures room { IfOk result (λ ready. length (record_text (frame_record ready.opened)) ≤ log.new.room) }
@@ -113,11 +112,13 @@ impl<L: LogStore> KvManager<L> {
         self.store.state(xid)
     }
 
-    /// Reads a key for a thread's branch, which holds it from then on, at least shared. RmFail, NotAssociated,
-    /// RollbackOnly, TooLong, Locked, in this order. A refusal changes nothing.
+    /// Reads a key for a thread's branch, which holds it from then on, at least shared. RmFail,
+    /// NotAssociated, RollbackOnly, TooLong, Locked, in this order. A refusal changes nothing.
     pub fn get(&mut self, thread: u32, key: &[u8]) -> Result<Option<Bytes>, WorkError>
-        ensures ok { IfOk result (λ found. Calls self.old self.new ⊥ (λ before behind. Reads before behind thread key.now found)) }
-        ensures err { IfErr result (λ e. Refuses self.old self.new (work_refusal self.old.store thread key.now None mode.Shared) e) }
+        ensures ok { IfOk result (λ found. Calls self.old self.new ⊥
+            (λ before behind. Reads before behind thread key.now found)) }
+        ensures err { IfErr result (λ e. Refuses self.old self.new
+            (work_refusal self.old.store thread key.now None mode.Shared) e) }
     {
         if self.log.failed() {
             return Err(WorkError::RmFail);
@@ -139,8 +140,10 @@ impl<L: LogStore> KvManager<L> {
     /// Writes a value at a key for a thread's branch. RmFail, NotAssociated, RollbackOnly, TooLong, Locked,
     /// TooManyWrites, in this order. A refusal changes nothing.
     pub fn put(&mut self, thread: u32, key: &[u8], value: &[u8]) -> Result<(), WorkError>
-        ensures ok { OnOk result (Calls self.old self.new ⊥ (λ before behind. Writes before behind thread key.now (Some value.now))) }
-        ensures err { IfErr result (λ e. Refuses self.old self.new (work_refusal self.old.store thread key.now (Some value.now) mode.Exclusive) e) }
+        ensures ok { OnOk result (Calls self.old self.new ⊥
+            (λ before behind. Writes before behind thread key.now (Some value.now))) }
+        ensures err { IfErr result (λ e. Refuses self.old self.new
+            (work_refusal self.old.store thread key.now (Some value.now) mode.Exclusive) e) }
     {
         if self.log.failed() {
             return Err(WorkError::RmFail);
@@ -150,8 +153,10 @@ impl<L: LogStore> KvManager<L> {
 
     /// Deletes a key for a thread's branch, with the refusals of `put`.
     pub fn delete(&mut self, thread: u32, key: &[u8]) -> Result<(), WorkError>
-        ensures ok { OnOk result (Calls self.old self.new ⊥ (λ before behind. Writes before behind thread key.now None)) }
-        ensures err { IfErr result (λ e. Refuses self.old self.new (work_refusal self.old.store thread key.now None mode.Exclusive) e) }
+        ensures ok { OnOk result (Calls self.old self.new ⊥
+            (λ before behind. Writes before behind thread key.now None)) }
+        ensures err { IfErr result (λ e. Refuses self.old self.new
+            (work_refusal self.old.store thread key.now None mode.Exclusive) e) }
     {
         if self.log.failed() {
             return Err(WorkError::RmFail);
@@ -179,7 +184,8 @@ impl<L: LogStore> KvManager<L> {
         flags: Flags,
     ) -> Result<Code, AllocError>
         requires { is_work_verb verb ≡ true }
-        ensures answer { IfOk result (λ answer. (wanted : Wanted) → Calls self.old self.new (answer ≡ Code.RmFail)
+        ensures answer { IfOk result (λ answer. (wanted : Wanted)
+            → Calls self.old self.new (answer ≡ Code.RmFail)
             (λ before behind. MovesTables before behind (λ old new. Answers wanted old new verb thread xid.now flags.0 answer))) }
         ensures err { OnErr result (SameManager self.old self.new) }
     {
@@ -209,7 +215,8 @@ impl<L: LogStore> KvManager<L> {
     /// The record of a branch, with room for it in the log: all the memory that the log needs.
     fn frame(&mut self, xid: &Xid, entry: Entry) -> Result<Frame, AllocError>
         requires { HasWrites entry (writes_of self.old.store.writes xid.now) }
-        ensures record { IfOk result (λ frame. frame_record frame ≡ entry_record entry xid.now (writes_of self.old.store.writes xid.now)) }
+        ensures record { IfOk result (λ frame. frame_record frame ≡ entry_record entry xid.now
+            (writes_of self.old.store.writes xid.now)) }
         ensures room { IfOk result (λ frame. length (record_text (frame_record frame)) ≤ self.new.log.room) }
         ensures sound { IfOk result (λ frame. IsRecord kind.Manager (frame_record frame)) }
         ensures stays { OnlyRoom self.old self.new }
@@ -243,8 +250,8 @@ impl<L: LogStore> KvManager<L> {
         }
     }
 
-    /// A branch takes a turn that makes its writes data. They are staged before the record is written, and published
-    /// behind it.
+    /// A branch takes a turn that makes its writes data. They are staged before the record is written, and
+    /// published behind it.
     fn take_committed(
         &mut self,
         xid: &Xid,
@@ -303,8 +310,8 @@ impl<L: LogStore> KvManager<L> {
         }
     }
 
-    /// A branch promises, with what it has written; one that wrote nothing is ended. RmFail: the manager has failed, or
-    /// its device fails now. The thread is not looked at.
+    /// A branch promises, with what it has written; one that wrote nothing is ended. RmFail: the manager has
+    /// failed, or its device fails now. The thread is not looked at.
     pub fn prepare(&mut self, _thread: u32, xid: &Xid, flags: Flags) -> Result<Code, AllocError>
         ensures answer { IfOk result (Finishes self.old self.new Verb.Prepare xid.now flags.0) }
         ensures err { OnErr result (SameManager self.old self.new) }
@@ -338,7 +345,8 @@ impl<L: LogStore> KvManager<L> {
 
     /// A thread begins work in a branch, or takes it up again. RmFail: the manager has failed.
     pub fn start(&mut self, thread: u32, xid: &Xid, flags: Flags) -> Result<Code, AllocError>
-        ensures answer { IfOk result (λ answer. (wanted : Wanted) → Calls self.old self.new (answer ≡ Code.RmFail)
+        ensures answer { IfOk result (λ answer. (wanted : Wanted)
+            → Calls self.old self.new (answer ≡ Code.RmFail)
             (λ before behind. MovesTables before behind (λ old new. Answers wanted old new Verb.Start thread xid.now flags.0 answer))) }
         ensures err { OnErr result (SameManager self.old self.new) }
     {
@@ -347,14 +355,16 @@ impl<L: LogStore> KvManager<L> {
 
     /// A thread ends its work in a branch, or suspends it. RmFail: the manager has failed.
     pub fn end(&mut self, thread: u32, xid: &Xid, flags: Flags) -> Result<Code, AllocError>
-        ensures answer { IfOk result (λ answer. (wanted : Wanted) → Calls self.old self.new (answer ≡ Code.RmFail)
+        ensures answer { IfOk result (λ answer. (wanted : Wanted)
+            → Calls self.old self.new (answer ≡ Code.RmFail)
             (λ before behind. MovesTables before behind (λ old new. Answers wanted old new Verb.End thread xid.now flags.0 answer))) }
         ensures err { OnErr result (SameManager self.old self.new) }
     {
         self.work_call(Verb::End, thread, xid, flags)
     }
 
-    /// What was made ready takes the manager's place, behind the log's restart. What stood before is left in its stead.
+    /// What was made ready takes the manager's place, behind the log's restart. What stood before is left in
+    /// its stead.
     fn reopen(&mut self, keep: usize, ready: &mut Ready) -> Result<(), RestartError>
         requires { IsReady (left_by self.old.log.sight keep) ready.old }
         ensures ok { OnOk result (Restarted self.old self.new keep ready.old.in_doubt.items) }
@@ -367,9 +377,9 @@ impl<L: LogStore> KvManager<L> {
         Ok(())
     }
 
-    /// Restarts the manager behind a crash that keeps so many of the log's unforced bytes: it stands as the records that
-    /// are left say, not open, and gives the branches in doubt, in the order of their promises. Memory, Unfit, Exhausted:
-    /// nothing changed. Device: the manager has failed until it is restarted.
+    /// Restarts the manager behind a crash that keeps so many of the log's unforced bytes: it stands as the
+    /// records that are left say, not open, and gives the branches in doubt, in the order of their promises.
+    /// Memory, Unfit, Exhausted: nothing changed. Device: the manager has failed until it is restarted.
     pub fn restart(&mut self, keep: usize) -> Result<Vec<Xid>, RestartError>
         ensures ok { IfOk result (λ given. Restarted self.old self.new keep given.items) }
         ensures err { IfErr result (NotRestarted self.old self.new keep) }
@@ -384,8 +394,8 @@ impl<L: LogStore> KvManager<L> {
         }
     }
 
-    /// A manager over a log that was opened. Device: its record of the boot could not be written. With an error the log is
-    /// handed back.
+    /// A manager over a log that was opened. Device: its record of the boot could not be written. With an
+    /// error the log is handed back.
     fn over(mut log: RecLog<L>, alloc: Global) -> Result<Self, (RestartError, RecLog<L>)>
         requires works { log.sight.failed ≡ false }
         requires kind { log.kind ≡ kind.Manager }
@@ -411,9 +421,10 @@ impl<L: LogStore> KvManager<L> {
 }
 
 impl<L: LogStore + Drop> KvManager<L> {
-    /// A manager over the log in a store, which is not open: it stands as the log's records say, and the record of its boot
-    /// is written behind them. With a refusal the store is handed back. Log: the bytes are no log, or it was not opened.
-    /// Records: the log's records leave no manager, and the log is as it was opened; or the record could not be written.
+    /// A manager over the log in a store, which is not open: it stands as the log's records say, and the
+    /// record of its boot is written behind them. With a refusal the store is handed back. Log: the bytes are
+    /// no log, or it was not opened. Records: the log's records leave no manager, and the log is as it was
+    /// opened; or the record could not be written.
     pub fn restore(store: L, alloc: Global) -> Result<Self, (RestoreError, L)>
         ensures ok { IfOk result (RestoredFrom (L.bytes store) (L.forced store) (L.failures store)) }
         ensures err { IfErr result (λ e. NotRestored L.bytes L.forced L.failures store e.1 e.0) }

@@ -23,8 +23,8 @@ pub enum RestartError {
     /// The device failed; the manager has failed until a restart.
     #[error("the device failed")]
     Device,
-    /// The records of the log are those of no key store: a record may not follow those before it, a branch promised more
-    /// than can be written, or more than 1,024 branches are in doubt; nothing changed.
+    /// The records of the log are those of no key store: a record may not follow those before it, a branch
+    /// promised more than can be written, or more than 1,024 branches are in doubt; nothing changed.
     #[error("the records are those of no key store")]
     Unfit,
     /// The boots, or the commits, count 2^63; nothing changed.
@@ -67,8 +67,9 @@ fn next_boot(last: Option<u64>) -> Option<u64>
 /// The last boot that a log holds.
 const BOOTS: u64 = 0x7fff_ffff_ffff_ffff;
 
-/// What the records of a log leave of a key store, and the boot behind them. Memory: there was none. Unfit: they are
-/// not the records of a key store. Exhausted: the boots or the commits count 2^63. With an error the records are gone.
+/// What the records of a log leave of a key store, and the boot behind them. Memory: there was none. Unfit:
+/// they are not the records of a key store. Exhausted: the boots or the commits count 2^63. With an error the
+/// records are gone.
 pub fn rebuilt(records: Vec<LogRecord>, alloc: Global) -> Result<(KeyStore, u64), RestartError>
     ensures ok { IfOk result (λ made. LeavesStore records.items made.0 made.1) }
     ensures err { IfErr result (NotRebuilt records.items) }

@@ -1,11 +1,9 @@
-use Rattle.std.proofs.Common.{rules, ◌≡◌, Some, None, inl, inr, sym, subst, ◌∙◌, ap}
-use Rattle.log_order.specs.Orders.{left_by, promised}
-use Rattle.kv_replay.specs.Folds.{AreData, data_of}
-use Rattle.kv_replay.specs.Replays.{Fails, HoldPromises, Leaves}
-use Rattle.kv_writes.specs.Writes.{writes_of}
-use Rattle.xa_states.specs.Restored.{Restored, restore_refusal}
+use Rattle.std.proofs.Common.{rules, ◌≡◌, Some, sym, subst, ◌∙◌}
+use Rattle.log_order.specs.Orders.{left_by}
+use Rattle.kv_replay.specs.Replays.{Fails, Leaves}
+use Rattle.xa_states.specs.Restored.{Restored}
 use Rattle.kv_core.specs.Stores.{Rebuilt}
-use Rattle.kv_manager.specs.Restarts.{LeavesStore, NotRebuilt, next_boot}
+use Rattle.kv_manager.specs.Restarts.{NotRebuilt, next_boot}
 use Rattle.kv_manager.proofs.Restoring.{left_store, not_rebuilt, tidy_restored}
 use Rattle.kv_manager.proofs.restart.rebuilt.Goals as goal
 

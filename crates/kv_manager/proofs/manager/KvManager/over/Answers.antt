@@ -1,8 +1,7 @@
-use Rattle.std.proofs.Common.{rules, ◌≡◌, true, sym, subst}
+use Rattle.std.proofs.Common.{rules, true, sym, subst}
 use Rattle.log_text.specs.Made.{frame_record}
 use Rattle.core_log.specs.Writes.{Writes}
 use Rattle.rec_log.specs.Sights.{records_of}
-use Rattle.kv_core.specs.Stores.{KeySight}
 use Rattle.kv_manager.specs.Restarts.{IsReady}
 use Rattle.kv_manager.specs.Sights.{IsKept}
 use Rattle.kv_manager.proofs.Restoring.{kept_started}

@@ -1,5 +1,4 @@
-use Rattle.std.proofs.Common.{rules, ◌≡◌, ◌∷◌, [], sym, subst, ap, ◌∙◌}
-use Rattle.tree_model.specs.declared.names.Kind.TheVariants.{Manager}
+use Rattle.std.proofs.Common.{rules, ◌∷◌, [], sym, subst}
 use Rattle.log_text.specs.Made.{frame_record}
 use Rattle.rec_log.specs.Sights.{Restarts, left_by}
 use Rattle.kv_core.specs.Stores.{KeySight}

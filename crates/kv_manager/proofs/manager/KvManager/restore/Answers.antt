@@ -1,4 +1,4 @@
-use Rattle.std.proofs.Common.{rules, ◌≡◌, sym, ap, ◌∙◌}
+use Rattle.std.proofs.Common.{rules, sym, ap, ◌∙◌}
 use Rattle.rec_log.specs.Sights.{LogState, log_state}
 use Rattle.kv_manager.proofs.manager.KvManager.restore.Goals as goal
 
