@@ -4,7 +4,8 @@ ghost use Rattle.std.specs.Prelude.{◌≡◌, ◌<◌, ◌+◌, ◌^◌, ◌↔
 ghost use Rattle.kv_locks.specs.declared.holders.Mode.TheVariants as mode;
 ghost use Rattle.kv_writes.specs.Writes.{AreWrites, writes_of};
 ghost use Rattle.xa_states.specs.Answers.{Answers, Closes, Opens, Recovers, Wanted, map_ok};
-ghost use Rattle.xa_states.specs.Ready.{is_closed, is_work_verb};
+ghost use Rattle.xa_states.specs.Ready.{is_closed, is_work_verb, leaves};
+ghost use Rattle.xa_tables.specs.Calls.{legal};
 ghost use Rattle.xa_branch.specs.Branches.{in_doubt, is_known};
 ghost use Rattle.xa_states.specs.declared.states.States.{States as AnyStates};
 ghost use Rattle.xa_states.specs.Restored.{Restored, restore_refusal};
@@ -336,7 +337,7 @@ impl KeyStore {
         }
     }
 
-    /// A start or an end of a thread's work in a branch.
+    /// A start or an end of a thread's work in a branch. An end with TMSUCCESS or TMFAIL takes no memory.
     pub fn work_call(
         &mut self,
         verb: Verb,
@@ -347,7 +348,7 @@ impl KeyStore {
         requires { is_work_verb verb ≡ true }
         ensures answer { IfOk result (λ answer. (wanted : Wanted) → MovesTables self.old self.new
             (λ old new. Answers wanted old new verb thread xid.now flags.0 answer)) }
-        ensures err { OnErr result (SameStore self.old self.new) }
+        ensures err { OnErr result ((leaves (legal verb flags.0) ≡ false) × SameStore self.old self.new) }
     {
         self.states.work_call(verb, thread, xid, flags)
     }

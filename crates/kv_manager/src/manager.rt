@@ -6,7 +6,8 @@ ghost use Rattle.kv_core.specs.Stores.{MovesTables, state_of};
 ghost use Rattle.kv_core.specs.Works.{Reads, Writes, work_refusal};
 ghost use Rattle.kv_core.specs.Ends.{IsDue};
 ghost use Rattle.xa_states.specs.Answers.{Answers, Closes, Opens, Recovers, Wanted, map_ok};
-ghost use Rattle.xa_states.specs.Ready.{is_work_verb};
+ghost use Rattle.xa_states.specs.Ready.{is_work_verb, leaves};
+ghost use Rattle.xa_tables.specs.Calls.{legal};
 ghost use Rattle.kv_manager.specs.Sights.{IsLogged, SameManager};
 ghost use Rattle.log_text.specs.Made.{frame_record};
 ghost use Rattle.log_text.specs.Payloads.{record_text};
@@ -187,7 +188,7 @@ impl<L: LogStore> KvManager<L> {
         ensures answer { IfOk result (λ answer. (wanted : Wanted)
             → Calls self.old self.new (answer ≡ Code.RmFail)
             (λ before behind. MovesTables before behind (λ old new. Answers wanted old new verb thread xid.now flags.0 answer))) }
-        ensures err { OnErr result (SameManager self.old self.new) }
+        ensures err { OnErr result ((leaves (legal verb flags.0) ≡ false) × SameManager self.old self.new) }
     {
         if self.log.failed() {
             return Ok(Code::RmFail);
@@ -353,12 +354,13 @@ impl<L: LogStore> KvManager<L> {
         self.work_call(Verb::Start, thread, xid, flags)
     }
 
-    /// A thread ends its work in a branch, or suspends it. RmFail: the manager has failed.
+    /// A thread ends its work in a branch, or suspends it. RmFail: the manager has failed. With TMSUCCESS and with TMFAIL
+    /// it takes no memory.
     pub fn end(&mut self, thread: u32, xid: &Xid, flags: Flags) -> Result<Code, AllocError>
         ensures answer { IfOk result (λ answer. (wanted : Wanted)
             → Calls self.old self.new (answer ≡ Code.RmFail)
             (λ before behind. MovesTables before behind (λ old new. Answers wanted old new Verb.End thread xid.now flags.0 answer))) }
-        ensures err { OnErr result (SameManager self.old self.new) }
+        ensures err { OnErr result ((leaves (legal Verb.End flags.0) ≡ false) × SameManager self.old self.new) }
     {
         self.work_call(Verb::End, thread, xid, flags)
     }

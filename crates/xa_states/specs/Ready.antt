@@ -38,6 +38,12 @@ is_work call.EndSuccess = true
 is_work call.EndFail = true
 is_work c = is_start c
 
+-- an end that takes no memory: of work that is done, or that failed
+abbrev pub leaves : Result Call Code → Bool
+leaves (Ok call.EndSuccess) = true
+leaves (Ok call.EndFail) = true
+leaves _ = false
+
 -- a manager is not open
 abbrev pub is_closed : InitState → Bool
 is_closed R0 = true

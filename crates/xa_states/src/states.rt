@@ -30,7 +30,8 @@ impl States {
     ghost use Rattle.xa_branch.specs.Branches.{in_doubt, is_known, off_row};
     ghost use Rattle.xa_states.specs.Reacting.{IsAt, resumed, suspend_call, end_call};
     ghost use Rattle.xa_states.specs.Answers.{Same, IsNew, Opens, Closes, Wanted, Answers, Recovers, Refuses, Takes, map_ok, Reacts, Resumes, Suspends, Ends, left_state, is_held, start_reaction, join_reaction, state_at};
-    ghost use Rattle.xa_states.specs.Ready.{is_work_verb, is_closed, ready};
+    ghost use Rattle.xa_states.specs.Ready.{is_work_verb, is_closed, leaves, ready};
+    ghost use Rattle.xa_tables.specs.Calls.{legal};
     ghost use Rattle.xa_states.specs.Restored.{Restored, restore_refusal};
 
     /// A manager that is not open.
@@ -128,7 +129,7 @@ impl States {
     /// A start or an end of a thread's work in a branch, whole. Inval, Async: the flags. Proto: the manager is
     /// not open, or no row applies. Inval: the null XID. DupId, NotA: the branch is known, or is not. RmErr:
     /// 1,024 branches, 256 threads with associations or 2^64 - 1 migrations of the branch. A refusal changes
-    /// nothing.
+    /// nothing, nor does want of memory, which an end with TMSUCCESS or TMFAIL never meets.
     pub fn work_call(
         &mut self,
         verb: Verb,
@@ -139,7 +140,7 @@ impl States {
         requires { is_work_verb verb ≡ true }
         ensures answer { IfOk result (λ answer. (wanted : Wanted)
             → Answers wanted self.old self.new verb thread xid.now flags.0 answer) }
-        ensures err { OnErr result (Same self.old self.new) }
+        ensures err { OnErr result ((leaves (legal verb flags.0) ≡ false) × Same self.old self.new) }
     {
         let call = match legal_call(verb, flags) {
             Ok(call) => call,

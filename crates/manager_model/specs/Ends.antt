@@ -1,0 +1,129 @@
+-- The calls that finish a branch, and what they write (C193, chapter 3; the forces of R*).
+use Rattle.std.specs.Prelude.{◌≡◌, ℕ, Bool, true, false, not, if◌then◌else◌, List, [], ◌∷◌, map, Result, Ok, Err, Contains}
+use Rattle.xa_codes.specs.declared.code.Code.{Code}
+use Rattle.xa_codes.specs.declared.code.Code.TheVariants as code
+use Rattle.xa_tables.specs.Calls.{legal}
+use Rattle.xa_tables.specs.Tables.{branch_rows}
+use Rattle.xa_tables.specs.declared.call.Call.{Call}
+use Rattle.xa_tables.specs.declared.call.Call.TheVariants as call
+use Rattle.xa_tables.specs.declared.call.Verb.{Verb}
+use Rattle.xa_tables.specs.declared.call.Verb.TheVariants as verb
+use Rattle.xa_tables.specs.declared.states.BranchState.{BranchState}
+use Rattle.xa_tables.specs.declared.states.BranchState.TheVariants.{S0, S2, S3, S4, S5}
+use Rattle.xa_xid.specs.declared.xid.Xid.{Xid}
+use Rattle.xa_branch.specs.Names.{same}
+use Rattle.xa_states.specs.Answers.{Same, Takes, state_at}
+use Rattle.xa_states.specs.Ready.{leaves, ready}
+use Rattle.tree_model.specs.declared.names.Kind.TheVariants.{Manager}
+use Rattle.tree_model.specs.declared.names.Presumption.{Presumption}
+use Rattle.tree_model.specs.declared.names.Presumption.TheVariants.{PresumeAbort}
+use Rattle.tree_model.specs.declared.names.Outcome.TheVariants.{Committed as CommittedOutcome, Aborted as AbortedOutcome}
+use Rattle.tree_model.specs.declared.records.Branch.{Branch}
+use Rattle.tree_model.specs.declared.records.Branch.TheVariants.{Case as CaseBranch, Foreign}
+use Rattle.tree_model.specs.declared.records.LogRecord.{LogRecord}
+use Rattle.tree_model.specs.declared.records.Record.{Record}
+use Rattle.tree_model.specs.declared.records.Record.TheVariants.{Prepared, Committed, RolledBack, Direct, Forgot}
+use Rattle.tree_model.specs.declared.records.Write.{Write}
+use Rattle.tree_model.specs.ManagerRows.{is_acknowledged}
+use Rattle.tree_model.specs.Nodes.{Written}
+use Rattle.log_text.specs.Parts.{name_in}
+use Rattle.rec_log.specs.Sights.{Breaks, LogSight, LogState}
+use Rattle.core_model.specs.States.{wrote}
+use Rattle.manager_model.specs.Sights.{ManagerSight, SameManager}
+
+-- an end by its flags takes no memory: of work that is done, or that failed
+abbrev pub is_left : ℕ → Bool
+is_left flags = leaves (legal verb.End flags)
+
+-- The rows.
+
+-- a branch that wrote nothing is ended by its prepare, and another promises
+abbrev pub prepare_row : List Write → Code × BranchState
+prepare_row [] = (code.RdOnly, S0)
+prepare_row (w ∷ ws) = (code.Ok, S3)
+
+-- what a call answers that finishes a branch with these writes, and the state behind it
+abbrev pub row_of : Call → List Write → Code × BranchState
+row_of call.Prepare ws = prepare_row ws
+row_of _ ws = (code.Ok, S0)
+
+-- The records.
+
+-- the presumption of a branch: that of its case; one that is no case's is under Presumed Abort
+abbrev pub presumption_of : Branch → Presumption
+presumption_of (CaseBranch c) = c.txn.presumption
+presumption_of (Foreign x) = PresumeAbort
+
+-- one forced record
+abbrev pub forced : Record → List Written
+forced r = record { entry = r; is_forced = true } ∷ []
+
+-- the writes of a branch as a record of this sort, forced; a branch without writes has none
+abbrev pub unless_empty : (List Write → Record) → List Write → List Written
+unless_empty entry [] = []
+unless_empty entry (w ∷ ws) = forced (entry (w ∷ ws))
+
+-- what a call writes that finishes a branch in a state, under this name: an outcome is forced unless the presumption
+-- covers it, and nothing is written of a branch that wrote nothing or promised nothing
+abbrev pub written_by : Call → BranchState → Branch → List Write → List Written
+written_by call.Prepare S2 b ws = unless_empty (Prepared b) ws
+written_by call.CommitOnePhase S2 b ws = unless_empty (Direct b) ws
+written_by call.Commit S3 b ws =
+    record { entry = Committed b; is_forced = is_acknowledged (presumption_of b) CommittedOutcome } ∷ []
+written_by call.Rollback S3 b ws =
+    record { entry = RolledBack b; is_forced = is_acknowledged (presumption_of b) AbortedOutcome } ∷ []
+written_by call.Forget S5 b ws = forced (Forgot b)
+written_by _ s b ws = []
+
+-- the same of a branch as it is
+abbrev pub written_for : ManagerSight → Xid → Call → List Written
+written_for m x c = written_by c (state_at m.tables x) (name_in x).1 (m.writes x)
+
+-- the records as a manager's log holds them, under the whole name of an XID
+abbrev pub logged_under : Xid → List Written → List LogRecord
+logged_under x ws = map (λ w. record { entry = w.entry; parent = (name_in x).0 }) ws
+
+-- a manager's log as `rec_log` sees it; how much room there is does not matter
+abbrev pub state_of : LogSight → LogState
+state_of s = record { kind = Manager; sight = s; room = 0 }
+
+-- The calls.
+
+-- what a branch has written that is in this state: nothing once it is ended
+abbrev pub left_with : BranchState → List Write → List Write
+left_with S0 ws = []
+left_with _ ws = ws
+
+-- a branch made its row, and its record was written
+pub record Makes (old new : ManagerSight) (x : Xid) (c : Call) (row : Code × BranchState) : Type 0 where
+  pub listed : Contains (branch_rows (state_at old.tables x) c) row
+  pub tables : Takes old.tables new.tables x row.1
+  pub log : new.log ≡ wrote old.log (written_for old x c) (logged_under x (written_for old x c))
+  pub own : new.writes x ≡ left_with row.1 (old.writes x)
+  pub others : (y : Xid) → same x y ≡ false → new.writes y ≡ old.writes y
+  pub boot : new.boot ≡ old.boot
+
+-- the device failed under the record, and the branch stays
+pub record Fails (old new : ManagerSight) (x : Xid) (c : Call) : Type 0 where
+  pub log : Breaks (state_of old.log) (state_of new.log) (logged_under x (written_for old x c))
+  pub tables : Same old.tables new.tables
+  pub writes : (y : Xid) → new.writes y ≡ old.writes y
+  pub boot : new.boot ≡ old.boot
+
+-- what a prepare, commit, rollback or forget answers and does: a failed manager refuses it, then the first check, then a
+-- limit of the manager's own; else its row is made, or the device fails. A row that the table does not have, as of a branch
+-- that an operator decided, is not made
+pub data Finishes (old new : ManagerSight) (v : Verb) (x : Xid) (flags : ℕ) (answer : Code) : Type 0 where
+  Failed : old.log.failed ≡ true → answer ≡ code.RmFail → SameManager old new → Finishes old new v x flags answer
+  Refused : old.log.failed ≡ false → ready old.tables v x flags ≡ Err answer → SameManager old new
+      → Finishes old new v x flags answer
+  Limited : old.log.failed ≡ false → old.spent ≡ true → answer ≡ code.RmErr → SameManager old new
+      → Finishes old new v x flags answer
+  Unlisted : old.log.failed ≡ false → (c : Call) → ready old.tables v x flags ≡ Ok c
+      → (Contains (branch_rows (state_at old.tables x) c) (row_of c (old.writes x)) → ⊥) → answer ≡ code.Proto
+      → SameManager old new → Finishes old new v x flags answer
+  Made : old.log.failed ≡ false → (c : Call) → ready old.tables v x flags ≡ Ok c
+      → answer ≡ (row_of c (old.writes x)).0 → Makes old new x c (row_of c (old.writes x))
+      → Finishes old new v x flags answer
+  Broke : old.log.failed ≡ false → (c : Call) → ready old.tables v x flags ≡ Ok c → answer ≡ code.RmFail
+      → Fails old new x c → Finishes old new v x flags answer

@@ -1,0 +1,42 @@
+-- What a process sees of the resource manager that it drives, whichever it is.
+use Rattle.std.specs.Prelude.{◌≡◌, ℕ, Bool, true, false, Option, List}
+use Rattle.xa_xid.specs.declared.xid.Xid.{Xid}
+use Rattle.xa_states.specs.declared.states.States.{States}
+use Rattle.xa_states.specs.Answers.{Same}
+use Rattle.xa_manager.specs.declared.errors.WorkError.{WorkError}
+use Rattle.tree_model.specs.declared.messages.Op.{Op}
+use Rattle.tree_model.specs.declared.records.Write.{Write}
+use Rattle.rec_log.specs.Sights.{LogSight}
+
+-- The tables of its calls; its log; how often it opened; whether a limit of its own is met, so that it may refuse to finish
+-- a branch; what each branch has written that is at work or prepared, in order of each key's first write; and why its data
+-- are in the way of an operation of a branch.
+pub record ManagerSight : Type 0 where
+  pub tables : States
+  pub log : LogSight
+  pub boot : ℕ
+  pub spent : Bool
+  pub writes : Xid → List Write
+  pub obstacle : Xid → Op → Option WorkError
+
+-- the data stay as they are, and what each branch has written
+pub record SameData (old new : ManagerSight) : Type 0 where
+  pub writes : (x : Xid) → new.writes x ≡ old.writes x
+  pub obstacles : (x : Xid) (op : Op) → new.obstacle x op ≡ old.obstacle x op
+
+-- nothing changes but room
+pub record SameManager (old new : ManagerSight) : Type 0 where
+  pub tables : Same old.tables new.tables
+  pub log : new.log ≡ old.log
+  pub boot : new.boot ≡ old.boot
+  pub spent : new.spent ≡ old.spent
+  pub rest : SameData old new
+
+-- a call that concerns the tables alone: a failed manager refuses it, and else it moves them so; nothing else changes
+pub record Calls (old new : ManagerSight) (refuses : Type 0) (Moves : States → States → Type 0) : Type 0 where
+  pub failed : old.log.failed ≡ true → refuses × SameManager old new
+  pub works : old.log.failed ≡ false → Moves old.tables new.tables
+  pub log : new.log ≡ old.log
+  pub boot : new.boot ≡ old.boot
+  pub spent : new.spent ≡ old.spent
+  pub rest : SameData old new

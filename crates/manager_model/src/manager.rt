@@ -1,0 +1,94 @@
+//! The calls of a resource manager.
+
+ghost use Rattle.std.specs.Prelude.{◌≡◌, false, Err, IfErr, IfOk, OnErr, OnOk};
+ghost use Rattle.xa_states.specs.Answers.{Answers, Closes, Opens, Recovers, Wanted, map_ok, state_at};
+ghost use Rattle.manager_model.specs.Sights.{Calls, ManagerSight, SameManager};
+ghost use Rattle.manager_model.specs.Works.{WorkRefused, Works};
+ghost use Rattle.manager_model.specs.Ends.{Finishes, is_left};
+
+use std::alloc::AllocError;
+use tree_model::Op;
+use xa_codes::{Code, Flags};
+use xa_manager::WorkError;
+use xa_tables::{BranchState, Verb};
+use xa_xid::Xid;
+
+/// A resource manager: the calls of XA, a thread's work, and its log, whatever its data are. A manager whose device has
+/// failed answers XAER_RMFAIL to each call, and changes nothing. Want of memory changes nothing.
+pub trait ResourceManager {
+    ghost sight: { Self → ManagerSight };
+
+    /// How often the manager opened.
+    fn boot(&self) -> u64
+        ensures { result ≡ (sight self.now).boot };
+
+    /// Whether its device has failed.
+    fn has_failed(&self) -> bool
+        ensures { result ≡ (sight self.now).log.failed };
+
+    /// The state of a branch: S0 where it is not known.
+    fn state(&self, xid: &Xid) -> BranchState
+        ensures { result ≡ state_at (sight self.now).tables xid.now };
+
+    /// Opens the manager, which migrates associations or not. RmFail.
+    fn open(&mut self, flags: Flags, migrates: bool) -> Code
+        ensures { Calls (sight self.old) (sight self.new) (result ≡ Code.RmFail)
+            (λ old new. Opens old new flags.0 migrates result) };
+
+    /// Closes the manager. RmFail. Proto: there is an association.
+    fn close(&mut self, flags: Flags) -> Code
+        ensures { Calls (sight self.old) (sight self.new) (result ≡ Code.RmFail)
+            (λ old new. Closes old new flags.0 result) };
+
+    /// A thread begins work in a branch, or takes it up again.
+    fn start(&mut self, thread: u32, xid: &Xid, flags: Flags) -> Result<Code, AllocError>
+        ensures answer { IfOk result (λ answer. (wanted : Wanted)
+            → Calls (sight self.old) (sight self.new) (answer ≡ Code.RmFail)
+            (λ old new. Answers wanted old new Verb.Start thread xid.now flags.0 answer)) }
+        ensures err { OnErr result (SameManager (sight self.old) (sight self.new)) };
+
+    /// A thread ends its work in a branch, or suspends it. With TMSUCCESS and with TMFAIL it takes no memory.
+    fn end(&mut self, thread: u32, xid: &Xid, flags: Flags) -> Result<Code, AllocError>
+        ensures answer { IfOk result (λ answer. (wanted : Wanted)
+            → Calls (sight self.old) (sight self.new) (answer ≡ Code.RmFail)
+            (λ old new. Answers wanted old new Verb.End thread xid.now flags.0 answer)) }
+        ensures err { OnErr result ((is_left flags.0 ≡ false) × SameManager (sight self.old) (sight self.new)) };
+
+    /// A branch promises, with what it has written; one that wrote nothing is ended. RmFail: the device had failed, or
+    /// fails now. RmErr: a limit of the manager's own, which changes nothing. The thread is not looked at.
+    fn prepare(&mut self, thread: u32, xid: &Xid, flags: Flags) -> Result<Code, AllocError>
+        ensures answer { IfOk result (Finishes (sight self.old) (sight self.new) Verb.Prepare xid.now flags.0) }
+        ensures err { OnErr result (SameManager (sight self.old) (sight self.new)) };
+
+    /// A prepared branch commits, or with TMONEPHASE one that is not prepared. RmFail, RmErr as at `prepare`.
+    fn commit(&mut self, thread: u32, xid: &Xid, flags: Flags) -> Result<Code, AllocError>
+        ensures answer { IfOk result (Finishes (sight self.old) (sight self.new) Verb.Commit xid.now flags.0) }
+        ensures err { OnErr result (SameManager (sight self.old) (sight self.new)) };
+
+    /// A branch rolls back. RmFail, RmErr as at `prepare`.
+    fn rollback(&mut self, thread: u32, xid: &Xid, flags: Flags) -> Result<Code, AllocError>
+        ensures answer { IfOk result (Finishes (sight self.old) (sight self.new) Verb.Rollback xid.now flags.0) }
+        ensures err { OnErr result (SameManager (sight self.old) (sight self.new)) };
+
+    /// An operator's decision about a branch is forgotten. RmFail, RmErr as at `prepare`.
+    fn forget(&mut self, thread: u32, xid: &Xid, flags: Flags) -> Result<Code, AllocError>
+        ensures answer { IfOk result (Finishes (sight self.old) (sight self.new) Verb.Forget xid.now flags.0) }
+        ensures err { OnErr result (SameManager (sight self.old) (sight self.new)) };
+
+    /// A scan of the branches in doubt.
+    fn recover(
+        &mut self,
+        thread: u32,
+        count: u32,
+        flags: Flags,
+    ) -> Result<Result<Vec<Xid>, Code>, AllocError>
+        ensures answer { IfOk result (λ answer. Calls (sight self.old) (sight self.new) (map_ok answer ≡ Err Code.RmFail)
+            (λ old new. Recovers old new thread count flags.0 (map_ok answer))) }
+        ensures err { OnErr result (SameManager (sight self.old) (sight self.new)) };
+
+    /// A thread's operation in the branch that it is active in; a value that was read is let go. RmFail, NotAssociated,
+    /// RollbackOnly come first, then TooLong, Locked and TooManyWrites, as the data are in the way.
+    fn work(&mut self, thread: u32, op: &Op) -> Result<(), WorkError>
+        ensures ok { OnOk result (Works (sight self.old) (sight self.new) thread op.now) }
+        ensures err { IfErr result (WorkRefused (sight self.old) (sight self.new) thread op.now) };
+}

@@ -1,0 +1,4 @@
+pub mod Quiet
+pub mod Ends
+pub mod Turning
+pub mod Works

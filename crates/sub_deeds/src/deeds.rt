@@ -1,0 +1,111 @@
+//! Whole pieces of work at a manager, all by its thread 0: behind each no thread is at work.
+
+ghost use Rattle.std.specs.Prelude.{◌≡◌, ◌≢◌, false, true, IfErr, IfOk, OnErr, OnOk};
+ghost use Rattle.xa_tables.specs.declared.call.Call.TheVariants as call;
+ghost use Rattle.xa_tables.specs.declared.states.BranchState.TheVariants as state;
+ghost use Rattle.xa_xid.specs.Xids.{null_xid};
+ghost use Rattle.xa_states.specs.Answers.{state_at};
+ghost use Rattle.manager_model.specs.Sights.{SameManager};
+ghost use Rattle.sub_deeds.specs.Deeds.{Finishes, HasBegun, Idles, IsIdle, NotFinished, Works, can_roll_back, vote_of};
+
+use manager_model::{ResourceManager, WorkError};
+use std::alloc::AllocError;
+use tree_model::{Op, StepError, Vote};
+use xa_codes::{Code, Flags};
+use xa_xid::Xid;
+
+/// The thread of a subordinate.
+const THREAD: u32 = 0;
+
+/// A new branch begins, and is left idle. False: the start was refused, and nothing changed.
+pub fn begin<M: ResourceManager>(manager: &mut M, xid: &Xid) -> Result<bool, AllocError>
+    requires idle { IsIdle (M.sight manager.old) }
+    requires up { (M.sight manager.old).log.failed ≡ false }
+    requires named { xid.now ≢ null_xid }
+    ensures ok { IfOk result (HasBegun (M.sight manager.old) (M.sight manager.new) xid.now) }
+    ensures err { OnErr result (SameManager (M.sight manager.old) (M.sight manager.new)) }
+{
+    if manager.start(THREAD, xid, Flags::TMNOFLAGS)? != Code::Ok {
+        return Ok(false);
+    }
+    let _ = manager.end(THREAD, xid, Flags::TMSUCCESS)?;
+    Ok(true)
+}
+
+/// An idle branch does an operation. False: it was refused, and the branch can only be rolled back. Memory: the branch is
+/// idle as before.
+pub fn work<M: ResourceManager>(manager: &mut M, xid: &Xid, op: &Op) -> Result<bool, AllocError>
+    requires idle { IsIdle (M.sight manager.old) }
+    requires up { (M.sight manager.old).log.failed ≡ false }
+    requires named { xid.now ≢ null_xid }
+    requires state { state_at (M.sight manager.old).tables xid.now ≡ state.S2 }
+    ensures ok { IfOk result (Works (M.sight manager.old) (M.sight manager.new) xid.now op.now) }
+    ensures err { OnErr result (Idles (M.sight manager.old) (M.sight manager.new) xid.now) }
+{
+    let _ = manager.start(THREAD, xid, Flags::TMJOIN)?;
+    match manager.work(THREAD, op) {
+        Ok(()) => {
+            let _ = manager.end(THREAD, xid, Flags::TMSUCCESS)?;
+            Ok(true)
+        }
+        Err(WorkError::Memory) => {
+            let _ = manager.end(THREAD, xid, Flags::TMSUCCESS)?;
+            Err(AllocError)
+        }
+        Err(_) => {
+            let _ = manager.end(THREAD, xid, Flags::TMFAIL)?;
+            Ok(false)
+        }
+    }
+}
+
+/// An idle branch promises, with what it has written; one that wrote nothing is ended. Memory: nothing changed, also where a
+/// limit of the manager's own is met. Device: it fails now.
+pub fn promise<M: ResourceManager>(manager: &mut M, xid: &Xid) -> Result<Vote, StepError>
+    requires idle { IsIdle (M.sight manager.old) }
+    requires up { (M.sight manager.old).log.failed ≡ false }
+    requires named { xid.now ≢ null_xid }
+    requires state { state_at (M.sight manager.old).tables xid.now ≡ state.S2 }
+    ensures vote { IfOk result (λ vote. vote ≡ vote_of ((M.sight manager.old).writes xid.now)) }
+    ensures ok { OnOk result (Finishes (M.sight manager.old) (M.sight manager.new) xid.now call.Prepare) }
+    ensures err { IfErr result (NotFinished (M.sight manager.old) (M.sight manager.new) xid.now call.Prepare) }
+{
+    match manager.prepare(THREAD, xid, Flags::TMNOFLAGS)? {
+        Code::RmFail => Err(StepError::Device),
+        Code::RmErr => Err(StepError::Memory),
+        Code::RdOnly => Ok(Vote::Read),
+        _ => Ok(Vote::Yes),
+    }
+}
+
+/// A prepared branch commits. The errors are those of `promise`.
+pub fn commit<M: ResourceManager>(manager: &mut M, xid: &Xid) -> Result<(), StepError>
+    requires idle { IsIdle (M.sight manager.old) }
+    requires up { (M.sight manager.old).log.failed ≡ false }
+    requires named { xid.now ≢ null_xid }
+    requires state { state_at (M.sight manager.old).tables xid.now ≡ state.S3 }
+    ensures ok { OnOk result (Finishes (M.sight manager.old) (M.sight manager.new) xid.now call.Commit) }
+    ensures err { IfErr result (NotFinished (M.sight manager.old) (M.sight manager.new) xid.now call.Commit) }
+{
+    match manager.commit(THREAD, xid, Flags::TMNOFLAGS)? {
+        Code::RmFail => Err(StepError::Device),
+        Code::RmErr => Err(StepError::Memory),
+        _ => Ok(()),
+    }
+}
+
+/// A branch that is idle, spoiled or prepared rolls back. The errors are those of `promise`.
+pub fn roll_back<M: ResourceManager>(manager: &mut M, xid: &Xid) -> Result<(), StepError>
+    requires idle { IsIdle (M.sight manager.old) }
+    requires up { (M.sight manager.old).log.failed ≡ false }
+    requires named { xid.now ≢ null_xid }
+    requires state { can_roll_back (state_at (M.sight manager.old).tables xid.now) ≡ true }
+    ensures ok { OnOk result (Finishes (M.sight manager.old) (M.sight manager.new) xid.now call.Rollback) }
+    ensures err { IfErr result (NotFinished (M.sight manager.old) (M.sight manager.new) xid.now call.Rollback) }
+{
+    match manager.rollback(THREAD, xid, Flags::TMNOFLAGS)? {
+        Code::RmFail => Err(StepError::Device),
+        Code::RmErr => Err(StepError::Memory),
+        _ => Ok(()),
+    }
+}

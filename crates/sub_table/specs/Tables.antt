@@ -1,0 +1,98 @@
+-- The live branches of a subordinate, and the tickets that it gave for cases of its parent and that are active.
+use Rattle.std.specs.Prelude.{◌≡◌, ℕ, false, if◌then◌else◌, Option, Some, None, List}
+use Rattle.xa_xid.specs.declared.xid.Xid.{Xid}
+use Rattle.tree_model.specs.declared.names.Case.{Case}
+use Rattle.tree_model.specs.declared.names.Ticket.{Ticket}
+use Rattle.tree_model.specs.declared.standings.Standing.TheVariants.{Active as ActiveStanding, Prepared as PreparedStanding}
+use Rattle.tree_model.specs.Names.{child_case, same_case}
+use Rattle.tree_model.specs.Standings.{ManagerView, standing_branch, unknown_branch}
+use Rattle.live_table.specs.Tables.{AreApart, Moves, entry_at, live_value}
+use Rattle.sub_table.specs.declared.branch.Branch.{Branch}
+use Rattle.sub_table.specs.declared.branch.Stage.{Stage}
+use Rattle.sub_table.specs.declared.branch.Stage.TheVariants.{Active, Prepared}
+
+-- what a contract sees: the live branches by case, and by the parent's case the active ticket that was given for it
+pub record BranchTable : Type 0 where
+  pub tickets : List (Option (Case × Ticket))
+  pub branches : List (Option (Case × Branch))
+
+-- the active ticket that was given for the parent's case
+abbrev pub ticket_in : BranchTable → Case → Option Ticket
+ticket_in t d = live_value t.tickets d
+
+-- what is kept of a case, where it is live
+abbrev pub branch_in : BranchTable → Case → Option Branch
+branch_in t c = live_value t.branches c
+
+-- how a branch stands by its stage
+abbrev pub stage_view : Stage → ManagerView
+stage_view (Active d done spoiled) = record { standing = ActiveStanding; done = done; spoiled = spoiled; told = None }
+stage_view Prepared = standing_branch PreparedStanding None
+
+-- how a case stands by what is kept of it; where nothing is, it is Unknown
+abbrev pub kept_view : Option Branch → ManagerView
+kept_view None = unknown_branch
+kept_view (Some b) = stage_view b.stage
+
+-- how a case stands
+abbrev pub view_in : BranchTable → Case → ManagerView
+view_in t c = kept_view (branch_in t c)
+
+-- the branch is Active, by a ticket that was given for the parent's case
+abbrev pub IsGivenFor : Case → Stage → Type 0
+IsGivenFor d (Active e done spoiled) = d ≡ e
+IsGivenFor d Prepared = ⊥
+
+-- an Active case has the active ticket that was given for the parent's case
+abbrev pub HasTicket : List (Option (Case × Ticket)) → Case → Stage → Type 0
+HasTicket tickets c (Active d done spoiled) = (t : Ticket) × (live_value tickets d ≡ Some t) × (child_case d.txn t ≡ c)
+HasTicket tickets c Prepared = Unit {0}
+
+-- what the table keeps: each case has one key at most, the case of each active ticket is live and Active, and each Active
+-- case has an active ticket
+pub record IsKept (t : BranchTable) : Type 0 where
+  pub apart : AreApart t.branches
+  pub given : (d : Case) (k : Ticket) → ticket_in t d ≡ Some k
+      → (b : Branch) × (branch_in t (child_case d.txn k) ≡ Some b) × IsGivenFor d b.stage
+  pub active : (c : Case) (b : Branch) → branch_in t c ≡ Some b → HasTicket t.tickets c b.stage
+
+-- What changes.
+
+-- the ticket of a case of the parent, where the time of the ticket of this case ends
+abbrev pub retired_at : Case → Case → Option Ticket → Option Ticket
+retired_at c d None = None
+retired_at c d (Some t) = if same_case (child_case d.txn t) c then None else Some t
+
+-- nothing is otherwise, but where what is kept stands
+pub record SameTable (old new : BranchTable) : Type 0 where
+  pub branches : (c : Case) → branch_in new c ≡ branch_in old c
+  pub tickets : (d : Case) → ticket_in new d ≡ ticket_in old d
+
+-- the case of a fresh ticket is live and Active, and the ticket is active for the parent's case
+pub record Opens (old new : BranchTable) (d : Case) (t : Ticket) (x : Xid) : Type 0 where
+  pub branches : Moves old.branches new.branches (child_case d.txn t) (Some (record { xid = x; stage = Active d 0 false }))
+  pub tickets : Moves old.tickets new.tickets d (Some t)
+
+-- the case of a key has this in place of what it had, and no ticket moves
+pub record Notes (old new : BranchTable) (key : ℕ) (stage : Stage) : Type 0 where
+  pub owner : Case
+  pub branch : Branch
+  pub was : entry_at old.branches key ≡ Some (owner, branch)
+  pub branches : Moves old.branches new.branches owner (Some (record { xid = branch.xid; stage = stage }))
+  pub tickets : new.tickets ≡ old.tickets
+
+-- the case of a key stands otherwise from now on, or is live no longer, and its ticket's time ends
+pub record Retires (old new : BranchTable) (key : ℕ) (behind : Branch → Option Branch) : Type 0 where
+  pub owner : Case
+  pub branch : Branch
+  pub was : entry_at old.branches key ≡ Some (owner, branch)
+  pub branches : Moves old.branches new.branches owner (behind branch)
+  pub tickets : (d : Case) → ticket_in new d ≡ retired_at owner d (ticket_in old d)
+
+-- what is kept of a branch that promised
+abbrev pub promised : Branch → Option Branch
+promised b = Some (record { xid = b.xid; stage = Prepared })
+
+-- nothing is kept of a branch
+abbrev pub nothing : Branch → Option Branch
+nothing b = None
