@@ -14,6 +14,8 @@ use Rattle.kv_replay.specs.Replays.{HoldPromises, seen_of}
 use Rattle.kv_core.specs.Stores.{KeySight}
 use Rattle.kv_manager.specs.declared.restart.RestartError.{RestartError}
 use Rattle.kv_manager.specs.declared.restart.RestartError.TheVariants.{Damaged, Device, Exhausted, Memory}
+use Rattle.xa_branch.specs.Branches.{in_doubt}
+use Rattle.kv_manager.specs.Sights.{KvSight, SameManager}
 
 -- why records leave no manager
 abbrev pub error_of : ReplayError → RestartError
@@ -51,3 +53,21 @@ pub record LogLeaves (old new : LogState) (keep : ℕ) (s : KeySight) (boot : �
 abbrev pub LogStays : LogState → LogState → ℕ → RestartError → Type 0
 LogStays old new keep Device = (boot : ℕ) × RestartBreaks old new keep (opened boot ∷ [])
 LogStays old new keep e = (new.sight ≡ old.sight) × (new.kind ≡ old.kind)
+
+-- STUB: a manager restarted
+pub record Restarted (old new : KvSight) (keep : ℕ) (given : List Xid) : Type 0 where
+  pub left : LeavesStore (left_by old.log.sight keep) new.store new.boot
+  pub log : Restarts old.log new.log keep (opened new.boot ∷ [])
+  pub gives : given ≡ in_doubt new.store.tables.branches.branches
+
+-- STUB: a manager did not restart
+abbrev pub NotRestarted : KvSight → KvSight → ℕ → RestartError → Type 0
+NotRestarted old new keep Device = (boot : ℕ) × RestartBreaks old.log new.log keep (opened boot ∷ [])
+NotRestarted old new keep e = SameManager old new
+
+-- STUB: a manager over a store without bytes
+pub record IsFresh (m : KvSight) : Type 0 where
+  pub store : LeavesStore [] m.store m.boot
+  pub forced : m.log.sight.kept.forced ≡ opened m.boot ∷ []
+  pub unforced : m.log.sight.kept.unforced ≡ []
+  pub works : m.log.sight.failed ≡ false

@@ -1,6 +1,6 @@
 //! A key store with a log, as an XA manager.
 
-ghost use Rattle.std.specs.Prelude.{◌≡◌, ◌<◌, ◌≤◌, ◌+◌, ◌^◌, length, false, true, IfOk, IfErr, OnOk, OnErr, Err, Some, None};
+ghost use Rattle.std.specs.Prelude.{[], ◌≡◌, ◌<◌, ◌≤◌, ◌+◌, ◌^◌, length, false, true, IfOk, IfErr, OnOk, OnErr, Err, Some, None};
 ghost use Rattle.kv_locks.specs.declared.holders.Mode.TheVariants as mode;
 ghost use Rattle.kv_core.specs.Stores.{MovesTables, has_numbers, state_of};
 ghost use Rattle.kv_core.specs.Works.{Reads, Writes, work_refusal};
@@ -14,9 +14,11 @@ ghost use Rattle.rec_log.specs.Sights.{IsRecord};
 ghost use Rattle.tree_model.specs.declared.names.Kind.TheVariants as kind;
 ghost use Rattle.kv_writes.specs.Writes.{writes_of};
 ghost use Rattle.kv_turns.specs.Turns.{applies, entry_record};
+ghost use Rattle.kv_manager.specs.Restarts.{IsFresh, NotRestarted, Restarted};
 ghost use Rattle.kv_manager.specs.Turns.{Calls, Finishes, HasWrites, IsDueTurn, OnlyRoom, Refuses, Takes};
 
 use crate::log::write;
+use crate::restart::RestartError;
 use kv_core::KeyStore;
 use kv_turns::{Entry, Turn};
 use log_store::LogStore;
@@ -265,37 +267,45 @@ impl<L: LogStore> KvManager<L> {
     /// A branch promises, with what it has written; one that wrote nothing is ended. RmFail: the manager has failed, or
     /// its device fails now. The thread is not looked at.
     pub fn prepare(&mut self, _thread: u32, xid: &Xid, flags: Flags) -> Result<Code, AllocError>
-        requires { has_numbers self.old.store ≡ true }
         ensures answer { IfOk result (Finishes self.old self.new Verb.Prepare xid.now flags.0) }
         ensures err { OnErr result (SameManager self.old self.new) }
     {
+        if !self.has_numbers() {
+            return Err(AllocError);
+        }
         self.finish(Verb::Prepare, xid, flags)
     }
 
     /// A prepared branch commits, or with TMONEPHASE one that is not prepared. RmFail as at `prepare`.
     pub fn commit(&mut self, _thread: u32, xid: &Xid, flags: Flags) -> Result<Code, AllocError>
-        requires { has_numbers self.old.store ≡ true }
         ensures answer { IfOk result (Finishes self.old self.new Verb.Commit xid.now flags.0) }
         ensures err { OnErr result (SameManager self.old self.new) }
     {
+        if !self.has_numbers() {
+            return Err(AllocError);
+        }
         self.finish(Verb::Commit, xid, flags)
     }
 
     /// A branch rolls back. RmFail as at `prepare`.
     pub fn rollback(&mut self, _thread: u32, xid: &Xid, flags: Flags) -> Result<Code, AllocError>
-        requires { has_numbers self.old.store ≡ true }
         ensures answer { IfOk result (Finishes self.old self.new Verb.Rollback xid.now flags.0) }
         ensures err { OnErr result (SameManager self.old self.new) }
     {
+        if !self.has_numbers() {
+            return Err(AllocError);
+        }
         self.finish(Verb::Rollback, xid, flags)
     }
 
     /// An operator's decision about a branch is forgotten. RmFail as at `prepare`.
     pub fn forget(&mut self, _thread: u32, xid: &Xid, flags: Flags) -> Result<Code, AllocError>
-        requires { has_numbers self.old.store ≡ true }
         ensures answer { IfOk result (Finishes self.old self.new Verb.Forget xid.now flags.0) }
         ensures err { OnErr result (SameManager self.old self.new) }
     {
+        if !self.has_numbers() {
+            return Err(AllocError);
+        }
         self.finish(Verb::Forget, xid, flags)
     }
 
@@ -315,5 +325,22 @@ impl<L: LogStore> KvManager<L> {
         ensures err { OnErr result (SameManager self.old self.new) }
     {
         self.work_call(Verb::End, thread, xid, flags)
+    }
+
+    /// STUB
+    pub fn restart(&mut self, _keep: usize) -> Result<Vec<Xid>, RestartError>
+        ensures ok { IfOk result (λ xids. Restarted self.old self.new _keep xids.items) }
+        ensures err { IfErr result (λ e. NotRestarted self.old self.new _keep e) }
+    {
+        Err(RestartError::Memory)
+    }
+}
+
+impl<L: LogStore + Drop> KvManager<L> {
+    /// STUB
+    pub fn restore(store: L, _alloc: Global) -> Result<KvManager<L>, (RestartError, L)>
+        ensures ok { IfOk result (λ m. L.bytes store ≡ [] → IsFresh m) }
+    {
+        Err((RestartError::Memory, store))
     }
 }

@@ -1,13 +1,16 @@
--- One call more.
+-- One request more.
 use Rattle.std.proofs.Common.{◌≡◌, List, [], ◌∷◌, ◌++◌, refl, ap, sym, ◌∙◌, subst, append_assoc}
 use Rattle.std.specs.List.{flat_map}
 use Rattle.std.proofs.lemmas.List.{append-nil}
-use Rattle.xa_states.specs.declared.states.States.{States}
-use Rattle.xa_engine.specs.declared.script.Request.{Request}
-use Rattle.xa_engine.specs.Runs.{Answer, Makes, Leads, answer_text}
+use Rattle.kv_manager.specs.Sights.{KvSight}
+use Rattle.xa_script.specs.declared.request.Request.{Request}
+use Rattle.xa_engine.specs.declared.answer.Answer.{Answer}
+use Rattle.xa_engine.specs.Answers.{answer_text}
+use Rattle.xa_engine.specs.Makes.{Makes}
+use Rattle.xa_engine.specs.Runs.{Leads}
 
-pub leads_more : (m k n : States) (rs : List Request) (r : Request) (given : List Answer) (a : Answer) → Leads m rs given k → Makes k n r a → Leads m (rs ++ r ∷ []) (given ++ a ∷ []) n
-leads_more m k n [] r [] a e makes = (n, subst (λ (j : States). Makes j n r a) (sym e) makes, refl)
+pub leads_more : (m k n : KvSight) (rs : List Request) (r : Request) (given : List Answer) (a : Answer) → Leads m rs given k → Makes k n r a → Leads m (rs ++ r ∷ []) (given ++ a ∷ []) n
+leads_more m k n [] r [] a e makes = (n, subst (λ (j : KvSight). Makes j n r a) (sym e) makes, refl)
 leads_more m k n [] r (b ∷ given) a e makes = absurd e
 leads_more m k n (s ∷ rs) r [] a e makes = absurd e
 leads_more m k n (s ∷ rs) r (b ∷ given) a e makes = (e.0, e.1, leads_more e.0 k n rs r given a e.2 makes)
