@@ -7,7 +7,8 @@ use Rattle.std.proofs.Math.ListN.{get_or-map}
 abbrev pub texts : List (Bor (List ℕ)) → List (List ℕ)
 texts lines = map (λ s. s.now) lines
 
-abbrev blank : Bor (List ℕ)
+-- a line that is not there
+abbrev pub blank : Bor (List ℕ)
 blank = record { ref_ptr = (0, 0); now = [] }
 
 pub text_at : (lines : List (Bor (List ℕ))) (i : ℕ) → get_or (texts lines) i [] ≡ (get_or lines i blank).now

@@ -1,11 +1,26 @@
 -- One more line of a script.
-use Rattle.std.proofs.Common.{◌≡◌, ℕ, ◌+◌, ◌≤◌, ◌<◌, true, false, not, List, [], ◌∷◌, ◌++◌, length, get_or, take, refl, ap, sym, subst, ◌∙◌}
+use Rattle.std.proofs.Common.{◌≡◌, ℕ, ◌+◌, ◌≤◌, ◌<◌, true, false, not, List, [], ◌∷◌, ◌++◌, length, get_or, take, Bor, Option, Some, None, refl, ap, sym, subst, ◌∙◌}
+use Rattle.std.specs.Prelude.{IfNone, IfSome}
 use Rattle.std.proofs.lemmas.List.{append-nil, take_all, take_more}
 use Rattle.std.proofs.lemmas.List.Elements.{filter-append}
 use Rattle.script_words.specs.Lines.{is_skipped}
+use Rattle.script_words.proofs.Texts.{blank, text_at, texts}
 use Rattle.xa_script.specs.declared.request.Request.{Request}
 use Rattle.xa_script.specs.Requests.{Spells}
 use Rattle.xa_script.specs.Scripts.{call_lines, SpellEach}
+
+-- what was read of a line is spelled there, and where nothing was read nothing is
+pub spelled : (lines : List (Bor (List ℕ))) (i : ℕ) (o : Option Request) (r : Request) → o ≡ Some r
+    → IfSome o (λ q. Spells (get_or lines i blank).now q) → Spells (get_or (texts lines) i []) r
+spelled lines i o r is h =
+    subst (λ (l : List ℕ). Spells l r) (sym (text_at lines i))
+    (subst (λ (p : Option Request). IfSome p (λ q. Spells (get_or lines i blank).now q)) is h)
+
+pub unspelled : (lines : List (Bor (List ℕ))) (i : ℕ) (o : Option Request) → o ≡ None
+    → IfNone o ((q : Request) → Spells (get_or lines i blank).now q → ⊥) → (q : Request) → Spells (get_or (texts lines) i []) q → ⊥
+unspelled lines i o is h =
+    subst (λ (l : List ℕ). (q : Request) → Spells l q → ⊥) (sym (text_at lines i))
+    (subst (λ (p : Option Request). IfNone p ((q : Request) → Spells (get_or lines i blank).now q → ⊥)) is h)
 
 each_more : (ls : List (List ℕ)) (rs : List Request) (l : List ℕ) (r : Request) → SpellEach ls rs → Spells l r → SpellEach (ls ++ l ∷ []) (rs ++ r ∷ [])
 each_more [] [] l r h s = (s, tt)

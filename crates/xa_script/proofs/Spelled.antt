@@ -4,6 +4,7 @@ use Rattle.std.specs.Prelude.{IsSomeAnd, IfNone}
 use Rattle.xa_codes.specs.FlagNames.{IsFlagText}
 use Rattle.xa_xid.specs.Words.{cut_at}
 use Rattle.xa_xid.specs.declared.xid.Xid.{Xid}
+use Rattle.xa_script.specs.declared.request.Call.{Call}
 use Rattle.xa_script.specs.declared.request.Call.TheVariants as call
 use Rattle.xa_script.specs.declared.request.Request.{Request}
 use Rattle.xa_script.specs.declared.request.Request.TheVariants.{Open, Close, Branch, Recover, Work, Restart}
@@ -38,10 +39,10 @@ no_flags_branch rest p is none thread xid flags s =
     subst (λ (o : Option (List ℕ × List ℕ × List ℕ)). IsSomeAnd o (λ q. IsNumber q.0 thread × IsName q.1 xid × IsFlagText q.2 flags)) (sym is) s in
     none flags t.2
 
-pub no_flags_close : (rest : List ℕ) → NamesNone rest → (r : Request) → SpellsCall call.Close rest r → ⊥
-no_flags_close rest none (Open flags migrates) s = absurd (let e = s.0 in cc)
-no_flags_close rest none (Close flags) s = none flags.0 s.1
-no_flags_close rest none (Branch f thread xid flags) s = absurd (let e = s.0 in cc)
-no_flags_close rest none (Recover thread count flags) s = absurd (let e = s.0 in cc)
-no_flags_close rest none (Work thread op) s = absurd s
-no_flags_close rest none (Restart keep) s = absurd (let e = s.0 in cc)
+pub no_flags_close : (c : Call) (rest : List ℕ) → c ≡ call.Close → NamesNone rest → (r : Request) → SpellsCall c rest r → ⊥
+no_flags_close c rest is none (Open flags migrates) s = absurd (let e = s.0 in cc)
+no_flags_close c rest is none (Close flags) s = none flags.0 s.1
+no_flags_close c rest is none (Branch f thread xid flags) s = absurd (let e = s.0 in cc)
+no_flags_close c rest is none (Recover thread count flags) s = absurd (let e = s.0 in cc)
+no_flags_close c rest is none (Work thread op) s = absurd s
+no_flags_close c rest is none (Restart keep) s = absurd (let e = s.0 in cc)

@@ -1,9 +1,7 @@
-use Rattle.std.proofs.Common.{sym, ap, subst, ◌∙◌, arith, refl, List, ℕ}
-use Rattle.xa_script.specs.declared.request.Request.{Request}
+use Rattle.std.proofs.Common.{sym, ap, ◌∙◌, arith, refl}
 use Rattle.script_words.specs.Lines.{is_skipped}
-use Rattle.xa_script.specs.Requests.{Spells}
 use Rattle.script_words.proofs.Texts.{texts, text_at, long}
-use Rattle.xa_script.proofs.Lines.{skips, goes_on, ends}
+use Rattle.xa_script.proofs.Lines.{skips, goes_on, ends, spelled, unspelled}
 use Rattle.xa_script.proofs.script.requests_in.Goals as goal
 
 pub loop-i-preserved-then-says_nothing : goal.loop-i-preserved-then-says_nothing
@@ -16,7 +14,7 @@ loop-i-preserved c =
     rw c.in_ok-push-in-Some.ensures.items
     (goes_on (texts c.args.lines.now) c.loop-i.i _ c.in-Some.request (omega (arith, long c.args.lines.now))
     (ap is_skipped (text_at c.args.lines.now c.loop-i.i) ∙ sym c.if-says_nothing.ensures)
-    (subst (λ (l : List ℕ). Spells l c.in-Some.request) (sym (text_at c.args.lines.now c.loop-i.i)) c.in-Some.ensures.found) c.loop-i.invariant)
+    (spelled c.args.lines.now c.loop-i.i _ c.in-Some.request c.in-Some.is c.in_ok-request.ensures.found) c.loop-i.invariant)
 
 pub returns-in-None : goal.returns-in-None
 returns-in-None c = record {
@@ -26,7 +24,7 @@ returns-in-None c = record {
   front = _;
   before = c.loop-i.invariant;
   kept = ap is_skipped (text_at c.args.lines.now c.loop-i.i) ∙ sym c.if-says_nothing.ensures;
-  bad = subst (λ (l : List ℕ). (r : Request) → Spells l r → ⊥) (sym (text_at c.args.lines.now c.loop-i.i)) c.in-None.ensures.none;
+  bad = unspelled c.args.lines.now c.loop-i.i _ c.in-None.is c.in_ok-request.ensures.none;
 }
 
 pub returns : goal.returns
