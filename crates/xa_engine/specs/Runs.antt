@@ -20,20 +20,28 @@ Leads m [] [] n = m ≡ n
 Leads m (r ∷ rs) (a ∷ rest) n = (k : KvSight) × Makes m k r a × Leads k rs rest n
 Leads m _ _ n = ⊥
 
--- requests lead from one state to another, and their answers are written, one a line
-pub record Runs (old new : KvSight) (requests : List Request) (before behind : List ℕ) : Type 0 where
-  pub given : List Answer
-  pub leads : Leads old requests given new
-  pub lines : behind ≡ before ++ flat_map answer_text given
+-- a request takes a manager from one state to another, and the line of its answer is written
+pub record Steps (old new : KvSight) (request : Request) (before behind : List ℕ) : Type 0 where
+  pub answer : Answer
+  pub makes : Makes old new request answer
+  pub line : behind ≡ before ++ answer_text answer
 
 -- the answers, one a line, and the last line
 abbrev pub report_text : List Answer → List ℕ
 report_text answers = flat_map answer_text answers ++ codes "end" ++ 10 ∷ []
 
+-- requests take a manager from one state to another, and a text has their answers
+pub record Runs (old new : KvSight) (requests : List Request) (text : List ℕ) : Type 0 where
+  pub answers : List Answer
+  pub leads : Leads old requests answers new
+  pub lines : text ≡ report_text answers
+
 -- a text reports a run of these requests from a new manager on
-abbrev pub Reports : List Request → List ℕ → Type 0
-Reports requests text = (m : KvSight) × (n : KvSight) × (answers : List Answer) × IsFresh m
-    × Leads m requests answers n × (text ≡ report_text answers)
+pub record Reports (requests : List Request) (text : List ℕ) : Type 0 where
+  pub old : KvSight
+  pub new : KvSight
+  pub fresh : IsFresh old
+  pub runs : Runs old new requests text
 
 -- the line of a refused script
 abbrev pub fault_text : ScriptError → List ℕ

@@ -5,7 +5,7 @@ ghost use Rattle.std.specs.Io.KnownBytes.{Appends, Keeps};
 ghost use Rattle.report_io.specs.Streams.{IsInput, WritesFront};
 ghost use Rattle.report_io.specs.declared.status.Status.{Status as AnyStatus};
 ghost use Rattle.kv_manager.specs.Restarts.{IsFresh};
-ghost use Rattle.xa_engine.specs.Runs.{IsReport, Reports, Runs, fault_text};
+ghost use Rattle.xa_engine.specs.Runs.{IsReport, Reports, Runs, Steps, fault_text};
 
 use crate::answer::push_answer;
 use crate::calls::{Manager, make};
@@ -84,24 +84,34 @@ fn answers(alloc: Global, requests: &[Request]) -> Result<Vec<u8>, AllocError>
     ensures { IfOk result (λ text. Reports requests.now text.items) }
 {
     let mut manager = first_manager(alloc)?;
+    run(alloc, &mut manager, requests)
+}
+
+/// Makes requests of a manager. Gives their answers, one a line, and the last line.
+fn run(
+    alloc: Global,
+    manager: &mut Manager,
+    requests: &[Request],
+) -> Result<Vec<u8>, AllocError>
+    ensures { IfOk result (λ text. Runs manager.old manager.new requests.now text.items) }
+{
     let mut out = Vec::new(alloc);
-    run(alloc, &mut manager, &mut out, requests)?;
+    for request in requests {
+        step(alloc, manager, &mut out, request)?;
+    }
     push(&mut out, "end\n")?;
     Ok(out)
 }
 
-/// Makes requests, and adds a line for each answer.
-fn run(
+/// Makes a request, and adds the line of its answer.
+fn step(
     alloc: Global,
     manager: &mut Manager,
     out: &mut Vec<u8>,
-    requests: &[Request],
+    request: &Request,
 ) -> Result<(), AllocError>
-    ensures { OnOk result (Runs manager.old manager.new requests.now out.old.items out.new.items) }
+    ensures { OnOk result (Steps manager.old manager.new request.now out.old.items out.new.items) }
 {
-    for request in requests {
-        let answer = make(manager, request)?;
-        push_answer(alloc, out, &answer)?;
-    }
-    Ok(())
+    let answer = make(manager, request)?;
+    push_answer(alloc, out, &answer)
 }
