@@ -2,7 +2,7 @@
 
 use crate::numbers::Numbers;
 use crate::xa_rows::is_run;
-use crate::xa_store::{BRANCH_NAMES, KEYS, KEY_NAMES, NAMES};
+use crate::xa_store::{BRANCH_NAMES, KEY_NAMES, KEYS, NAMES};
 use crate::xa_walks::{FAIL, LEGAL, NONE, Rows, Scan};
 use std::alloc::AllocError;
 use std::test::Fail;
@@ -201,7 +201,7 @@ impl Script {
         }
     }
 
-    /// The branch that does a thread's work; where there is none, or it may not, the line of the refusal is added.
+    /// The branch that does a thread's work; where there is none, or it may not, adds the line of the refusal.
     fn worker(&mut self, rows: &Rows, thread: u64) -> Result<Option<usize>, AllocError> {
         match rows.worker(thread as usize) {
             None => self.answers.push_str("refused 1\n")?,

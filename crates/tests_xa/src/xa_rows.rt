@@ -9,7 +9,7 @@ use xa_engine::{Failure, Status, run_xa};
 type Row = (&'static str, &'static str, &'static str, Status);
 
 /// The worked rows, and some more.
-const ROWS: [Row; 16] = [
+const ROWS: [Row; 17] = [
     (
         "xa_prepared_branch_survives_restart",
         "open TMNOFLAGS\nstart 1 7:01: TMNOFLAGS\nput 1 a 1\nend 1 7:01: TMSUCCESS\n\
@@ -98,9 +98,21 @@ const ROWS: [Row; 16] = [
     (
         "xa_bad_xid_long_bqual",
         "open TMNOFLAGS\n\
-         start 1 7:aa:0000000000000000000000000000000000000000000000000000000000000000000000000000000000000000000000000000000000000000000000000000000000 TMNOFLAGS\n",
+         start 1 7:aa:\
+         00000000000000000000000000000000000000000000000000000000000000000000000000000000\
+         00000000000000000000000000000000000000000000000000 TMNOFLAGS\n",
         "error 3 2\n",
         Status::Refused,
+    ),
+    (
+        "a_branch_in_doubt_behind_a_crash",
+        "open TMNOFLAGS\nstart 1 7:01: TMNOFLAGS\nput 1 a 1\nend 1 7:01: TMSUCCESS\n\
+         prepare 1 7:01: TMNOFLAGS\nstart 1 7:02: TMNOFLAGS\nput 1 b 2\nrestart 0\nopen TMNOFLAGS\n\
+         recover 1 9 TMSTARTRSCAN+TMENDRSCAN\nstart 2 7:03: TMNOFLAGS\nget 2 a\nget 2 b\n\
+         commit 1 7:01: TMNOFLAGS\nget 2 a\n",
+        "XA_OK\nXA_OK\ndone\nXA_OK\nXA_OK\nXA_OK\ndone\nboot 2\nXA_OK\n1 7:01:\nXA_OK\n\
+         refused 2 7:01:\n= none\nXA_OK\n= 1\nend\n",
+        Status::Ended,
     ),
     (
         "a_failed_end_and_calls_before_the_first_open",
@@ -128,7 +140,8 @@ const ROWS: [Row; 16] = [
         "work_before_and_behind_a_restart_that_keeps_all",
         "get 1 a\nopen TMNOFLAGS\nstart 1 7:01: TMNOFLAGS\nput 1 a 1\nend 1 7:01: TMFAIL\n\
          get 1 a\nrollback 1 7:01: TMNOFLAGS\nstart 1 7:01: TMNOFLAGS\nput 1 a 1\nstart 2 7:01: TMJOIN\n\
-         end 2 7:01: TMFAIL\nput 1 a 2\nend 1 7:01: TMSUCCESS\nrollback 1 7:01: TMNOFLAGS\nrestart\nrestart 7\n",
+         end 2 7:01: TMFAIL\nput 1 a 2\nend 1 7:01: TMSUCCESS\nrollback 1 7:01: TMNOFLAGS\n\
+         restart\nrestart 7\n",
         "refused 1\nXA_OK\nXA_OK\ndone\nXA_RBROLLBACK\nrefused 1\nXA_OK\nXA_OK\ndone\nXA_OK\n\
          XA_RBROLLBACK\nrefused 6\nXA_RBROLLBACK\nXA_OK\nboot 2\nboot 3\nend\n",
         Status::Ended,
@@ -181,8 +194,8 @@ fn bad_lines(rt: HostRuntime) {
     }
 }
 
-/// The script of 65 keys that a branch writes, and its answers: 64 are taken, no other, and one of them is written
-/// again.
+/// The script of a branch that writes 65 keys, and its answers: 64 are taken and no other, and one of them is
+/// written again.
 fn sixty_four_writes(script: &mut String, answers: &mut String) -> Result<(), AllocError> {
     script.push_str("open TMNOFLAGS\nstart 1 7:01: TMNOFLAGS\n")?;
     answers.push_str("XA_OK\nXA_OK\n")?;
@@ -199,7 +212,14 @@ fn xa_sixty_four_writes(rt: HostRuntime) -> Result<(), Fail> {
     let mut script = String::new(rt.alloc());
     let mut answers = String::new(rt.alloc());
     sixty_four_writes(&mut script, &mut answers)?;
-    assert!(rt; is_run(rt.alloc(), script.as_bytes(), answers.as_bytes(), Status::Ended));
+    assert!(rt;
+        is_run(
+            rt.alloc(),
+            script.as_bytes(),
+            answers.as_bytes(),
+            Status::Ended
+        )
+    );
     Ok(())
 }
 

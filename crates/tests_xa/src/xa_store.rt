@@ -1,4 +1,4 @@
-//! A key store kept as data, for the scripts of random calls: what each branch has written, the locks, the data, and the
+//! A key store kept as data, for the random scripts: what each branch has written, the locks, the data, and the
 //! log with what a restart leaves of it.
 
 use std::alloc::{AllocError, Global};
@@ -20,8 +20,8 @@ pub(crate) const BRANCH_NAMES: [&str; NAMES] = [
 /// The keys, as a script names them.
 pub(crate) const KEY_NAMES: [&str; KEYS] = ["a", "b", "key"];
 
-/// The branch whose commit is presumed, so that its Committed is not forced and its RolledBack is; of the others it is
-/// the other way round.
+/// The branch whose commit is presumed, so that its Committed is not forced and its RolledBack is. Of the others it
+/// is the other way round.
 const PRESUMED: usize = 2;
 
 /// How many bytes a Committed or RolledBack of a branch takes.
@@ -87,7 +87,12 @@ impl Store {
     }
 
     /// Takes a key for a branch; or the branch in the way that took it first.
-    fn lock(&mut self, name: usize, key: usize, exclusive: bool) -> Result<Option<usize>, AllocError> {
+    fn lock(
+        &mut self,
+        name: usize,
+        key: usize,
+        exclusive: bool,
+    ) -> Result<Option<usize>, AllocError> {
         for lock in &self.locks {
             if lock.key == key && lock.name != name && (exclusive || lock.exclusive) {
                 return Ok(Some(lock.name));
@@ -132,7 +137,9 @@ impl Store {
 
     /// Whether a branch has written something.
     pub(crate) fn wrote_some(&self, name: usize) -> bool {
-        self.writes[name % NAMES].iter().any(|write| write.is_some())
+        self.writes[name % NAMES]
+            .iter()
+            .any(|write| write.is_some())
     }
 
     /// Adds a record.
@@ -226,8 +233,8 @@ impl Store {
         Ok(())
     }
 
-    /// Restarts behind a crash that keeps so many bytes behind the forced ones. Gives the branches that have promised, in
-    /// order.
+    /// Restarts behind a crash that keeps so many bytes behind the forced ones. Gives the branches that have
+    /// promised, in order.
     pub(crate) fn restart(&mut self, keep: u64, alloc: Global) -> Result<Vec<usize>, AllocError> {
         let mut promised = Vec::new(alloc);
         let left = self.left(keep);

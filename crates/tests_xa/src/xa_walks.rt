@@ -50,8 +50,8 @@ const ASSOCIATIONS: [Row<AssocState>; 17] = [
     (T2, End, FAIL, Code::RbRollback, T0),
 ];
 
-/// The rows of a branch that is not decided by an operator. Of two states behind one answer the first applies while a
-/// thread is active in the branch.
+/// The rows of a branch that no operator decided. Of two states behind one answer the first applies while a thread
+/// is active in the branch.
 const BRANCHES: [Row<BranchState>; 28] = [
     (S0, Start, NONE, Code::Ok, S1),
     (S1, Start, JOIN, Code::Ok, S1),
@@ -453,4 +453,3 @@ fn plain(verb: Verb, flags: Flags) -> Flags {
         flags
     }
 }
-

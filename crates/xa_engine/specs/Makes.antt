@@ -66,13 +66,15 @@ pub record IsRefused (e : WorkError) (a : Answer) : Type 0 where
 -- a thread reads a key, and finds a value or none; or is refused
 abbrev pub IsRead : KvSight → KvSight → ℕ → List ℕ → Answer → Type 0
 IsRead old new t k (answer.Found v) = Calls old new ⊥ (λ before behind. Reads before behind t k v)
-IsRead old new t k (answer.Refused e) = (e ≡ work_error.Memory → ⊥) × Refuses old new (work_refusal old.store t k None Shared) e
+IsRead old new t k (answer.Refused e) =
+    (e ≡ work_error.Memory → ⊥) × Refuses old new (work_refusal old.store t k None Shared) e
 IsRead old new t k _ = ⊥
 
 -- a thread writes a key, or is refused
 abbrev pub IsWritten : KvSight → KvSight → ℕ → List ℕ → Option (List ℕ) → Answer → Type 0
 IsWritten old new t k v answer.Done = Calls old new ⊥ (λ before behind. Writes before behind t k v)
-IsWritten old new t k v (answer.Refused e) = (e ≡ work_error.Memory → ⊥) × Refuses old new (work_refusal old.store t k v Exclusive) e
+IsWritten old new t k v (answer.Refused e) =
+    (e ≡ work_error.Memory → ⊥) × Refuses old new (work_refusal old.store t k v Exclusive) e
 IsWritten old new t k v _ = ⊥
 
 -- an operation on data
@@ -88,8 +90,10 @@ kept_bytes (Some n) = n
 
 -- a restart, or why there is none
 abbrev pub Boots : KvSight → KvSight → Option ℕ → Answer → Type 0
-Boots old new keep (answer.Booted n) = (n ≡ new.boot) × (given : List Xid) × Restarted old new (kept_bytes keep) given
-Boots old new keep (answer.NotBooted e) = (e ≡ restart_error.Memory → ⊥) × NotRestarted old new (kept_bytes keep) e
+Boots old new keep (answer.Booted n) =
+    (n ≡ new.boot) × (given : List Xid) × Restarted old new (kept_bytes keep) given
+Boots old new keep (answer.NotBooted e) =
+    (e ≡ restart_error.Memory → ⊥) × NotRestarted old new (kept_bytes keep) e
 Boots old new keep _ = ⊥
 
 -- a request takes a manager from one state to another, and is answered so

@@ -88,11 +88,7 @@ fn answers(alloc: Global, requests: &[Request]) -> Result<Vec<u8>, AllocError>
 }
 
 /// Makes requests of a manager. Gives their answers, one a line, and the last line.
-fn run(
-    alloc: Global,
-    manager: &mut Manager,
-    requests: &[Request],
-) -> Result<Vec<u8>, AllocError>
+fn run(alloc: Global, manager: &mut Manager, requests: &[Request]) -> Result<Vec<u8>, AllocError>
     ensures { IfOk result (λ text. Runs manager.old manager.new requests.now text.items) }
 {
     let mut out = Vec::new(alloc);

@@ -99,7 +99,8 @@ SpellsCall c rest (Restart keep) = (c ≡ call.Restart) × SpellsKeep rest keep
 
 -- what stands behind `put`, `get` and `del`: a thread, and the key with its value
 abbrev pub SpellsTask : List ℕ → List ℕ → ℕ → Op → Type 0
-SpellsTask verb rest thread op = IsSomeAnd (cut_at 32 rest) (λ p. IsNumber p.0 thread × (op_by verb p.1 ≡ Some op))
+SpellsTask verb rest thread op =
+    IsSomeAnd (cut_at 32 rest) (λ p. IsNumber p.0 thread × (op_by verb p.1 ≡ Some op))
 
 -- these words spell an operation on data
 abbrev pub SpellsWork : List ℕ → List ℕ → Request → Type 0

@@ -32,8 +32,13 @@ pub enum BranchCall {
 #[derive(Drop)]
 pub enum Request {
     /// The manager is opened, and migrates associations or not.
-    Open { flags: Flags, migrates: bool },
-    Close { flags: Flags },
+    Open {
+        flags: Flags,
+        migrates: bool,
+    },
+    Close {
+        flags: Flags,
+    },
     Branch {
         call: BranchCall,
         thread: u32,
@@ -46,10 +51,15 @@ pub enum Request {
         flags: Flags,
     },
     /// An operation on data by a thread, in the branch that it is active in.
-    Work { thread: u32, op: Op },
-    /// The manager stops and restarts. Of the unforced bytes of its log these are kept, the first ones: as many as there
-    /// are, where it is None.
-    Restart { keep: Option<u64> },
+    Work {
+        thread: u32,
+        op: Op,
+    },
+    /// The manager stops and restarts. Of the bytes of its log that are not forced so many are kept, the first
+    /// ones; all of them, where it is None.
+    Restart {
+        keep: Option<u64>,
+    },
 }
 
 /// What the first word of a line asks for.
@@ -157,7 +167,8 @@ fn call_of(call: Call, rest: &str) -> Option<Request>
 /// The request of an operation on data, by its verb and what stands behind it.
 fn work_of(alloc: Global, verb: &str, rest: &str) -> Result<Option<Request>, AllocError>
     ensures found { IfOk result (λ read. IfSome read (λ request. SpellsWork verb.now rest.now request)) }
-    ensures none { IfOk result (λ read. IfNone read ((request : AnyRequest) → SpellsWork verb.now rest.now request → ⊥)) }
+    ensures none { IfOk result (λ read. IfNone read ((request : AnyRequest)
+        → SpellsWork verb.now rest.now request → ⊥)) }
 {
     match task_of(verb, rest) {
         None => Ok(None),
