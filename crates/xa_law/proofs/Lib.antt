@@ -1,0 +1,6 @@
+pub mod Plans
+pub mod Reached
+pub mod Outcomes
+pub mod Refused
+pub mod Branches
+pub mod Histories
