@@ -257,9 +257,11 @@ impl Script {
     fn given(&mut self, mut given: Scan) -> Result<(), AllocError> {
         let count = given.count;
         write!(self.answers, "{count}")?;
-        while let Some(name) = given.next() {
-            let branch = BRANCH_NAMES[name % NAMES];
-            write!(self.answers, " {branch}")?;
+        for _ in 0..count {
+            if let Some(name) = given.next() {
+                let branch = BRANCH_NAMES[name % NAMES];
+                write!(self.answers, " {branch}")?;
+            }
         }
         writeln!(self.answers)
     }

@@ -137,9 +137,8 @@ impl Store {
 
     /// Whether a branch has written something.
     pub(crate) fn wrote_some(&self, name: usize) -> bool {
-        self.writes[name % NAMES]
-            .iter()
-            .any(|write| write.is_some())
+        let writes = &self.writes[name % NAMES];
+        writes.iter().any(|write| write.is_some())
     }
 
     /// Adds a record.
@@ -194,21 +193,19 @@ impl Store {
     /// How many records a crash leaves that keeps so many bytes behind the forced ones.
     fn left(&self, keep: u64) -> usize {
         let mut bytes = keep;
-        let mut left = 0;
-        for entry in &self.log {
+        for (i, entry) in self.log.iter().enumerate() {
             let size = match entry {
                 Entry::Committed(name) | Entry::RolledBack(name) => SIZES[*name % NAMES],
                 Entry::Prepared(..) | Entry::Direct(_) => 0,
             };
-            if left >= self.forced {
+            if i >= self.forced {
                 if bytes < size {
-                    return left;
+                    return i;
                 }
                 bytes -= size;
             }
-            left += 1;
         }
-        left
+        self.log.len()
     }
 
     /// Replays a record; the promised branches stand in their order.
@@ -244,8 +241,9 @@ impl Store {
         self.writes = [NOTHING; NAMES];
         self.locks.clear();
         for i in 0..self.log.len() {
-            let entry = self.log[i];
-            self.replay(entry, &mut promised)?;
+            if let Some(entry) = self.log.get(i).copied() {
+                self.replay(entry, &mut promised)?;
+            }
         }
         for name in &promised {
             for key in 0..KEYS {
