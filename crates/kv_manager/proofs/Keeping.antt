@@ -1,11 +1,10 @@
 -- What keeps the data those of the log.
-use Rattle.std.proofs.Common.{◌≡◌, ℕ, Bool, true, false, List, Option, Some, None, Result, Ok, Err, refl, sym, ap, subst, ◌∙◌}
-use Rattle.std.specs.Prelude.{IfOk, IfErr, OnOk, OnErr}
+use Rattle.std.proofs.Common.{◌≡◌, ℕ, Bool, true, false, List, Option, Result, Ok, Err, refl, sym, ap, subst, ◌∙◌}
+use Rattle.std.specs.Prelude.{IfOk, IfErr, IsErrAnd}
 use Rattle.xa_tables.specs.declared.states.BranchState.{BranchState}
 use Rattle.xa_tables.specs.declared.states.BranchState.TheVariants.{S0, S1, S2, S3, S4, S5}
 use Rattle.xa_xid.specs.declared.xid.Xid.{Xid}
 use Rattle.xa_states.specs.declared.states.States.{States}
-use Rattle.xa_states.specs.Answers.{Same}
 use Rattle.xa_assoc.proofs.Sound.{same_is}
 use Rattle.xa_branch.specs.Names.{same}
 use Rattle.xa_manager.specs.declared.errors.WorkError.{WorkError}
@@ -14,12 +13,12 @@ use Rattle.tree_model.specs.Store.{Data}
 use Rattle.kv_store.specs.Versions.{SameData, VersionTable, value_at}
 use Rattle.kv_replay.specs.Folds.{AreData}
 use Rattle.kv_writes.specs.Writes.{writes_of}
-use Rattle.kv_core.specs.Stores.{KeySight, MovesTables, SameStore, state_of}
+use Rattle.kv_core.specs.Stores.{KeySight, SameStore, state_of}
 use Rattle.kv_core.specs.Ends.{SameButData}
 use Rattle.kv_core.specs.Works.{IsRefused, Writes}
 use Rattle.kv_core.proofs.Moves.{Keeps, same_keeps}
 use Rattle.kv_core.proofs.Working.{works_apart}
-use Rattle.kv_manager.specs.Sights.{IsKept, IsLogged, KvSight, logged}
+use Rattle.kv_manager.specs.Sights.{IsKept, KvSight, logged}
 
 -- a branch is prepared
 abbrev pub is_prepared : BranchState → Bool
@@ -114,6 +113,11 @@ either_way P Q X (Err e) ok err made refused = refused e err
 pub map_ok : {A E : Type 0} (P Q : A → Type 0) (r : Result A E) → IfOk r P → ((a : A) → P a → Q a) → IfOk r Q
 map_ok P Q (Ok a) ok each = each a ok
 map_ok P Q (Err e) ok each = tt
+
+-- an error that another was turned into
+pub made_error : {A E : Type 0} (Q : E → Type 0) (e : E) (r : Result A E) → IsErrAnd r (λ f. f ≡ e) → Q e → IfErr r Q
+made_error Q e (Ok a) is q = absurd is
+made_error Q e (Err f) is q = subst Q (sym is) q
 
 -- what was staged is taken back
 pub data_only : (old new : KeySight) → SameButData old new → KeepsPromises old new

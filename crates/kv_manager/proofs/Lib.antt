@@ -1,4 +1,3 @@
 pub mod Keeping
-pub mod Logs
 pub mod Restoring
 pub mod Turns

@@ -1,17 +1,18 @@
 -- What the records of a log leave is tidy, and stands with them.
-use Rattle.std.proofs.Common.{◌≡◌, ℕ, Bool, true, false, not, ◌||◌, cond, List, [], ◌∷◌, ◌++◌, Option, Some, None, map, refl, sym, ap, subst, ◌∙◌, ◌⊎◌, inl, inr, rules}
+use Rattle.std.proofs.Common.{◌≡◌, ◌<◌, ◌+◌, ◌-◌, ◌^◌, arith, ℕ, Bool, true, false, not, ◌||◌, cond, List, [], ◌∷◌, ◌++◌, Option, Some, None, map, refl, sym, ap, subst, ◌∙◌, ◌⊎◌, inl, inr}
+use Rattle.std.proofs.lemmas.List.{append-nil}
 use Rattle.std.specs.Map.{lookup}
-use Rattle.std.specs.Prelude.{is_some, unwrap_or}
+use Rattle.std.proofs.lemmas.Bool.{ltb-true}
+use Rattle.std.specs.Prelude.{is_some, nat_lt, unwrap_or}
 use Rattle.std.specs.List.{AllByRecursion}
 use Rattle.xa_xid.specs.declared.xid.Xid.{Xid}
 use Rattle.xa_tables.specs.declared.states.BranchState.{BranchState}
-use Rattle.xa_tables.specs.declared.states.BranchState.TheVariants.{S0, S3, S5}
+use Rattle.xa_tables.specs.declared.states.BranchState.TheVariants.{S0, S3}
 use Rattle.xa_states.specs.declared.states.States.{States}
 use Rattle.xa_states.specs.Answers.{state_at}
 use Rattle.xa_states.specs.Restored.{Restored, state_left, states_left}
 use Rattle.tree_model.specs.declared.records.Branch.TheVariants.{Foreign}
 use Rattle.tree_model.specs.declared.records.LogRecord.{LogRecord}
-use Rattle.tree_model.specs.declared.records.Write.{Write}
 use Rattle.tree_model.specs.Store.{Data, writes_of as promised_of}
 use Rattle.log_order.specs.declared.seen.Promise.{Promise}
 use Rattle.log_order.specs.Orders.{SeenLog, found, is_open, left_by, names_key, opens, promised, promised_by, same}
@@ -21,15 +22,21 @@ use Rattle.kv_store.specs.Pairs.{keys_rise}
 use Rattle.kv_store.specs.Versions.{VersionTable}
 use Rattle.kv_writes.specs.Writes.{WriteTable, writes_of}
 use Rattle.kv_replay.specs.Folds.{AreData, data_of}
-use Rattle.kv_replay.specs.Replays.{HoldPromises, Leaves, seen_of}
+use Rattle.kv_replay.specs.Replays.{HoldPromises, Leaves}
 use Rattle.kv_replay.specs.declared.fault.ReplayError.{ReplayError}
 use Rattle.kv_replay.specs.declared.fault.ReplayError.TheVariants.{Memory, Malformed, Exhausted}
-use Rattle.kv_manager.specs.declared.restart.RestartError.TheVariants.{Device}
+use Rattle.kv_replay.specs.Replays.{Fails}
 use Rattle.kv_replay.proofs.Lawful.{lawful_of}
-use Rattle.kv_replay.proofs.Lookups.{same_is, same_itself}
-use Rattle.rec_log.specs.Sights.{Restarts, records_of}
-use Rattle.kv_core.specs.Stores.{IsTidy, KeySight, Rebuilt, is_let_go, state_of}
-use Rattle.kv_manager.specs.Restarts.{LeavesStore, error_of, next_boot, opened}
+use Rattle.kv_replay.proofs.Lookups.{same_is}
+use Rattle.tree_model.specs.declared.names.Kind.TheVariants.{Manager}
+use Rattle.log_text.specs.Made.{frame_record}
+use Rattle.core_log.specs.Writes.{Writes}
+use Rattle.rec_log.specs.Sights.{LogSight, LogState, Restarts, left_by as left_by_crash, records_of}
+use Rattle.kv_manager.specs.declared.restart.Ready.{Ready}
+use Rattle.kv_manager.specs.declared.restart.RestartError.{RestartError}
+use Rattle.kv_manager.specs.declared.restart.RestartError.TheVariants.{Device, Exhausted as ExhaustedRestart, Memory as MemoryRestart, Unfit}
+use Rattle.kv_core.specs.Stores.{IsTidy, KeySight, Rebuilt, is_let_go}
+use Rattle.kv_manager.specs.Restarts.{FailsToRestart, IsReady, LeavesStore, NotRebuilt, error_of, next_boot, opened}
 use Rattle.kv_manager.specs.Sights.{IsKept, IsLogged, KvSight, logged}
 use Rattle.kv_manager.proofs.Turns.{data_behind}
 
@@ -135,19 +142,15 @@ tidy_restored s t writes locks versions left promises kept = record {
     none : (x : Xid) → is_let_go (state_at t x) ≡ true → promised s x ≡ []
     none x gone = none_by_state (found s x) (ap is_let_go (sym (restored_state s t x left)) ∙ gone)
 
-append_one : {A : Type 0} (xs : List A) → xs ++ [] ≡ xs
-append_one [] = refl
-append_one (x ∷ xs) = ap (λ ys. x ∷ ys) (append_one xs)
-
 -- a record of a boot changes no data
-pub logged_restarted : (old new : KvSight) (keep : ℕ) (ls : List LogRecord) (boot : ℕ)
-    → new.log.sight.kept.forced ≡ ls ++ opened boot ∷ [] → new.log.sight.kept.unforced ≡ [] → logged new ≡ data_of ls
-logged_restarted old new keep ls boot forced unforced =
-    ap (λ us. data_of (new.log.sight.kept.forced ++ us)) unforced ∙ ap data_of (append_one new.log.sight.kept.forced ∙ forced)
+logged_behind_boot : (s : KvSight) (ls : List LogRecord) (boot : ℕ) → s.log.sight.kept.forced ≡ ls ++ opened boot ∷ []
+    → s.log.sight.kept.unforced ≡ [] → logged s ≡ data_of ls
+logged_behind_boot s ls boot forced unforced =
+    ap (λ us. data_of (s.log.sight.kept.forced ++ us)) unforced ∙ ap data_of (append-nil s.log.sight.kept.forced ∙ forced)
     ∙ data_behind ls (opened boot)
 
 -- a manager that is what the records leave stands with them
-pub logged_left : (s : KvSight) (ls : List LogRecord) → LeavesStore ls s.store s.boot → logged s ≡ data_of ls → IsLogged s
+logged_left : (s : KvSight) (ls : List LogRecord) → LeavesStore ls s.store s.boot → logged s ≡ data_of ls → IsLogged s
 logged_left s ls left is = record {
   are_data = subst (AreData s.store.versions) (sym is) left.stored;
   rise = ap (λ (d : Data). keys_rise d.pairs) is ∙ (lawful_of ls left.seen left.read).tied.rise;
@@ -155,6 +158,50 @@ logged_left s ls left is = record {
       ∙ sym ((lawful_of ls left.seen left.read).tied.tied x (open_by_state (found left.seen x) (sym (restored_state left.seen s.store.tables x left.tables) ∙ here)))
       ∙ ap (λ (d : Data). promised_of (Foreign x) d.promised) (sym is);
 }
+
+-- what the records leave stands with a log of them and of the boot, all of it forced
+kept_left : (s : KvSight) (ls : List LogRecord) → s.log.kind ≡ Manager → LeavesStore ls s.store s.boot
+    → s.log.sight.kept.forced ≡ ls ++ opened s.boot ∷ [] → s.log.sight.kept.unforced ≡ [] → IsKept s
+kept_left s ls kind left forced unforced =
+    record { kind = kind; stands = λ _. logged_left s ls left (logged_behind_boot s ls s.boot forced unforced) }
+
+pub kept_restarted : (old log : LogState) (keep : ℕ) (r : Ready) → old.kind ≡ Manager → IsReady (left_by_crash old.sight keep) r
+    → Restarts old log keep (frame_record r.opened ∷ []) → IsKept (record { store = r.store; log = log; boot = r.boot })
+kept_restarted old log keep r kind ready made =
+    kept_left (record { store = r.store; log = log; boot = r.boot }) (left_by_crash old.sight keep) (made.kind ∙ kind) ready.left
+    (made.forced ∙ ap (λ l. left_by_crash old.sight keep ++ l ∷ []) ready.spells) made.unforced
+
+-- a log that was opened, with the record of the boot behind its own
+pub kept_started : (log mid new : LogState) (r : Ready) → log.kind ≡ Manager → mid.kind ≡ log.kind → mid.sight ≡ log.sight
+    → IsReady (records_of log.sight.kept) r → Writes mid new (frame_record r.opened) true
+    → IsKept (record { store = r.store; log = new; boot = r.boot })
+kept_started log mid new r kind same_kind same ready made =
+    kept_left (record { store = r.store; log = new; boot = r.boot }) (records_of log.sight.kept) (made.kind ∙ same_kind ∙ kind) ready.left
+    (ap (λ (k : LogSight). k.kept.forced) made.sight ∙ ap (λ (k : LogSight). records_of k.kept ++ frame_record r.opened ∷ []) same
+    ∙ ap (λ l. records_of log.sight.kept ++ l ∷ []) ready.spells)
+    (ap (λ (k : LogSight). k.kept.unforced) made.sight)
+
+-- a log that did not restart leaves a manager that stands, or that has failed
+pub kept_unstarted : (s : KvSight) (log : LogState) (keep : ℕ) (l : LogRecord) (e : RestartError) → IsKept s → log.kind ≡ s.log.kind
+    → FailsToRestart s.log log keep l e → IsKept (record s { log = log })
+kept_unstarted s log keep l MemoryRestart kept kind stays = record {
+  kind = kind ∙ kept.kind;
+  stands = λ works. record {
+    are_data = subst (λ (k : LogSight). AreData s.store.versions (data_of (records_of k.kept))) (sym stays) (stands works).are_data;
+    rise = ap (λ (k : LogSight). keys_rise (data_of (records_of k.kept)).pairs) stays ∙ (stands works).rise;
+    promises = λ x here. (stands works).promises x here
+        ∙ ap (λ (k : LogSight). promised_of (Foreign x) (data_of (records_of k.kept)).promised) (sym stays);
+  };
+}
+  where
+    stands : log.sight.failed ≡ false → IsLogged s
+    stands works = kept.stands (ap (λ (k : LogSight). k.failed) (sym stays) ∙ works)
+kept_unstarted s log keep l Device kept kind broke = record {
+  kind = kind ∙ kept.kind;
+  stands = λ works. absurd (let never : true ≡ false = sym broke.failed ∙ works in cc);
+}
+kept_unstarted s log keep l Unfit kept kind never = absurd never
+kept_unstarted s log keep l ExhaustedRestart kept kind never = absurd never
 
 -- what replays and what is rebuilt of it
 pub left_store : (ls : List LogRecord) (last : Option ℕ) (left : List (Xid × Bool)) (versions : VersionTable) (writes : WriteTable)
@@ -170,7 +217,23 @@ left_store ls last left versions writes locks listed s boot leaves is rebuilt ne
   next = ap next_boot (sym leaves.boots) ∙ next;
 }
 
-pub never_device : (e : ReplayError) → error_of e ≡ Device → ⊥
-never_device Memory h = let never : true ≡ false = cc in absurd (cc)
-never_device Malformed h = let never : true ≡ false = cc in absurd (cc)
-never_device Exhausted h = let never : true ≡ false = cc in absurd (cc)
+-- what does not replay is not rebuilt
+pub not_rebuilt : (ls : List LogRecord) (e : ReplayError) → Fails ls e → NotRebuilt ls (error_of e)
+not_rebuilt ls Memory why = tt
+not_rebuilt ls Malformed why = inl why
+not_rebuilt ls Exhausted why = inl why
+
+-- a boot fits a record
+pub boot_fits : (o : Option ℕ) (b : ℕ) → next_boot o ≡ Some b → b < 2 ^ 63
+boot_fits None b h = subst (λ n. n < 2 ^ 63) (one_of h) (omega arith)
+  where
+    one_of : Some 1 ≡ Some b → 1 ≡ b
+    one_of e = cc
+boot_fits (Some a) b h = by_test (nat_lt a (2 ^ 63 - 1)) refl h
+  where
+    by_test : (t : Bool) → nat_lt a (2 ^ 63 - 1) ≡ t → cond t (Some (a + 1)) None ≡ Some b → b < 2 ^ 63
+    by_test true is e =
+        let within : a < 2 ^ 63 - 1 = ltb-true a (2 ^ 63 - 1) is in
+        let next : a + 1 ≡ b = cc in
+        subst (λ n. n < 2 ^ 63) next (omega arith)
+    by_test false is e = absurd (cc)

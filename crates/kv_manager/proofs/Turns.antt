@@ -1,6 +1,6 @@
 -- What a turn makes of the data and of the promises.
-use Rattle.std.proofs.Common.{◌≡◌, ◌≤◌, ◌<◌, ℕ, ◌+◌, Bool, true, false, cond, List, [], ◌∷◌, ◌++◌, length, take, fold, map, Option, Some, None, refl, sym, ap, subst, ◌∙◌, arith, rules}
-use Rattle.std.proofs.lemmas.Grind.{common_steps}
+use Rattle.std.proofs.Common.{◌≡◌, ◌≤◌, ◌<◌, ◌+◌, Bool, true, false, cond, List, [], ◌∷◌, ◌++◌, length, take, append_assoc, fold, map, Some, None, refl, sym, ap, subst, ◌∙◌, arith, rules}
+use Rattle.std.proofs.lemmas.List.{append-nil}
 use Rattle.std.proofs.lemmas.List.Elements.{All-contains, All-from_recursion}
 use Rattle.std.specs.Prelude.{Contains, MatchBool}
 use Rattle.std.specs.List.{All}
@@ -18,18 +18,16 @@ use Rattle.xa_branch.specs.Branches.{is_known}
 use Rattle.xa_assoc.proofs.Sound.{same_is}
 use Rattle.xa_states.specs.Answers.{Takes as TakesRow}
 use Rattle.tree_model.specs.declared.names.Presumption.{Presumption}
-use Rattle.tree_model.specs.declared.records.Branch.{Branch}
 use Rattle.tree_model.specs.declared.records.Branch.TheVariants.{Foreign}
 use Rattle.tree_model.specs.declared.records.LogRecord.{LogRecord}
-use Rattle.tree_model.specs.declared.records.Record.{Record}
 use Rattle.tree_model.specs.declared.records.Write.{Write}
 use Rattle.tree_model.specs.Records.{same_branch, same_xid}
-use Rattle.tree_model.specs.Store.{Data, applied, commits, stored, stored_after, writes_of as promised_of}
+use Rattle.tree_model.specs.Store.{Data, commits, stored, stored_after, writes_of as promised_of}
 use Rattle.log_text.proofs.NameReading.{same_xid_is, same_xid_refl}
 use Rattle.log_sound.proofs.CutNames.{name_again}
-use Rattle.rec_log.specs.Sights.{Breaks, LogSight, LogState, left_by, longer, records_of}
+use Rattle.rec_log.specs.Sights.{Breaks, LogSight, left_by, longer, records_of}
 use Rattle.kv_store.specs.Pairs.{found_in, keys_rise}
-use Rattle.kv_store.specs.Versions.{Applies, Publishes, Stages, VersionTable, written}
+use Rattle.kv_store.specs.Versions.{Applies, VersionTable, written}
 use Rattle.kv_store.proofs.Pairs.{writes_pairs}
 use Rattle.kv_store.proofs.Stages.{applies as applies_staged}
 use Rattle.kv_writes.specs.Writes.{AreWrites, Leaves, writes_of}
@@ -44,7 +42,9 @@ use Rattle.kv_locks.specs.Locks.{Releases}
 use Rattle.kv_manager.specs.Sights.{IsKept, IsLogged, KvSight, SameManager, logged}
 use Rattle.kv_manager.proofs.Keeping.{KeepsPromises, one_data}
 use Rattle.xa_states.proofs.Reactions.{stays}
-use Rattle.kv_manager.specs.Turns.{Fails, HasWrites, IsDueTurn, Logs, Makes, OnlyRoom, Writes, commits as commits_data, wrote}
+use Rattle.core_model.specs.States.{wrote}
+use Rattle.core_log.specs.Writes.{Writes}
+use Rattle.kv_manager.specs.Turns.{Fails, HasWrites, IsDueTurn, Logs, Makes, OnlyRoom, commits as commits_data, with_record}
 
 -- What a turn is.
 
@@ -162,18 +162,10 @@ entry_by_xid Forgot x ws = ap (λ y. entry_of Forgot (Foreign y) ws) (name_again
 abbrev pub after_entry : Data → Entry → XidParts → List Write → Data
 after_entry d e x ws = stored_after d (entry_of e (Foreign x) ws)
 
-append_twice : {X : Type 0} (xs ys zs : List X) → (xs ++ ys) ++ zs ≡ xs ++ (ys ++ zs)
-append_twice [] ys zs = refl
-append_twice (x ∷ xs) ys zs = ap (λ us. x ∷ us) (append_twice xs ys zs)
-
-append_none : {A : Type 0} (xs : List A) → xs ++ [] ≡ xs
-append_none [] = refl
-append_none (x ∷ xs) = ap (λ ys. x ∷ ys) (append_none xs)
-
 wrote_records : (s : LogSight) (l : LogRecord) (is_forced : Bool)
-    → records_of (wrote s l is_forced).kept ≡ records_of s.kept ++ l ∷ []
-wrote_records s l true = append_none (records_of s.kept ++ l ∷ [])
-wrote_records s l false = sym (append_twice s.kept.forced s.kept.unforced (l ∷ []))
+    → records_of (with_record s l is_forced).kept ≡ records_of s.kept ++ l ∷ []
+wrote_records s l true = append-nil (records_of s.kept ++ l ∷ [])
+wrote_records s l false = sym (append_assoc s.kept.forced s.kept.unforced (l ∷ []))
 
 pub logged_behind : (s s' : KvSight) (e : Entry) (x : Xid) (ws : List Write) (is_forced : Bool)
     → Writes s.log s'.log (entry_record e x ws) is_forced → logged s' ≡ after_entry (logged s) e x ws
@@ -399,8 +391,8 @@ made_committed old s s' x turn e room is makes done made boot = record {
   versions = subst (λ b. MatchBool b (Applies old.store.versions s'.store.versions (writes_of old.store.writes x)) (s'.store.versions ≡ old.store.versions))
       (sym (ap commits_data is ∙ makes)) commits_old.versions;
   log = subst (λ o. Logs old s' x turn.is_forced o) (sym is)
-      (made.sight ∙ ap (λ (k : LogSight). wrote k (entry_record e x (writes_of s.store.writes x)) turn.is_forced) room.sight
-      ∙ ap (λ (v : KeySight). wrote old.log.sight (entry_record e x (writes_of v.writes x)) turn.is_forced) room.store);
+      (made.sight ∙ ap (λ (k : LogSight). with_record k (entry_record e x (writes_of s.store.writes x)) turn.is_forced) room.sight
+      ∙ ap (λ (v : KeySight). with_record old.log.sight (entry_record e x (writes_of v.writes x)) turn.is_forced) room.store);
   boot = boot ∙ room.boot;
 }
   where

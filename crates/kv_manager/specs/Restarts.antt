@@ -1,26 +1,33 @@
 -- A key store behind a restart: what the records say that its log keeps.
-use Rattle.std.specs.Prelude.{◌≡◌, ◌+◌, ◌-◌, ◌^◌, ℕ, Bool, true, false, nat_lt, if◌then◌else◌, List, [], ◌∷◌, Option, Some, None}
+use Rattle.std.specs.Prelude.{◌≡◌, ◌+◌, ◌-◌, ◌^◌, ◌⊎◌, ⊤, ℕ, false, nat_lt, if◌then◌else◌, List, [], ◌∷◌, ◌++◌, Option, Some, None}
+use Rattle.xa_codes.specs.declared.code.Code.{Code}
 use Rattle.xa_xid.specs.declared.xid.Xid.{Xid}
-use Rattle.xa_states.specs.Restored.{Restored}
+use Rattle.xa_branch.specs.Branches.{in_doubt}
+use Rattle.xa_states.specs.Restored.{Restored, restore_refusal}
 use Rattle.tree_model.specs.declared.records.LogRecord.{LogRecord}
 use Rattle.tree_model.specs.declared.records.Record.TheVariants.{Opened}
 use Rattle.log_order.specs.Orders.{SeenLog, left_by as in_doubt_by, promised}
-use Rattle.rec_log.specs.Sights.{LogState, RestartBreaks, Restarts, left_by}
+use Rattle.tree_model.specs.declared.names.Kind.TheVariants.{Manager}
+use Rattle.log_text.specs.Made.{frame_record}
+use Rattle.rec_log.specs.Openings.{NotOpened, Opens}
+use Rattle.rec_log.specs.Sights.{Breaks, IsRecord, LogState, RestartBreaks, Restarts, left_by, log_state, records_of}
 use Rattle.kv_writes.specs.Writes.{writes_of}
 use Rattle.kv_replay.specs.declared.fault.ReplayError.{ReplayError}
 use Rattle.kv_replay.specs.declared.fault.ReplayError.TheVariants as replays
 use Rattle.kv_replay.specs.Folds.{AreData, data_of}
-use Rattle.kv_replay.specs.Replays.{HoldPromises, seen_of}
+use Rattle.kv_replay.specs.Replays.{AreMalformed, CountTooFar, HoldPromises, seen_of}
 use Rattle.kv_core.specs.Stores.{KeySight}
 use Rattle.kv_manager.specs.declared.restart.RestartError.{RestartError}
-use Rattle.kv_manager.specs.declared.restart.RestartError.TheVariants.{Damaged, Device, Exhausted, Memory}
-use Rattle.xa_branch.specs.Branches.{in_doubt}
+use Rattle.kv_manager.specs.declared.restart.RestartError.TheVariants.{Device, Exhausted, Memory, Unfit}
+use Rattle.kv_manager.specs.declared.restart.Ready.{Ready}
+use Rattle.kv_manager.specs.declared.manager.RestoreError.{RestoreError}
+use Rattle.kv_manager.specs.declared.manager.RestoreError.TheVariants.{Log, Records}
 use Rattle.kv_manager.specs.Sights.{KvSight, SameManager}
 
 -- why records leave no manager
 abbrev pub error_of : ReplayError → RestartError
 error_of replays.Memory = Memory
-error_of replays.Malformed = Damaged
+error_of replays.Malformed = Unfit
 error_of replays.Exhausted = Exhausted
 
 -- the boot behind the last one, while it fits a record
@@ -32,8 +39,9 @@ next_boot (Some b) = if nat_lt b (2 ^ 63 - 1) then Some (b + 1) else None
 abbrev pub opened : ℕ → LogRecord
 opened b = record { entry = Opened b; parent = None }
 
--- what the records of a log leave: a manager that is not open, with the branches in doubt in the order of their promises,
--- the data that the records make, and of the branches that are prepared their writes and their locks; and the next boot
+-- what the records of a log leave: a manager that is not open, with the branches in doubt in the order of
+-- their promises, the data that the records make, and of the branches that are prepared their writes and
+-- their locks; and the next boot
 pub record LeavesStore (ls : List LogRecord) (s : KeySight) (boot : ℕ) : Type 0 where
   pub seen : SeenLog
   pub read : seen_of ls ≡ Some seen
@@ -43,31 +51,85 @@ pub record LeavesStore (ls : List LogRecord) (s : KeySight) (boot : ℕ) : Type 
   pub locks_held : HoldPromises seen s.locks
   pub next : next_boot seen.boot ≡ Some boot
 
--- a log restarted, after a crash that kept so many unforced bytes: the store is what the records that are left leave, and
--- the log has them and the next boot, all forced
-pub record LogLeaves (old new : LogState) (keep : ℕ) (s : KeySight) (boot : ℕ) : Type 0 where
-  pub left : LeavesStore (left_by old.sight keep) s boot
-  pub log : Restarts old new keep (opened boot ∷ [])
+-- more branches are in doubt than a manager holds, or one of them twice
+pub record AreTooMany (ls : List LogRecord) : Type 0 where
+  pub seen : SeenLog
+  pub read : seen_of ls ≡ Some seen
+  pub refusal : Code
+  pub refused : restore_refusal (in_doubt_by seen) ≡ Some refusal
 
--- a log did not restart: nothing changed, or the device failed
-abbrev pub LogStays : LogState → LogState → ℕ → RestartError → Type 0
-LogStays old new keep Device = (boot : ℕ) × RestartBreaks old new keep (opened boot ∷ [])
-LogStays old new keep e = (new.sight ≡ old.sight) × (new.kind ≡ old.kind)
+-- no boot comes behind the last one
+pub record AreLastBoots (ls : List LogRecord) : Type 0 where
+  pub seen : SeenLog
+  pub read : seen_of ls ≡ Some seen
+  pub spent : next_boot seen.boot ≡ None
 
--- STUB: a manager restarted
+-- why records leave no manager; want of memory may come at any time
+abbrev pub NotRebuilt : List LogRecord → RestartError → Type 0
+NotRebuilt ls Memory = ⊤
+NotRebuilt ls Device = ⊥
+NotRebuilt ls Unfit = AreMalformed ls ⊎ AreTooMany ls
+NotRebuilt ls Exhausted = CountTooFar ls ⊎ AreLastBoots ls
+
+-- all is made that a manager restarts as where these records are left: with the branches in doubt, and the
+-- frame of its boot
+pub record IsReady (ls : List LogRecord) (r : Ready) : Type 0 where
+  pub left : LeavesStore ls r.store r.boot
+  pub listed : r.in_doubt.items ≡ in_doubt r.store.tables.branches.branches
+  pub spells : frame_record r.opened ≡ opened r.boot
+  pub sound : IsRecord Manager (frame_record r.opened)
+
+-- Restart.
+
+-- a manager restarted, after a crash that kept so many unforced bytes: the store is what the records that are
+-- left leave, the log has these and the next boot, all forced, and these branches are in doubt
 pub record Restarted (old new : KvSight) (keep : ℕ) (given : List Xid) : Type 0 where
   pub left : LeavesStore (left_by old.log.sight keep) new.store new.boot
   pub log : Restarts old.log new.log keep (opened new.boot ∷ [])
   pub gives : given ≡ in_doubt new.store.tables.branches.branches
 
--- STUB: a manager did not restart
+-- a log did not restart: nothing changed, or the device failed
+abbrev pub FailsToRestart : LogState → LogState → ℕ → LogRecord → RestartError → Type 0
+FailsToRestart old new keep l Memory = new.sight ≡ old.sight
+FailsToRestart old new keep l Device = RestartBreaks old new keep (l ∷ [])
+FailsToRestart old new keep l e = ⊥
+
+-- a manager did not restart: nothing changed, or the device failed and it has failed
 abbrev pub NotRestarted : KvSight → KvSight → ℕ → RestartError → Type 0
 NotRestarted old new keep Device = (boot : ℕ) × RestartBreaks old.log new.log keep (opened boot ∷ [])
-NotRestarted old new keep e = SameManager old new
+NotRestarted old new keep e = NotRebuilt (left_by old.log.sight keep) e × SameManager old new
 
--- STUB: a manager over a store without bytes
-pub record IsFresh (m : KvSight) : Type 0 where
-  pub store : LeavesStore [] m.store m.boot
-  pub forced : m.log.sight.kept.forced ≡ opened m.boot ∷ []
-  pub unforced : m.log.sight.kept.unforced ≡ []
-  pub works : m.log.sight.failed ≡ false
+-- Restoring from a store.
+
+-- a manager over a log that was opened: the store is what the log's records leave, and the log has these and
+-- the next boot, all forced
+pub record StartsOver (log : LogState) (s : KvSight) : Type 0 where
+  pub left : LeavesStore (records_of log.sight.kept) s.store s.boot
+  pub forced : s.log.sight.kept.forced ≡ records_of log.sight.kept ++ opened s.boot ∷ []
+  pub unforced : s.log.sight.kept.unforced ≡ []
+  pub works : s.log.sight.failed ≡ false
+  pub failures : s.log.sight.failures ≡ log.sight.failures
+
+-- a manager over the log of these bytes
+pub record RestoredFrom (bytes : List ℕ) (forced failures : ℕ) (s : KvSight) : Type 0 where
+  pub log : LogState
+  pub opens : Opens Manager bytes forced failures log
+  pub starts : StartsOver log s
+
+-- the log was opened, and its records leave no manager; or the device failed under the record of the boot
+abbrev pub LeavesNone : LogState → LogState → RestartError → Type 0
+LeavesNone old new Device = (boot : ℕ) × Breaks old new (opened boot ∷ [])
+LeavesNone old new e = NotRebuilt (records_of old.sight.kept) e × (new.sight ≡ old.sight)
+
+-- a store whose log was opened is handed back
+pub record HandsBack {S : Type 0} (bytes : S → List ℕ) (forced failures : S → ℕ) (old new : S) (e : RestartError) : Type 0 where
+  pub opened_as : LogState
+  pub opens : Opens Manager (bytes old) (forced old) (failures old) opened_as
+  pub left_as : LogState
+  pub holds : left_as.sight ≡ (log_state Manager (bytes new) (forced new) (failures new) 0 left_as.sight.failed).sight
+  pub why : LeavesNone opened_as left_as e
+
+-- why no manager is restored, and what store is handed back
+abbrev pub NotRestored : {S : Type 0} → (S → List ℕ) → (S → ℕ) → (S → ℕ) → S → S → RestoreError → Type 0
+NotRestored bytes forced failures old new (Log e) = NotOpened bytes forced failures Manager old new e
+NotRestored bytes forced failures old new (Records e) = HandsBack bytes forced failures old new e

@@ -23,7 +23,8 @@ pub record KvSight : Type 0 where
 abbrev pub logged : KvSight → Data
 logged s = data_of (records_of s.log.sight.kept)
 
--- the data are those that the log's records make, their keys rising, and each prepared branch has the writes that its record promised
+-- the data are those that the log's records make, their keys rising, and each prepared branch has the writes
+-- that its record promised
 pub record IsLogged (s : KvSight) : Type 0 where
   pub are_data : AreData s.store.versions (logged s)
   pub rise : keys_rise (logged s).pairs ≡ true

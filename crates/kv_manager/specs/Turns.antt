@@ -1,16 +1,16 @@
 -- The calls on a key store with a log.
-use Rattle.std.specs.Prelude.{◌≡◌, ⊤, ℕ, Bool, true, false, List, [], ◌∷◌, ◌++◌, Option, Some, None, MatchBool}
+use Rattle.std.specs.Prelude.{◌≡◌, ⊤, ℕ, Bool, true, false, List, [], ◌∷◌, Option, Some, None, MatchBool}
 use Rattle.xa_codes.specs.declared.code.Code.{Code}
 use Rattle.xa_codes.specs.declared.code.Code.TheVariants as code
 use Rattle.xa_tables.specs.declared.call.Call.{Call}
 use Rattle.xa_tables.specs.declared.call.Verb.{Verb}
 use Rattle.xa_xid.specs.declared.xid.Xid.{Xid}
-use Rattle.xa_states.specs.declared.states.States.{States}
 use Rattle.xa_branch.specs.Branches.{is_known}
 use Rattle.xa_states.specs.Answers.{Takes as TakesRow}
 use Rattle.tree_model.specs.declared.records.LogRecord.{LogRecord}
 use Rattle.tree_model.specs.declared.records.Write.{Write}
-use Rattle.rec_log.specs.Sights.{Breaks, LogSight, LogState, records_of}
+use Rattle.rec_log.specs.Sights.{Breaks, LogSight}
+use Rattle.core_model.specs.States.{wrote}
 use Rattle.kv_store.specs.Versions.{Applies}
 use Rattle.kv_turns.specs.declared.entries.Entry.{Entry}
 use Rattle.kv_turns.specs.declared.entries.Entry.TheVariants.{Prepared, Direct}
@@ -19,32 +19,14 @@ use Rattle.kv_turns.specs.Turns.{applies, entry_record}
 use Rattle.kv_writes.specs.Writes.{writes_of}
 use Rattle.xa_manager.specs.declared.errors.WorkError.{WorkError}
 use Rattle.xa_manager.specs.declared.errors.WorkError.TheVariants.{RmFail}
-use Rattle.kv_core.specs.Stores.{KeySight, MovesTables}
+use Rattle.kv_core.specs.Stores.{KeySight, has_numbers}
 use Rattle.kv_core.specs.Works.{IsRefused}
 use Rattle.kv_core.specs.Ends.{IsDue, IsListed, IsOff, LetsGo, turn_for, wrote_some}
 use Rattle.kv_manager.specs.Sights.{KvSight, SameManager}
 
--- One record in a log.
-
--- a log with one record more, not forced; or all of them forced
-abbrev pub wrote : LogSight → LogRecord → Bool → LogSight
-wrote s l false = record {
-  kept = record { forced = s.kept.forced; unforced = s.kept.unforced ++ l ∷ [] };
-  behind = s.behind;
-  failed = false;
-  failures = s.failures;
-}
-wrote s l true = record {
-  kept = record { forced = records_of s.kept ++ l ∷ []; unforced = [] };
-  behind = 0;
-  failed = false;
-  failures = s.failures;
-}
-
--- a record was written into a log
-pub record Writes (old new : LogState) (l : LogRecord) (is_forced : Bool) : Type 0 where
-  pub sight : new.sight ≡ wrote old.sight l is_forced
-  pub kind : new.kind ≡ old.kind
+-- a log with one record more, forced with all the others or not
+abbrev pub with_record : LogSight → LogRecord → Bool → LogSight
+with_record s l is_forced = wrote s (record { entry = l.entry; is_forced = is_forced } ∷ []) (l ∷ [])
 
 -- What a turn makes of a manager.
 
@@ -52,7 +34,7 @@ pub record Writes (old new : LogState) (l : LogRecord) (is_forced : Bool) : Type
 abbrev pub Logs : KvSight → KvSight → Xid → Bool → Option Entry → Type 0
 Logs old new x is_forced None = new.log.sight ≡ old.log.sight
 Logs old new x is_forced (Some e) =
-    new.log.sight ≡ wrote old.log.sight (entry_record e x (writes_of old.store.writes x)) is_forced
+    new.log.sight ≡ with_record old.log.sight (entry_record e x (writes_of old.store.writes x)) is_forced
 
 -- a turn that commits makes the branch's writes data
 abbrev pub commits : Option Entry → Bool
@@ -78,13 +60,16 @@ pub record Fails (old new : KvSight) (x : Xid) (turn : Turn) : Type 0 where
   pub locks : new.store.locks ≡ old.store.locks
   pub boot : new.boot ≡ old.boot
 
--- what a turn that is due makes of a manager: the branch takes it, or the device fails
+-- what a turn that is due makes of a manager: the branch takes it, or the device fails; or it is a commit
+-- that can no longer be counted, which is refused
 pub data Takes (old new : KvSight) (x : Xid) (turn : Turn) (answer : Code) : Type 0 where
   Made : answer ≡ turn.code → Makes old new x turn → Takes old new x turn answer
   Broke : answer ≡ code.RmFail → Fails old new x turn → Takes old new x turn answer
+  Spent : answer ≡ code.RmErr → commits turn.entry ≡ true → has_numbers old.store ≡ false → SameManager old new
+      → Takes old new x turn answer
 
--- what a prepare, commit, rollback or forget answers and does: a failed manager refuses it, then the first check, and
--- else its turn is taken
+-- what a prepare, commit, rollback or forget answers and does: a failed manager refuses it, then the first
+-- check, and else its turn is taken
 pub data Finishes (old new : KvSight) (v : Verb) (x : Xid) (flags : ℕ) (answer : Code) : Type 0 where
   Failed : old.log.sight.failed ≡ true → answer ≡ code.RmFail → SameManager old new → Finishes old new v x flags answer
   Refused : old.log.sight.failed ≡ false → IsOff old.store v x flags answer → SameManager old new

@@ -1,8 +1,8 @@
 //! A key store with a log, as an XA manager.
 
-ghost use Rattle.std.specs.Prelude.{[], ◌≡◌, ◌<◌, ◌≤◌, ◌+◌, ◌^◌, length, false, true, IfOk, IfErr, OnOk, OnErr, Err, Some, None};
+ghost use Rattle.std.specs.Prelude.{◌≡◌, ◌<◌, ◌≤◌, ◌+◌, ◌^◌, ◌∷◌, [], length, false, true, IfOk, IfErr, OnOk, OnErr, Err, Some, None};
 ghost use Rattle.kv_locks.specs.declared.holders.Mode.TheVariants as mode;
-ghost use Rattle.kv_core.specs.Stores.{MovesTables, has_numbers, state_of};
+ghost use Rattle.kv_core.specs.Stores.{MovesTables, state_of};
 ghost use Rattle.kv_core.specs.Works.{Reads, Writes, work_refusal};
 ghost use Rattle.kv_core.specs.Ends.{IsDue};
 ghost use Rattle.xa_states.specs.Answers.{Answers, Closes, Opens, Recovers, Wanted, map_ok};
@@ -10,27 +10,40 @@ ghost use Rattle.xa_states.specs.Ready.{is_work_verb};
 ghost use Rattle.kv_manager.specs.Sights.{IsLogged, SameManager};
 ghost use Rattle.log_text.specs.Made.{frame_record};
 ghost use Rattle.log_text.specs.Payloads.{record_text};
-ghost use Rattle.rec_log.specs.Sights.{IsRecord};
+ghost use Rattle.rec_log.specs.Sights.{IsRecord, Restarts, left_by, records_of};
 ghost use Rattle.tree_model.specs.declared.names.Kind.TheVariants as kind;
 ghost use Rattle.kv_writes.specs.Writes.{writes_of};
 ghost use Rattle.kv_turns.specs.Turns.{applies, entry_record};
-ghost use Rattle.kv_manager.specs.Restarts.{IsFresh, NotRestarted, Restarted};
+ghost use Rattle.kv_manager.specs.Restarts.{FailsToRestart, IsReady, LeavesNone, NotRebuilt, NotRestarted, NotRestored, Restarted, RestoredFrom, StartsOver};
 ghost use Rattle.kv_manager.specs.Turns.{Calls, Finishes, HasWrites, IsDueTurn, OnlyRoom, Refuses, Takes};
 
-use crate::log::write;
-use crate::restart::RestartError;
+use crate::restart::{Ready, RestartError, ready_for};
+use core_log::write;
 use kv_core::KeyStore;
 use kv_turns::{Entry, Turn};
 use log_store::LogStore;
 use log_text::Frame;
-use rec_log::RecLog;
+use rec_log::{LogError, OpenError, RecLog};
 use std::alloc::{AllocError, Global};
 use std::marker::Model;
-use tree_model::Bytes;
+use std::{mem, slice};
+use thiserror::Error;
+use tree_model::{Bytes, Kind};
 use xa_codes::{Code, Flags};
 use xa_manager::WorkError;
 use xa_tables::{BranchState, Call, Verb};
 use xa_xid::Xid;
+
+/// Why no manager is restored from a store.
+#[derive(Clone, Copy, Debug, PartialEq, Eq, Error)]
+pub enum RestoreError {
+    /// The bytes are no log, or it could not be opened.
+    #[error("the log does not open: {0}")]
+    Log(OpenError),
+    /// The log's records leave no manager, or the record of the boot could not be written.
+    #[error("the log leaves no manager: {0}")]
+    Records(RestartError),
+}
 
 /// A key store with a log, as an XA manager.
 #[derive(Drop)]
@@ -51,6 +64,39 @@ impl<L: LogStore> Model for KvManager<L> {
     ghost invariant = { λ m. IsKept (record { store = m.store; log = m.log; boot = m.boot }) };
 }
 
+/// Restarts a log, with the record of a boot behind what is left.
+fn restart_log<L: LogStore>(
+    log: &mut RecLog<L>,
+    keep: usize,
+    opened: &Frame,
+    alloc: Global,
+) -> Result<(), RestartError>
+    requires { IsRecord log.old.kind (frame_record opened.now) }
+    ensures kind { log.new.kind ≡ log.old.kind }
+    ensures ok { OnOk result (Restarts log.old log.new keep (frame_record opened.now ∷ [])) }
+    ensures err { IfErr result (λ e. FailsToRestart log.old log.new keep (frame_record opened.now) e) }
+{
+    match log.restart(keep, slice::from_ref(opened), alloc) {
+        Ok(()) => Ok(()),
+        Err(LogError::Memory) => Err(RestartError::Memory),
+        Err(LogError::Device) => Err(RestartError::Device),
+    }
+}
+
+/// What a manager over a log that was opened starts as, with room in the log for the record of its boot. The
+/// errors are those of `rebuilt`.
+fn ready_over<L: LogStore>(log: &mut RecLog<L>, alloc: Global) -> Result<Ready, RestartError>
+    ensures ok { IfOk result (IsReady (records_of log.old.sight.kept)) }
+    ensures room { IfOk result (λ ready. length (record_text (frame_record ready.opened)) ≤ log.new.room) }
+    ensures err { IfErr result (NotRebuilt (records_of log.old.sight.kept)) }
+    ensures stays { (log.new.sight ≡ log.old.sight) × (log.new.kind ≡ log.old.kind) }
+{
+    let records = log.records(alloc)?;
+    let ready = ready_for(records, alloc)?;
+    log.reserve(ready.opened.bytes().len())?;
+    Ok(ready)
+}
+
 impl<L: LogStore> KvManager<L> {
     /// How often the manager opened.
     pub fn boot(&self) -> u64
@@ -66,11 +112,13 @@ impl<L: LogStore> KvManager<L> {
         self.store.state(xid)
     }
 
-    /// Reads a key for a thread's branch, which holds it from then on, at least shared. RmFail, NotAssociated,
-    /// RollbackOnly, TooLong, Locked, in this order. A refusal changes nothing.
+    /// Reads a key for a thread's branch, which holds it from then on, at least shared. RmFail,
+    /// NotAssociated, RollbackOnly, TooLong, Locked, in this order. A refusal changes nothing.
     pub fn get(&mut self, thread: u32, key: &[u8]) -> Result<Option<Bytes>, WorkError>
-        ensures ok { IfOk result (λ found. Calls self.old self.new ⊥ (λ before behind. Reads before behind thread key.now found)) }
-        ensures err { IfErr result (λ e. Refuses self.old self.new (work_refusal self.old.store thread key.now None mode.Shared) e) }
+        ensures ok { IfOk result (λ found. Calls self.old self.new ⊥
+            (λ before behind. Reads before behind thread key.now found)) }
+        ensures err { IfErr result (λ e. Refuses self.old self.new
+            (work_refusal self.old.store thread key.now None mode.Shared) e) }
     {
         if self.log.failed() {
             return Err(WorkError::RmFail);
@@ -92,8 +140,10 @@ impl<L: LogStore> KvManager<L> {
     /// Writes a value at a key for a thread's branch. RmFail, NotAssociated, RollbackOnly, TooLong, Locked,
     /// TooManyWrites, in this order. A refusal changes nothing.
     pub fn put(&mut self, thread: u32, key: &[u8], value: &[u8]) -> Result<(), WorkError>
-        ensures ok { OnOk result (Calls self.old self.new ⊥ (λ before behind. Writes before behind thread key.now (Some value.now))) }
-        ensures err { IfErr result (λ e. Refuses self.old self.new (work_refusal self.old.store thread key.now (Some value.now) mode.Exclusive) e) }
+        ensures ok { OnOk result (Calls self.old self.new ⊥
+            (λ before behind. Writes before behind thread key.now (Some value.now))) }
+        ensures err { IfErr result (λ e. Refuses self.old self.new
+            (work_refusal self.old.store thread key.now (Some value.now) mode.Exclusive) e) }
     {
         if self.log.failed() {
             return Err(WorkError::RmFail);
@@ -103,8 +153,10 @@ impl<L: LogStore> KvManager<L> {
 
     /// Deletes a key for a thread's branch, with the refusals of `put`.
     pub fn delete(&mut self, thread: u32, key: &[u8]) -> Result<(), WorkError>
-        ensures ok { OnOk result (Calls self.old self.new ⊥ (λ before behind. Writes before behind thread key.now None)) }
-        ensures err { IfErr result (λ e. Refuses self.old self.new (work_refusal self.old.store thread key.now None mode.Exclusive) e) }
+        ensures ok { OnOk result (Calls self.old self.new ⊥
+            (λ before behind. Writes before behind thread key.now None)) }
+        ensures err { IfErr result (λ e. Refuses self.old self.new
+            (work_refusal self.old.store thread key.now None mode.Exclusive) e) }
     {
         if self.log.failed() {
             return Err(WorkError::RmFail);
@@ -132,7 +184,8 @@ impl<L: LogStore> KvManager<L> {
         flags: Flags,
     ) -> Result<Code, AllocError>
         requires { is_work_verb verb ≡ true }
-        ensures answer { IfOk result (λ answer. (wanted : Wanted) → Calls self.old self.new (answer ≡ Code.RmFail)
+        ensures answer { IfOk result (λ answer. (wanted : Wanted)
+            → Calls self.old self.new (answer ≡ Code.RmFail)
             (λ before behind. MovesTables before behind (λ old new. Answers wanted old new verb thread xid.now flags.0 answer))) }
         ensures err { OnErr result (SameManager self.old self.new) }
     {
@@ -162,7 +215,8 @@ impl<L: LogStore> KvManager<L> {
     /// The record of a branch, with room for it in the log: all the memory that the log needs.
     fn frame(&mut self, xid: &Xid, entry: Entry) -> Result<Frame, AllocError>
         requires { HasWrites entry (writes_of self.old.store.writes xid.now) }
-        ensures record { IfOk result (λ frame. frame_record frame ≡ entry_record entry xid.now (writes_of self.old.store.writes xid.now)) }
+        ensures record { IfOk result (λ frame. frame_record frame ≡ entry_record entry xid.now
+            (writes_of self.old.store.writes xid.now)) }
         ensures room { IfOk result (λ frame. length (record_text (frame_record frame)) ≤ self.new.log.room) }
         ensures sound { IfOk result (λ frame. IsRecord kind.Manager (frame_record frame)) }
         ensures stays { OnlyRoom self.old self.new }
@@ -196,8 +250,8 @@ impl<L: LogStore> KvManager<L> {
         }
     }
 
-    /// A branch takes a turn that makes its writes data. They are staged before the record is written, and published
-    /// behind it.
+    /// A branch takes a turn that makes its writes data. They are staged before the record is written, and
+    /// published behind it.
     fn take_committed(
         &mut self,
         xid: &Xid,
@@ -227,7 +281,6 @@ impl<L: LogStore> KvManager<L> {
     /// A branch takes the turn of a call that no check refuses.
     fn take(&mut self, xid: &Xid, call: Call, turn: Turn) -> Result<Code, AllocError>
         requires due { IsDueTurn self.old xid.now call turn }
-        requires fits { self.old.store.versions.count + 1 < 2 ^ 63 }
         ensures answer { IfOk result (Takes self.old self.new xid.now turn) }
         ensures err { OnErr result (SameManager self.old self.new) }
     {
@@ -236,15 +289,15 @@ impl<L: LogStore> KvManager<L> {
                 self.store.finish(xid, call, turn);
                 Ok(turn.code)
             }
-            Some(entry) if entry.applies() => self.take_committed(xid, call, turn, entry),
-            Some(entry) => self.take_noted(xid, call, turn, entry),
+            Some(entry) if !entry.applies() => self.take_noted(xid, call, turn, entry),
+            Some(_) if !self.store.has_numbers() => Ok(Code::RmErr),
+            Some(entry) => self.take_committed(xid, call, turn, entry),
         }
     }
 
     /// A prepare, commit, rollback or forget.
     fn finish(&mut self, verb: Verb, xid: &Xid, flags: Flags) -> Result<Code, AllocError>
-        requires verb { is_work_verb verb ≡ false }
-        requires fits { self.old.store.versions.count + 1 < 2 ^ 63 }
+        requires { is_work_verb verb ≡ false }
         ensures answer { IfOk result (Finishes self.old self.new verb xid.now flags.0) }
         ensures err { OnErr result (SameManager self.old self.new) }
     {
@@ -257,22 +310,12 @@ impl<L: LogStore> KvManager<L> {
         }
     }
 
-    /// Whether one commit more can be counted: fewer than 2^63 - 1 were made.
-    pub fn has_numbers(&self) -> bool
-        ensures { result ≡ has_numbers self.now.store }
-    {
-        self.store.has_numbers()
-    }
-
-    /// A branch promises, with what it has written; one that wrote nothing is ended. RmFail: the manager has failed, or
-    /// its device fails now. The thread is not looked at.
+    /// A branch promises, with what it has written; one that wrote nothing is ended. RmFail: the manager has
+    /// failed, or its device fails now. The thread is not looked at.
     pub fn prepare(&mut self, _thread: u32, xid: &Xid, flags: Flags) -> Result<Code, AllocError>
         ensures answer { IfOk result (Finishes self.old self.new Verb.Prepare xid.now flags.0) }
         ensures err { OnErr result (SameManager self.old self.new) }
     {
-        if !self.has_numbers() {
-            return Err(AllocError);
-        }
         self.finish(Verb::Prepare, xid, flags)
     }
 
@@ -281,9 +324,6 @@ impl<L: LogStore> KvManager<L> {
         ensures answer { IfOk result (Finishes self.old self.new Verb.Commit xid.now flags.0) }
         ensures err { OnErr result (SameManager self.old self.new) }
     {
-        if !self.has_numbers() {
-            return Err(AllocError);
-        }
         self.finish(Verb::Commit, xid, flags)
     }
 
@@ -292,9 +332,6 @@ impl<L: LogStore> KvManager<L> {
         ensures answer { IfOk result (Finishes self.old self.new Verb.Rollback xid.now flags.0) }
         ensures err { OnErr result (SameManager self.old self.new) }
     {
-        if !self.has_numbers() {
-            return Err(AllocError);
-        }
         self.finish(Verb::Rollback, xid, flags)
     }
 
@@ -303,15 +340,13 @@ impl<L: LogStore> KvManager<L> {
         ensures answer { IfOk result (Finishes self.old self.new Verb.Forget xid.now flags.0) }
         ensures err { OnErr result (SameManager self.old self.new) }
     {
-        if !self.has_numbers() {
-            return Err(AllocError);
-        }
         self.finish(Verb::Forget, xid, flags)
     }
 
     /// A thread begins work in a branch, or takes it up again. RmFail: the manager has failed.
     pub fn start(&mut self, thread: u32, xid: &Xid, flags: Flags) -> Result<Code, AllocError>
-        ensures answer { IfOk result (λ answer. (wanted : Wanted) → Calls self.old self.new (answer ≡ Code.RmFail)
+        ensures answer { IfOk result (λ answer. (wanted : Wanted)
+            → Calls self.old self.new (answer ≡ Code.RmFail)
             (λ before behind. MovesTables before behind (λ old new. Answers wanted old new Verb.Start thread xid.now flags.0 answer))) }
         ensures err { OnErr result (SameManager self.old self.new) }
     {
@@ -320,27 +355,87 @@ impl<L: LogStore> KvManager<L> {
 
     /// A thread ends its work in a branch, or suspends it. RmFail: the manager has failed.
     pub fn end(&mut self, thread: u32, xid: &Xid, flags: Flags) -> Result<Code, AllocError>
-        ensures answer { IfOk result (λ answer. (wanted : Wanted) → Calls self.old self.new (answer ≡ Code.RmFail)
+        ensures answer { IfOk result (λ answer. (wanted : Wanted)
+            → Calls self.old self.new (answer ≡ Code.RmFail)
             (λ before behind. MovesTables before behind (λ old new. Answers wanted old new Verb.End thread xid.now flags.0 answer))) }
         ensures err { OnErr result (SameManager self.old self.new) }
     {
         self.work_call(Verb::End, thread, xid, flags)
     }
 
-    /// STUB
-    pub fn restart(&mut self, _keep: usize) -> Result<Vec<Xid>, RestartError>
-        ensures ok { IfOk result (λ xids. Restarted self.old self.new _keep xids.items) }
-        ensures err { IfErr result (λ e. NotRestarted self.old self.new _keep e) }
+    /// What was made ready takes the manager's place, behind the log's restart. What stood before is left in
+    /// its stead.
+    fn reopen(&mut self, keep: usize, ready: &mut Ready) -> Result<(), RestartError>
+        requires { IsReady (left_by self.old.log.sight keep) ready.old }
+        ensures ok { OnOk result (Restarted self.old self.new keep ready.old.in_doubt.items) }
+        ensures listed { ready.new.in_doubt.items ≡ ready.old.in_doubt.items }
+        ensures err { IfErr result (NotRestarted self.old self.new keep) }
     {
-        Err(RestartError::Memory)
+        restart_log(&mut self.log, keep, &ready.opened, self.alloc)?;
+        mem::swap(&mut self.store, &mut ready.store);
+        self.boot = ready.boot;
+        Ok(())
+    }
+
+    /// Restarts the manager behind a crash that keeps so many of the log's unforced bytes: it stands as the
+    /// records that are left say, not open, and gives the branches in doubt, in the order of their promises.
+    /// Memory, Unfit, Exhausted: nothing changed. Device: the manager has failed until it is restarted.
+    pub fn restart(&mut self, keep: usize) -> Result<Vec<Xid>, RestartError>
+        ensures ok { IfOk result (λ given. Restarted self.old self.new keep given.items) }
+        ensures err { IfErr result (NotRestarted self.old self.new keep) }
+    {
+        let records = self.log.kept(keep, self.alloc)?;
+        let mut ready = ready_for(records, self.alloc)?;
+        let reopened = self.reopen(keep, &mut ready);
+        let in_doubt = ready.into_in_doubt();
+        match reopened {
+            Ok(()) => Ok(in_doubt),
+            Err(error) => Err(error),
+        }
+    }
+
+    /// A manager over a log that was opened. Device: its record of the boot could not be written. With an
+    /// error the log is handed back.
+    fn over(mut log: RecLog<L>, alloc: Global) -> Result<Self, (RestartError, RecLog<L>)>
+        requires works { log.sight.failed ≡ false }
+        requires kind { log.kind ≡ kind.Manager }
+        ensures ok { IfOk result (StartsOver log) }
+        ensures err { IfErr result (λ e. LeavesNone log e.1 e.0 × (e.1.kind ≡ kind.Manager)) }
+    {
+        let ready = match ready_over(&mut log, alloc) {
+            Ok(ready) => ready,
+            Err(error) => return Err((error, log)),
+        };
+        let written = write(&mut log, &ready.opened, true);
+        let (store, boot) = ready.into_store();
+        match written {
+            Ok(()) => Ok(KvManager {
+                alloc,
+                log,
+                boot,
+                store,
+            }),
+            Err(_) => Err((RestartError::Device, log)),
+        }
     }
 }
 
 impl<L: LogStore + Drop> KvManager<L> {
-    /// STUB
-    pub fn restore(store: L, _alloc: Global) -> Result<KvManager<L>, (RestartError, L)>
-        ensures ok { IfOk result (λ m. L.bytes store ≡ [] → IsFresh m) }
+    /// A manager over the log in a store, which is not open: it stands as the log's records say, and the
+    /// record of its boot is written behind them. With a refusal the store is handed back. Log: the bytes are
+    /// no log, or it was not opened. Records: the log's records leave no manager, and the log is as it was
+    /// opened; or the record could not be written.
+    pub fn restore(store: L, alloc: Global) -> Result<Self, (RestoreError, L)>
+        ensures ok { IfOk result (RestoredFrom (L.bytes store) (L.forced store) (L.failures store)) }
+        ensures err { IfErr result (λ e. NotRestored L.bytes L.forced L.failures store e.1 e.0) }
     {
-        Err((RestartError::Memory, store))
+        let log = match RecLog::open(store, Kind::Manager, alloc) {
+            Ok(log) => log,
+            Err((error, store)) => return Err((RestoreError::Log(error), store)),
+        };
+        match KvManager::over(log, alloc) {
+            Ok(manager) => Ok(manager),
+            Err((error, log)) => Err((RestoreError::Records(error), log.into_store())),
+        }
     }
 }

@@ -5,7 +5,7 @@ ghost use Rattle.log_text.specs.Reading.{read_record};
 ghost use Rattle.log_text.specs.Frames.{header};
 ghost use Rattle.log_text.specs.Made.{frame_record};
 ghost use Rattle.log_text.specs.Payloads.{record_text, records_text};
-ghost use Rattle.rec_log.specs.Sights.{Appended, Breaks, Forced, AreRecords, IsRecord, LeavesText, NotRestarted, NotRewritten, Restarts, Rewritten, Sounds, body, left_by, records_of};
+ghost use Rattle.rec_log.specs.Sights.{Appended, Breaks, Forced, AreRecords, IsRecord, LeavesText, NotRestarted, NotRewritten, Restarts, Rewritten, Sounds, body, left_by, log_state, records_of};
 ghost use Rattle.log_store.specs.Stores.{Replaces};
 ghost use Rattle.rec_log.specs.Openings.{IsRefused, NotOpened, Opens, Settles};
 ghost use Rattle.rec_log.specs.Texts.{records_in};
@@ -212,6 +212,14 @@ impl<L: LogStore> RecLog<L> {
         self.failed
     }
 
+    /// The store under the log, as it stands.
+    pub fn into_store(self) -> L
+        ensures { log_state self.kind (L.bytes result) (L.forced result) (L.failures result) (L.room result) self.sight.failed ≡ self }
+    {
+        let RecLog { store, .. } = self;
+        store
+    }
+
     /// Makes room for so many bytes of frames. A refusal changes nothing.
     pub fn reserve(&mut self, more: usize) -> Result<(), AllocError>
         ensures stays { self.new.sight ≡ self.old.sight }
@@ -271,6 +279,7 @@ impl<L: LogStore> RecLog<L> {
     /// nothing changed. Device: the new records stand or do not, and the log has failed.
     pub fn restart(&mut self, keep: usize, new: &[Frame], alloc: Global) -> Result<(), LogError>
         requires { AreRecords self.old.kind (map frame_record new.now) }
+        ensures kind { self.new.kind ≡ self.old.kind }
         ensures ok { OnOk result (Restarts self.old self.new keep (map frame_record new.now)) }
         ensures err { IfErr result (λ e. NotRestarted self.old self.new keep (map frame_record new.now) e) }
     {

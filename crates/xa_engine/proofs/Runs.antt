@@ -6,7 +6,6 @@ use Rattle.std.proofs.lemmas.List.{append-nil}
 use Rattle.xa_codes.specs.declared.code.Code.{Code}
 use Rattle.xa_tables.specs.declared.call.Verb.TheVariants as verb
 use Rattle.xa_xid.specs.declared.xid.Xid.{Xid}
-use Rattle.kv_manager.specs.Restarts.{IsFresh}
 use Rattle.kv_manager.specs.Sights.{KvSight}
 use Rattle.xa_script.specs.declared.request.BranchCall.{BranchCall}
 use Rattle.xa_script.specs.declared.request.BranchCall.TheVariants.{Start, End}
@@ -14,7 +13,7 @@ use Rattle.xa_script.specs.declared.request.Request.{Request}
 use Rattle.xa_engine.specs.declared.answer.Answer.{Answer}
 use Rattle.xa_engine.specs.Answers.{answer_text}
 use Rattle.xa_engine.specs.Makes.{CallsBranch, Joins, Makes}
-use Rattle.xa_engine.specs.Runs.{Leads, Reports, Runs}
+use Rattle.xa_engine.specs.Runs.{IsFresh, Leads, Reports, Runs}
 
 pub leads_more : (m k n : KvSight) (rs : List Request) (r : Request) (given : List Answer) (a : Answer) → Leads m rs given k → Makes k n r a → Leads m (rs ++ r ∷ []) (given ++ a ∷ []) n
 leads_more m k n [] r [] a e makes = (n, subst (λ (j : KvSight). Makes j n r a) (sym e) makes, refl)

@@ -9,7 +9,7 @@ use Rattle.xa_manager.specs.Errors.{number_of}
 use Rattle.xa_manager.specs.declared.errors.WorkError.{WorkError}
 use Rattle.xa_manager.specs.declared.errors.WorkError.TheVariants.{Locked}
 use Rattle.kv_manager.specs.declared.restart.RestartError.{RestartError}
-use Rattle.kv_manager.specs.declared.restart.RestartError.TheVariants.{Memory, Device, Damaged, Exhausted}
+use Rattle.kv_manager.specs.declared.restart.RestartError.TheVariants.{Memory, Device, Unfit, Exhausted}
 use Rattle.xa_engine.specs.declared.answer.Answer.{Answer}
 use Rattle.xa_engine.specs.declared.answer.Answer.TheVariants.{Code, Given, Found, Done, Refused, Booted, NotBooted}
 
@@ -34,7 +34,7 @@ refusal_text e = codes "refused " ++ decimal (number_of e) ++ holder_text e ++ 1
 abbrev pub restart_number : RestartError → ℕ
 restart_number Memory = 0
 restart_number Device = 2
-restart_number Damaged = 3
+restart_number Unfit = 3
 restart_number Exhausted = 4
 
 -- the line of an answer

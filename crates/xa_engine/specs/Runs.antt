@@ -5,7 +5,7 @@ use Rattle.std.specs.Fmt.{decimal}
 use Rattle.report_io.specs.declared.status.Status.{Status}
 use Rattle.report_io.specs.declared.status.Status.TheVariants.{Ended, Refused, Stopped}
 use Rattle.kv_manager.specs.Sights.{KvSight}
-use Rattle.kv_manager.specs.Restarts.{IsFresh}
+use Rattle.kv_manager.specs.Restarts.{RestoredFrom}
 use Rattle.xa_script.specs.declared.request.Request.{Request}
 use Rattle.xa_script.specs.declared.script.ScriptError.{ScriptError}
 use Rattle.xa_script.specs.declared.script.ScriptError.TheVariants.{Line, Utf8, TooLong}
@@ -13,6 +13,10 @@ use Rattle.xa_script.specs.Scripts.{IsScript, IsScriptFault}
 use Rattle.xa_engine.specs.declared.answer.Answer.{Answer}
 use Rattle.xa_engine.specs.Answers.{answer_text}
 use Rattle.xa_engine.specs.Makes.{Makes}
+
+-- a manager that was restored from a store without bytes, whose device never failed
+abbrev pub IsFresh : KvSight → Type 0
+IsFresh m = RestoredFrom [] 0 0 m
 
 -- requests take a manager from one state to another, each with its answer
 abbrev pub Leads : KvSight → List Request → List Answer → KvSight → Type 0

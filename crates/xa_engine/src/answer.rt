@@ -37,7 +37,7 @@ fn restart_number(error: RestartError) -> u64
     match error {
         RestartError::Memory => 0,
         RestartError::Device => 2,
-        RestartError::Damaged => 3,
+        RestartError::Unfit => 3,
         RestartError::Exhausted => 4,
     }
 }

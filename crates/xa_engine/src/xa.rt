@@ -4,8 +4,7 @@ ghost use Rattle.std.specs.Prelude.{◌≡◌, ◌++◌, ℕ, List, OnOk, IfOk, 
 ghost use Rattle.std.specs.Io.KnownBytes.{Appends, Keeps};
 ghost use Rattle.report_io.specs.Streams.{IsInput, WritesFront};
 ghost use Rattle.report_io.specs.declared.status.Status.{Status as AnyStatus};
-ghost use Rattle.kv_manager.specs.Restarts.{IsFresh};
-ghost use Rattle.xa_engine.specs.Runs.{IsReport, Reports, Runs, Steps, fault_text};
+ghost use Rattle.xa_engine.specs.Runs.{IsFresh, IsReport, Reports, Runs, Steps, fault_text};
 
 use crate::answer::push_answer;
 use crate::calls::{Manager, make};

@@ -1,16 +1,16 @@
-use Rattle.std.proofs.Common.{rules, ◌≡◌, Some, sym, subst, ◌∙◌, ap}
-use Rattle.log_order.specs.Orders.{left_by, promised}
-use Rattle.kv_replay.specs.Folds.{AreData, data_of}
-use Rattle.kv_replay.specs.Replays.{HoldPromises, Leaves}
-use Rattle.kv_writes.specs.Writes.{writes_of}
+use Rattle.std.proofs.Common.{rules, ◌≡◌, Some, sym, subst, ◌∙◌}
+use Rattle.log_order.specs.Orders.{left_by}
+use Rattle.kv_replay.specs.Replays.{Fails, Leaves}
 use Rattle.xa_states.specs.Restored.{Restored}
 use Rattle.kv_core.specs.Stores.{Rebuilt}
-use Rattle.kv_manager.specs.Restarts.{LeavesStore, next_boot}
-use Rattle.kv_manager.proofs.Restoring.{left_store, never_device, tidy_restored}
+use Rattle.kv_manager.specs.Restarts.{NotRebuilt, next_boot}
+use Rattle.kv_manager.proofs.Restoring.{left_store, not_rebuilt, tidy_restored}
 use Rattle.kv_manager.proofs.restart.rebuilt.Goals as goal
 
 pub returns-in-Err-clause-err : goal.returns-in-Err-clause-err
-returns-in-Err-clause-err c = λ device. never_device c.in-Err.error (sym c.replay_error.ensures ∙ device)
+returns-in-Err-clause-err c =
+    let why : Fails c.args.records.items c.in-Err.error = search rules in
+    subst (NotRebuilt c.args.records.items) (sym c.replay_error.ensures) (not_rebuilt c.args.records.items c.in-Err.error why)
 
 pub restored-requires : goal.restored-requires
 restored-requires c =

@@ -1,4 +1,4 @@
-use Rattle.std.proofs.Common.{rules, ◌≡◌, Some, None}
+use Rattle.std.proofs.Common.{None}
 use Rattle.kv_locks.specs.declared.holders.Mode.TheVariants.{Exclusive}
 use Rattle.kv_core.specs.Works.{IsRefused, Writes, work_refusal}
 use Rattle.kv_manager.specs.Sights.{KvSight}

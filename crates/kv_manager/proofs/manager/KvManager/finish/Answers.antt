@@ -1,5 +1,5 @@
-use Rattle.std.proofs.Common.{rules, ◌≡◌, false, sym, subst}
-use Rattle.kv_core.specs.Ends.{IsDue, IsOff}
+use Rattle.std.proofs.Common.{rules, ◌≡◌, false, subst}
+use Rattle.kv_core.specs.Ends.{IsOff}
 use Rattle.kv_manager.specs.Sights.{KvSight}
 use Rattle.kv_manager.specs.Turns.{Finishes, Refused, Taken, Takes}
 use Rattle.kv_manager.proofs.Keeping.{map_ok}

@@ -1,4 +1,3 @@
-use Rattle.std.proofs.Common.{rules, ◌≡◌}
 use Rattle.xa_states.specs.Answers.{Recovers, map_ok}
 use Rattle.kv_core.specs.Stores.{MovesTables, SameStore}
 use Rattle.kv_core.proofs.Moves.{recovers_keep}

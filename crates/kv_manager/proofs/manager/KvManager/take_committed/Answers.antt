@@ -1,12 +1,13 @@
-use Rattle.std.proofs.Common.{rules, ◌≡◌, ◌∷◌, [], refl, sym, subst, ap}
+use Rattle.std.proofs.Common.{rules, ◌∷◌, [], refl, sym, subst}
 use Rattle.rec_log.specs.Sights.{Breaks}
 use Rattle.kv_turns.specs.Turns.{entry_record}
 use Rattle.kv_writes.specs.Writes.{writes_of}
+use Rattle.core_log.specs.Writes.{Writes}
 use Rattle.kv_core.specs.Ends.{PublishesWrites, SameButData, StagesWrites, TakesTurn}
 use Rattle.kv_manager.specs.Sights.{KvSight}
-use Rattle.kv_manager.specs.Turns.{Broke, IsDueTurn, Made, OnlyRoom, Writes}
+use Rattle.kv_manager.specs.Turns.{Broke, Made, OnlyRoom}
 use Rattle.kv_manager.proofs.Keeping.{data_only, kept_by}
-use Rattle.kv_manager.proofs.Turns.{Commits, commits_by, due_same, fails_by, kept_broken, kept_committed, made_committed}
+use Rattle.kv_manager.proofs.Turns.{commits_by, due_same, fails_by, kept_committed, made_committed}
 use Rattle.kv_manager.proofs.manager.KvManager.take_committed.Goals as goal
 
 pub invariant_of-self : goal.invariant_of-self

@@ -1,11 +1,12 @@
-use Rattle.std.proofs.Common.{rules, ◌≡◌, ◌∷◌, [], refl, sym, subst}
+use Rattle.std.proofs.Common.{rules, ◌∷◌, [], refl, sym, subst}
 use Rattle.rec_log.specs.Sights.{Breaks}
 use Rattle.kv_turns.specs.Turns.{entry_record}
 use Rattle.kv_writes.specs.Writes.{writes_of}
+use Rattle.core_log.specs.Writes.{Writes}
 use Rattle.kv_core.specs.Ends.{TakesTurn}
 use Rattle.kv_manager.specs.Sights.{KvSight}
-use Rattle.kv_manager.specs.Turns.{Broke, HasWrites, IsDueTurn, OnlyRoom, Writes}
-use Rattle.kv_manager.proofs.Turns.{due_has, due_same, fails_by, kept_broken, kept_noted}
+use Rattle.kv_manager.specs.Turns.{Broke, OnlyRoom}
+use Rattle.kv_manager.proofs.Turns.{due_same, fails_by, kept_noted}
 use Rattle.kv_manager.proofs.manager.KvManager.take_noted.Goals as goal
 
 pub invariant_of-self : goal.invariant_of-self
