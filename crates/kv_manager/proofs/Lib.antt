@@ -1,3 +1,4 @@
 pub mod Keeping
+pub mod Resources
 pub mod Restoring
 pub mod Turns

@@ -2,6 +2,7 @@
 #![tactic(auto)]
 
 mod manager;
+mod resource;
 mod restart;
 
 pub use manager::{KvManager, RestoreError};

@@ -106,6 +106,13 @@ impl<L: LogStore> KvManager<L> {
         self.boot
     }
 
+    /// Whether its device has failed: it answers nothing until a restart.
+    pub fn has_failed(&self) -> bool
+        ensures { result ≡ self.now.log.sight.failed }
+    {
+        self.log.failed()
+    }
+
     /// The state of a branch: S0 where it is not known.
     pub fn state(&self, xid: &Xid) -> BranchState
         ensures { result ≡ state_of self.now.store xid.now }
@@ -121,7 +128,7 @@ impl<L: LogStore> KvManager<L> {
         ensures err { IfErr result (λ e. Refuses self.old self.new
             (work_refusal self.old.store thread key.now None mode.Shared) e) }
     {
-        if self.log.failed() {
+        if self.has_failed() {
             return Err(WorkError::RmFail);
         }
         self.store.get(thread, key)
@@ -132,7 +139,7 @@ impl<L: LogStore> KvManager<L> {
         ensures { Calls self.old self.new (result ≡ Code.RmFail)
             (λ before behind. MovesTables before behind (λ old new. Opens old new flags.0 migrates result)) }
     {
-        if self.log.failed() {
+        if self.has_failed() {
             return Code::RmFail;
         }
         self.store.open(flags, migrates)
@@ -146,7 +153,7 @@ impl<L: LogStore> KvManager<L> {
         ensures err { IfErr result (λ e. Refuses self.old self.new
             (work_refusal self.old.store thread key.now (Some value.now) mode.Exclusive) e) }
     {
-        if self.log.failed() {
+        if self.has_failed() {
             return Err(WorkError::RmFail);
         }
         self.store.put(thread, key, value)
@@ -159,7 +166,7 @@ impl<L: LogStore> KvManager<L> {
         ensures err { IfErr result (λ e. Refuses self.old self.new
             (work_refusal self.old.store thread key.now None mode.Exclusive) e) }
     {
-        if self.log.failed() {
+        if self.has_failed() {
             return Err(WorkError::RmFail);
         }
         self.store.delete(thread, key)
@@ -170,7 +177,7 @@ impl<L: LogStore> KvManager<L> {
         ensures { Calls self.old self.new (result ≡ Code.RmFail)
             (λ before behind. MovesTables before behind (λ old new. Closes old new flags.0 result)) }
     {
-        if self.log.failed() {
+        if self.has_failed() {
             return Code::RmFail;
         }
         self.store.close(flags)
@@ -190,7 +197,7 @@ impl<L: LogStore> KvManager<L> {
             (λ before behind. MovesTables before behind (λ old new. Answers wanted old new verb thread xid.now flags.0 answer))) }
         ensures err { OnErr result ((leaves (legal verb flags.0) ≡ false) × SameManager self.old self.new) }
     {
-        if self.log.failed() {
+        if self.has_failed() {
             return Ok(Code::RmFail);
         }
         self.store.work_call(verb, thread, xid, flags)
@@ -207,7 +214,7 @@ impl<L: LogStore> KvManager<L> {
             (λ before behind. MovesTables before behind (λ old new. Recovers old new thread count flags.0 (map_ok answer)))) }
         ensures err { OnErr result (SameManager self.old self.new) }
     {
-        if self.log.failed() {
+        if self.has_failed() {
             return Ok(Err(Code::RmFail));
         }
         self.store.recover(thread, count, flags)
@@ -302,7 +309,7 @@ impl<L: LogStore> KvManager<L> {
         ensures answer { IfOk result (Finishes self.old self.new verb xid.now flags.0) }
         ensures err { OnErr result (SameManager self.old self.new) }
     {
-        if self.log.failed() {
+        if self.has_failed() {
             return Ok(Code::RmFail);
         }
         match self.store.due(verb, xid, flags) {

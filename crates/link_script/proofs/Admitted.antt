@@ -7,7 +7,8 @@ use Rattle.tree_model.specs.declared.names.ProcessId.{ProcessId}
 use Rattle.tree_model.specs.declared.events.Event.{Event}
 use Rattle.link_script.specs.declared.stage.Stage.{Stage}
 use Rattle.link_script.specs.Events.{event_at}
-use Rattle.link_script.specs.Script.{events_at, is_skipped, line_then, with_front}
+use Rattle.script_words.specs.Lines.{is_skipped}
+use Rattle.link_script.specs.Script.{events_at, line_then, with_front}
 use Rattle.link_script.specs.Stages.{admits, reading, staged}
 
 -- the stage admits each event

@@ -3,20 +3,8 @@ use Rattle.std.proofs.Common.{◌≡◌, ℕ, ◌+◌, ◌≤◌, ◌<◌, true,
 use Rattle.std.proofs.lemmas.List.{append-nil, drop_all, at_drop_more, length-map}
 use Rattle.std.proofs.Math.ListN.{get_or-map}
 use Rattle.tree_model.specs.declared.events.Event.{Event}
-use Rattle.link_script.specs.Script.{is_skipped, with_front, line_then, events_at}
-
--- the texts of some lines
-abbrev pub texts : List (Bor (List ℕ)) → List (List ℕ)
-texts lines = map (λ s. s.now) lines
-
-abbrev blank : Bor (List ℕ)
-blank = record { ref_ptr = (0, 0); now = [] }
-
-pub text_at : (lines : List (Bor (List ℕ))) (i : ℕ) → get_or (texts lines) i [] ≡ (get_or lines i blank).now
-text_at lines i = get_or-map (λ (s : Bor (List ℕ)). s.now) lines i blank
-
-pub long : (lines : List (Bor (List ℕ))) → length (texts lines) ≡ length lines
-long lines = length-map lines (λ (s : Bor (List ℕ)). s.now)
+use Rattle.script_words.specs.Lines.{is_skipped}
+use Rattle.link_script.specs.Script.{with_front, line_then, events_at}
 
 at_line : (read : List ℕ → Option Event) (n : ℕ) (l : List ℕ) (ls : List (List ℕ)) → is_skipped l ≡ false
     → events_at read n (l ∷ ls) ≡ line_then n (read l) (events_at read (n + 1) ls)

@@ -22,7 +22,9 @@ use Rattle.tree_model.specs.declared.events.Event.{Event}
 use Rattle.tree_model.specs.declared.events.Event.TheVariants.{Act as ActOf, Deliver, Settle, Restart, Trim}
 use Rattle.tree_model.specs.Texts.{txn_text, case_text, op_text}
 use Rattle.link_script.specs.Names.{process_at, txn_at, case_at}
-use Rattle.link_script.specs.Events.{same, is_visible, is_visible_word, key_at, value_at, begin_at, join_at, put_at, get_at, delete_at, verb_at, op_at, work_at, restart_at, restart_parts, decision_at, heur_at, commit_at, abort_at, ask_at, forget_at, deliver_at, trim_at, plain_at, event_parts, event_at}
+use Rattle.script_words.specs.Steps.{same}
+use Rattle.script_words.specs.Operations.{is_visible, is_visible_word, key_at, value_at, put_at, get_at, delete_at, op_by, op_at}
+use Rattle.link_script.specs.Events.{begin_at, join_at, work_at, restart_at, restart_parts, decision_at, heur_at, commit_at, abort_at, ask_at, forget_at, deliver_at, trim_at, plain_at, event_parts, event_at}
 use Rattle.link_script.specs.Spellings.{process_text, presumption_word, decision_word, event_text, FitsProcess, FitsCase, FitsOp, IsWord, FitsEvent, ReadIsSpelled, SpelledIsRead}
 use Rattle.link_script.proofs.Misses.{bind_some, misses, misses_without, not_at, cut_none, same_tells, blank}
 use Rattle.link_script.proofs.NameLaws.{process_takes, process_again, process_misses, txn_takes, txn_again, case_takes, case_again, case_no_blank}
@@ -118,7 +120,7 @@ op_under : (word rest : List ℕ) (op : Op) (w : List ℕ) → same word w ≡ t
 op_under word rest op w is h = subst (λ (v : List ℕ). OpLine (v ++ 32 ∷ rest) op)
     (sym (same_tells word w is)) h
 
-verb_takes : (verb rest : List ℕ) (op : Op) → verb_at verb rest ≡ Some op → OpLine (verb ++ 32 ∷ rest) op
+verb_takes : (verb rest : List ℕ) (op : Op) → op_by verb rest ≡ Some op → OpLine (verb ++ 32 ∷ rest) op
 verb_takes verb rest op e =
     chosen (OpLine (verb ++ 32 ∷ rest) op) (same verb (codes "put")) _ _ op e
     (λ is here. op_under verb rest op (codes "put") is (put_takes rest op here))
@@ -144,17 +146,17 @@ put_again key value k v =
       word_again 256 value v,
     ) refl
 
-op_by : (verb rest : List ℕ) (op : Op) → misses 32 verb ≡ true → verb_at verb rest ≡ Some op
+op_cut : (verb rest : List ℕ) (op : Op) → misses 32 verb ≡ true → op_by verb rest ≡ Some op
     → op_at (verb ++ 32 ∷ rest) ≡ Some op
 unfolding op_at
-op_by verb rest op free h = rw (cut_again 32 verb rest (misses_without 32 verb free)) h
+op_cut verb rest op free h = rw (cut_again 32 verb rest (misses_without 32 verb free)) h
 
 pub op_again : SpelledIsRead op_at op_text FitsOp
 op_again (Put key value) fits =
     ap op_at (two_form (codes "put ") key value)
-    ∙ op_by (codes "put") (key ++ 32 ∷ value) (Put key value) refl (put_again key value fits.0 fits.1)
-op_again (Get key) fits = op_by (codes "get") key (Get key) refl (rw (word_again 64 key fits) refl)
-op_again (Delete key) fits = op_by (codes "del") key (Delete key) refl (rw (word_again 64 key fits) refl)
+    ∙ op_cut (codes "put") (key ++ 32 ∷ value) (Put key value) refl (put_again key value fits.0 fits.1)
+op_again (Get key) fits = op_cut (codes "get") key (Get key) refl (rw (word_again 64 key fits) refl)
+op_again (Delete key) fits = op_cut (codes "del") key (Delete key) refl (rw (word_again 64 key fits) refl)
 
 -- The forms: what is read.
 

@@ -8,8 +8,8 @@ use Rattle.std.proofs.lemmas.Bool.Decides.{nat_tests}
 use Rattle.std.proofs.lemmas.List.Sums.{position_or_len_is}
 use Rattle.xa_xid.specs.Words.{cut_at}
 use Rattle.xa_xid.proofs.Cuts.{Without}
-use Rattle.link_script.specs.Names.{◌>>=◌}
-use Rattle.link_script.specs.Events.{same}
+use Rattle.script_words.specs.Steps.{◌>>=◌}
+use Rattle.script_words.specs.Steps.{same}
 
 -- the value of a step that went on
 pub bind_some : {A B : Type 0} (r : Option A) (f : A → Option B) (y : B) → (r >>= f) ≡ Some y

@@ -14,7 +14,7 @@ use Rattle.std.specs.Str.{IsUtf8, IsCharBoundary}
 use Rattle.std.proofs.lemmas.Str.{IsUtf8-drop, IsCharBoundary-after_ascii, IsCharBoundary-at_seam}
 use Rattle.std.proofs.lemmas.List.{get_or_at}
 use Rattle.std.proofs.lemmas.Slice.Eq.{bytes_eq-Decides}
-use Rattle.link_script.specs.Events.{same}
+use Rattle.script_words.specs.Steps.{same}
 use Rattle.xa_xid.specs.Words.{cut_at}
 use Rattle.xa_xid.proofs.Cuts.{cut_takes, some_is, drop_past}
 use Rattle.link_script.specs.Rules.{pieces, is_rule, last_rule, rule_or, around_rule}

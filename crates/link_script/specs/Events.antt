@@ -1,42 +1,19 @@
 -- Reading the line of an event from left to right.
-use Rattle.std.specs.Prelude.{ℕ, List, length, codes, Bool, ◌&&◌, not, nat_le, nat_eq, ◌==◌, Option, Some, None, if◌then◌else◌}
-use Rattle.std.specs.List.{list_all}
-use Rattle.std.specs.Cmp.Lexicographic.{pointwise}
+use Rattle.std.specs.Prelude.{ℕ, List, codes, Option, Some, None, if◌then◌else◌}
 use Rattle.xa_xid.specs.Numerals.{number_at}
 use Rattle.xa_xid.specs.Words.{cut_at}
 use Rattle.tree_model.specs.declared.names.ProcessId.{ProcessId}
 use Rattle.tree_model.specs.declared.names.Outcome.{Outcome}
 use Rattle.tree_model.specs.declared.names.Outcome.TheVariants.{Committed, Aborted}
 use Rattle.tree_model.specs.declared.names.Presumption.TheVariants.{PresumeAbort, PresumeCommit}
-use Rattle.tree_model.specs.declared.messages.Op.{Op}
-use Rattle.tree_model.specs.declared.messages.Op.TheVariants.{Put, Get, Delete}
 use Rattle.tree_model.specs.declared.events.Act.TheVariants.{Begin, Join, Work, Commit, Abort, Ask, Decide, Forget}
 use Rattle.tree_model.specs.declared.events.Event.{Event}
 use Rattle.tree_model.specs.declared.events.Event.TheVariants.{Act as ActOf, Deliver, Settle, Restart, Trim}
 use Rattle.tree_model.specs.declared.names.Case.{Case}
-use Rattle.link_script.specs.declared.event.Task.{Task}
-use Rattle.link_script.specs.declared.event.Task.TheVariants.{Put as PutTask, Get as GetTask, Delete as DeleteTask}
-use Rattle.link_script.specs.Names.{◌>>=◌, process_at, txn_at, case_at}
-
--- two words are one
-abbrev pub same : List ℕ → List ℕ → Bool
-same a b = pointwise nat_eq a b
-
--- a byte from `!` to `~`
-abbrev pub is_visible : ℕ → Bool
-is_visible b = nat_le 33 b && nat_le b 126
-
--- 1 to so many visible bytes
-abbrev pub is_visible_word : ℕ → List ℕ → Bool
-is_visible_word most w = not (length w == 0) && nat_le (length w) most && list_all is_visible w
-
--- a key of 1 to 64 bytes
-abbrev pub key_at : List ℕ → Option (List ℕ)
-key_at w = if is_visible_word 64 w then Some w else None
-
--- a value of 1 to 256 bytes
-abbrev pub value_at : List ℕ → Option (List ℕ)
-value_at w = if is_visible_word 256 w then Some w else None
+use Rattle.script_words.specs.declared.operation.Task.{Task}
+use Rattle.script_words.specs.Steps.{◌>>=◌, same}
+use Rattle.script_words.specs.Operations.{op_at, op_view}
+use Rattle.link_script.specs.Names.{process_at, txn_at, case_at}
 
 -- `begin` and a presumption
 unfoldable pub begin_at : List ℕ → Option Event
@@ -52,34 +29,6 @@ join_at root rest = do
   case ← case_at root p.0
   child ← process_at p.1
   Some (ActOf (Join case child))
-
--- `put`: a key and the value to be stored under it
-unfoldable pub put_at : List ℕ → Option Op
-put_at rest = do
-  p ← cut_at 32 rest
-  key ← key_at p.0
-  value ← value_at p.1
-  Some (Put key value)
-
--- `get`: the key to be read
-abbrev pub get_at : List ℕ → Option Op
-get_at rest = key_at rest >>= λ key. Some (Get key)
-
--- `del`: the key to be deleted
-abbrev pub delete_at : List ℕ → Option Op
-delete_at rest = key_at rest >>= λ key. Some (Delete key)
-
--- an operation on data, by its verb and what stands behind it
-abbrev pub verb_at : List ℕ → List ℕ → Option Op
-verb_at verb rest =
-    if same verb (codes "put") then put_at rest
-    else if same verb (codes "get") then get_at rest
-    else if same verb (codes "del") then delete_at rest
-    else None
-
--- what a child is to do: `put`, a key and a value; `get` or `del` and a key
-unfoldable pub op_at : List ℕ → Option Op
-op_at words = cut_at 32 words >>= λ p. verb_at p.0 p.1
 
 -- `work`, a case, a child and what it is to do
 unfoldable pub work_at : ProcessId → List ℕ → Option Event
@@ -162,12 +111,6 @@ event_parts root line (Some p) = if same p.0 (codes "work") then work_at root p.
 -- the event of a line, over a tree with this root
 unfoldable pub event_at : ProcessId → List ℕ → Option Event
 event_at root line = event_parts root line (cut_at 32 line)
-
--- a task without where its texts lie
-abbrev pub op_view : Task → Op
-op_view (PutTask key value) = Put key.now value.now
-op_view (GetTask key) = Get key.now
-op_view (DeleteTask key) = Delete key.now
 
 -- the event of a work, as its parts are read
 abbrev pub work_view : Case × ProcessId × Task → Event

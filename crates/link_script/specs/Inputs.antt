@@ -13,7 +13,8 @@ use Rattle.link_script.specs.declared.stage.Stage.{Stage}
 use Rattle.link_script.specs.Stages.{reading}
 use Rattle.link_script.specs.Documents.{IsTreeText}
 use Rattle.link_script.specs.Rules.{pieces, around_rule}
-use Rattle.link_script.specs.Script.{asked_in, events_at}
+use Rattle.script_words.specs.Lines.{asked_in}
+use Rattle.link_script.specs.Script.{events_at}
 use Rattle.trace_lines.specs.Trace.{lines_text}
 
 -- bytes that are text, with a tree text before the first line of three dashes

@@ -2,19 +2,13 @@
 use Rattle.std.specs.Prelude.{ℕ, ◌^◌, List, [], ◌∷◌, Option, Some, None, nat_lt, ◌==◌, if◌then◌else◌, option_map}
 use Rattle.xa_xid.specs.Numerals.{number_at}
 use Rattle.xa_xid.specs.Words.{cut_at}
+use Rattle.script_words.specs.Steps.{◌>>=◌}
 use Rattle.tree_model.specs.declared.names.ProcessId.{ProcessId}
 use Rattle.tree_model.specs.declared.names.Presumption.{Presumption}
 use Rattle.tree_model.specs.declared.names.Presumption.TheVariants.{PresumeAbort, PresumeCommit}
 use Rattle.tree_model.specs.declared.names.Txn.{Txn}
 use Rattle.tree_model.specs.declared.names.Ticket.{Ticket}
 use Rattle.tree_model.specs.declared.names.Case.{Case}
-
--- the second step of reading, where the first gave something
-infixl 10 ◌>>=◌
--- what is read next, where something was read
-abbrev pub ◌>>=◌ : {A B : Type 0} → Option A → (A → Option B) → Option B
-None >>= f = None
-(Some x) >>= f = f x
 
 -- a process: a number below 2^32
 unfoldable pub process_at : List ℕ → Option ProcessId

@@ -1,16 +1,9 @@
 -- Reading a script line by line.
-use Rattle.std.specs.Prelude.{ℕ, ◌+◌, List, [], ◌∷◌, ◌++◌, length, Bool, ◌||◌, ◌==◌, not, Option, Some, None, Result, Ok, Err, if◌then◌else◌, slice_index, count_by, ◌≡◌}
+use Rattle.std.specs.Prelude.{ℕ, ◌+◌, List, [], ◌∷◌, ◌++◌, Option, Some, None, Result, Ok, Err, if◌then◌else◌, ◌≡◌}
+use Rattle.script_words.specs.Lines.{is_skipped}
 use Rattle.tree_model.specs.declared.events.Event.{Event}
 use Rattle.link_script.specs.declared.lines.LineError.{LineError}
 use Rattle.link_script.specs.declared.lines.LineError.TheVariants.{Memory, Line}
-
--- an empty line, or a remark
-abbrev pub is_skipped : List ℕ → Bool
-is_skipped line = (length line == 0) || (slice_index line 0 == 35)
-
--- how many lines ask for an event
-unfoldable pub asked_in : List (List ℕ) → ℕ
-asked_in lines = count_by (λ line. not (is_skipped line)) lines
 
 -- these events, and then those that are read
 abbrev pub with_front : List Event → Result (List Event) ℕ → Result (List Event) ℕ

@@ -16,7 +16,7 @@ use Rattle.tree_model.specs.declared.events.Act.TheVariants.{Begin, Join, Work, 
 use Rattle.tree_model.specs.declared.events.Event.{Event}
 use Rattle.tree_model.specs.declared.events.Event.TheVariants.{Act as ActOf, Deliver, Settle, Restart, Trim}
 use Rattle.tree_model.specs.Texts.{txn_text, case_text, op_text}
-use Rattle.link_script.specs.Events.{is_visible_word}
+use Rattle.script_words.specs.Operations.{is_visible_word}
 
 -- The spelling of lines; that of names and operations is the trace's own.
 

@@ -1,41 +1,24 @@
 //! The line of an event.
 
-ghost use Rattle.std.specs.Prelude.{◌≡◌, ◌≤◌, IfOk, option_map};
-ghost use Rattle.std.specs.List.{list_all};
+ghost use Rattle.std.specs.Prelude.{◌≡◌, IfOk, option_map};
 ghost use Rattle.link_script.specs.Events.{
-  is_visible,
-  is_visible_word,
   begin_at,
   join_at,
-  key_at,
-  value_at,
-  put_at,
-  op_at,
   restart_at,
   heur_at,
   decision_at,
-  get_at,
-  delete_at,
   plain_at,
   work_at,
   event_at,
-  op_view,
   work_view,
 };
 
 use crate::names::{case_of, process_of, txn_of};
+use script_words::{Task, task_of};
 use std::alloc::{AllocError, Global};
-use tree_model::{Act, Bytes, Case, Event, Op, Outcome, Presumption, ProcessId};
+use tree_model::{Act, Case, Event, Outcome, Presumption, ProcessId};
 use xa_xid::numeral::number_of;
 use xa_xid::word::cut;
-
-/// What a child is to do, in the words of a script.
-#[derive(Clone, Copy)]
-enum Task<'a> {
-    Put(&'a str, &'a str),
-    Get(&'a str),
-    Delete(&'a str),
-}
 
 /// The event that a line asks for, over a tree with this root; None where it is the line of no event.
 #[tactic(auto, unfolding(crate::specs::Events::event_at))]
@@ -144,7 +127,7 @@ fn work_of(alloc: Global, root: ProcessId, rest: &str) -> Result<Option<Event>, 
     match work_words(root, rest) {
         None => Ok(None),
         Some((case, child, task)) => {
-            let op = owned(alloc, &task)?;
+            let op = task.copied(alloc)?;
             Ok(Some(Event::Act(Act::Work(case, child, op))))
         }
     }
@@ -160,83 +143,4 @@ fn work_words(root: ProcessId, rest: &str) -> Option<(Case, ProcessId, Task<'_>)
     let child = process_of(child)?;
     let task = task_of(rest)?;
     Some((case, child, task))
-}
-
-#[tactic(auto, unfolding(crate::specs::Events::op_at))]
-fn task_of(words: &str) -> Option<Task<'_>>
-    ensures { option_map op_view result ≡ op_at words.now }
-{
-    let (verb, rest) = cut(words, ' ')?;
-    match verb {
-        "put" => put_of(rest),
-        "get" => get_of(rest),
-        "del" => delete_of(rest),
-        _ => None,
-    }
-}
-
-fn get_of(key: &str) -> Option<Task<'_>>
-    ensures { option_map op_view result ≡ get_at key.now }
-{
-    Some(Task::Get(key_of(key)?))
-}
-
-fn delete_of(key: &str) -> Option<Task<'_>>
-    ensures { option_map op_view result ≡ delete_at key.now }
-{
-    Some(Task::Delete(key_of(key)?))
-}
-
-#[tactic(auto, unfolding(crate::specs::Events::put_at))]
-fn put_of(rest: &str) -> Option<Task<'_>>
-    ensures { option_map op_view result ≡ put_at rest.now }
-{
-    let (key, value) = cut(rest, ' ')?;
-    let key = key_of(key)?;
-    let value = value_of(value)?;
-    Some(Task::Put(key, value))
-}
-
-/// A word that is a key.
-fn key_of(word: &str) -> Option<&str>
-    ensures { option_map (λ key. key.now) result ≡ key_at word.now }
-{
-    if is_word(word, 64) { Some(word) } else { None }
-}
-
-/// A word that is a value.
-fn value_of(word: &str) -> Option<&str>
-    ensures { option_map (λ value. value.now) result ≡ value_at word.now }
-{
-    if is_word(word, 256) { Some(word) } else { None }
-}
-
-/// Whether a word is 1 to so many bytes from `!` to `~`.
-fn is_word(word: &str, most: usize) -> bool
-    ensures { result ≡ is_visible_word most word.now }
-{
-    !word.is_empty() && word.len() <= most && are_visible(word.as_bytes())
-}
-
-fn are_visible(word: &[u8]) -> bool
-    ensures { result ≡ list_all is_visible word.now }
-{
-    word.iter().all(|b| b'!' <= *b && *b <= b'~')
-}
-
-/// A task with its texts copied.
-fn owned(alloc: Global, task: &Task<'_>) -> Result<Op, AllocError>
-    ensures { IfOk result (λ op. op ≡ op_view task.now) }
-{
-    match task {
-        Task::Put(key, value) => Ok(Op::Put(bytes_of(alloc, key)?, bytes_of(alloc, value)?)),
-        Task::Get(key) => Ok(Op::Get(bytes_of(alloc, key)?)),
-        Task::Delete(key) => Ok(Op::Delete(bytes_of(alloc, key)?)),
-    }
-}
-
-fn bytes_of(alloc: Global, text: &str) -> Result<Bytes, AllocError>
-    ensures { IfOk result (λ bytes. bytes ≡ text.now) }
-{
-    Ok(Bytes::from_vec(Vec::from_slice(alloc, text.as_bytes())?))
 }

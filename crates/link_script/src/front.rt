@@ -4,9 +4,10 @@ ghost use Rattle.std.specs.Prelude.{◌+◌, ◌<◌, ◌^◌, IfOk, IfErr, leng
 ghost use Rattle.link_script.specs.Inputs.{IsFront, IsFrontError};
 
 use crate::document::{DocumentError, read_tree};
-use crate::lines::{around, lines_of};
+use crate::lines::around;
 use crate::script::{ScriptError, ScriptFault};
 use crate::stage::Stage;
+use script_words::lines_of;
 use std::alloc::Global;
 use std::str;
 use tree_model::Tree;

@@ -2,7 +2,8 @@
 
 ghost use Rattle.tree_model.specs.declared.names.ProcessId.{ProcessId};
 ghost use Rattle.tree_model.specs.Texts.{case_text, op_text, ticket_text, txn_text};
-ghost use Rattle.link_script.specs.Events.{event_at, op_at};
+ghost use Rattle.script_words.specs.Operations.{op_at};
+ghost use Rattle.link_script.specs.Events.{event_at};
 ghost use Rattle.link_script.specs.Names.{case_at, process_at, ticket_at, txn_at};
 ghost use Rattle.link_script.specs.Spellings.{
   FitsCase,

@@ -11,7 +11,6 @@ mod script;
 mod stage;
 
 pub use front::{Front, read_front};
-pub use lines::says_nothing;
 pub use names::process_of;
 pub use script::{MOST_EVENTS, ScriptError, ScriptFault, read};
 pub use stage::Stage;

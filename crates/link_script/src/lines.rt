@@ -5,10 +5,11 @@ ghost use Rattle.std.specs.Str.Lines.{lines as lines_in, lines_of_parts};
 ghost use Rattle.link_script.specs.Rules.{pieces, is_rule as is_rule_at, around_rule};
 ghost use Rattle.trace_lines.specs.Trace.{lines_text};
 ghost use Rattle.link_script.specs.Stages.{reading};
-ghost use Rattle.link_script.specs.Script.{is_skipped, asked_in, events_at, IsLineFault};
+ghost use Rattle.link_script.specs.Script.{events_at, IsLineFault};
 
 use crate::event::event_of;
 use crate::stage::Stage;
+use script_words::says_nothing;
 use std::alloc::{AllocError, AllocFailed, Global};
 use tree_model::{Event, ProcessId};
 use xa_xid::word::cut;
@@ -71,28 +72,6 @@ pub fn around(text: &str) -> Option<(&str, u64, &str)>
     } else {
         None
     }
-}
-
-/// The lines of a text.
-pub fn lines_of(alloc: Global, text: &str) -> Result<Vec<&str>, AllocError>
-    ensures { IfOk result (λ v. map (λ s. s.now) v.items ≡ lines_in text.now) }
-{
-    text.lines().collect(alloc)
-}
-
-/// Whether a line is skipped: it is empty, or begins with `#`.
-pub fn says_nothing(line: &str) -> bool
-    ensures { result ≡ is_skipped line.now }
-{
-    line.is_empty() || line.as_bytes()[0] == b'#'
-}
-
-/// How many of these lines ask for an event.
-#[tactic(auto, unfolding(crate::specs::Script::asked_in))]
-pub fn count_asked(lines: &[&str]) -> usize
-    ensures { result ≡ asked_in (map (λ s. s.now) lines.now) }
-{
-    lines.iter().filter(|line| !says_nothing(line)).count()
 }
 
 /// The event of a line, where it is read.

@@ -4,8 +4,9 @@ ghost use Rattle.std.specs.Prelude.{◌≡◌, IfOk, IfErr};
 ghost use Rattle.link_script.specs.Inputs.{script_fault_number, IsScript, IsScriptError};
 
 use crate::front::read_front;
-use crate::lines::{LineError, count_asked, events_of};
+use crate::lines::{LineError, events_of};
 use crate::stage::Stage;
+use script_words::count_asked;
 use std::alloc::{AllocError, Global};
 use thiserror::Error;
 use tree_model::{Event, Tree, TreeError};

@@ -12,7 +12,7 @@ use Rattle.xa_xid.proofs.HexText.{spells_some, spelled_lower, spelled_even, leng
 use Rattle.xa_xid.proofs.Cuts.{cut_takes, cut_again, some_is}
 use Rattle.tree_model.specs.declared.names.ProcessId.{ProcessId}
 use Rattle.link_script.specs.Names.{process_at}
-use Rattle.link_script.specs.Events.{same}
+use Rattle.script_words.specs.Steps.{same}
 use Rattle.link_script.specs.Spellings.{process_text, FitsProcess, ReadIsSpelled, SpelledIsRead}
 use Rattle.link_script.proofs.Misses.{bind_some, misses_without, cut_none, same_tells, blank}
 use Rattle.link_script.proofs.NameLaws.{process_takes, process_again, process_misses}

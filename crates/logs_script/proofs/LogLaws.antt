@@ -4,7 +4,7 @@ use Rattle.std.proofs.lemmas.List.{append-nil, drop_all, at_drop_more}
 use Rattle.tree_model.specs.declared.trees.TreeEntry.{TreeEntry}
 use Rattle.std.proofs.lemmas.Bool.Decides.{nat_tests}
 use Rattle.link_script.specs.Spellings.{process_text}
-use Rattle.link_script.specs.Script.{is_skipped}
+use Rattle.script_words.specs.Lines.{is_skipped}
 use Rattle.logs_script.specs.declared.line.ProcessLog.{ProcessLog}
 use Rattle.logs_script.specs.Lines.{bytes_part, log_at, log_line}
 use Rattle.logs_script.specs.Logs.{each_has_log, line_then, logs_behind, logs_of, may_follow}

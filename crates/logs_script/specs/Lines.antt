@@ -7,8 +7,9 @@ use Rattle.xa_xid.specs.HexText.{is_lower_digit}
 use Rattle.xa_xid.specs.Words.{cut_at}
 use Rattle.tree_model.specs.declared.names.ProcessId.{ProcessId}
 use Rattle.trace_lines.specs.Trace.{line_text}
-use Rattle.link_script.specs.Names.{◌>>=◌, process_at}
-use Rattle.link_script.specs.Events.{same}
+use Rattle.script_words.specs.Steps.{◌>>=◌}
+use Rattle.link_script.specs.Names.{process_at}
+use Rattle.script_words.specs.Steps.{same}
 use Rattle.link_script.specs.Spellings.{process_text, FitsProcess}
 use Rattle.logs_script.specs.declared.line.ProcessLog.{ProcessLog}
 

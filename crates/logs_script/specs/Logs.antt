@@ -11,7 +11,7 @@ use Rattle.link_script.specs.declared.script.ScriptFault.{ScriptFault}
 use Rattle.link_script.specs.declared.script.ScriptFault.TheVariants.{Line}
 use Rattle.link_script.specs.declared.stage.Stage.TheVariants.{Whole}
 use Rattle.link_script.specs.Inputs.{IsFront, IsTreeFault, IsScriptFault}
-use Rattle.link_script.specs.Script.{is_skipped}
+use Rattle.script_words.specs.Lines.{is_skipped}
 use Rattle.logs_script.specs.declared.line.ProcessLog.{ProcessLog}
 use Rattle.logs_script.specs.Lines.{log_at}
 

@@ -5,7 +5,8 @@ ghost use Rattle.logs_script.specs.Logs.{IsLogsError, IsLogsText, IsNumbered, ea
 ghost use Rattle.logs_script.specs.Logs.{bytes_of as bytes_in};
 
 use crate::line::{ProcessLog, ProcessLogs, log_of};
-use link_script::{ScriptError, ScriptFault, Stage, read_front, says_nothing};
+use link_script::{ScriptError, ScriptFault, Stage, read_front};
+use script_words::says_nothing;
 use std::alloc::Global;
 use tree_model::{ProcessId, Sequence, Tree, TreeEntry};
 

@@ -7,7 +7,7 @@ use Rattle.tree_model.specs.declared.names.ProcessId.{ProcessId}
 use Rattle.tree_model.specs.declared.trees.TreeEntry.{TreeEntry}
 use Rattle.link_script.specs.declared.stage.Stage.TheVariants.{Whole}
 use Rattle.link_script.specs.Documents.{At, May, IsId, IsInfo, IsProcess, AreProcesses, IsTable}
-use Rattle.link_script.specs.Script.{is_skipped}
+use Rattle.script_words.specs.Lines.{is_skipped}
 use Rattle.logs_script.specs.declared.line.ProcessLog.{ProcessLog}
 use Rattle.logs_script.specs.Lines.{FitsLog, log_at}
 use Rattle.logs_script.specs.Laws.{AreFirst}

@@ -49,11 +49,14 @@ Example: rstar tree < examples/commit.tree";
 
 /// What `rstar xa --help` says below its usage.
 const XA_HELP: &str = "\
-In: a call of the XA interface a line: open, close, start, end, prepare, commit, rollback,
-forget, recover. Out: the answer of each call by its name in XA, a line each, and 'end';
-'error ..' where the script is refused.
+In: a line for each call of the XA interface (open, close, start, end, prepare, commit,
+rollback, forget, recover), for each operation of a thread on the data (get, put, del), and
+for each restart of the manager (restart, restart K: of the log only K bytes are kept behind
+those that are forced). Out: a line for each answer, and 'end': a code by its name in XA,
+'= VALUE', '= none', 'done', 'refused N', 'boot N'; 'error ..' where the script is refused.
 
-Example: rstar xa < examples/migrate.xa";
+Examples: rstar xa < examples/migrate.xa
+          rstar xa < examples/prepared.xa";
 
 /// What `rstar log --help` says below its usage.
 const LOG_HELP: &str = "\
@@ -70,7 +73,7 @@ fn grammar<'a>(alloc: Global) -> Result<Command<'a>, Error> {
         .about("Runs a transaction script on a tree of processes, and writes the trace")
         .after_help(TREE_HELP);
     let xa = Command::new(alloc, "xa")
-        .about("Makes the calls of an XA script on one resource manager, and writes the answers")
+        .about("Makes the calls of an XA script on a key store with a log, and writes the answers")
         .after_help(XA_HELP);
     let log = Command::new(alloc, "log")
         .about("Prints what the logs of a tree hold, one record a line")

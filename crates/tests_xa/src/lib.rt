@@ -14,4 +14,8 @@ mod xa_rows;
 #[cfg(test)]
 mod xa_steps;
 #[cfg(test)]
+mod xa_store;
+#[cfg(test)]
+mod xa_walks;
+#[cfg(test)]
 mod xids;

@@ -1,4 +1,3 @@
-pub mod Manager
-pub mod Requests
+pub mod Answers
+pub mod Makes
 pub mod Runs
-pub mod Histories

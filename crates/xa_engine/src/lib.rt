@@ -1,11 +1,9 @@
 //! The engine of XA scripts: a script in, its answers out.
 #![tactic(auto)]
 
-mod law;
-mod manager;
-mod script;
+mod answer;
+mod calls;
 mod xa;
 
-pub use law::histories_are_legal;
 pub use report_io::{Failure, Status};
 pub use xa::run_xa;

@@ -1,22 +1,22 @@
 //! The engine of XA scripts.
 
-ghost use Rattle.std.specs.Prelude.{◌≡◌, ◌++◌, ℕ, List, Ok, OnOk, IfOk, IfErr, string_bytes};
+ghost use Rattle.std.specs.Prelude.{◌≡◌, ◌++◌, ℕ, List, OnOk, IfOk, IfErr};
 ghost use Rattle.std.specs.Io.KnownBytes.{Appends, Keeps};
-ghost use Rattle.xa_states.specs.Answers.{map_ok};
 ghost use Rattle.report_io.specs.Streams.{IsInput, WritesFront};
 ghost use Rattle.report_io.specs.declared.status.Status.{Status as AnyStatus};
-ghost use Rattle.xa_engine.specs.Runs.{Makes, Reports, IsReport, answer_text, refusal_text};
+ghost use Rattle.xa_engine.specs.Runs.{IsFresh, IsReport, Reports, Runs, Steps, fault_text};
 
-use crate::manager;
-use crate::script::{Request, ScriptError, requests_of};
+use crate::answer::push_answer;
+use crate::calls::{Manager, make};
+use kv_manager::KvManager;
+use log_store::MemoryStore;
 use report_io::{Failure, Status, read_all, write_all};
 use std::alloc::{AllocError, Global};
 use std::io::{Read, Write};
-use xa_codes::Code;
-use xa_states::States;
-use xa_xid::Xid;
+use trace_lines::{push, push_number};
+use xa_script::{Request, ScriptError, requests_of};
 
-/// Reads an XA script, makes its calls on a manager without data, and writes their answers; or one line
+/// Reads an XA script, makes its requests of a key store whose log is in memory, and writes their answers; or one line
 /// that says why the script is refused. After a failed read, or where memory is refused, nothing was written; after a
 /// failed write, a beginning of the text.
 pub fn run_xa<R: Read, W: Write>(
@@ -35,15 +35,15 @@ pub fn run_xa<R: Read, W: Write>(
 {
     let input = read_all(alloc, reader)?;
     let (text, status) = report(alloc, &input)?;
-    match write_all(writer, text.as_bytes()) {
+    match write_all(writer, &text) {
         Ok(()) => Ok(status),
         Err(failure) => Err(failure),
     }
 }
 
 /// The answer to an input.
-fn report(alloc: Global, input: &[u8]) -> Result<(String, Status), AllocError>
-    ensures { IfOk result (λ r. IsReport r.1 input.now (string_bytes r.0)) }
+fn report(alloc: Global, input: &[u8]) -> Result<(Vec<u8>, Status), AllocError>
+    ensures { IfOk result (λ r. IsReport r.1 input.now r.0.items) }
 {
     match requests_of(alloc, input)? {
         Ok(requests) => Ok((answers(alloc, &requests)?, Status::Ended)),
@@ -51,74 +51,62 @@ fn report(alloc: Global, input: &[u8]) -> Result<(String, Status), AllocError>
     }
 }
 
-/// The line of a refusal.
-fn refusal(alloc: Global, error: ScriptError) -> Result<String, AllocError>
-    ensures { IfOk result (λ text. string_bytes text ≡ refusal_text error) }
+/// The line of a refused script.
+fn refusal(alloc: Global, error: ScriptError) -> Result<Vec<u8>, AllocError>
+    ensures { IfOk result (λ text. text.items ≡ fault_text error) }
 {
+    let mut out = Vec::new(alloc);
     match error {
-        ScriptError::Utf8 => String::from_str(alloc, "error 4\n"),
-        ScriptError::TooLong => String::from_str(alloc, "error 5\n"),
-        ScriptError::Line(number) => format!(in alloc; "error 3 {number}\n"),
+        ScriptError::Utf8 => push(&mut out, "error 4\n")?,
+        ScriptError::TooLong => push(&mut out, "error 5\n")?,
+        ScriptError::Line(number) => {
+            push(&mut out, "error 3 ")?;
+            push_number(&mut out, number as u64)?;
+            push(&mut out, "\n")?;
+        }
     }
-}
-
-/// The answers to a script's calls, one a line, and the last line.
-fn answers(alloc: Global, requests: &[Request]) -> Result<String, AllocError>
-    ensures { IfOk result (λ text. Reports requests.now (string_bytes text)) }
-{
-    let mut states = States::new(alloc);
-    let mut out = String::new(alloc);
-    for request in requests {
-        let answer = make(&mut states, *request)?;
-        push_answer(&mut out, &answer)?;
-    }
-    out.push_str("end\n")?;
     Ok(out)
 }
 
-/// Makes a call.
-fn make(states: &mut States, request: Request) -> Result<Result<Vec<Xid>, Code>, AllocError>
-    ensures { IfOk result (λ answer. Makes states.old states.new request (map_ok answer)) }
+/// A manager whose log begins with it.
+fn first_manager(alloc: Global) -> Result<Manager, AllocError>
+    ensures { IfOk result (λ manager. IsFresh manager) }
 {
-    let code = match request {
-        Request::Open { flags, migrates } => states.open(flags, migrates),
-        Request::Close { flags } => states.close(flags),
-        Request::Branch {
-            verb,
-            thread,
-            xid,
-            flags,
-        } => manager::call(states, verb, thread, &xid, flags)?,
-        Request::Recover {
-            thread,
-            count,
-            flags,
-        } => return states.recover(thread, count, flags),
-    };
-    Ok(Err(code))
-}
-
-/// Adds the line of an answer.
-fn push_answer(out: &mut String, answer: &Result<Vec<Xid>, Code>) -> Result<(), AllocError>
-    ensures { OnOk result (string_bytes out.new ≡ string_bytes out.old ++ answer_text (map_ok answer.now)) }
-{
-    match answer {
-        Ok(xids) => push_branches(out, xids.as_slice()),
-        Err(code) => {
-            let name = code.name();
-            writeln!(out, "{name}")
-        }
+    match KvManager::restore(MemoryStore::new(alloc), alloc) {
+        Ok(manager) => Ok(manager),
+        Err(_) => Err(AllocError),
     }
 }
 
-/// Adds how many branches these are, and their names.
-fn push_branches(out: &mut String, xids: &[Xid]) -> Result<(), AllocError>
-    ensures { OnOk result (string_bytes out.new ≡ string_bytes out.old ++ answer_text (Ok xids.now)) }
+/// The answers to a script's requests, one a line, and the last line.
+fn answers(alloc: Global, requests: &[Request]) -> Result<Vec<u8>, AllocError>
+    ensures { IfOk result (λ text. Reports requests.now text.items) }
 {
-    let count = xids.len();
-    write!(out, "{count}")?;
-    for xid in xids {
-        write!(out, " {xid}")?;
+    let mut manager = first_manager(alloc)?;
+    run(alloc, &mut manager, requests)
+}
+
+/// Makes requests of a manager. Gives their answers, one a line, and the last line.
+fn run(alloc: Global, manager: &mut Manager, requests: &[Request]) -> Result<Vec<u8>, AllocError>
+    ensures { IfOk result (λ text. Runs manager.old manager.new requests.now text.items) }
+{
+    let mut out = Vec::new(alloc);
+    for request in requests {
+        step(alloc, manager, &mut out, request)?;
     }
-    writeln!(out)
+    push(&mut out, "end\n")?;
+    Ok(out)
+}
+
+/// Makes a request, and adds the line of its answer.
+fn step(
+    alloc: Global,
+    manager: &mut Manager,
+    out: &mut Vec<u8>,
+    request: &Request,
+) -> Result<(), AllocError>
+    ensures { OnOk result (Steps manager.old manager.new request.now out.old.items out.new.items) }
+{
+    let answer = make(manager, request)?;
+    push_answer(alloc, out, &answer)
 }

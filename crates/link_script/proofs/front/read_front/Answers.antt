@@ -1,6 +1,6 @@
 use Rattle.std.proofs.Common.{sym, ap, ◌∙◌, arith, refl, length}
 use Rattle.link_script.specs.Rules.{pieces, around_rule}
-use Rattle.link_script.proofs.Asked.{long}
+use Rattle.script_words.proofs.Texts.{long}
 use Rattle.link_script.proofs.Rest.{no_tree, lines_fit}
 use Rattle.link_script.proofs.front.read_front.Goals as goal
 

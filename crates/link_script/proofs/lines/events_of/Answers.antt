@@ -1,7 +1,8 @@
 use Rattle.std.proofs.Common.{sym, ap, ◌∙◌, arith}
-use Rattle.link_script.specs.Script.{is_skipped}
+use Rattle.script_words.specs.Lines.{is_skipped}
 use Rattle.link_script.specs.Stages.{reading}
-use Rattle.link_script.proofs.Asked.{texts, text_at, long, skips, goes_on, stops, ends}
+use Rattle.script_words.proofs.Texts.{texts, text_at, long}
+use Rattle.link_script.proofs.Asked.{skips, goes_on, stops, ends}
 use Rattle.link_script.proofs.lines.events_of.Goals as goal
 
 pub loop-i-preserved-then-says_nothing : goal.loop-i-preserved-then-says_nothing

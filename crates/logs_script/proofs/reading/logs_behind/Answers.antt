@@ -1,6 +1,6 @@
 use Rattle.std.proofs.Common.{sym, ap, ◌∙◌, arith}
-use Rattle.link_script.specs.Script.{is_skipped}
-use Rattle.link_script.proofs.Asked.{texts, text_at, long}
+use Rattle.script_words.specs.Lines.{is_skipped}
+use Rattle.script_words.proofs.Texts.{texts, text_at, long}
 use Rattle.logs_script.specs.Lines.{log_at}
 use Rattle.logs_script.specs.Logs.{each_has_log, may_follow}
 use Rattle.logs_script.proofs.LogLaws.{all_read, ends, goes_on, one_missing, skips, stops_second, stops_strange, wrong_line}

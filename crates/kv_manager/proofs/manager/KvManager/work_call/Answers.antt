@@ -1,7 +1,9 @@
 use Rattle.std.proofs.Common.{rules, ◌≡◌, refl, true, false, sym, ◌∙◌, subst, IfOk}
 use Rattle.xa_codes.specs.declared.code.Code.TheVariants as code
 use Rattle.xa_tables.specs.declared.states.BranchState.TheVariants.{S0}
+use Rattle.xa_tables.specs.Calls.{legal}
 use Rattle.xa_states.specs.Answers.{Answers, Wanted}
+use Rattle.xa_states.specs.Ready.{leaves}
 use Rattle.kv_core.specs.Stores.{MovesTables, SameStore}
 use Rattle.kv_core.proofs.Moves.{works_keep}
 use Rattle.kv_manager.specs.Sights.{KvSight}
@@ -14,12 +16,12 @@ invariant_of-self g c =
     let s : KvSight = record { store = c.self.inside.store; log = c.self.inside.log; boot = c.self.inside.boot } in
     kept_by s c.work_call.new.self c.self.invariant
     (either_way (λ answer. (wanted : Wanted) → MovesTables c.self.inside.store c.work_call.new.self (λ old new. Answers wanted old new c.args.verb c.args.thread c.args.xid.now c.args.flags.0 answer))
-    (λ e. SameStore c.self.inside.store c.work_call.new.self)
+    (λ e. (leaves (legal c.args.verb c.args.flags.0) ≡ false) × SameStore c.self.inside.store c.work_call.new.self)
     (KeepsPromises c.self.inside.store c.work_call.new.self) c.work_call.result c.work_call.ensures.answer c.work_call.ensures.err
     (λ answer made. moved_promises c.self.inside.store c.work_call.new.self
     (works_keep is_prepared (λ k. (code.Proto, S0)) _ _ c.args.verb c.args.thread c.args.xid.now c.args.flags.0 answer (record { one = refl; two = refl; four = refl }) c.requires (made (λ k. (code.Proto, S0))).tables)
     (made (λ k. (code.Proto, S0))).writes (made (λ k. (code.Proto, S0))).versions)
-    (λ e stays. same_promises c.self.inside.store c.work_call.new.self stays))
+    (λ e stays. same_promises c.self.inside.store c.work_call.new.self stays.1))
 
 pub returns-clause-answer : goal.returns-clause-answer
 returns-clause-answer g c =

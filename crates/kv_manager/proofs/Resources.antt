@@ -1,0 +1,418 @@
+-- A key store with a log does what a resource manager does.
+use Rattle.std.proofs.Common.{◌≡◌, ◌-◌, ◌^◌, ℕ, Bool, true, false, not, if◌then◌else◌, List, [], ◌∷◌, Option, Some, None, refl, sym, ap, subst, ◌∙◌}
+use Rattle.std.proofs.lemmas.List.{append-nil}
+use Rattle.std.proofs.lemmas.List.Elements.{All-contains, All-from_recursion}
+use Rattle.std.specs.List.{All}
+use Rattle.std.specs.Prelude.{◌||◌, Contains, nat_lt}
+use Rattle.xa_codes.specs.declared.code.Code.{Code}
+use Rattle.xa_codes.specs.declared.code.Code.TheVariants as code
+use Rattle.xa_tables.specs.Tables.{branch_rows, heuristic}
+use Rattle.xa_tables.specs.declared.call.Call.{Call}
+use Rattle.xa_tables.specs.declared.call.Call.TheVariants as call
+use Rattle.xa_tables.specs.declared.call.Verb.{Verb}
+use Rattle.xa_tables.specs.declared.states.BranchState.{BranchState}
+use Rattle.xa_tables.specs.declared.states.BranchState.TheVariants.{S0, S1, S2, S3, S4, S5}
+use Rattle.xa_xid.specs.declared.xid.Xid.{Xid}
+use Rattle.xa_branch.specs.Names.{same}
+use Rattle.xa_branch.specs.Branches.{off_row}
+use Rattle.xa_assoc.specs.Associations.{active_of}
+use Rattle.xa_states.specs.declared.states.States.{States}
+use Rattle.xa_states.specs.Answers.{Same, Takes as TakesRow}
+use Rattle.xa_states.specs.Ready.{has_rows, is_work, is_work_verb}
+use Rattle.xa_states.proofs.Finishing.{passed, works_as}
+use Rattle.xa_states.proofs.Reactions.{stays}
+use Rattle.tree_model.specs.declared.names.Presumption.{Presumption}
+use Rattle.tree_model.specs.declared.records.Branch.{Branch}
+use Rattle.tree_model.specs.declared.records.Branch.TheVariants.{Case as CaseBranch, Foreign}
+use Rattle.tree_model.specs.declared.records.Write.{Write}
+use Rattle.tree_model.specs.declared.messages.Op.{Op}
+use Rattle.tree_model.specs.declared.messages.Op.TheVariants.{Put, Get, Delete}
+use Rattle.tree_model.specs.Nodes.{Written}
+use Rattle.tree_model.specs.Plays.{op_writes}
+use Rattle.log_text.specs.Parts.{name_in}
+use Rattle.rec_log.specs.Sights.{Breaks}
+use Rattle.core_model.specs.States.{wrote}
+use Rattle.xa_manager.specs.declared.errors.WorkError.{WorkError}
+use Rattle.xa_manager.specs.declared.errors.WorkError.TheVariants.{Locked, Memory, NotAssociated, RmFail, RollbackOnly, TooLong, TooManyWrites}
+use Rattle.manager_model.specs.Sights.{Calls, SameManager}
+use Rattle.manager_model.specs.Works.{WorkRefused, Works, work_refusal}
+use Rattle.manager_model.specs.Works as model
+use Rattle.manager_model.specs.Ends.{Broke, Fails, Failed, Finishes, Limited, Made, Makes, Refused, Unlisted, left_with, logged_under, row_of, state_of as state_of_log, written_by, written_for}
+use Rattle.kv_locks.specs.declared.holders.Mode.{Mode}
+use Rattle.kv_locks.specs.declared.holders.Mode.TheVariants.{Exclusive, Shared}
+use Rattle.kv_locks.specs.Locks.{blocked_by, holders_of}
+use Rattle.kv_writes.specs.Writes.{SameWrites, is_within_limit, writes_of}
+use Rattle.kv_turns.specs.declared.entries.Entry.{Entry}
+use Rattle.kv_turns.specs.declared.turns.Turn.{Turn}
+use Rattle.kv_turns.specs.Turns.{entry_of, presumption_of, turn_of}
+use Rattle.kv_core.specs.Stores.{KeySight, MovesTables, SameStore, has_numbers, state_of}
+use Rattle.kv_core.specs.Ends.{IsListed, LetsGo, Refused as OffRefused, Unlisted as OffUnlisted, turn_for, wrote_some}
+use Rattle.kv_core.specs.Works as core
+use Rattle.kv_core.specs.Works.{IsRefused, Reads, Writes, at_work, branch_refusal, is_spoiled, is_too_long, limit_refusal, refusal_by, unless_locked, worker_of, working}
+use Rattle.kv_manager.specs.Sights.{KvSight, SameManager as SameKv}
+use Rattle.kv_manager.specs.Turns as kv
+use Rattle.kv_manager.specs.Turns.{Calls as KvCalls, Finishes as KvFinishes, Makes as KvMakes, Fails as KvFails, Takes as KvTakes, Logs, Refuses, with_record}
+use Rattle.kv_manager.specs.Resources.{data_refusal, obstacle_of, sight_of}
+
+-- Nothing changes.
+
+limit_same : (old new : KeySight) → SameWrites old.writes new.writes → (x : Xid) (k : List ℕ) (m : Mode)
+    → limit_refusal new x k m ≡ limit_refusal old x k m
+limit_same old new same x k Exclusive = ap (λ ws. if is_within_limit ws k then None else Some TooManyWrites) (same x)
+limit_same old new same x k Shared = refl
+
+refusal_same : (old new : KeySight) → new.locks ≡ old.locks → SameWrites old.writes new.writes → (x : Xid) (k : List ℕ)
+    (v : Option (List ℕ)) (m : Mode) → data_refusal new k v m x ≡ data_refusal old k v m x
+refusal_same old new locks same x k v m =
+    λ i. if is_too_long k v then Some TooLong
+    else unless_locked (blocked_by (holders_of (locks i) k) x m) (limit_same old new same x k m i)
+
+pub obstacle_same : (old new : KeySight) → new.locks ≡ old.locks → SameWrites old.writes new.writes → (x : Xid) (op : Op)
+    → obstacle_of new x op ≡ obstacle_of old x op
+obstacle_same old new locks same x (Put k v) = refusal_same old new locks same x k (Some v) Exclusive
+obstacle_same old new locks same x (Get k) = refusal_same old new locks same x k None Shared
+obstacle_same old new locks same x (Delete k) = refusal_same old new locks same x k None Exclusive
+
+pub same_sight : (old new : KvSight) → SameKv old new → SameManager (sight_of old) (sight_of new)
+same_sight old new same =
+    record {
+      tables = same.tables;
+      log = same.log;
+      boot = same.boot;
+      spent = ap (λ n. not (nat_lt n (2 ^ 63 - 1))) same.versions.count;
+      rest = record { writes = same.writes; obstacles = obstacle_same old.store new.store same.locks same.writes };
+    }
+
+-- Calls on the tables alone.
+
+moved_rest : (old new : KeySight) (Moves : States → States → Type 0) → MovesTables old new Moves
+    → (not (has_numbers new) ≡ not (has_numbers old)) × SameWrites old.writes new.writes
+moved_rest old new Moves made = (ap (λ v. not (nat_lt v.count (2 ^ 63 - 1))) made.versions, λ x. ap (λ w. writes_of w x) made.writes)
+
+pub called : (old new : KvSight) (refuses : Type 0) (Moves : States → States → Type 0)
+    → KvCalls old new refuses (λ before behind. MovesTables before behind Moves) → Calls (sight_of old) (sight_of new) refuses Moves
+called old new refuses Moves made = by_failed old.log.sight.failed refl
+  where
+    by_failed : (b : Bool) → old.log.sight.failed ≡ b → Calls (sight_of old) (sight_of new) refuses Moves
+    by_failed true failed =
+        let same = same_sight old new (made.failed failed).1 in
+        record {
+          failed = λ is. ((made.failed is).0, same_sight old new (made.failed is).1);
+          works = λ is. (made.works is).tables;
+          log = made.log;
+          boot = made.boot;
+          spent = same.spent;
+          rest = same.rest;
+        }
+    by_failed false works =
+        let rest = moved_rest old.store new.store Moves (made.works works) in
+        record {
+          failed = λ is. ((made.failed is).0, same_sight old new (made.failed is).1);
+          works = λ is. (made.works is).tables;
+          log = made.log;
+          boot = made.boot;
+          spent = rest.0;
+          rest = record { writes = rest.1; obstacles = obstacle_same old.store new.store (made.works works).locks rest.1 };
+        }
+
+-- Work.
+
+refused_as : (s : KeySight) (k : List ℕ) (v : Option (List ℕ)) (m : Mode) (x : Xid) (st : BranchState) → state_of s x ≡ st
+    → model.state_refusal st (data_refusal s k v m x) ≡ refusal_by s k v m (working st x)
+refused_as s k v m x S0 is = refl
+refused_as s k v m x S1 is = sym (ap (λ t. if is_spoiled t then Some RollbackOnly else data_refusal s k v m x) is)
+refused_as s k v m x S2 is = refl
+refused_as s k v m x S3 is = refl
+refused_as s k v m x S4 is = sym (ap (λ t. if is_spoiled t then Some RollbackOnly else data_refusal s k v m x) is)
+refused_as s k v m x S5 is = refl
+
+-- why an operation is refused, by its key, its value and its lock
+abbrev pub op_refusal : KeySight → ℕ → Op → Option WorkError
+op_refusal s t (Put k v) = core.work_refusal s t k (Some v) Exclusive
+op_refusal s t (Get k) = core.work_refusal s t k None Shared
+op_refusal s t (Delete k) = core.work_refusal s t k None Exclusive
+
+by_thread : (s : KvSight) (t : ℕ) (op : Op) (o : Option Xid) → active_of s.store.tables.associations t ≡ o
+    → model.refusal_by (sight_of s) op o ≡ op_refusal s.store t op
+by_thread s t (Put k v) None is = ap (λ a. refusal_by s.store k (Some v) Exclusive (worker_of s.store a)) (sym is)
+by_thread s t (Get k) None is = ap (λ a. refusal_by s.store k None Shared (worker_of s.store a)) (sym is)
+by_thread s t (Delete k) None is = ap (λ a. refusal_by s.store k None Exclusive (worker_of s.store a)) (sym is)
+by_thread s t (Put k v) (Some x) is =
+    refused_as s.store k (Some v) Exclusive x (state_of s.store x) refl ∙ ap (λ a. refusal_by s.store k (Some v) Exclusive (worker_of s.store a)) (sym is)
+by_thread s t (Get k) (Some x) is =
+    refused_as s.store k None Shared x (state_of s.store x) refl ∙ ap (λ a. refusal_by s.store k None Shared (worker_of s.store a)) (sym is)
+by_thread s t (Delete k) (Some x) is =
+    refused_as s.store k None Exclusive x (state_of s.store x) refl ∙ ap (λ a. refusal_by s.store k None Exclusive (worker_of s.store a)) (sym is)
+
+refusal_as : (s : KvSight) (t : ℕ) (op : Op) → s.log.sight.failed ≡ false → work_refusal (sight_of s) t op ≡ op_refusal s.store t op
+refusal_as s t op works =
+    ap (λ b. if b then Some RmFail else model.refusal_by (sight_of s) op (active_of s.store.tables.associations t)) works
+    ∙ by_thread s t op (active_of s.store.tables.associations t) refl
+
+refusal_failed : (s : KvSight) (t : ℕ) (op : Op) → s.log.sight.failed ≡ true → work_refusal (sight_of s) t op ≡ Some RmFail
+refusal_failed s t op failed =
+    ap (λ b. if b then Some RmFail else model.refusal_by (sight_of s) op (active_of s.store.tables.associations t)) failed
+
+stayed : (old new : KvSight) → SameStore old.store new.store → new.log.sight ≡ old.log.sight → new.boot ≡ old.boot
+    → SameManager (sight_of old) (sight_of new)
+stayed old new same log boot =
+    record {
+      tables = same.tables;
+      log = log;
+      boot = boot;
+      spent = ap (λ v. not (nat_lt v.count (2 ^ 63 - 1))) same.versions;
+      rest = record { writes = same.writes; obstacles = obstacle_same old.store new.store same.locks same.writes };
+    }
+
+pub work_refused : (old new : KvSight) (t : ℕ) (op : Op) (e : WorkError) → Refuses old new (op_refusal old.store t op) e
+    → WorkRefused (sight_of old) (sight_of new) t op e
+work_refused old new t op e made = by_failed old.log.sight.failed refl e made
+  where
+    failed_so : (e : WorkError) → work_refusal (sight_of old) t op ≡ Some RmFail → e ≡ RmFail → SameManager (sight_of old) (sight_of new)
+        → WorkRefused (sight_of old) (sight_of new) t op e
+    failed_so e is one same = subst (WorkRefused (sight_of old) (sight_of new) t op) (sym one) (is, same)
+
+    refused_so : (e : WorkError) → work_refusal (sight_of old) t op ≡ op_refusal old.store t op
+        → IsRefused old.store new.store (op_refusal old.store t op) e → new.log.sight ≡ old.log.sight → new.boot ≡ old.boot
+        → WorkRefused (sight_of old) (sight_of new) t op e
+    refused_so Memory as' why log boot = (as' ∙ why.0, stayed old new why.1 log boot)
+    refused_so NotAssociated as' why log boot = (as' ∙ why.0, stayed old new why.1 log boot)
+    refused_so (Locked x) as' why log boot = (as' ∙ why.0, stayed old new why.1 log boot)
+    refused_so TooLong as' why log boot = (as' ∙ why.0, stayed old new why.1 log boot)
+    refused_so TooManyWrites as' why log boot = (as' ∙ why.0, stayed old new why.1 log boot)
+    refused_so RmFail as' why log boot = (as' ∙ why.0, stayed old new why.1 log boot)
+    refused_so RollbackOnly as' why log boot = (as' ∙ why.0, stayed old new why.1 log boot)
+
+    by_failed : (b : Bool) → old.log.sight.failed ≡ b → (e : WorkError) → Refuses old new (op_refusal old.store t op) e
+        → WorkRefused (sight_of old) (sight_of new) t op e
+    by_failed true is e made = failed_so e (refusal_failed old t op is) (made.failed is).0 (same_sight old new (made.failed is).1)
+    by_failed false is e made = refused_so e (refusal_as old t op is) (made.works is) made.log made.boot
+
+worker_is : (st : BranchState) (x y : Xid) → working st x ≡ Some y → x ≡ y
+worker_is S0 x y h = absurd (cc)
+worker_is S1 x y h = cc
+worker_is S2 x y h = absurd (cc)
+worker_is S3 x y h = absurd (cc)
+worker_is S4 x y h = cc
+worker_is S5 x y h = absurd (cc)
+
+active_is : (s : KeySight) (o : Option Xid) (x : Xid) → worker_of s o ≡ Some x → o ≡ Some x
+active_is s None x h = absurd (cc)
+active_is s (Some y) x h = ap Some (worker_is (state_of s y) y x h)
+
+same_tables : (a b : States) → b ≡ a → Same a b
+same_tables a b is = subst (Same a) (sym is) (record { init = refl; branches = stays a.branches a.branches refl; associations = refl })
+
+-- an operation was done by the branch that the thread is active in
+worked : (old new : KvSight) (t : ℕ) (op : Op) (x : Xid) → old.log.sight.failed ≡ false → at_work old.store t ≡ Some x
+    → op_refusal old.store t op ≡ None → writes_of new.store.writes x ≡ op_writes (writes_of old.store.writes x) op
+    → ((y : Xid) → same x y ≡ false → writes_of new.store.writes y ≡ writes_of old.store.writes y)
+    → new.store.tables ≡ old.store.tables → new.log.sight ≡ old.log.sight → new.boot ≡ old.boot
+    → Works (sight_of old) (sight_of new) t op
+worked old new t op x works at allowed own others tables log boot =
+    record {
+      allowed = refusal_as old t op works ∙ allowed;
+      branch = x;
+      active = active_is old.store (active_of old.store.tables.associations t) x at;
+      own = own;
+      others = others;
+      tables = same_tables old.store.tables new.store.tables tables;
+      log = log;
+      boot = boot;
+    }
+
+pub did_read : (old new : KvSight) (t : ℕ) (k : List ℕ) (found : Option (List ℕ))
+    → KvCalls old new ⊥ (λ before behind. Reads before behind t k found) → Works (sight_of old) (sight_of new) t (Get k)
+did_read old new t k found made = by_failed old.log.sight.failed refl
+  where
+    by_failed : (b : Bool) → old.log.sight.failed ≡ b → Works (sight_of old) (sight_of new) t (Get k)
+    by_failed true is = absurd (made.failed is).0
+    by_failed false is =
+        let reads = made.works is in
+        worked old new t (Get k) reads.branch is reads.works (ap (refusal_by old.store k None Shared) reads.works ∙ reads.allowed)
+        (ap (λ w. writes_of w reads.branch) reads.writes) (λ y apart. ap (λ w. writes_of w y) reads.writes) reads.tables made.log made.boot
+
+pub did_put : (old new : KvSight) (t : ℕ) (k v : List ℕ) → KvCalls old new ⊥ (λ before behind. Writes before behind t k (Some v))
+    → Works (sight_of old) (sight_of new) t (Put k v)
+did_put old new t k v made = by_failed old.log.sight.failed refl
+  where
+    by_failed : (b : Bool) → old.log.sight.failed ≡ b → Works (sight_of old) (sight_of new) t (Put k v)
+    by_failed true is = absurd (made.failed is).0
+    by_failed false is =
+        let wrote = made.works is in
+        worked old new t (Put k v) wrote.branch is wrote.works (ap (refusal_by old.store k (Some v) Exclusive) wrote.works ∙ wrote.allowed)
+        wrote.writes.own wrote.writes.others wrote.tables made.log made.boot
+
+pub did_delete : (old new : KvSight) (t : ℕ) (k : List ℕ) → KvCalls old new ⊥ (λ before behind. Writes before behind t k None)
+    → Works (sight_of old) (sight_of new) t (Delete k)
+did_delete old new t k made = by_failed old.log.sight.failed refl
+  where
+    by_failed : (b : Bool) → old.log.sight.failed ≡ b → Works (sight_of old) (sight_of new) t (Delete k)
+    by_failed true is = absurd (made.failed is).0
+    by_failed false is =
+        let wrote = made.works is in
+        worked old new t (Delete k) wrote.branch is wrote.works (ap (refusal_by old.store k None Exclusive) wrote.works ∙ wrote.allowed)
+        wrote.writes.own wrote.writes.others wrote.tables made.log made.boot
+
+-- The calls that finish a branch: a turn is its row, and its record the row's.
+
+row_as : (s : BranchState) (c : Call) (ws : List Write) (p : Presumption)
+    → ((turn_of s c (wrote_some ws) p).code, (turn_of s c (wrote_some ws) p).to) ≡ row_of c ws
+row_as s call.Prepare [] p = refl
+row_as s call.Prepare (w ∷ ws) p = refl
+row_as s call.Commit ws p = refl
+row_as s call.CommitOnePhase [] p = refl
+row_as s call.CommitOnePhase (w ∷ ws) p = refl
+row_as S0 call.Rollback ws p = refl
+row_as S1 call.Rollback ws p = refl
+row_as S2 call.Rollback ws p = refl
+row_as S3 call.Rollback ws p = refl
+row_as S4 call.Rollback ws p = refl
+row_as S5 call.Rollback ws p = refl
+row_as s _ ws p = refl
+
+-- the record of a turn
+abbrev recorded : Option Entry → Bool → Branch → List Write → List Written
+recorded None is_forced b ws = []
+recorded (Some e) is_forced b ws = record { entry = entry_of e b ws; is_forced = is_forced } ∷ []
+
+all_decided : All (λ (r : Code × BranchState). r.1 ≡ S5) heuristic
+all_decided = All-from_recursion (λ (r : Code × BranchState). r.1 ≡ S5) heuristic (refl, (refl, (refl, (refl, tt))))
+
+undecided : Contains heuristic (code.Ok, S0) → ⊥
+undecided h = let never : S0 ≡ S5 = All-contains (λ (r : Code × BranchState). r.1 ≡ S5) heuristic (code.Ok, S0) all_decided h in absurd (cc)
+
+written_as : (s : BranchState) (c : Call) (ws : List Write) (b : Branch) → is_work c ≡ false → has_rows (branch_rows s c) ≡ true
+    → Contains (branch_rows s c) (row_of c ws)
+    → written_by c s b ws ≡ recorded (turn_of s c (wrote_some ws) (presumption_of b)).entry (turn_of s c (wrote_some ws) (presumption_of b)).is_forced b ws
+written_as S0 call.Start ws b w h listed = absurd (cc)
+written_as S0 _ ws b w h listed = absurd (cc)
+written_as S1 call.Start ws b w h listed = absurd (cc)
+written_as S1 _ ws b w h listed = absurd (cc)
+written_as S2 call.Prepare [] b w h listed = refl
+written_as S2 call.Prepare (x ∷ ws) b w h listed = refl
+written_as S2 call.CommitOnePhase [] b w h listed = refl
+written_as S2 call.CommitOnePhase (x ∷ ws) b w h listed = refl
+written_as S2 call.Rollback ws b w h listed = refl
+written_as S2 _ ws b w h listed = absurd (cc)
+written_as S3 call.Commit ws (CaseBranch c) w h listed = refl
+written_as S3 call.Commit ws (Foreign x) w h listed = refl
+written_as S3 call.Rollback ws (CaseBranch c) w h listed = refl
+written_as S3 call.Rollback ws (Foreign x) w h listed = refl
+written_as S3 _ ws b w h listed = absurd (cc)
+written_as S4 call.Rollback ws b w h listed = refl
+written_as S4 _ ws b w h listed = absurd (cc)
+written_as S5 call.Commit ws b w h listed = absurd (undecided listed)
+written_as S5 call.Rollback ws b w h listed = absurd (undecided listed)
+written_as S5 call.Forget ws b w h listed = refl
+written_as S5 _ ws b w h listed = absurd (cc)
+
+log_as : (old new : KvSight) (x : Xid) (is_forced : Bool) (o : Option Entry) → Logs old new x is_forced o
+    → let ws = recorded o is_forced (name_in x).1 (writes_of old.store.writes x) in
+    new.log.sight ≡ wrote old.log.sight ws (logged_under x ws)
+log_as old new x is_forced None is =
+    is ∙ sym (ap (λ us. record old.log.sight { kept = record { forced = old.log.sight.kept.forced; unforced = us } }) (append-nil old.log.sight.kept.unforced))
+log_as old new x is_forced (Some e) is = is
+
+left_own : (old new : KeySight) (x : Xid) (to : BranchState) → LetsGo old new x to → writes_of new.writes x ≡ left_with to (writes_of old.writes x)
+left_own old new x S0 goes = goes.0.own
+left_own old new x S1 goes = ap (λ w. writes_of w x) goes.0
+left_own old new x S2 goes = ap (λ w. writes_of w x) goes.0
+left_own old new x S3 goes = ap (λ w. writes_of w x) goes.0
+left_own old new x S4 goes = ap (λ w. writes_of w x) goes.0
+left_own old new x S5 goes = ap (λ w. writes_of w x) goes.0
+
+left_others : (old new : KeySight) (x : Xid) (to : BranchState) → LetsGo old new x to → (y : Xid) → same x y ≡ false
+    → writes_of new.writes y ≡ writes_of old.writes y
+left_others old new x S0 goes y apart = goes.0.others y apart
+left_others old new x S1 goes y apart = ap (λ w. writes_of w y) goes.0
+left_others old new x S2 goes y apart = ap (λ w. writes_of w y) goes.0
+left_others old new x S3 goes y apart = ap (λ w. writes_of w y) goes.0
+left_others old new x S4 goes y apart = ap (λ w. writes_of w y) goes.0
+left_others old new x S5 goes y apart = ap (λ w. writes_of w y) goes.0
+
+module _ (old new : KvSight) (x : Xid) (c : Call) (w : is_work c ≡ false) (h : has_rows (branch_rows (state_of old.store x) c) ≡ true)
+    (due : IsListed old.store x c (turn_for old.store x c)) where
+  abbrev ws : List Write
+  ws = writes_of old.store.writes x
+
+  abbrev b : Branch
+  b = (name_in x).1
+
+  abbrev turn : Turn
+  turn = turn_for old.store x c
+
+  is_row : (turn.code, turn.to) ≡ row_of c ws
+  is_row = row_as (state_of old.store x) c ws (presumption_of b)
+
+  listed : Contains (branch_rows (state_of old.store x) c) (row_of c ws)
+  listed = subst (Contains (branch_rows (state_of old.store x) c)) is_row due
+
+  is_written : written_for (sight_of old) x c ≡ recorded turn.entry turn.is_forced b ws
+  is_written = written_as (state_of old.store x) c ws b w h listed
+
+  made_row : KvMakes old new x turn → Makes (sight_of old) (sight_of new) x c (row_of c ws)
+  made_row made =
+      record {
+        listed = listed;
+        tables = subst (λ (r : Code × BranchState). TakesRow old.store.tables new.store.tables x r.1) is_row made.tables;
+        log = log_as old new x turn.is_forced turn.entry made.log ∙ ap (λ rs. wrote old.log.sight rs (logged_under x rs)) (sym is_written);
+        own = left_own old.store new.store x turn.to made.keeps ∙ ap (λ (r : Code × BranchState). left_with r.1 ws) is_row;
+        others = left_others old.store new.store x turn.to made.keeps;
+        boot = made.boot;
+      }
+
+  broke_under : KvFails old new x turn → Fails (sight_of old) (sight_of new) x c
+  broke_under failed =
+      let entered : written_for (sight_of old) x c ≡ recorded (Some failed.entry) turn.is_forced b ws =
+      is_written ∙ ap (λ o. recorded o turn.is_forced b ws) failed.writes_it in
+      record {
+        log = subst (λ rs. Breaks (state_of_log old.log.sight) (state_of_log new.log.sight) (logged_under x rs)) (sym entered) (record {
+          kind = refl;
+          appended = failed.log.appended;
+          stand = failed.log.stand;
+          no_less = failed.log.no_less;
+          more = failed.log.more;
+          leaves = failed.log.leaves;
+          failed = failed.log.failed;
+          cause = failed.log.cause;
+        });
+        tables = same_tables old.store.tables new.store.tables failed.tables;
+        writes = λ y. ap (λ u. writes_of u y) failed.writes;
+        boot = failed.boot;
+      }
+
+spent_so : (b : Bool) → b ≡ false → not b ≡ true
+spent_so b is = ap not is
+
+pub finished : (old new : KvSight) (v : Verb) (x : Xid) (flags : ℕ) (answer : Code) → is_work_verb v ≡ false
+    → KvFinishes old new v x flags answer → Finishes (sight_of old) (sight_of new) v x flags answer
+finished old new v x flags answer n (kv.Failed failed is same) = Failed failed is (same_sight old new same)
+finished old new v x flags answer n (kv.Refused works (OffRefused checked) same) = Refused works checked (same_sight old new same)
+finished old new v x flags answer n (kv.Refused works (OffUnlisted c ready_is none off) same) =
+    Unlisted works c ready_is
+    (λ listed. none (subst (Contains (branch_rows (state_of old.store x) c)) (sym (row_as (state_of old.store x) c (writes_of old.store.writes x) _)) listed))
+    (off ∙ off_is c (works_as v flags c (passed old.store.tables v x flags c ready_is).by_flags ∙ n)) (same_sight old new same)
+  where
+    off_is : (c : Call) → is_work c ≡ false → off_row c ≡ code.Proto
+    off_is call.Start h = absurd (cc)
+    off_is _ h = refl
+finished old new v x flags answer n (kv.Taken works due is_due taken) =
+    let checked = passed old.store.tables v x flags due.0 is_due.checked in
+    let w : is_work due.0 ≡ false = works_as v flags due.0 checked.by_flags ∙ n in
+    let h : has_rows (branch_rows (state_of old.store x) due.0) ≡ true = free_rows _ _ checked.passes.free in
+    let listed : IsListed old.store x due.0 (turn_for old.store x due.0) = subst (IsListed old.store x due.0) is_due.turn is_due.listed in
+    by_taken w h listed (subst (λ t. KvTakes old new x t answer) is_due.turn taken)
+  where
+    free_rows : (held has : Bool) → (held || not has) ≡ false → has ≡ true
+    free_rows held true h = refl
+    free_rows true false h = absurd cc
+    free_rows false false h = absurd cc
+
+    by_taken : is_work due.0 ≡ false → has_rows (branch_rows (state_of old.store x) due.0) ≡ true → IsListed old.store x due.0 (turn_for old.store x due.0)
+        → KvTakes old new x (turn_for old.store x due.0) answer → Finishes (sight_of old) (sight_of new) v x flags answer
+    by_taken w h listed (kv.Made is made) =
+        Made works due.0 is_due.checked (is ∙ ap (λ (r : Code × BranchState). r.0) (row_as (state_of old.store x) due.0 (writes_of old.store.writes x) _))
+        (made_row old new x due.0 w h listed made)
+    by_taken w h listed (kv.Broke is failed) = Broke works due.0 is_due.checked is (broke_under old new x due.0 w h listed failed)
+    by_taken w h listed (kv.Spent is commits few same) = Limited works (spent_so (has_numbers old.store) few) is (same_sight old new same)

@@ -1,0 +1,81 @@
+//! A key store with a log, as a resource manager that a process drives.
+
+use crate::manager::KvManager;
+use log_store::LogStore;
+use manager_model::ResourceManager;
+use std::alloc::AllocError;
+use tree_model::Op;
+use xa_codes::{Code, Flags};
+use xa_manager::WorkError;
+use xa_tables::BranchState;
+use xa_xid::Xid;
+
+impl<L: LogStore> ResourceManager for KvManager<L> {
+    ghost use Rattle.kv_manager.specs.Resources.{sight_of};
+
+    ghost sight = { λ m. sight_of m };
+
+    fn boot(&self) -> u64 {
+        KvManager::boot(self)
+    }
+
+    fn has_failed(&self) -> bool {
+        KvManager::has_failed(self)
+    }
+
+    fn state(&self, xid: &Xid) -> BranchState {
+        KvManager::state(self, xid)
+    }
+
+    fn open(&mut self, flags: Flags, migrates: bool) -> Code {
+        KvManager::open(self, flags, migrates)
+    }
+
+    fn close(&mut self, flags: Flags) -> Code {
+        KvManager::close(self, flags)
+    }
+
+    fn start(&mut self, thread: u32, xid: &Xid, flags: Flags) -> Result<Code, AllocError> {
+        KvManager::start(self, thread, xid, flags)
+    }
+
+    fn end(&mut self, thread: u32, xid: &Xid, flags: Flags) -> Result<Code, AllocError> {
+        KvManager::end(self, thread, xid, flags)
+    }
+
+    fn prepare(&mut self, thread: u32, xid: &Xid, flags: Flags) -> Result<Code, AllocError> {
+        KvManager::prepare(self, thread, xid, flags)
+    }
+
+    fn commit(&mut self, thread: u32, xid: &Xid, flags: Flags) -> Result<Code, AllocError> {
+        KvManager::commit(self, thread, xid, flags)
+    }
+
+    fn rollback(&mut self, thread: u32, xid: &Xid, flags: Flags) -> Result<Code, AllocError> {
+        KvManager::rollback(self, thread, xid, flags)
+    }
+
+    fn forget(&mut self, thread: u32, xid: &Xid, flags: Flags) -> Result<Code, AllocError> {
+        KvManager::forget(self, thread, xid, flags)
+    }
+
+    fn recover(
+        &mut self,
+        thread: u32,
+        count: u32,
+        flags: Flags,
+    ) -> Result<Result<Vec<Xid>, Code>, AllocError> {
+        KvManager::recover(self, thread, count, flags)
+    }
+
+    fn work(&mut self, thread: u32, op: &Op) -> Result<(), WorkError> {
+        match op {
+            Op::Put(key, value) => self.put(thread, key.as_slice(), value.as_slice()),
+            Op::Delete(key) => self.delete(thread, key.as_slice()),
+            Op::Get(key) => {
+                let _value = self.get(thread, key.as_slice())?;
+                Ok(())
+            }
+        }
+    }
+}

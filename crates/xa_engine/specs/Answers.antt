@@ -1,0 +1,49 @@
+-- The lines of answers.
+use Rattle.std.specs.Prelude.{ℕ, List, [], ◌∷◌, ◌++◌, Some, None, length, codes}
+use Rattle.std.specs.List.{flat_map}
+use Rattle.std.specs.Fmt.{decimal}
+use Rattle.xa_codes.specs.Codes.{code_name}
+use Rattle.xa_xid.specs.declared.xid.Xid.{Xid}
+use Rattle.xa_xid.specs.Text.{xid_text}
+use Rattle.xa_manager.specs.Errors.{number_of}
+use Rattle.xa_manager.specs.declared.errors.WorkError.{WorkError}
+use Rattle.xa_manager.specs.declared.errors.WorkError.TheVariants.{Locked}
+use Rattle.kv_manager.specs.declared.restart.RestartError.{RestartError}
+use Rattle.kv_manager.specs.declared.restart.RestartError.TheVariants.{Memory, Device, Unfit, Exhausted}
+use Rattle.xa_engine.specs.declared.answer.Answer.{Answer}
+use Rattle.xa_engine.specs.declared.answer.Answer.TheVariants.{Code, Given, Found, Done, Refused, Booted, NotBooted}
+
+-- a branch behind a space
+abbrev pub branch_text : Xid → List ℕ
+branch_text x = 32 ∷ xid_text x
+
+-- the line of a recover: how many branches there are, and their names
+abbrev pub given_text : List Xid → List ℕ
+given_text given = decimal (length given) ++ flat_map branch_text given ++ 10 ∷ []
+
+-- the branch that a refusal names: the one that holds a lock
+abbrev pub holder_text : WorkError → List ℕ
+holder_text (Locked x) = branch_text x
+holder_text _ = []
+
+-- the line of refused work: its number, and the holder
+abbrev pub refusal_text : WorkError → List ℕ
+refusal_text e = codes "refused " ++ decimal (number_of e) ++ holder_text e ++ 10 ∷ []
+
+-- the number of why a manager did not restart; want of memory has none, since no output names it
+abbrev pub restart_number : RestartError → ℕ
+restart_number Memory = 0
+restart_number Device = 2
+restart_number Unfit = 3
+restart_number Exhausted = 4
+
+-- the line of an answer
+abbrev pub answer_text : Answer → List ℕ
+answer_text (Code c) = code_name c ++ 10 ∷ []
+answer_text (Given xs) = given_text xs
+answer_text (Found None) = codes "= none" ++ 10 ∷ []
+answer_text (Found (Some v)) = codes "= " ++ v ++ 10 ∷ []
+answer_text Done = codes "done" ++ 10 ∷ []
+answer_text (Refused e) = refusal_text e
+answer_text (Booted n) = codes "boot " ++ decimal n ++ 10 ∷ []
+answer_text (NotBooted e) = codes "refused " ++ decimal (restart_number e) ++ 10 ∷ []

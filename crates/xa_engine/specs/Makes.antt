@@ -1,0 +1,106 @@
+-- What a request makes of a key store with a log, and what it is answered.
+use Rattle.std.specs.Prelude.{◌≡◌, ℕ, ◌-◌, ◌^◌, List, Option, Some, None, Result, Ok, Err}
+use Rattle.xa_codes.specs.declared.code.Code.{Code}
+use Rattle.xa_codes.specs.declared.code.Code.TheVariants as code
+use Rattle.xa_tables.specs.declared.call.Verb.{Verb}
+use Rattle.xa_tables.specs.declared.call.Verb.TheVariants as verb
+use Rattle.xa_xid.specs.declared.xid.Xid.{Xid}
+use Rattle.xa_states.specs.declared.states.States.{States}
+use Rattle.xa_states.specs.Answers.{Answers, Closes, Opens, Recovers, Wanted}
+use Rattle.xa_manager.specs.declared.errors.WorkError.{WorkError}
+use Rattle.xa_manager.specs.declared.errors.WorkError.TheVariants as work_error
+use Rattle.tree_model.specs.declared.messages.Op.{Op}
+use Rattle.tree_model.specs.declared.messages.Op.TheVariants.{Put, Get, Delete}
+use Rattle.kv_locks.specs.declared.holders.Mode.TheVariants.{Exclusive, Shared}
+use Rattle.kv_core.specs.Stores.{MovesTables}
+use Rattle.kv_core.specs.Works.{Reads, Writes, work_refusal}
+use Rattle.kv_manager.specs.declared.restart.RestartError.TheVariants as restart_error
+use Rattle.kv_manager.specs.Sights.{KvSight}
+use Rattle.kv_manager.specs.Turns.{Calls, Finishes, Refuses}
+use Rattle.kv_manager.specs.Restarts.{NotRestarted, Restarted}
+use Rattle.xa_script.specs.declared.request.BranchCall.{BranchCall}
+use Rattle.xa_script.specs.declared.request.BranchCall.TheVariants.{Start, End, Prepare, Commit, Rollback, Forget}
+use Rattle.xa_script.specs.declared.request.Request.{Request}
+use Rattle.xa_script.specs.declared.request.Request.TheVariants.{Open, Close, Branch, Recover, Work, Restart}
+use Rattle.xa_engine.specs.declared.answer.Answer.{Answer}
+use Rattle.xa_engine.specs.declared.answer.Answer.TheVariants as answer
+
+-- a call that moves the tables alone, or that a failed manager refuses
+abbrev pub Moves : KvSight → KvSight → Code → (States → States → Type 0) → Type 0
+Moves old new c Makes = Calls old new (c ≡ code.RmFail) (λ before behind. MovesTables before behind Makes)
+
+-- the answer is a code
+abbrev pub IsCode : (Code → Type 0) → Answer → Type 0
+IsCode P (answer.Code c) = P c
+IsCode P _ = ⊥
+
+-- a start or an end
+abbrev pub Joins : Verb → KvSight → KvSight → ℕ → Xid → ℕ → Code → Type 0
+Joins v old new t x flags c = (wanted : Wanted) → Moves old new c (λ a b. Answers wanted a b v t x flags c)
+
+-- a call on a branch
+abbrev pub CallsBranch : BranchCall → KvSight → KvSight → ℕ → Xid → ℕ → Code → Type 0
+CallsBranch Start old new t x flags c = Joins verb.Start old new t x flags c
+CallsBranch End old new t x flags c = Joins verb.End old new t x flags c
+CallsBranch Prepare old new t x flags c = Finishes old new verb.Prepare x flags c
+CallsBranch Commit old new t x flags c = Finishes old new verb.Commit x flags c
+CallsBranch Rollback old new t x flags c = Finishes old new verb.Rollback x flags c
+CallsBranch Forget old new t x flags c = Finishes old new verb.Forget x flags c
+
+-- the answer of a scan: the branches that it gives, or a code
+abbrev pub IsScan : (Result (List Xid) Code → Type 0) → Answer → Type 0
+IsScan P (answer.Given xs) = P (Ok xs)
+IsScan P (answer.Code c) = P (Err c)
+IsScan P _ = ⊥
+
+-- a scan of the branches in doubt
+abbrev pub Scans : KvSight → KvSight → ℕ → ℕ → ℕ → Answer → Type 0
+Scans old new t count flags = IsScan (λ r. Calls old new (r ≡ Err code.RmFail)
+    (λ before behind. MovesTables before behind (λ a b. Recovers a b t count flags r)))
+
+-- work is refused by this, which is not want of memory
+pub record IsRefused (e : WorkError) (a : Answer) : Type 0 where
+  pub says : a ≡ answer.Refused e
+  pub no_memory : e ≡ work_error.Memory → ⊥
+
+-- a thread reads a key, and finds a value or none; or is refused
+abbrev pub IsRead : KvSight → KvSight → ℕ → List ℕ → Answer → Type 0
+IsRead old new t k (answer.Found v) = Calls old new ⊥ (λ before behind. Reads before behind t k v)
+IsRead old new t k (answer.Refused e) =
+    (e ≡ work_error.Memory → ⊥) × Refuses old new (work_refusal old.store t k None Shared) e
+IsRead old new t k _ = ⊥
+
+-- a thread writes a key, or is refused
+abbrev pub IsWritten : KvSight → KvSight → ℕ → List ℕ → Option (List ℕ) → Answer → Type 0
+IsWritten old new t k v answer.Done = Calls old new ⊥ (λ before behind. Writes before behind t k v)
+IsWritten old new t k v (answer.Refused e) =
+    (e ≡ work_error.Memory → ⊥) × Refuses old new (work_refusal old.store t k v Exclusive) e
+IsWritten old new t k v _ = ⊥
+
+-- an operation on data
+abbrev pub Works : KvSight → KvSight → ℕ → Op → Answer → Type 0
+Works old new t (Get k) = IsRead old new t k
+Works old new t (Put k v) = IsWritten old new t k (Some v)
+Works old new t (Delete k) = IsWritten old new t k None
+
+-- how many of the unforced bytes a restart keeps: the first so many, or all, which are fewer than 2^64
+abbrev pub kept_bytes : Option ℕ → ℕ
+kept_bytes None = 2 ^ 64 - 1
+kept_bytes (Some n) = n
+
+-- a restart, or why there is none
+abbrev pub Boots : KvSight → KvSight → Option ℕ → Answer → Type 0
+Boots old new keep (answer.Booted n) =
+    (n ≡ new.boot) × (given : List Xid) × Restarted old new (kept_bytes keep) given
+Boots old new keep (answer.NotBooted e) =
+    (e ≡ restart_error.Memory → ⊥) × NotRestarted old new (kept_bytes keep) e
+Boots old new keep _ = ⊥
+
+-- a request takes a manager from one state to another, and is answered so
+abbrev pub Makes : KvSight → KvSight → Request → Answer → Type 0
+Makes old new (Open flags migrates) = IsCode (λ c. Moves old new c (λ a b. Opens a b flags.0 migrates c))
+Makes old new (Close flags) = IsCode (λ c. Moves old new c (λ a b. Closes a b flags.0 c))
+Makes old new (Branch f thread xid flags) = IsCode (CallsBranch f old new thread xid flags.0)
+Makes old new (Recover thread count flags) = Scans old new thread count flags.0
+Makes old new (Work thread op) = Works old new thread op
+Makes old new (Restart keep) = Boots old new keep

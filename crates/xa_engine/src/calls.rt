@@ -1,0 +1,136 @@
+//! The requests of a script, made of a manager.
+
+ghost use Rattle.std.specs.Prelude.{◌≡◌, IfOk, Some, None};
+ghost use Rattle.kv_locks.specs.declared.holders.Mode.TheVariants as mode;
+ghost use Rattle.kv_core.specs.Works.{Reads, Writes, work_refusal};
+ghost use Rattle.kv_manager.specs.Turns.{Calls, Refuses};
+ghost use Rattle.xa_engine.specs.Makes.{Boots, CallsBranch, IsRead, IsRefused, IsWritten, Makes, Scans, Works};
+
+use crate::answer::Answer;
+use kv_manager::{KvManager, RestartError};
+use log_store::MemoryStore;
+use std::alloc::AllocError;
+use tree_model::{Op, Sequence};
+use xa_codes::{Code, Flags};
+use xa_manager::WorkError;
+use xa_script::{BranchCall, Request};
+use xa_xid::Xid;
+
+/// The manager of a script: its log is in memory.
+pub(crate) type Manager = KvManager<MemoryStore>;
+
+/// Makes a request.
+pub(crate) fn make(manager: &mut Manager, request: &Request) -> Result<Answer, AllocError>
+    ensures { IfOk result (λ answer. Makes manager.old manager.new request.now answer) }
+{
+    match request {
+        Request::Open { flags, migrates } => Ok(Answer::Code(manager.open(*flags, *migrates))),
+        Request::Close { flags } => Ok(Answer::Code(manager.close(*flags))),
+        Request::Branch {
+            call,
+            thread,
+            xid,
+            flags,
+        } => Ok(Answer::Code(call_branch(manager, *call, *thread, xid, *flags)?)),
+        Request::Recover {
+            thread,
+            count,
+            flags,
+        } => scan(manager, *thread, *count, *flags),
+        Request::Work { thread, op } => work(manager, *thread, op),
+        Request::Restart { keep } => restart(manager, *keep),
+    }
+}
+
+/// A call on a branch.
+fn call_branch(
+    manager: &mut Manager,
+    call: BranchCall,
+    thread: u32,
+    xid: &Xid,
+    flags: Flags,
+) -> Result<Code, AllocError>
+    ensures { IfOk result (λ code. CallsBranch call manager.old manager.new thread xid.now flags.0 code) }
+{
+    match call {
+        BranchCall::Start => manager.start(thread, xid, flags),
+        BranchCall::End => manager.end(thread, xid, flags),
+        BranchCall::Prepare => manager.prepare(thread, xid, flags),
+        BranchCall::Commit => manager.commit(thread, xid, flags),
+        BranchCall::Rollback => manager.rollback(thread, xid, flags),
+        BranchCall::Forget => manager.forget(thread, xid, flags),
+    }
+}
+
+/// A scan of the branches in doubt.
+fn scan(manager: &mut Manager, thread: u32, count: u32, flags: Flags) -> Result<Answer, AllocError>
+    ensures { IfOk result (λ answer. Scans manager.old manager.new thread count flags.0 answer) }
+{
+    match manager.recover(thread, count, flags)? {
+        Ok(xids) => Ok(Answer::Given(Sequence::from_vec(xids))),
+        Err(code) => Ok(Answer::Code(code)),
+    }
+}
+
+/// An operation on data.
+fn work(manager: &mut Manager, thread: u32, op: &Op) -> Result<Answer, AllocError>
+    ensures { IfOk result (λ answer. Works manager.old manager.new thread op.now answer) }
+{
+    match op {
+        Op::Get(key) => get(manager, thread, key.as_slice()),
+        Op::Put(key, value) => put(manager, thread, key.as_slice(), value.as_slice()),
+        Op::Delete(key) => delete(manager, thread, key.as_slice()),
+    }
+}
+
+/// The answer of refused work.
+fn refused(error: WorkError) -> Result<Answer, AllocError>
+    ensures { IfOk result (λ answer. IsRefused error answer) }
+{
+    match error {
+        WorkError::Memory => Err(AllocError),
+        error => Ok(Answer::Refused(error)),
+    }
+}
+
+fn get(manager: &mut Manager, thread: u32, key: &[u8]) -> Result<Answer, AllocError>
+    ensures { IfOk result (λ answer. IsRead manager.old manager.new thread key.now answer) }
+{
+    match manager.get(thread, key) {
+        Ok(value) => Ok(Answer::Found(value)),
+        Err(error) => refused(error),
+    }
+}
+
+fn put(manager: &mut Manager, thread: u32, key: &[u8], value: &[u8]) -> Result<Answer, AllocError>
+    ensures { IfOk result (λ answer. IsWritten manager.old manager.new thread key.now (Some value.now) answer) }
+{
+    match manager.put(thread, key, value) {
+        Ok(()) => Ok(Answer::Done),
+        Err(error) => refused(error),
+    }
+}
+
+fn delete(manager: &mut Manager, thread: u32, key: &[u8]) -> Result<Answer, AllocError>
+    ensures { IfOk result (λ answer. IsWritten manager.old manager.new thread key.now None answer) }
+{
+    match manager.delete(thread, key) {
+        Ok(()) => Ok(Answer::Done),
+        Err(error) => refused(error),
+    }
+}
+
+/// A restart that keeps so many of the unforced bytes of the log, or all of them.
+fn restart(manager: &mut Manager, keep: Option<u64>) -> Result<Answer, AllocError>
+    ensures { IfOk result (λ answer. Boots manager.old manager.new keep answer) }
+{
+    let keep = match keep {
+        None => usize::MAX,
+        Some(keep) => keep as usize,
+    };
+    match manager.restart(keep) {
+        Ok(_) => Ok(Answer::Booted(manager.boot())),
+        Err(RestartError::Memory) => Err(AllocError),
+        Err(error) => Ok(Answer::NotBooted(error)),
+    }
+}
