@@ -2,9 +2,15 @@
 use Rattle.std.specs.Prelude.{◌≡◌, Option}
 use Rattle.tree_model.specs.declared.names.Case.{Case}
 use Rattle.tree_model.specs.declared.events.Input.{Input}
-use Rattle.tree_model.specs.Nodes.{DataAnswer, Node}
-use Rattle.tree_model.specs.Reactions.{reacts}
+use Rattle.tree_model.specs.declared.events.Reaction.{Reaction}
+use Rattle.tree_model.specs.declared.names.ProcessId.{ProcessId}
+use Rattle.tree_model.specs.declared.records.Branch.TheVariants.{Case as CaseBranch}
+use Rattle.tree_model.specs.Nodes.{AtLeaf, DataAnswer, Effect, Heard, Node, Place, after, kept, reaction_of}
+use Rattle.tree_model.specs.Standings.{Unmarked, mark_of}
+use Rattle.tree_model.specs.Views.{fresh_case}
+use Rattle.tree_model.specs.Reactions.{Does, reacts}
 use Rattle.core_model.specs.States.{CoreState}
+use Rattle.core_model.specs.Makes.{Makes}
 use Rattle.core_model.specs.Turns.{Finds, asked_by, reacted, turn_of}
 use Rattle.core_law.specs.Ties.{ChildrenFit, Stands}
 
@@ -13,3 +19,20 @@ abbrev pub MeetsAsTheModel : Type 0
 MeetsAsTheModel = (n : Node) (s : CoreState) (a : DataAnswer) (found : Option Case) (i : Input)
     → Stands n s → ChildrenFit s.place n → Finds s (asked_by i) found
     → reacts s.place n (record { input = i; data_answer = a }) ≡ reacted (turn_of s a found i)
+
+-- The model's process makes the input too and shows the same, and the process stands for what that leaves.
+pub record MadeAs (n : Node) (h : Heard) (old new : CoreState) (reaction : Reaction) : Type 0 where
+  pub effect : Effect
+  pub does : reacts old.place n h ≡ Does effect
+  pub shown : reaction ≡ reaction_of effect
+  pub stands : Stands (after n h effect) new
+
+-- no record is of the ticket that is given next for a case of the parent
+abbrev pub FreshIsUnmarked : Place → Node → Type 0
+FreshIsUnmarked place n = (d : Case) → mark_of (CaseBranch (fresh_case place n d)) (kept n) ≡ Unmarked
+
+-- what a manager makes of an input is what the model's manager makes of it
+abbrev pub ManagersMakeAsTheModel : Type 0
+ManagersMakeAsTheModel = (n : Node) (old new : CoreState) (p : ProcessId) (a : DataAnswer) (i : Input) (reaction : Reaction)
+    → old.place.role ≡ AtLeaf p → Stands n old → ChildrenFit old.place n → FreshIsUnmarked old.place n
+    → Makes old new a i reaction → MadeAs n (record { input = i; data_answer = a }) old new reaction

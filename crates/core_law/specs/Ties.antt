@@ -1,4 +1,5 @@
--- When what a process keeps stands for a process of the model, which keeps lists and reads everything off them.
+-- When what a process keeps stands for a process of the model, which keeps lists and reads everything off
+-- them.
 use Rattle.std.specs.Prelude.{◌≡◌, true, false}
 use Rattle.tree_model.specs.declared.names.Case.{Case}
 use Rattle.tree_model.specs.declared.names.Ticket.{Ticket}
@@ -30,15 +31,16 @@ pub record StandsUp (n : Node) (s : CoreState) : Type 0 where
   pub views : (c : Case) → SameView (s.view_of c) (view_at s.place.role s.place n c)
   pub branches : (c : Case) → s.branch_of c ≡ branch_at s.place.role s.place n c
 
--- Its log holds the same records, under their whole names. Of a process whose device failed nothing else is said.
+-- Its log holds the same records, under their whole names. Of a process whose device failed nothing else is
+-- said.
 pub record Stands (n : Node) (s : CoreState) : Type 0 where
   pub forced : s.log.kept.forced ≡ logged s n.forced
   pub unforced : s.log.kept.unforced ≡ logged s n.unforced
   pub failed : s.log.failed ≡ n.failed
   pub up : n.failed ≡ false → StandsUp n s
 
--- Whose case a child is of is the same by lists and by live cases: a live case is one of those in which a child is looked
--- for, and of these a child's ticket belongs to one at most.
+-- Whose case a child is of is the same by lists and by live cases: a live case is one of those in which a
+-- child is looked for, and of these a child's ticket belongs to one at most.
 pub record ChildrenFit (place : Place) (n : Node) : Type 0 where
   pub listed : (c : Case) → is_known (coordinator_view place n c).standing ≡ true
       → has_case (own_cases place.role place n c.txn) c ≡ true

@@ -1,9 +1,15 @@
 //! The laws. The functions do nothing: each one's contract is a law.
 
-ghost use Rattle.core_law.specs.Laws.{MeetsAsTheModel};
+ghost use Rattle.core_law.specs.Laws.{ManagersMakeAsTheModel, MeetsAsTheModel};
 
 /// Where a process stands for a process of the model, each input meets at it the row, the refusal or the nothing that it
 /// meets there.
 pub fn inputs_meet_the_models_turns()
     ensures { MeetsAsTheModel }
+{}
+
+/// Where a manager stands for a manager of the model, it makes of each input what that makes of it: it shows the same, and
+/// stands for what is left.
+pub fn managers_make_as_the_model()
+    ensures { ManagersMakeAsTheModel }
 {}
