@@ -1,3 +1,4 @@
 pub mod Answers
 pub mod Makes
 pub mod Runs
+pub mod Histories

@@ -3,7 +3,9 @@
 
 mod answer;
 mod calls;
+mod law;
 mod xa;
 
+pub use law::histories_are_legal;
 pub use report_io::{Failure, Status};
 pub use xa::run_xa;

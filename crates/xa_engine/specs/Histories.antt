@@ -1,0 +1,59 @@
+-- What the requests of a script do to the tables of XA.
+use Rattle.std.specs.Prelude.{◌≡◌, Bool, true, false, ◌&&◌, List, [], ◌∷◌, Ok, Err}
+use Rattle.xa_tables.specs.declared.call.Verb.{Verb}
+use Rattle.xa_tables.specs.declared.call.Verb.TheVariants as verb
+use Rattle.xa_xid.specs.declared.xid.Xid.{Xid}
+use Rattle.xa_law.specs.Moves.{Move, Open as OpenMove, Close as CloseMove, Branch as BranchMove, Recover as RecoverMove, Work as WorkMove, Restart as RestartMove}
+use Rattle.xa_law.specs.Histories.{IsLegalHistory}
+use Rattle.kv_manager.specs.Sights.{KvSight}
+use Rattle.kv_manager.specs.declared.restart.RestartError.TheVariants.{Device}
+use Rattle.xa_script.specs.declared.request.BranchCall.{BranchCall}
+use Rattle.xa_script.specs.declared.request.BranchCall.TheVariants.{Start, End, Prepare, Commit, Rollback, Forget}
+use Rattle.xa_script.specs.declared.request.Request.{Request}
+use Rattle.xa_script.specs.declared.request.Request.TheVariants.{Open, Close, Branch, Recover, Work, Restart}
+use Rattle.xa_engine.specs.declared.answer.Answer.{Answer}
+use Rattle.xa_engine.specs.declared.answer.Answer.TheVariants.{Code, Given, Booted, NotBooted}
+
+-- the function of XA that a call on a branch is
+abbrev pub verb_of : BranchCall → Verb
+verb_of Start = verb.Start
+verb_of End = verb.End
+verb_of Prepare = verb.Prepare
+verb_of Commit = verb.Commit
+verb_of Rollback = verb.Rollback
+verb_of Forget = verb.Forget
+
+-- a request with its answer is this move of the tables: a call with its answer, or a restart with the branches that it
+-- leaves in doubt; an operation on data and a restart that is refused leave them alone
+abbrev pub Shows : Request → Answer → Move → Type 0
+Shows (Open flags migrates) (Code c) move = move ≡ OpenMove flags.0 migrates c
+Shows (Close flags) (Code c) move = move ≡ CloseMove flags.0 c
+Shows (Branch f thread xid flags) (Code c) move = move ≡ BranchMove (verb_of f) thread xid flags.0 c
+Shows (Recover thread count flags) (Code c) move = move ≡ RecoverMove thread count flags.0 (Err c)
+Shows (Recover thread count flags) (Given xs) move = move ≡ RecoverMove thread count flags.0 (Ok xs)
+Shows (Work thread op) answer move = move ≡ WorkMove
+Shows (Restart keep) (Booted n) move = (left : List (Xid × Bool)) × (move ≡ RestartMove left)
+Shows (Restart keep) (NotBooted e) move = move ≡ WorkMove
+Shows _ _ move = ⊥
+
+-- requests with their answers are these moves, one for one
+abbrev pub ShowEach : List Request → List Answer → List Move → Type 0
+ShowEach [] [] [] = Unit {0}
+ShowEach (r ∷ rs) (a ∷ rest) (move ∷ moves) = Shows r a move × ShowEach rs rest moves
+ShowEach _ _ _ = ⊥
+
+-- this answer does not say that a device failed under a restart
+abbrev pub device_works : Answer → Bool
+device_works (NotBooted Device) = false
+device_works _ = true
+
+-- no device failed under a restart
+abbrev pub devices_work : List Answer → Bool
+devices_work [] = true
+devices_work (a ∷ answers) = device_works a && devices_work answers
+
+-- requests with their answers do to the tables of states what a legal history does
+pub record IsHistory (m : KvSight) (requests : List Request) (answers : List Answer) (n : KvSight) : Type 0 where
+  pub moves : List Move
+  pub shown : ShowEach requests answers moves
+  pub legal : IsLegalHistory m.store.tables moves n.store.tables
