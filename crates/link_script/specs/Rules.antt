@@ -1,7 +1,7 @@
 -- Where the tree text of a script ends: before the first line that is just three dashes.
 use Rattle.std.specs.Prelude.{ℕ, List, [], ◌∷◌, codes, Bool, ◌||◌, ◌==◌, Option, Some, None, option_map, if◌then◌else◌}
 use Rattle.std.specs.List.{slice_split}
-use Rattle.link_script.specs.Events.{same}
+use Rattle.script_words.specs.Steps.{same}
 
 -- the pieces of a text between its line feeds
 abbrev pub pieces : List ℕ → List (List ℕ)
