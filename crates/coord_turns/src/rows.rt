@@ -144,7 +144,7 @@ pub fn take_row(
     asked: Asked,
     live: &mut Live,
 ) -> Result<RowEffect, AllocError>
-    requires { Accepts asked.entry live.old }
+    requires { Accepts asked live.old }
     ensures ok { IfOk result (λ effect. Does seat (asked_row (seat_meant seat) asked.entry live.old) effect live.new) }
     ensures err { OnErr result (SameView live.new live.old) }
 {

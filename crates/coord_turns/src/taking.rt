@@ -22,7 +22,7 @@ fn take_live(
     asked: Asked,
 ) -> Result<RowEffect, AllocError>
     requires at { IsAt cases.old key seat.case }
-    requires accepted { Accepts asked.entry (view_in cases.old seat.case) }
+    requires accepted { Accepts asked (view_in cases.old seat.case) }
     ensures ok { IfOk result (λ effect. TakesLive cases.old cases.new key seat asked.entry effect) }
     ensures err { OnErr result (SameCases cases.old cases.new) }
 {
@@ -69,9 +69,9 @@ pub fn take(
     asked: Asked,
 ) -> Result<RowEffect, AllocError>
     requires at { IsAt cases.old key seat.case }
-    requires accepted { Accepts asked.entry (view_in cases.old seat.case) }
+    requires accepted { Accepts asked (view_in cases.old seat.case) }
     requires given { GivenAreActive cases.old }
-    requires root { is_of_root asked.entry ≡ true → seat.case.ticket ≡ None }
+    requires root { is_of_root asked ≡ true → seat.case.ticket ≡ None }
     ensures ok { IfOk result (λ effect. TakesRowOf cases.old cases.new seat asked.entry effect) }
     ensures err { OnErr result (SameCases cases.old cases.new) }
 {
