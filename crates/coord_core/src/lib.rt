@@ -1,13 +1,27 @@
-// A library with one function.
+//! A coordinator: the root of a tree, or a coordinator below it (R*, under Presumed Abort and Presumed Commit).
+//!
+//! An input meets one turn (`meeting` for acts, `hearing` for messages), and the turn is made (`making`):
+//!
+//! | Turn | What it makes |
+//! |---|---|
+//! | `Refuses` | nothing: the error says why |
+//! | `Begins` | a transaction, at the root |
+//! | `Issues` | a fresh ticket for a case of the parent, and its case |
+//! | `Takes` | a row of the reaction table at a live case: its record, its view, its messages |
+//! | `Answers`, `Repeats`, `Presumes`, `Nothing` | messages at most |
+//!
+//! Room for a record is made before the row, and the row frames its record before it changes the case. So from the write on
+//! nothing is refused for memory. Where the write fails the coordinator has failed until its restart.
 #![tactic(auto)]
 
-ghost use Rattle.std.specs.Prelude.{◌≡◌};
-ghost use Rattle.coord_core.specs.Echo.{echo_of};
+mod coordinator;
+mod hearing;
+mod making;
+mod meeting;
+mod opening;
+mod places;
+mod saying;
+mod turn;
+mod writing;
 
-// The `ensures` clause is the contract: what `echo` returns is `echo_of` of its argument, a definition
-// in `specs/Echo.antt`, which a caller's clause can cite too.
-pub fn echo(x: usize) -> usize
-    ensures { result ≡ echo_of x }
-{
-    x
-}
+pub use coordinator::Coordinator;

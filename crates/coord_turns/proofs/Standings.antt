@@ -1,5 +1,5 @@
 -- A case whose ticket stays active takes children and work behind the row, too.
-use Rattle.std.proofs.Common.{◌≡◌, Bool, true, false, subst, sym, if◌then◌else◌}
+use Rattle.std.proofs.Common.{◌≡◌, Bool, true, false, refl, subst, sym, if◌then◌else◌}
 use Rattle.tree_model.specs.declared.names.Outcome.{Outcome}
 use Rattle.tree_model.specs.declared.names.Outcome.TheVariants.{Committed, Aborted}
 use Rattle.tree_model.specs.declared.standings.Standing.TheVariants.{Active}

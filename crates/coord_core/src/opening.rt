@@ -1,0 +1,1 @@
+//! Opening a coordinator, and its acts.
