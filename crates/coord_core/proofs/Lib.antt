@@ -1,1 +1,3 @@
 pub mod Entries
+pub mod Heard
+pub mod Made

@@ -1,5 +1,5 @@
 -- Which turn of the model the code's turn stands for, and what it may rest on.
-use Rattle.std.specs.Prelude.{◌≡◌, ◌&&◌, ⊤, ⊥, ℕ, Bool, true, false, Option, Some, None, List, [], ◌∷◌}
+use Rattle.std.specs.Prelude.{◌≡◌, ◌&&◌, ⊤, ℕ, Bool, true, false, Option, Some, None, List, [], ◌∷◌}
 use Rattle.tree_model.specs.declared.names.Case.{Case}
 use Rattle.tree_model.specs.declared.names.Ticket.{Ticket}
 use Rattle.tree_model.specs.declared.names.Txn.{Txn}
@@ -19,8 +19,8 @@ use Rattle.core_model.specs.Turns.{Turn as CoreTurn, Refuses as RefusesTurn, Beg
 use Rattle.core_model.specs.Makes.{retires}
 use Rattle.coord_table.specs.Cases.{FitsGiven, Slots, has_child, ticket_in, view_in}
 use Rattle.coord_turns.specs.declared.asked.Asked.{Asked}
-use Rattle.coord_turns.specs.declared.asked.Asked.TheVariants.{Joined as AskedJoined, Vote, Ack, Inquire, Prepare, Commits, Aborts}
-use Rattle.coord_turns.specs.Asks.{Accepts, asked_row, is_of_root, is_retiring}
+use Rattle.coord_turns.specs.declared.asked.Asked.TheVariants.{Vote, Ack, Inquire}
+use Rattle.coord_turns.specs.Asks.{Accepts, asked_row, is_for_any, is_of_root, is_retiring}
 use Rattle.coord_turns.specs.Takes.{IsAt}
 use Rattle.coord_core.specs.declared.turn.Turn.{Turn}
 use Rattle.coord_core.specs.declared.turn.Turn.TheVariants.{Refuses, Begins, Issues, Takes, Answers, Repeats, Presumes, Nothing}
@@ -48,14 +48,6 @@ meant v Nothing = SaysTurn []
 -- the input ends the time of a ticket just where what is asked of the case does
 abbrev pub RetiresAs : Input → Asked → Case → Type 0
 RetiresAs i asked c = (d : Case) (t : Ticket) → retires i d t ≡ (is_retiring asked && same_case (child_case d.txn t) c)
-
--- what is asked of a case may be asked of one that is not live: JOINED, and the messages of the parent
-abbrev pub is_for_any : Asked → Bool
-is_for_any (AskedJoined t) = true
-is_for_any Prepare = true
-is_for_any Commits = true
-is_for_any Aborts = true
-is_for_any _ = false
 
 -- an error by which the reaction table refuses; the device's is none
 abbrev pub is_refusal : StepError → Bool

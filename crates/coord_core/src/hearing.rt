@@ -5,7 +5,8 @@ ghost use Rattle.tree_model.specs.declared.events.Input.{Input as AnyInput};
 ghost use Rattle.tree_model.specs.declared.events.Input.TheVariants as input;
 ghost use Rattle.core_model.specs.Turns.{Takes, cascaded_turn, child_says, joined_turn, message_turn};
 ghost use Rattle.coord_table.specs.Cases.{ticket_in};
-ghost use Rattle.coord_core.specs.Meets.{Hears, HearsOf, May, RetiresAs, is_for_any, is_of_child, meant, met, no_data};
+ghost use Rattle.coord_turns.specs.Asks.{is_for_any};
+ghost use Rattle.coord_core.specs.Meets.{Hears, HearsOf, May, RetiresAs, is_of_child, meant, met, no_data};
 ghost use Rattle.coord_core.specs.States.{place_of, state};
 
 use crate::coordinator::Coordinator;

@@ -1,17 +1,15 @@
 //! What the turn of an input makes of a coordinator.
 
 ghost use Rattle.std.specs.Prelude.{◌≡◌, ◌+◌, ◌<◌, ◌^◌, false, true, None, IfErr, IfOk};
-ghost use Rattle.live_table.specs.Tables.{live_value};
+ghost use Rattle.live_table.specs.Tables.{AreApart, live_value};
 ghost use Rattle.tree_model.specs.declared.events.Input.{Input as AnyInput};
-ghost use Rattle.tree_model.specs.Nodes.{reaction_of};
-ghost use Rattle.tree_model.specs.Reactions.{row_effect};
 ghost use Rattle.core_model.specs.States.{HasNumbers};
 ghost use Rattle.core_model.specs.Turns.{Takes};
 ghost use Rattle.core_model.specs.Makes.{Makes, NotMade};
-ghost use Rattle.coord_table.specs.Cases.{ticket_in, view_in};
-ghost use Rattle.coord_turns.specs.Asks.{Accepts, is_of_root};
+ghost use Rattle.coord_table.specs.Cases.{FitsGiven, ticket_in, view_in};
+ghost use Rattle.coord_turns.specs.Asks.{Accepts, is_for_any, is_of_root};
 ghost use Rattle.coord_turns.specs.Takes.{IsAt};
-ghost use Rattle.coord_core.specs.Meets.{RetiresAs, RetiresNone, is_for_any, meant, met, no_data};
+ghost use Rattle.coord_core.specs.Meets.{RetiresAs, RetiresNone, meant, met, no_data};
 ghost use Rattle.coord_core.specs.States.{state};
 ghost use Rattle.coord_core.specs.Turned.{Stopped, Turned};
 ghost use Rattle.coord_core.specs.declared.turn.Turn.TheVariants as turn;
@@ -20,11 +18,10 @@ use crate::coordinator::Coordinator;
 use crate::saying::{began, joined, nothing, presumes};
 use crate::turn::Turn;
 use crate::writing::write_down;
-use coord_rows::{RowEffect, unknown_abort, unknown_commit, unknown_prepare};
-use coord_turns::{Asked, take};
+use coord_rows::RowEffect;
+use coord_turns::{Asked, answer, take};
 use core_log::make_room;
 use log_store::LogStore;
-use std::alloc::AllocError;
 use tree_model::{
     Case, Input, Presumption, ProcessId, Reaction, StepError, Ticket, Txn,
 };
@@ -43,7 +40,7 @@ impl<L: LogStore> Coordinator<L> {
             Turn::Begins(presumption) => self.begins(presumption),
             Turn::Issues(parent, case) => self.issues(parent, case),
             Turn::Takes(key, case, asked) => self.takes(key, case, asked),
-            Turn::Answers(case, asked) => Ok(self.answers(case, asked)?),
+            Turn::Answers(case, asked) => self.answers(case, asked),
             Turn::Repeats(parent, case, ticket) => self.repeats(parent, case, ticket),
             Turn::Presumes(txn, ticket) => self.presumes(txn, ticket),
             Turn::Nothing => Ok(nothing(self.alloc)),
@@ -105,19 +102,17 @@ impl<L: LogStore> Coordinator<L> {
         Ok(reaction)
     }
 
-    /// What is said of a case that is not live.
-    fn answers(&self, case: Case, asked: Asked) -> Result<Reaction, AllocError>
+    /// What is said of a case that is not live. Memory: nothing changed, as nothing does.
+    fn answers(&self, case: Case, asked: Asked) -> Result<Reaction, StepError>
         requires any { is_for_any asked ≡ true }
         requires gone { live_value self.now.slots case ≡ None }
-        ensures { IfOk result (λ reaction. reaction ≡ reaction_of (row_effect case (met self.now case asked.entry))) }
+        requires apart { AreApart self.now.slots }
+        requires fits { FitsGiven self.now.slots }
+        ensures ok { IfOk result (λ reaction. (i : AnyInput) → RetiresAs i asked.entry case
+            → Turned (state self.now) (state self.now) i (Takes case (met self.now case asked.entry)) reaction) }
+        ensures err { IfErr result (Stopped (state self.now) (state self.now) (Takes case (met self.now case asked.entry))) }
     {
-        let seat = self.seat(case);
-        let effect = match asked {
-            Asked::Prepare => unknown_prepare(self.alloc, seat)?,
-            Asked::Commits => unknown_commit(self.alloc, seat)?,
-            Asked::Aborts => unknown_abort(self.alloc, seat)?,
-            _ => RowEffect::quiet(self.alloc),
-        };
+        let effect = answer(self.alloc, self.seat(case), asked)?;
         Ok(effect.reaction)
     }
 

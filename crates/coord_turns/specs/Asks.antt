@@ -39,3 +39,11 @@ is_of_root _ = false
 abbrev pub Accepts : Asked → CoordinatorView → Type 0
 Accepts (Work t op) v = in_list v.accepted t ≡ true
 Accepts _ v = ⊤
+
+-- what may be asked of a case that is not live: JOINED, and the messages of the parent
+abbrev pub is_for_any : Asked → Bool
+is_for_any (Joined t) = true
+is_for_any Prepare = true
+is_for_any Commits = true
+is_for_any Aborts = true
+is_for_any _ = false

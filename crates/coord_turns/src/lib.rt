@@ -21,5 +21,5 @@ mod rows;
 mod taking;
 
 pub use asked::Asked;
-pub use rows::take_row;
+pub use rows::{answer, take_row};
 pub use taking::take;

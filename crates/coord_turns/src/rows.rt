@@ -11,9 +11,10 @@ ghost use Rattle.tree_model.specs.CoordinatorRows.{
   on_prepare as prepare_row,
   on_vote as vote_row,
 };
+ghost use Rattle.tree_model.specs.Standings.{unknown_view};
 ghost use Rattle.core_model.specs.Views.{SameView};
 ghost use Rattle.coord_rows.specs.Rows.{Does, seat as seat_meant};
-ghost use Rattle.coord_turns.specs.Asks.{Accepts, asked_row};
+ghost use Rattle.coord_turns.specs.Asks.{Accepts, asked_row, is_for_any};
 
 use crate::asked::Asked;
 use coord_case::Live;
@@ -162,5 +163,18 @@ pub fn take_row(
         Asked::Prepare => on_prepare(alloc, seat, live),
         Asked::Commits => on_commit(alloc, seat, live),
         Asked::Aborts => on_abort(alloc, seat, live),
+    }
+}
+
+/// The row that a case meets which is not live: JOINED and the messages of the parent.
+pub fn answer(alloc: Global, seat: Seat, asked: Asked) -> Result<RowEffect, AllocError>
+    requires { is_for_any asked ≡ true }
+    ensures { IfOk result (λ effect. Does seat (asked_row (seat_meant seat) asked.entry unknown_view) effect unknown_view) }
+{
+    match asked {
+        Asked::Prepare => unknown_prepare(alloc, seat),
+        Asked::Commits => unknown_commit(alloc, seat),
+        Asked::Aborts => unknown_abort(alloc, seat),
+        _ => Ok(RowEffect::quiet(alloc)),
     }
 }
