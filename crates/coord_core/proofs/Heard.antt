@@ -1,5 +1,5 @@
 -- Which turn a message meets, and an act.
-use Rattle.std.proofs.Common.{◌≡◌, ◌&&◌, ◌⊎◌, ℕ, zero, suc, Bool, true, false, Option, None, Some, List, [], ◌∷◌, refl, subst, sym, ap, ◌∙◌, inl, inr}
+use Rattle.std.proofs.Common.{◌≡◌, ◌&&◌, ◌||◌, ◌⊎◌, find, ℕ, zero, suc, Bool, true, false, Option, None, Some, List, [], ◌∷◌, if◌then◌else◌, refl, subst, sym, ap, ◌∙◌, inl, inr}
 use Rattle.tree_model.specs.declared.names.Case.{Case}
 use Rattle.tree_model.specs.declared.names.Outcome.{Outcome}
 use Rattle.tree_model.specs.declared.names.ProcessId.{ProcessId}
@@ -13,21 +13,29 @@ use Rattle.tree_model.specs.declared.events.Act.{Act}
 use Rattle.tree_model.specs.declared.events.Input.{Input}
 use Rattle.tree_model.specs.declared.events.Input.TheVariants.{Act as ActInput, Message as MessageInput}
 use Rattle.tree_model.specs.declared.events.StepError.{StepError}
-use Rattle.tree_model.specs.declared.events.StepError.TheVariants.{Failed, NoSuch}
-use Rattle.tree_model.specs.Names.{child_case, same_case, same_txn}
-use Rattle.tree_model.specs.Nodes.{Role}
+use Rattle.tree_model.specs.declared.events.StepError.TheVariants.{Failed, NoSuch, NotAChild}
+use Rattle.std.specs.Borrow.{Bor}
+use Rattle.tree_model.specs.declared.events.Act.TheVariants.{Work as WorkAct}
+use Rattle.tree_model.specs.declared.messages.Op.{Op}
+use Rattle.tree_model.specs.declared.standings.Standing.TheVariants.{Active}
+use Rattle.tree_model.specs.Names.{child_case, same_case, same_process, same_ticket, same_txn}
+use Rattle.tree_model.specs.Records.{in_list}
+use Rattle.tree_model.specs.Nodes.{is_leaf, role_of}
+use Rattle.tree_model.specs.Memory.{ticket_of_child}
+use Rattle.tree_model.specs.CoordinatorRows.{active_work}
 use Rattle.tree_model.specs.Standings.{CoordinatorView}
 use Rattle.tree_model.specs.Reactions.{act_is_listed}
 use Rattle.tree_model.specs.Restarts.{is_known}
-use Rattle.tree_model.proofs.NameTests.{case_tells}
+use Rattle.tree_model.proofs.NameTests.{case_tells, ticket_tells}
 use Rattle.live_table.specs.Tables.{entry_at, live_value}
 use Rattle.live_table.proofs.Writes.{live_found}
-use Rattle.core_model.specs.Turns.{Turn as CoreTurn, Takes as TakesTurn, Finds, act_turn, asked_by, cascaded_turn, child_says, coordinator_act, is_case_of, message_turn, turn_of}
+use Rattle.core_model.specs.Turns.{Turn as CoreTurn, Refuses as RefusesTurn, Takes as TakesTurn, Finds, act_turn, asked_by, cascaded_turn, child_says, coordinator_act, is_case_of, message_turn, seat_in, turn_of, work_for_turn, work_turn}
 use Rattle.coord_table.specs.declared.held.Held.{Held}
 use Rattle.coord_table.specs.Cases.{Slots, has_child, held_view, view_in}
 use Rattle.coord_turns.specs.declared.asked.Asked.{Asked}
 use Rattle.coord_turns.specs.declared.asked.Asked.TheVariants.{Joined as AskedJoined, Vote as AskedVote, Ack as AskedAck, Inquire as AskedInquire, Prepare as AskedPrepare, Commits, Aborts, Join, Work, Commit as AskedCommit, AbortActive, AbortCollecting, Ask}
 use Rattle.coord_turns.specs.Asks.{Accepts, is_of_root, is_retiring}
+use Rattle.coord_turns.specs.Takes.{IsAt}
 use Rattle.coord_core.specs.declared.turn.Turn.{Turn}
 use Rattle.coord_core.specs.declared.turn.Turn.TheVariants.{Refuses, Takes, Presumes, Nothing}
 use Rattle.coord_core.specs.States.{CoordinatorValue, place_of, role_below, state}
@@ -264,16 +272,65 @@ acts_so : (v : CoordinatorValue) (a : Act) (parent : Option ProcessId) → act_t
 acts_so v a None = refl
 acts_so v a (Some p) = refl
 
+-- an input at a coordinator that is up
+by_tests : (listed failed : Bool) (up : CoreTurn) → listed ≡ true → failed ≡ false
+    → (if listed then (if failed then RefusesTurn Failed else up) else RefusesTurn NoSuch) ≡ up
+by_tests true false up is not = refl
+by_tests true true up is not = absurd (cc)
+by_tests false failed up is not = absurd (cc)
+
 -- an act
 pub meets_act : (v : CoordinatorValue) (a : Act) (turn : Turn) → act_is_listed v.tree (ActInput a) ≡ true → v.log.sight.failed ≡ false → MeetsAct v a turn
     → Meets v (ActInput a) turn
 unfolding turn_of
 meets_act v a turn listed up meets =
-    record { found = None; finds = refl; is = rw (listed, up) (acts_so v a v.parent ∙ meets.is); may = meets.may }
+    record { found = None; finds = refl; is = by_tests (act_is_listed v.tree (ActInput a)) v.log.sight.failed (act_turn (role_below v.parent) (state v) a) listed up ∙ acts_so v a v.parent ∙ meets.is; may = meets.may }
 
 -- a message
 pub meets_message : (v : CoordinatorValue) (n : ℕ) (m : Message) (turn : Turn) → v.log.sight.failed ≡ false
     → Hears v (MessageInput n m) (λ found. message_turn (place_of v).role (state v) no_data found m) turn → Meets v (MessageInput n m) turn
 unfolding turn_of
 meets_message v n m turn up hears =
-    record { found = hears.found; finds = hears.finds; is = rw up hears.is; may = hears.may }
+    record { found = hears.found; finds = hears.finds; is = by_tests true v.log.sight.failed (message_turn (place_of v).role (state v) no_data hears.found m) refl up ∙ hears.is; may = hears.may }
+
+-- Work.
+
+either_true : (a b : Bool) → b ≡ true → (a || b) ≡ true
+either_true true b is = refl
+either_true false b is = is
+
+listed_ticket : (ts : List Ticket) (q : ProcessId) (t : Ticket) → ticket_of_child ts q ≡ Some t → in_list ts t ≡ true
+unfolding ticket_of_child in_list
+listed_ticket [] q t found = absurd (cc)
+listed_ticket (u ∷ us) q t found = by_test (same_process u.child q) (listed_ticket us q t) found
+  where
+    by_test : (b : Bool) → (find (λ w. same_process w.child q) us ≡ Some t → in_list us t ≡ true) → (if b then Some u else find (λ w. same_process w.child q) us) ≡ Some t
+        → (same_ticket u t || in_list us t) ≡ true
+    by_test true later found =
+        let one : u ≡ t = cc in
+        ap (λ b. b || in_list us t) ((ticket_tells u t).1 one)
+    by_test false later found = either_true (same_ticket u t) (in_list us t) (later found)
+
+picks : {A : Type 0} (b : Bool) (x y : A) → b ≡ true → (if b then x else y) ≡ x
+picks true x y is = refl
+picks false x y is = absurd (cc)
+
+-- work is sent to an accepted manager
+pub meets_work : (v : CoordinatorValue) (key : ℕ) (c : Case) (q : ProcessId) (t : Ticket) (op : Bor Op) → IsAt v.slots key c → (view_in v.slots c).standing ≡ Active
+    → ticket_of_child (view_in v.slots c).accepted q ≡ Some t → is_leaf (role_of v.tree t.child) ≡ true → v.log.sight.failed ≡ false
+    → MeetsAct v (WorkAct c q op.now) (Takes key c (Work t op))
+meets_work v key c q t op at active accepted leaf up =
+    let w = view_in v.slots c in
+    let s = seat_in (state v) c in
+    record {
+      is =
+          ap (work_turn s v.tree q op.now w) active ∙ ap (work_for_turn s v.tree op.now w) accepted
+          ∙ picks (is_leaf (role_of v.tree t.child)) (TakesTurn c (active_work s t op.now w)) (RefusesTurn NotAChild) leaf;
+      may = record {
+        at = at;
+        accepted = listed_ticket w.accepted q t accepted;
+        root = λ of. absurd (cc);
+        up = up;
+        retiring = λ d u. refl;
+      };
+    }

@@ -1,5 +1,5 @@
 -- What each turn makes of a coordinator.
-use Rattle.std.proofs.Common.{◌≡◌, ◌≤◌, ◌<◌, ◌+◌, ◌&&◌, ◌++◌, ◌∷◌, [], ℕ, Bool, true, false, Option, None, Some, List, map, if◌then◌else◌, refl, subst, sym, ap, ◌∙◌, arith}
+use Rattle.std.proofs.Common.{◌≡◌, ◌≤◌, ◌<◌, ◌+◌, ◌&&◌, ◌++◌, ◌∷◌, [], ℕ, Bool, true, false, Option, None, Some, List, map, if◌then◌else◌, Result, Ok, Err, IfOk, IfErr, refl, subst, sym, ap, ◌∙◌, arith}
 use Rattle.std.proofs.lemmas.List.{append-nil}
 use Rattle.tree_model.specs.declared.names.Case.{Case}
 use Rattle.tree_model.specs.declared.names.Presumption.{Presumption}
@@ -7,6 +7,7 @@ use Rattle.tree_model.specs.declared.names.Presumption.TheVariants.{PresumeAbort
 use Rattle.tree_model.specs.declared.names.ProcessId.{ProcessId}
 use Rattle.tree_model.specs.declared.names.Ticket.{Ticket}
 use Rattle.tree_model.specs.declared.names.Txn.{Txn}
+use Rattle.tree_model.specs.declared.messages.Envelope.{Envelope}
 use Rattle.tree_model.specs.declared.records.LogRecord.{LogRecord}
 use Rattle.tree_model.specs.declared.events.Input.{Input}
 use Rattle.tree_model.specs.declared.events.Reaction.{Reaction}
@@ -26,7 +27,7 @@ use Rattle.live_table.proofs.Writes.{live_found}
 use Rattle.rec_log.specs.Sights.{Breaks, LogSight, LogState}
 use Rattle.core_model.specs.Views.{SameView}
 use Rattle.core_model.specs.States.{CoreState, SameCore, logged, wrote}
-use Rattle.core_model.specs.Turns.{Turn as CoreTurn, Takes as TakesTurn, reacted, seat_in}
+use Rattle.core_model.specs.Turns.{Turn as CoreTurn, Says as SaysTurn, Takes as TakesTurn, reacted, seat_in}
 use Rattle.core_model.specs.Makes.{BreaksIn, Makes, NotMade, OpensCase, open_view, retired_by}
 use Rattle.core_model.proofs.Alike.{same_view}
 use Rattle.coord_table.specs.declared.held.Held.{Held}
@@ -92,6 +93,33 @@ refused_by v i Failed meets = record { same = same_core (state v); found = meets
 refused_by v i NotInDoubt meets = record { same = same_core (state v); found = meets.found; finds = meets.finds; refuses = meets.is }
 refused_by v i NothingToForget meets = record { same = same_core (state v); found = meets.found; finds = meets.finds; refuses = meets.is }
 refused_by v i NoSuch meets = record { same = same_core (state v); found = meets.found; finds = meets.finds; refuses = meets.is }
+
+-- Results.
+
+pub step_ok : (v : CoordinatorValue) (new : CoreState) (i : Input) (turn : Turn) (made : Result Reaction StepError) → Meets v i turn
+    → IfOk made (Turned (state v) new i (meant v turn)) → IfOk made (Makes (state v) new no_data i)
+step_ok v new i turn (Ok reaction) meets turned = makes_of v new i turn reaction meets turned
+step_ok v new i turn (Err e) meets turned = turned
+
+pub step_err : (v : CoordinatorValue) (new : CoreState) (i : Input) (turn : Turn) (made : Result Reaction StepError) → Meets v i turn
+    → IfErr made (Stopped (state v) new (meant v turn)) → IfErr made (NotMade (state v) new no_data i)
+step_err v new i turn (Ok reaction) meets stopped = stopped
+step_err v new i turn (Err e) meets stopped = not_made v new i turn e meets stopped
+
+-- what is said for each input is said for this one
+pub for_input : (P : Input → Type 0) (Q : Input → Reaction → Type 0) (made : Result Reaction StepError) → IfOk made (λ reaction. (i : Input) → P i → Q i reaction)
+    → (i : Input) → P i → IfOk made (Q i)
+for_input P Q (Ok reaction) all i is = all i is
+for_input P Q (Err e) all i is = all
+
+pub for_any : (Q : Input → Reaction → Type 0) (made : Result Reaction StepError) → IfOk made (λ reaction. (i : Input) → Q i reaction) → (i : Input) → IfOk made (Q i)
+for_any Q (Ok reaction) all i = all i
+for_any Q (Err e) all i = all
+
+-- these messages go out, and nothing moves
+pub said_turn : (v : CoordinatorValue) (ls : List Envelope) (reaction : Reaction) → reaction ≡ reaction_of (sends_only ls) → (i : Input)
+    → Turned (state v) (state v) i (SaysTurn ls) reaction
+said_turn v ls reaction shown i = record { moves = same_core (state v); effect = sends_only ls; does = refl; shown = shown }
 
 -- Tickets and cases.
 

@@ -98,8 +98,10 @@ impl<L: LogStore> Coordinator<L> {
         make_room(&mut self.log)?;
         let seat = self.seat(case);
         let RowEffect { written, reaction } = take(self.alloc, &mut self.cases, key, seat, asked)?;
-        write_down(&mut self.log, self.parent, written)?;
-        Ok(reaction)
+        match write_down(&mut self.log, self.parent, written) {
+            Ok(()) => Ok(reaction),
+            Err(error) => Err(error),
+        }
     }
 
     /// What is said of a case that is not live. Memory: nothing changed, as nothing does.
