@@ -98,10 +98,10 @@ impl<L: LogStore> Coordinator<L> {
         make_room(&mut self.log)?;
         let seat = self.seat(case);
         let RowEffect { written, reaction } = take(self.alloc, &mut self.cases, key, seat, asked)?;
-        match write_down(&mut self.log, self.parent, written) {
-            Ok(()) => Ok(reaction),
-            Err(error) => Err(error),
+        if let Err(_) = write_down(&mut self.log, self.parent, written) {
+            return Err(StepError::Device);
         }
+        Ok(reaction)
     }
 
     /// What is said of a case that is not live. Memory: nothing changed, as nothing does.

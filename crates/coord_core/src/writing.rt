@@ -11,8 +11,8 @@ ghost use Rattle.coord_core.specs.Turned.{WritesDown, framed_of};
 use coord_rows::Framed;
 use core_log::write;
 use log_store::LogStore;
-use rec_log::RecLog;
-use tree_model::{ProcessId, StepError};
+use rec_log::{LogError, RecLog};
+use tree_model::ProcessId;
 
 /// Appends a row's record, if it has one, and forces the log where the row does. Room was made before, so it cannot fail for
 /// memory. Device: the record stands or not, and the log has failed.
@@ -20,19 +20,16 @@ pub(crate) fn write_down<L: LogStore>(
     log: &mut RecLog<L>,
     parent: Option<ProcessId>,
     written: Option<Framed>,
-) -> Result<(), StepError>
+) -> Result<(), LogError>
     requires kind { log.old.kind ≡ kind.Coordinator }
     requires room { HasRoom log.old }
     requires works { log.old.sight.failed ≡ false }
     requires framed { AreFramed parent written }
     ensures ok { OnOk result (WritesDown log.old log.new written) }
-    ensures err { IfErr result (λ e. (e ≡ StepError.Device) × Breaks log.old log.new (framed_of written)) }
+    ensures err { IfErr result (λ e. (e ≡ LogError.Device) × Breaks log.old log.new (framed_of written)) }
 {
     match written {
         None => Ok(()),
-        Some(written) => match write(log, &written.frame, written.forced) {
-            Ok(()) => Ok(()),
-            Err(_) => Err(StepError::Device),
-        },
+        Some(written) => write(log, &written.frame, written.forced),
     }
 }
