@@ -1,19 +1,22 @@
 -- What the code of a coordinator keeps, and the process that it stands for.
-use Rattle.std.specs.Prelude.{◌≡◌, ◌≤◌, ℕ, Option, Some, None, List, [], ◌∷◌}
+use Rattle.std.specs.Prelude.{◌≡◌, ◌≤◌, ℕ, true, Option, Some, None, List, [], ◌∷◌}
 use Rattle.tree_model.specs.declared.names.Case.{Case}
 use Rattle.tree_model.specs.declared.names.Kind.TheVariants.{Coordinator}
 use Rattle.tree_model.specs.declared.names.Presumption.{Presumption}
 use Rattle.tree_model.specs.declared.names.ProcessId.{ProcessId}
 use Rattle.tree_model.specs.declared.names.Ticket.{Ticket}
 use Rattle.tree_model.specs.declared.names.Txn.{Txn}
+use Rattle.tree_model.specs.declared.records.LogRecord.{LogRecord}
 use Rattle.tree_model.specs.declared.records.Record.TheVariants.{Opened}
+use Rattle.tree_model.specs.declared.events.StepError.{StepError}
+use Rattle.tree_model.specs.declared.events.StepError.TheVariants.{Memory, Device}
 use Rattle.tree_model.specs.declared.trees.TreeEntry.{TreeEntry}
 use Rattle.tree_model.specs.Names.{child_case, root_case}
 use Rattle.tree_model.specs.Nodes.{Place, Role, AtRoot, Below}
 use Rattle.tree_model.specs.Standings.{unknown_branch}
 use Rattle.live_table.specs.Tables.{case_of, entry_at}
-use Rattle.rec_log.specs.Sights.{LogState}
-use Rattle.core_model.specs.States.{CoreState, forced_sight}
+use Rattle.rec_log.specs.Sights.{Breaks, LogState}
+use Rattle.core_model.specs.States.{CoreState, forced_sight, wrote}
 use Rattle.core_model.specs.Restarting.{ReadOff}
 use Rattle.coord_table.specs.Cases.{Slots, ticket_in, view_in}
 use Rattle.coord_turns.specs.Takes.{GivenAreActive}
@@ -69,8 +72,23 @@ pub record IsCoordinator (v : CoordinatorValue) : Type 0 where
   pub begun : (k : ℕ) (p : Presumption) (n : ℕ) → case_of (entry_at v.slots k) ≡ Some (root_case (own_txn v p n)) → n ≤ v.begun
   pub given : (k : ℕ) (x : Txn) (n : ℕ) → case_of (entry_at v.slots k) ≡ Some (child_case x (own_ticket v n)) → n ≤ v.given
 
+-- the first record of a log
+abbrev pub first_opened : LogRecord
+first_opened = record { entry = Opened 1; parent = None }
+
 -- a process that opened an empty log over this device: it stands as its one record says, which is forced
 pub record IsOpened (s : CoreState) (place : Place) (failures : ℕ) : Type 0 where
   pub place_is : s.place ≡ place
-  pub log : s.log ≡ forced_sight (record { entry = Opened 1; parent = None } ∷ []) failures
+  pub log : s.log ≡ forced_sight (first_opened ∷ []) failures
   pub read : ReadOff s (Opened 1 ∷ [])
+
+-- the first record stands forced in an empty log
+pub record WritesOpened (old new : LogState) : Type 0 where
+  pub kind : new.kind ≡ old.kind
+  pub sight : new.sight ≡ wrote old.sight (record { entry = Opened 1; is_forced = true } ∷ []) (first_opened ∷ [])
+
+-- why a coordinator was not opened, and what log is handed back
+abbrev pub NotOpened : LogState → LogState → StepError → Type 0
+NotOpened old new Memory = new.sight ≡ old.sight
+NotOpened old new Device = Breaks old new (first_opened ∷ [])
+NotOpened old new e = ⊥

@@ -14,6 +14,7 @@
 //! nothing is refused for memory. Where the write fails the coordinator has failed until its restart.
 #![tactic(auto)]
 
+mod acts;
 mod coordinator;
 mod hearing;
 mod making;
