@@ -1,11 +1,12 @@
 //! What a coordinator keeps.
 
-ghost use Rattle.std.specs.Prelude.{◌≡◌, IfOk};
+ghost use Rattle.std.specs.Prelude.{◌≡◌, IfOk, IsTrue};
 ghost use Rattle.live_table.specs.Tables.{AreApart, live_count};
 ghost use Rattle.tree_model.specs.Memory.{ticket_of_child};
 ghost use Rattle.coord_table.specs.Cases.{FitsGiven, ticket_in, view_in};
 ghost use Rattle.coord_turns.specs.Takes.{IsAt};
 ghost use Rattle.rec_log.specs.Sights.{records_of};
+ghost use Rattle.core_model.specs.States.{HasNumbers};
 ghost use Rattle.coord_core.specs.States.{state};
 ghost use Rattle.coord_core.specs.Meets.{FindsAt, FindsLive};
 
@@ -16,6 +17,9 @@ use rec_log::RecLog;
 use std::alloc::{AllocError, Global};
 use std::marker::Model;
 use tree_model::{Case, LogRecord, ProcessId, Standing, Ticket, Tree, Txn};
+
+/// The largest number of a transaction and of a ticket.
+const LAST_NUMBER: u64 = (1 << 63) - 1;
 
 /// A coordinator: the root of a tree, which has no parent, or a coordinator below it. It keeps its log, its boot, how many
 /// transactions it began and how many tickets it gave in this boot, and its live cases.
@@ -55,6 +59,24 @@ impl<L: LogStore> Coordinator<L> {
         ensures { result ≡ (state self.now).boot }
     {
         self.boot
+    }
+
+    /// Whether there are numbers left for a transaction and a ticket more, which each input wants.
+    pub fn has_numbers(&self) -> bool
+        ensures yes { IsTrue result → HasNumbers (state self.now) }
+        ensures no { HasNumbers (state self.now) → IsTrue result }
+    {
+        self.begun < LAST_NUMBER && self.given < LAST_NUMBER
+    }
+
+    /// Where a case stands; Unknown, where it is not live.
+    pub fn standing(&self, case: &Case) -> Standing
+        ensures { result ≡ ((state self.now).view_of case.now).standing }
+    {
+        match self.find(case) {
+            None => Standing::Unknown,
+            Some((_, standing)) => standing,
+        }
     }
 
     /// How many cases are live.
