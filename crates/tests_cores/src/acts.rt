@@ -6,11 +6,14 @@ use log_store::MemoryStore;
 use std::alloc::Global;
 use std::test::Fail;
 use tree_model::{
-    Conclusion, Input, Kind, Message, Presumption, ProcessId, Reaction, Standing, StepError,
-    Told, Tree,
+    Conclusion, Input, Kind, Message, Op, Presumption, ProcessId, Reaction, Standing, StepError,
+    Told, Tree, Txn,
 };
 
-fn small_root(alloc: Global) -> Result<Coordinator<MemoryStore>, Fail> {
+/// A root over a log in memory.
+type Root = Coordinator<MemoryStore>;
+
+fn small_root(alloc: Global) -> Result<Root, Fail> {
     let tree = Tree::from_vec(vec![in alloc;
         listed(1, Kind::Coordinator, None),
         listed(2, Kind::Manager, Some(1)),
@@ -26,26 +29,56 @@ fn made(act: Result<Reaction, StepError>) -> Result<Reaction, Fail> {
     }
 }
 
-/// A root that has begun its first transaction.
-fn begun(alloc: Global) -> Result<Coordinator<MemoryStore>, Fail> {
-    let mut root = small_root(alloc)?;
+// These say nothing of the root that they leave, so that the proof of a test stays short.
+
+fn begin(root: &mut Root) -> Result<Reaction, Fail> {
     if !root.has_numbers() {
         return Err(Fail::from("numbers are left"));
     }
-    made(root.begin(Presumption::PresumeAbort))?;
-    Ok(root)
+    made(root.begin(Presumption::PresumeAbort))
+}
+
+fn join(root: &mut Root, txn: Txn) -> Result<Reaction, Fail> {
+    if !root.has_numbers() {
+        return Err(Fail::from("numbers are left"));
+    }
+    made(root.join(root_case(txn), ProcessId(2)))
+}
+
+fn work(root: &mut Root, txn: Txn, op: Op) -> Result<Reaction, Fail> {
+    if !root.has_numbers() {
+        return Err(Fail::from("numbers are left"));
+    }
+    made(root.work(root_case(txn), ProcessId(2), op))
+}
+
+fn commit(root: &mut Root, txn: Txn) -> Result<Reaction, Fail> {
+    if !root.has_numbers() {
+        return Err(Fail::from("numbers are left"));
+    }
+    made(root.commit(txn))
+}
+
+fn abort(root: &mut Root, txn: Txn) -> Result<Reaction, Fail> {
+    if !root.has_numbers() {
+        return Err(Fail::from("numbers are left"));
+    }
+    made(root.abort(txn))
+}
+
+/// The child's JOINED.
+fn accept(root: &mut Root, txn: Txn) -> Result<Reaction, Fail> {
+    step(root, &Input::Message(1, Message::Joined(root_case(txn), first_ticket(2))))
 }
 
 /// A transaction without children has read only; its case is gone.
 #[test]
 fn an_empty_transaction_reads_only(rt: HostRuntime) -> Result<(), Fail> {
     let txn = first_txn(Presumption::PresumeAbort);
-    let mut root = begun(rt.alloc())?;
-    if !root.has_numbers() {
-        return Err(Fail::from("numbers are left"));
-    }
+    let mut root = small_root(rt.alloc())?;
+    begin(&mut root)?;
     assert!(rt; root.live() == 1 && root.standing(&root_case(txn)) == Standing::Active);
-    let reaction = made(root.commit(txn))?;
+    let reaction = commit(&mut root, txn)?;
     assert!(rt; reaction.told
         == Some(Told {
             txn,
@@ -60,23 +93,12 @@ fn an_empty_transaction_reads_only(rt: HostRuntime) -> Result<(), Fail> {
 fn a_child_works_and_is_aborted(rt: HostRuntime) -> Result<(), Fail> {
     let alloc = rt.alloc();
     let txn = first_txn(Presumption::PresumeAbort);
-    let mut root = begun(alloc)?;
-    if !root.has_numbers() {
-        return Err(Fail::from("numbers are left"));
-    }
-    let invited = made(root.join(root_case(txn), ProcessId(2)))?;
-    assert!(rt; invited.messages.len() == 1);
-    step(&mut root, &Input::Message(1, Message::Joined(root_case(txn), first_ticket(2))))?;
-    let op = put(alloc, "x", "1")?;
-    if !root.has_numbers() {
-        return Err(Fail::from("numbers are left"));
-    }
-    let worked = made(root.work(root_case(txn), ProcessId(2), op))?;
-    assert!(rt; worked.messages.len() == 1);
-    if !root.has_numbers() {
-        return Err(Fail::from("numbers are left"));
-    }
-    let aborted = made(root.abort(txn))?;
-    assert!(rt; aborted.messages.len() == 1 && root.live() == 0);
+    let mut root = small_root(alloc)?;
+    begin(&mut root)?;
+    assert!(rt; join(&mut root, txn)?.messages.len() == 1);
+    accept(&mut root, txn)?;
+    assert!(rt; work(&mut root, txn, put(alloc, "x", "1")?)?.messages.len() == 1);
+    assert!(rt; abort(&mut root, txn)?.messages.len() == 1);
+    assert!(rt; root.live() == 0);
     Ok(())
 }

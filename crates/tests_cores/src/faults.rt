@@ -7,7 +7,7 @@ use rec_log::RecLog;
 use std::alloc::Global;
 use std::test::Fail;
 use tree_model::{
-    Act, Input, Kind, Message, Presumption, ProcessId, StepError, Tree,
+    Act, Input, Kind, Message, Presumption, ProcessId, Reaction, StepError, Tree, Txn,
 };
 
 /// A root whose device fails behind so many calls; opening takes three.
@@ -27,21 +27,33 @@ fn failing(alloc: Global, calls: u64) -> Result<Coordinator<FaultStore>, Fail> {
     }
 }
 
+// These say nothing of the root that they leave, so that the proof of a test stays short.
+
+fn begin(root: &mut Coordinator<FaultStore>) -> Result<Reaction, Fail> {
+    step(root, &Input::Act(Act::Begin(Presumption::PresumeCommit)))
+}
+
+/// The child's JOINED.
+fn accept(root: &mut Coordinator<FaultStore>, txn: Txn) -> Result<Reaction, Fail> {
+    step(root, &Input::Message(1, Message::Joined(root_case(txn), first_ticket(2))))
+}
+
+/// The error by which a commit is refused, if it is.
+fn refused(root: &mut Coordinator<FaultStore>, txn: Txn) -> Option<StepError> {
+    if !root.has_numbers() {
+        return None;
+    }
+    root.commit(txn).err()
+}
+
 /// The record of a commit under Presumed Commit cannot be written: the act says so, and from then on the root has failed.
 #[test]
 fn a_root_fails_with_its_device(rt: HostRuntime) -> Result<(), Fail> {
-    let alloc = rt.alloc();
     let txn = first_txn(Presumption::PresumeCommit);
-    let mut root = failing(alloc, 3)?;
-    step(&mut root, &Input::Act(Act::Begin(Presumption::PresumeCommit)))?;
-    step(&mut root, &Input::Message(1, Message::Joined(root_case(txn), first_ticket(2))))?;
-    if !root.has_numbers() {
-        return Err(Fail::from("numbers are left"));
-    }
-    assert!(rt; matches!(root.commit(txn), Err(StepError::Device)));
-    if !root.has_numbers() {
-        return Err(Fail::from("numbers are left"));
-    }
-    assert!(rt; root.failed() && matches!(root.abort(txn), Err(StepError::Failed)));
+    let mut root = failing(rt.alloc(), 3)?;
+    begin(&mut root)?;
+    accept(&mut root, txn)?;
+    assert!(rt; refused(&mut root, txn) == Some(StepError::Device));
+    assert!(rt; root.failed() && refused(&mut root, txn) == Some(StepError::Failed));
     Ok(())
 }
