@@ -1,9 +1,9 @@
 -- Whose ticket is active, and which input retires it.
-use Rattle.std.proofs.Common.{◌≡◌, ◌≢◌, ◌&&◌, ℕ, Bool, true, false, Option, None, Some, is_some, refl, sym, ap, ◌∙◌, inl, inr, if◌then◌else◌}
+use Rattle.std.proofs.Common.{◌≡◌, ℕ, Bool, true, false, Option, None, Some, is_some, refl, sym, ap, ◌∙◌, inl, inr}
 use Rattle.tree_model.specs.declared.names.Case.{Case}
 use Rattle.tree_model.specs.declared.names.Ticket.{Ticket}
 use Rattle.tree_model.specs.declared.names.Txn.{Txn}
-use Rattle.tree_model.specs.Names.{child_case, same_case, same_txn}
+use Rattle.tree_model.specs.Names.{child_case, same_case}
 use Rattle.tree_model.proofs.NameTests.{case_tells, txn_tells}
 use Rattle.live_table.specs.Tables.{AreApart, entry_at, is_of_case, live_value}
 use Rattle.live_table.proofs.Writes.{live_at, same_case-itself}

@@ -6,7 +6,7 @@ use Rattle.tree_model.specs.declared.standings.Standing.TheVariants.{Active}
 use Rattle.tree_model.specs.declared.names.Ticket.{Ticket}
 use Rattle.tree_model.specs.Memory.{has_child}
 use Rattle.tree_model.specs.Standings.{CoordinatorView}
-use Rattle.tree_model.specs.CoordinatorRows.{Row, Seat, active_join, active_joined, on_ack, on_joined, quiet}
+use Rattle.tree_model.specs.CoordinatorRows.{Row, Seat, active_joined, on_ack, on_joined, quiet}
 use Rattle.coord_turns.specs.declared.asked.Asked.{Asked}
 use Rattle.coord_turns.specs.declared.asked.Asked.TheVariants.{Join, Work, Commit, AbortActive, AbortCollecting, Ask, Joined, Vote, Ack, Inquire, Prepare, Commits, Aborts}
 use Rattle.coord_turns.specs.Asks.{asked_row, is_of_root, is_retiring}

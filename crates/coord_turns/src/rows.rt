@@ -21,8 +21,8 @@ use coord_case::Live;
 use coord_rows::{
     Reason, RowEffect, Seat, aborting_abort, aborting_prepare, active_abort, active_commit,
     active_join, active_joined, active_work, collecting_abort, collecting_vote, committing_commit,
-    decided_ack, decided_inquiry, prepared_abort, prepared_ask, prepared_commit,
-    prepared_prepare, unknown_abort, unknown_commit, unknown_inquiry, unknown_prepare,
+    decided_ack, decided_inquiry, prepared_abort, prepared_ask, prepared_commit, prepared_prepare,
+    unknown_abort, unknown_commit, unknown_inquiry, unknown_prepare,
 };
 use std::alloc::{AllocError, Global};
 use tree_model::{Outcome, Standing, Ticket, Vote};

@@ -3,7 +3,7 @@ use Rattle.std.proofs.Common.{◌≤◌, length, length-append, arith}
 use Rattle.byteorder.specs.Endian.{big_bytes}
 use Rattle.tree_model.specs.declared.records.LogRecord.{LogRecord}
 use Rattle.log_text.specs.Frames.{frame_text}
-use Rattle.log_text.specs.Payloads.{FitsFrame, kind_byte, payload_text, record_text}
+use Rattle.log_text.specs.Payloads.{FitsFrame, payload_text, record_text}
 use Rattle.rec_log.specs.Sights.{LogState}
 use Rattle.core_log.specs.Writes.{HasRoom}
 
