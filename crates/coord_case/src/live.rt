@@ -1,6 +1,6 @@
 //! A live case of a coordinator.
 
-ghost use Rattle.std.specs.Prelude.{◌≡◌, ◌+◌, ◌<◌, ◌^◌, ◌++◌, ◌∷◌, ◌||◌, [], false, true, None, Some, IfOk, IfSome, OnOk, OnErr, map};
+ghost use Rattle.std.specs.Prelude.{◌≡◌, ◌+◌, ◌<◌, ◌^◌, ◌++◌, ◌∷◌, ◌||◌, [], false, true, None, Some, IfOk, IfSome, IsTrue, OnOk, OnErr, map};
 ghost use Rattle.tree_model.specs.Memory.{
   all_voted as all_have_voted,
   has_child as has_child_in,
@@ -104,6 +104,18 @@ impl Live {
         ensures { result ≡ self.now.standing }
     {
         self.standing
+    }
+
+    /// Whether it is forgotten: it is Unknown, and nothing is left of it.
+    pub fn is_forgotten(&self) -> bool
+        ensures gone { IsTrue result → self.now ≡ unknown_view }
+        ensures live { self.now ≡ unknown_view → IsTrue result }
+    {
+        self.standing == Standing::Unknown
+            && self.children.is_empty()
+            && self.promised.is_empty()
+            && self.named.is_empty()
+            && self.owed.is_empty()
     }
 
     /// Whether it has accepted the ticket, or a record of it names the ticket.

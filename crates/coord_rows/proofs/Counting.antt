@@ -80,6 +80,7 @@ does_same : (s : Seat) (r q : Row) (effect : RowEffect) (view : CoordinatorView)
 does_same s r q effect view same does =
     record {
       written = does.written ∙ same.written;
+      framed = does.framed;
       reaction = does.reaction ∙ ap reaction_of (row_effect-same s.case r q same);
       view_is = same_view-trans view r.view q.view does.view_is same.view;
     }
@@ -92,4 +93,4 @@ does_vote s t w old mid new effect counted counts does =
     let after = record old { votes = old.votes ++ (t, w) ∷ [] } in
     let same : SameRow (collecting_after (seat s) mid w) (collecting_after (seat s) after w) = collecting_after-same mid after counts (seat s) w in
     let done : Does s (collecting_after (seat s) after w) effect new = does_same s _ _ effect new same does in
-    rw counted (record { written = done.written; reaction = done.reaction; view_is = done.view_is })
+    rw counted (record { written = done.written; framed = done.framed; reaction = done.reaction; view_is = done.view_is })

@@ -1,15 +1,21 @@
 -- How the code's seats and effects stand for those of the reaction table.
-use Rattle.std.specs.Prelude.{◌≡◌, Option, Some, None, List, [], ◌∷◌, map}
+use Rattle.std.specs.Prelude.{◌≡◌, ⊤, Option, Some, None, List, [], ◌∷◌}
+use Rattle.tree_model.specs.declared.names.ProcessId.{ProcessId}
+use Rattle.tree_model.specs.declared.names.Kind.TheVariants.{Coordinator}
 use Rattle.tree_model.specs.declared.messages.Envelope.{Envelope}
 use Rattle.tree_model.specs.declared.events.Told.{Told}
+use Rattle.tree_model.specs.LogNames.{in_log}
 use Rattle.tree_model.specs.Nodes.{Written as WrittenRecord, logged_of, reaction_of}
 use Rattle.tree_model.specs.Standings.{CoordinatorView}
 use Rattle.tree_model.specs.CoordinatorRows.{Row, Seat as CaseSeat, Reason as AnyReason, ByVote, ByAct, ByAbort}
 use Rattle.tree_model.specs.Reactions.{row_effect}
+use Rattle.log_text.specs.Made.{frame_record}
+use Rattle.rec_log.specs.Sights.{IsRecord}
 use Rattle.core_model.specs.Views.{SameView}
 use Rattle.coord_rows.specs.declared.seat.Seat.{Seat}
 use Rattle.coord_rows.specs.declared.seat.Reason.{Reason}
 use Rattle.coord_rows.specs.declared.seat.Reason.TheVariants.{Vote, Act, Abort}
+use Rattle.coord_rows.specs.declared.effect.Framed.{Framed}
 use Rattle.coord_rows.specs.declared.effect.Written.{Written}
 use Rattle.coord_rows.specs.declared.effect.RowEffect.{RowEffect}
 
@@ -23,18 +29,48 @@ reason Vote = ByVote
 reason Act = ByAct
 reason Abort = ByAbort
 
--- the record of an effect, if there is one
-abbrev pub written_of : Option Written → List WrittenRecord
-written_of None = []
-written_of (Some w) = record { entry = w.entry; is_forced = w.forced } ∷ []
+-- a record with its force
+abbrev pub meant : Written → WrittenRecord
+meant w = record { entry = w.entry; is_forced = w.forced }
 
--- an effect writes, tells and sends this
-pub record Shows (effect : RowEffect) (written : Option Written) (told : Option Told) (messages : List Envelope) : Type 0 where
-  pub record_is : effect.written ≡ written
-  pub reaction : effect.reaction ≡ record { begun = None; written = map logged_of (written_of written); told = told; messages = messages; kept = None }
+-- the record of a frame, with its force
+abbrev pub written_by : Framed → WrittenRecord
+written_by w = record { entry = (frame_record w.frame).entry; is_forced = w.forced }
+
+-- the record of an effect, if there is one
+abbrev pub written_of : Option Framed → List WrittenRecord
+written_of None = []
+written_of (Some w) = written_by w ∷ []
+
+-- the frame can stand in the log of a coordinator below this parent, and names its record whole
+pub record IsFramed (parent : Option ProcessId) (w : Framed) : Type 0 where
+  pub named : frame_record w.frame ≡ in_log parent (frame_record w.frame).entry
+  pub sound : IsRecord Coordinator (frame_record w.frame)
+
+-- so is the frame of an effect, if there is one
+abbrev pub AreFramed : Option ProcessId → Option Framed → Type 0
+AreFramed parent None = ⊤
+AreFramed parent (Some w) = IsFramed parent w
+
+-- the frame of this record, with its force
+pub record Frames (parent : Option ProcessId) (framed : Framed) (w : Written) : Type 0 where
+  pub written : written_by framed ≡ meant w
+  pub framed_so : IsFramed parent framed
+
+-- an effect writes nothing, and tells and sends this
+pub record Shows (effect : RowEffect) (told : Option Told) (messages : List Envelope) : Type 0 where
+  pub record_is : effect.written ≡ None
+  pub reaction : effect.reaction ≡ record { begun = None; written = []; told = told; messages = messages; kept = None }
+
+-- an effect writes this record, as it stands in the log of a coordinator below this parent, and tells and sends this
+pub record ShowsRecord (parent : Option ProcessId) (effect : RowEffect) (w : Written) (told : Option Told) (messages : List Envelope) : Type 0 where
+  pub record_is : written_of effect.written ≡ meant w ∷ []
+  pub framed : AreFramed parent effect.written
+  pub reaction : effect.reaction ≡ record { begun = None; written = logged_of (meant w) ∷ []; told = told; messages = messages; kept = None }
 
 -- an effect does what this row of the case says, and the case is left with a view that says what the row's says
 pub record Does (s : Seat) (row : Row) (effect : RowEffect) (view : CoordinatorView) : Type 0 where
   pub written : written_of effect.written ≡ row.written
+  pub framed : AreFramed s.parent effect.written
   pub reaction : effect.reaction ≡ reaction_of (row_effect s.case row)
   pub view_is : SameView view row.view

@@ -100,14 +100,14 @@ fn abort_undecided(
     match seat.case.txn.presumption {
         Presumption::PresumeAbort => {
             let written = Written::plain(Record::Abort(seat.case, Sequence::new(alloc)));
-            let effect = RowEffect::writes(alloc, written, told, messages)?;
+            let effect = RowEffect::writes(alloc, seat, written, told, messages)?;
             live.forget();
             Ok(effect)
         }
         Presumption::PresumeCommit => {
             let named = Sequence::from_vec(Vec::from_slice(alloc, &undecided)?);
             let written = Written::forced(Record::Abort(seat.case, named));
-            let effect = RowEffect::writes(alloc, written, told, messages)?;
+            let effect = RowEffect::writes(alloc, seat, written, told, messages)?;
             live.awaits(Standing::Aborting, undecided)?;
             Ok(effect)
         }
@@ -144,7 +144,7 @@ fn collecting_read_only(alloc: Global, seat: Seat, live: &mut Live) -> Result<Ro
         }
         Presumption::PresumeCommit => {
             let written = Written::plain(Record::End(seat.case));
-            let effect = RowEffect::writes(alloc, written, told, messages)?;
+            let effect = RowEffect::writes(alloc, seat, written, told, messages)?;
             live.forget();
             Ok(effect)
         }
@@ -172,13 +172,13 @@ fn root_commits(
         Presumption::PresumeAbort => {
             let named = Sequence::from_vec(Vec::from_slice(alloc, &yes)?);
             let written = Written::forced(Record::Commit(seat.case, named));
-            let effect = RowEffect::writes(alloc, written, told, messages)?;
+            let effect = RowEffect::writes(alloc, seat, written, told, messages)?;
             live.awaits(Standing::Committing, yes)?;
             Ok(effect)
         }
         Presumption::PresumeCommit => {
             let written = Written::forced(Record::Commit(seat.case, Sequence::new(alloc)));
-            let effect = RowEffect::writes(alloc, written, told, messages)?;
+            let effect = RowEffect::writes(alloc, seat, written, told, messages)?;
             live.forget();
             Ok(effect)
         }
@@ -198,7 +198,7 @@ fn cascaded_prepares(
     let messages = up(alloc, seat, Message::Yes(seat.case))?;
     let named = Sequence::from_vec(Vec::from_slice(alloc, yes)?);
     let written = Written::forced(Record::Prepare(seat.case, named));
-    let effect = RowEffect::writes(alloc, written, None, messages)?;
+    let effect = RowEffect::writes(alloc, seat, written, None, messages)?;
     live.promise(alloc, yes)?;
     Ok(effect)
 }

@@ -40,7 +40,7 @@ pub fn decided_ack(
         return Ok(RowEffect::quiet(alloc));
     }
     let written = Written::plain(Record::End(seat.case));
-    let effect = RowEffect::writes(alloc, written, None, Sequence::new(alloc))?;
+    let effect = RowEffect::writes(alloc, seat, written, None, Sequence::new(alloc))?;
     live.forget();
     Ok(effect)
 }

@@ -1,14 +1,25 @@
 //! What a row of the reaction table does.
 
-ghost use Rattle.std.specs.Prelude.{◌≡◌, [], false, true, None, Some, IfOk};
-ghost use Rattle.coord_rows.specs.Rows.{Shows};
+ghost use Rattle.std.specs.Prelude.{◌≡◌, [], false, true, IfOk};
+ghost use Rattle.tree_model.specs.Nodes.{logged_of};
+ghost use Rattle.coord_rows.specs.Rows.{Frames, Shows, ShowsRecord, meant};
 
+use crate::seat::Seat;
+use core_log::coordinator_frame;
+use log_text::Frame;
 use std::alloc::{AllocError, Global};
 use tree_model::{Envelopes, Logged, Reaction, Record, Sequence, Told};
 
+/// A record that a row writes, as it stands in the log, and whether it is forced.
+#[derive(Drop)]
+pub struct Framed {
+    pub frame: Frame,
+    pub forced: bool,
+}
+
 /// A record that a row writes, and whether it is forced.
 #[derive(Drop)]
-pub struct Written {
+pub(crate) struct Written {
     pub entry: Record,
     pub forced: bool,
 }
@@ -33,33 +44,54 @@ impl Written {
             forced: false,
         }
     }
+
+    /// The record as it stands in the log of this coordinator. One that no log can hold is refused as for want of memory.
+    fn framed(self, alloc: Global, seat: Seat) -> Result<Framed, AllocError>
+        ensures { IfOk result (λ framed. Frames seat.parent framed self) }
+    {
+        Ok(Framed {
+            frame: coordinator_frame(self.entry, seat.parent, alloc)?,
+            forced: self.forced,
+        })
+    }
+
+    /// How a reaction shows it.
+    fn shown(&self) -> Logged
+        ensures { result ≡ logged_of (meant self.now) }
+    {
+        Logged {
+            kind: self.entry.kind(),
+            subject: self.entry.subject(),
+            forced: self.forced,
+        }
+    }
 }
 
 /// What a row does: at most one record, and the reaction that shows it.
 #[derive(Drop)]
 pub struct RowEffect {
-    pub written: Option<Written>,
+    pub written: Option<Framed>,
     pub reaction: Reaction,
 }
 
 impl RowEffect {
     /// Nothing. It takes no memory.
     pub fn quiet(alloc: Global) -> RowEffect
-        ensures { Shows result None None [] }
+        ensures { Shows result None [] }
     {
         RowEffect::sends(alloc, Sequence::new(alloc))
     }
 
     /// These messages.
     pub fn sends(alloc: Global, messages: Envelopes) -> RowEffect
-        ensures { Shows result None None messages }
+        ensures { Shows result None messages }
     {
         RowEffect::tells(alloc, None, messages)
     }
 
     /// This is told, and these messages go out.
     pub fn tells(alloc: Global, told: Option<Told>, messages: Envelopes) -> RowEffect
-        ensures { Shows result None told messages }
+        ensures { Shows result told messages }
     {
         RowEffect {
             written: None,
@@ -73,23 +105,21 @@ impl RowEffect {
         }
     }
 
-    /// A record is written, this is told, and these messages go out.
-    pub fn writes(
+    /// A record is written, this is told, and these messages go out. A record that no log can hold is refused as for want
+    /// of memory.
+    pub(crate) fn writes(
         alloc: Global,
+        seat: Seat,
         written: Written,
         told: Option<Told>,
         messages: Envelopes,
     ) -> Result<RowEffect, AllocError>
-        ensures { IfOk result (λ effect. Shows effect (Some written) told messages) }
+        ensures { IfOk result (λ effect. ShowsRecord seat.parent effect written told messages) }
     {
         let mut shown = Sequence::new(alloc);
-        shown.push(Logged {
-            kind: written.entry.kind(),
-            subject: written.entry.subject(),
-            forced: written.forced,
-        })?;
+        shown.push(written.shown())?;
         Ok(RowEffect {
-            written: Some(written),
+            written: Some(written.framed(alloc, seat)?),
             reaction: Reaction {
                 begun: None,
                 written: shown,

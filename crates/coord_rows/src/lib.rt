@@ -41,6 +41,6 @@ pub use decided::{
     aborting_abort, aborting_prepare, committing_commit, decided_ack, decided_inquiry,
     unknown_abort, unknown_commit, unknown_inquiry, unknown_prepare,
 };
-pub use effect::{RowEffect, Written};
+pub use effect::{Framed, RowEffect};
 pub use prepared::{prepared_abort, prepared_ask, prepared_commit, prepared_prepare};
 pub use seat::{Reason, Seat};

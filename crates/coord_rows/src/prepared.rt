@@ -29,7 +29,7 @@ pub fn prepared_commit(alloc: Global, seat: Seat, live: &mut Live) -> Result<Row
             tell_each(&mut messages, seat, Outcome::Committed, &promised)?;
             let named = Sequence::from_vec(Vec::from_slice(alloc, &promised)?);
             let written = Written::forced(Record::Commit(seat.case, named));
-            let effect = RowEffect::writes(alloc, written, None, messages)?;
+            let effect = RowEffect::writes(alloc, seat, written, None, messages)?;
             live.awaits(Standing::Committing, promised)?;
             Ok(effect)
         }
@@ -37,7 +37,7 @@ pub fn prepared_commit(alloc: Global, seat: Seat, live: &mut Live) -> Result<Row
             let mut messages = Sequence::new(alloc);
             tell_each(&mut messages, seat, Outcome::Committed, &promised)?;
             let written = Written::plain(Record::Commit(seat.case, Sequence::new(alloc)));
-            let effect = RowEffect::writes(alloc, written, None, messages)?;
+            let effect = RowEffect::writes(alloc, seat, written, None, messages)?;
             live.forget();
             Ok(effect)
         }
@@ -56,7 +56,7 @@ pub fn prepared_abort(alloc: Global, seat: Seat, live: &mut Live) -> Result<RowE
             let mut messages = Sequence::new(alloc);
             tell_each(&mut messages, seat, Outcome::Aborted, &promised)?;
             let written = Written::plain(Record::Abort(seat.case, Sequence::new(alloc)));
-            let effect = RowEffect::writes(alloc, written, None, messages)?;
+            let effect = RowEffect::writes(alloc, seat, written, None, messages)?;
             live.forget();
             Ok(effect)
         }
@@ -65,7 +65,7 @@ pub fn prepared_abort(alloc: Global, seat: Seat, live: &mut Live) -> Result<RowE
             tell_each(&mut messages, seat, Outcome::Aborted, &promised)?;
             let named = Sequence::from_vec(Vec::from_slice(alloc, &promised)?);
             let written = Written::forced(Record::Abort(seat.case, named));
-            let effect = RowEffect::writes(alloc, written, None, messages)?;
+            let effect = RowEffect::writes(alloc, seat, written, None, messages)?;
             live.awaits(Standing::Aborting, promised)?;
             Ok(effect)
         }

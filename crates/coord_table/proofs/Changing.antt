@@ -46,6 +46,8 @@ begins old new c h key fits ungiven opened inserts =
           let behind : is_given d (Some (c, h)) ≡ false = ap (is_for d) ungiven in
           ticket_stays old new key (Some (c, h)) d (fits.one d) (one_stays old new key (Some (c, h)) d (fits.one d) inserts.updates behind) inserts.updates
           (ap (is_given d) inserts.vacant) behind;
+      key = key;
+      updates = subst (λ e. Updates old new key (Some (c, e))) (λ i. record { given_for = ungiven i; live = opened i }) inserts.updates;
       counts = inserts.counts;
     }
 
@@ -89,6 +91,8 @@ module _ (old new : Slots) (t : Ticket) (h : Held) (key : ℕ) (parent : Case) (
             ∙ ap entry_ticket inserts.updates.changed;
         tickets = λ d differs.
             ticket_stays old new key (Some (child_case parent.txn t, h)) d (fits.one d) (one_behind d) inserts.updates (ap (is_given d) inserts.vacant) (shown d ∙ differs);
+        key = key;
+        updates = subst (λ e. Updates old new key (Some (child_case parent.txn t, e))) (λ i. record { given_for = given i; live = opened i }) inserts.updates;
         counts = inserts.counts;
       }
 
@@ -121,7 +125,7 @@ module _ (old new : Slots) (key : ℕ) (c : Case) (h : Held) (fits : FitsGiven o
         owner = c;
         held = h;
         was = was;
-        is = updates.changed;
+        updates = updates;
         views = λ d. same_or d (same_case c d) refl moves;
         retired = λ d is. ticket_none new d (λ k. gone d is k (is_given d (entry_at new k)) refl);
         tickets = λ d not_for.
@@ -178,7 +182,9 @@ module _ (old new : Slots) (key : ℕ) (c : Case) (h : Held) (v : CoordinatorVie
         stood = ap held_view (live_at old c key (c, h) apart was (same_case-itself c));
         moves = moves_view old new c (Some (record h { live = v })) (Moves-changed old new key c h (record h { live = v }) was updates apart);
         tickets = λ d. by_given d (given_or_none old d);
-        entry = (h, was, updates.changed);
+        held = h;
+        was = was;
+        updates = updates;
       }
     where
       ticket_same : (k : ℕ) → entry_ticket (entry_at new k) ≡ entry_ticket (entry_at old k)
@@ -216,6 +222,7 @@ ends old new key h fits removes =
       owner = removes.owner;
       held = h;
       was = removes.was;
+      updates = removes.updates;
       moves = moves_view old new removes.owner None removes.moves;
       retired = λ d is. ticket_none new d (λ k. gone d is k (is_given d (entry_at new k)) refl);
       tickets = λ d not_for.

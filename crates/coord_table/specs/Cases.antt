@@ -7,7 +7,7 @@ use Rattle.tree_model.specs.Names.{child_case, same_case, same_txn}
 use Rattle.tree_model.specs.Records.{in_list}
 use Rattle.tree_model.specs.Standings.{CoordinatorView, unknown_view}
 use Rattle.tree_model.specs.Restarts.{is_known}
-use Rattle.live_table.specs.Tables.{entry_at, live_count, live_value}
+use Rattle.live_table.specs.Tables.{Updates, entry_at, live_count, live_value}
 use Rattle.core_model.specs.Makes.{open_view}
 use Rattle.coord_table.specs.declared.held.Held.{Held}
 
@@ -100,6 +100,8 @@ pub record Moves (old new : Slots) (c : Case) (view : CoordinatorView) : Type 0 
 pub record Begins (old new : Slots) (c : Case) : Type 0 where
   pub moves : Moves old new c open_view
   pub tickets : (d : Case) → ticket_in new d ≡ ticket_in old d
+  pub key : ℕ
+  pub updates : Updates old new key (Some (c, record { given_for = None; live = open_view }))
   pub counts : live_count new ≡ live_count old + 1
 
 -- the case of a fresh ticket begins, and the ticket is active for the parent's case
@@ -107,6 +109,8 @@ pub record Gives (old new : Slots) (parent : Case) (t : Ticket) : Type 0 where
   pub moves : Moves old new (child_case parent.txn t) open_view
   pub ticket : ticket_in new parent ≡ Some t
   pub tickets : (d : Case) → same_case parent d ≡ false → ticket_in new d ≡ ticket_in old d
+  pub key : ℕ
+  pub updates : Updates old new key (Some (child_case parent.txn t, record { given_for = Some parent; live = open_view }))
   pub counts : live_count new ≡ live_count old + 1
 
 -- the key's case stands so in place of how it stood, and no other moves, nor does an active ticket
@@ -115,14 +119,16 @@ pub record Relives (old new : Slots) (key : ℕ) (before behind : CoordinatorVie
   pub stood : view_in old owner ≡ before
   pub moves : Moves old new owner behind
   pub tickets : (d : Case) → ticket_in new d ≡ ticket_in old d
-  pub entry : (h : Held) × (entry_at old key ≡ Some (owner, h)) × (entry_at new key ≡ Some (owner, record h { live = behind }))
+  pub held : Held
+  pub was : entry_at old key ≡ Some (owner, held)
+  pub updates : Updates old new key (Some (owner, record held { live = behind }))
 
 -- the ticket of the key's case is active no longer; nothing else moves
 pub record Retires (old new : Slots) (key : ℕ) : Type 0 where
   pub owner : Case
   pub held : Held
   pub was : entry_at old key ≡ Some (owner, held)
-  pub is : entry_at new key ≡ Some (owner, record held { given_for = None })
+  pub updates : Updates old new key (Some (owner, record held { given_for = None }))
   pub views : (d : Case) → view_in new d ≡ view_in old d
   pub retired : (d : Case) → is_for d held.given_for ≡ true → ticket_in new d ≡ None
   pub tickets : (d : Case) → is_for d held.given_for ≡ false → ticket_in new d ≡ ticket_in old d
@@ -132,6 +138,7 @@ pub record Ends (old new : Slots) (key : ℕ) : Type 0 where
   pub owner : Case
   pub held : Held
   pub was : entry_at old key ≡ Some (owner, held)
+  pub updates : Updates old new key None
   pub moves : Moves old new owner unknown_view
   pub retired : (d : Case) → is_for d held.given_for ≡ true → ticket_in new d ≡ None
   pub tickets : (d : Case) → is_for d held.given_for ≡ false → ticket_in new d ≡ ticket_in old d

@@ -3,7 +3,7 @@
 ghost use Rattle.std.specs.Prelude.{◌≡◌, false, true, None, Some, IsSome, OnOk, OnErr, [], option_copied};
 ghost use Rattle.std.specs.Borrow.{sem};
 ghost use Rattle.std.specs.Option.{option_copied_mut};
-ghost use Rattle.live_table.specs.Tables.{AreApart, entry_at, live_count, live_value};
+ghost use Rattle.live_table.specs.Tables.{AreApart, case_of, entry_at, live_count, live_value};
 ghost use Rattle.tree_model.specs.Names.{child_case};
 ghost use Rattle.coord_table.specs.Cases.{Begins, Ends, FindsCase, FindsChild, FitsGiven, Gives, Retires, entry_ticket, has_child, is_for, live_at, ticket_in};
 
@@ -120,6 +120,13 @@ impl Cases {
         }
     }
 
+    /// Which case is live under the key.
+    pub fn case_at(&self, key: usize) -> Option<Case>
+        ensures { result ≡ case_of (entry_at self.now key) }
+    {
+        self.table.case_at(key)
+    }
+
     /// The live case under the key.
     pub fn get(&self, key: usize) -> Option<&Live>
         ensures { option_copied result ≡ live_at self.now key }
@@ -134,6 +141,8 @@ impl Cases {
     pub fn get_mut(&mut self, key: usize) -> Option<&mut Live>
         ensures* writes_back { sem 𝓛 (lends_live self.entry key result) }
         ensures value { option_copied_mut result ≡ live_at self.old key }
+        ensures apart { AreApart self.old }
+        ensures fits { FitsGiven self.old }
     {
         match self.table.get_mut(key) {
             Some(held) => Some(&mut held.live),

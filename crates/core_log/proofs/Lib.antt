@@ -1,2 +1,3 @@
 pub mod Forces
 pub mod Sound
+pub mod Fitting

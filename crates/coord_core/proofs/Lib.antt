@@ -1,0 +1,4 @@
+pub mod Entries
+pub mod Heard
+pub mod Made
+pub mod Opened

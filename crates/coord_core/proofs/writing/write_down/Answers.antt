@@ -1,0 +1,10 @@
+use Rattle.std.proofs.Common.{rules, Some}
+use Rattle.log_text.specs.Made.{frame_record}
+use Rattle.core_log.proofs.Fitting.{room_for}
+use Rattle.coord_rows.specs.Rows.{IsFramed}
+use Rattle.coord_core.proofs.writing.write_down.Goals as goal
+
+pub write-requires-clause-room : goal.write-requires-clause-room
+write-requires-clause-room g c =
+    let framed : IsFramed c.args.parent c.in-Some.written = search rules in
+    room_for c.args.log.now (frame_record c.in-Some.written.frame) c.requires.room framed.sound.fits

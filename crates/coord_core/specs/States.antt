@@ -1,0 +1,94 @@
+-- What the code of a coordinator keeps, and the process that it stands for.
+use Rattle.std.specs.Prelude.{◌≡◌, ◌≤◌, ℕ, true, Option, Some, None, List, [], ◌∷◌}
+use Rattle.tree_model.specs.declared.names.Case.{Case}
+use Rattle.tree_model.specs.declared.names.Kind.TheVariants.{Coordinator}
+use Rattle.tree_model.specs.declared.names.Presumption.{Presumption}
+use Rattle.tree_model.specs.declared.names.ProcessId.{ProcessId}
+use Rattle.tree_model.specs.declared.names.Ticket.{Ticket}
+use Rattle.tree_model.specs.declared.names.Txn.{Txn}
+use Rattle.tree_model.specs.declared.records.LogRecord.{LogRecord}
+use Rattle.tree_model.specs.declared.records.Record.TheVariants.{Opened}
+use Rattle.tree_model.specs.declared.events.StepError.{StepError}
+use Rattle.tree_model.specs.declared.events.StepError.TheVariants.{Memory, Device}
+use Rattle.tree_model.specs.declared.trees.TreeEntry.{TreeEntry}
+use Rattle.tree_model.specs.Names.{child_case, root_case}
+use Rattle.tree_model.specs.Nodes.{Place, Role, AtRoot, Below}
+use Rattle.tree_model.specs.Standings.{unknown_branch}
+use Rattle.live_table.specs.Tables.{case_of, entry_at}
+use Rattle.rec_log.specs.Sights.{Breaks, LogState}
+use Rattle.core_model.specs.States.{CoreState, forced_sight, wrote}
+use Rattle.core_model.specs.Restarting.{ReadOff}
+use Rattle.coord_table.specs.Cases.{Slots, ticket_in, view_in}
+use Rattle.coord_turns.specs.Takes.{GivenAreActive}
+
+-- who it is and its parent, if it has one; its tree; its log; its boot; how many transactions it began and tickets it gave in
+-- this boot; and its live cases
+pub record CoordinatorValue : Type 0 where
+  pub me : ProcessId
+  pub parent : Option ProcessId
+  pub tree : List TreeEntry
+  pub log : LogState
+  pub boot : ℕ
+  pub begun : ℕ
+  pub given : ℕ
+  pub slots : Slots
+
+-- a coordinator without a parent is the root
+abbrev pub role_below : Option ProcessId → Role
+role_below None = AtRoot
+role_below (Some p) = Below p
+
+-- where the coordinator sits
+abbrev pub place_of : CoordinatorValue → Place
+place_of v = record { me = v.me; role = role_below v.parent; tree = v.tree }
+
+-- the process that the coordinator is
+abbrev pub state : CoordinatorValue → CoreState
+state v =
+    record {
+      place = place_of v;
+      log = v.log.sight;
+      boot = v.boot;
+      begun = v.begun;
+      given = v.given;
+      ticket_for = ticket_in v.slots;
+      view_of = view_in v.slots;
+      branch_of = λ c. unknown_branch;
+    }
+
+-- the transaction that it began with this number in this boot
+abbrev pub own_txn : CoordinatorValue → Presumption → ℕ → Txn
+own_txn v p n = record { root = v.me; boot = v.boot; sequence = n; presumption = p }
+
+-- the ticket that it gave with this number in this boot
+abbrev pub own_ticket : CoordinatorValue → ℕ → Ticket
+own_ticket v n = record { child = v.me; boot = v.boot; number = n }
+
+-- what a coordinator keeps: its log is a coordinator's; a case whose ticket is active takes children and work; and no case
+-- is live of a transaction or a ticket that it did not number yet
+pub record IsCoordinator (v : CoordinatorValue) : Type 0 where
+  pub kind : v.log.kind ≡ Coordinator
+  pub active : GivenAreActive v.slots
+  pub begun : (k : ℕ) (p : Presumption) (n : ℕ) → case_of (entry_at v.slots k) ≡ Some (root_case (own_txn v p n)) → n ≤ v.begun
+  pub given : (k : ℕ) (x : Txn) (n : ℕ) → case_of (entry_at v.slots k) ≡ Some (child_case x (own_ticket v n)) → n ≤ v.given
+
+-- the first record of a log
+abbrev pub first_opened : LogRecord
+first_opened = record { entry = Opened 1; parent = None }
+
+-- a process that opened an empty log over this device: it stands as its one record says, which is forced
+pub record IsOpened (s : CoreState) (place : Place) (failures : ℕ) : Type 0 where
+  pub place_is : s.place ≡ place
+  pub log : s.log ≡ forced_sight (first_opened ∷ []) failures
+  pub read : ReadOff s (Opened 1 ∷ [])
+
+-- the first record stands forced in an empty log
+pub record WritesOpened (old new : LogState) : Type 0 where
+  pub kind : new.kind ≡ old.kind
+  pub sight : new.sight ≡ wrote old.sight (record { entry = Opened 1; is_forced = true } ∷ []) (first_opened ∷ [])
+
+-- why a coordinator was not opened, and what log is handed back
+abbrev pub NotOpened : LogState → LogState → StepError → Type 0
+NotOpened old new Memory = new.sight ≡ old.sight
+NotOpened old new Device = Breaks old new (first_opened ∷ [])
+NotOpened old new e = ⊥

@@ -1,0 +1,40 @@
+-- What a turn makes of a coordinator, and what stops it.
+use Rattle.std.specs.Prelude.{◌≡◌, Option, Some, None, List, [], ◌∷◌}
+use Rattle.tree_model.specs.declared.names.Case.{Case}
+use Rattle.tree_model.specs.declared.records.LogRecord.{LogRecord}
+use Rattle.tree_model.specs.declared.events.Input.{Input}
+use Rattle.tree_model.specs.declared.events.Reaction.{Reaction}
+use Rattle.tree_model.specs.declared.events.StepError.{StepError}
+use Rattle.tree_model.specs.declared.events.StepError.TheVariants.{Memory, Device}
+use Rattle.tree_model.specs.Nodes.{Effect, reaction_of}
+use Rattle.tree_model.specs.Reactions.{Does}
+use Rattle.log_text.specs.Made.{frame_record}
+use Rattle.rec_log.specs.Sights.{LogState}
+use Rattle.core_model.specs.States.{CoreState, SameCore, wrote}
+use Rattle.core_model.specs.Turns.{Turn as CoreTurn, reacted}
+use Rattle.core_model.specs.Makes.{BreaksIn, Moves}
+use Rattle.coord_rows.specs.declared.effect.Framed.{Framed}
+use Rattle.coord_rows.specs.Rows.{written_of}
+
+-- the turn of the input was made, and this is the reaction to show
+pub record Turned (old new : CoreState) (i : Input) (turn : CoreTurn) (reaction : Reaction) : Type 0 where
+  pub moves : Moves old new i turn
+  pub effect : Effect
+  pub does : reacted turn ≡ Does effect
+  pub shown : reaction ≡ reaction_of effect
+
+-- what stopped the turn: for want of memory nothing changed; or the device failed
+abbrev pub Stopped : CoreState → CoreState → CoreTurn → StepError → Type 0
+Stopped old new turn Memory = SameCore old new
+Stopped old new turn Device = BreaksIn old new turn
+Stopped old new turn e = ⊥
+
+-- the records of frames, as the log holds them
+abbrev pub framed_of : Option Framed → List LogRecord
+framed_of None = []
+framed_of (Some w) = frame_record w.frame ∷ []
+
+-- a row's record stands in the log, if it has one
+pub record WritesDown (old new : LogState) (written : Option Framed) : Type 0 where
+  pub kind : new.kind ≡ old.kind
+  pub sight : new.sight ≡ wrote old.sight (written_of written) (framed_of written)

@@ -1,0 +1,160 @@
+//! What a coordinator keeps.
+
+ghost use Rattle.std.specs.Prelude.{◌≡◌, IfOk, IsTrue};
+ghost use Rattle.live_table.specs.Tables.{AreApart, live_count};
+ghost use Rattle.tree_model.specs.Memory.{ticket_of_child};
+ghost use Rattle.coord_table.specs.Cases.{FitsGiven, ticket_in, view_in};
+ghost use Rattle.coord_turns.specs.Takes.{IsAt};
+ghost use Rattle.rec_log.specs.Sights.{records_of};
+ghost use Rattle.core_model.specs.States.{HasNumbers};
+ghost use Rattle.coord_core.specs.States.{state};
+ghost use Rattle.coord_core.specs.Meets.{FindsAt, FindsLive};
+
+use coord_rows::Seat;
+use coord_table::Cases;
+use log_store::LogStore;
+use rec_log::RecLog;
+use std::alloc::{AllocError, Global};
+use std::marker::Model;
+use tree_model::{Case, LogRecord, ProcessId, Standing, Ticket, Tree, Txn};
+
+/// The largest number of a transaction and of a ticket.
+const LAST_NUMBER: u64 = (1 << 63) - 1;
+
+/// A coordinator: the root of a tree, which has no parent, or a coordinator below it. It keeps its log, its boot, how many
+/// transactions it began and how many tickets it gave in this boot, and its live cases.
+#[derive(Drop)]
+pub struct Coordinator<L: LogStore> {
+    pub(crate) alloc: Global,
+    pub(crate) me: ProcessId,
+    pub(crate) parent: Option<ProcessId>,
+    pub(crate) tree: Tree,
+    pub(crate) log: RecLog<L>,
+    pub(crate) boot: u64,
+    pub(crate) begun: u64,
+    pub(crate) given: u64,
+    pub(crate) cases: Cases,
+}
+
+impl<L: LogStore> Model for Coordinator<L> {
+    ghost use Rattle.coord_core.specs.States.{CoordinatorValue, IsCoordinator};
+
+    ghost Value = { CoordinatorValue };
+
+    ghost view = { λ c. record { me = c.me; parent = c.parent; tree = c.tree; log = c.log; boot = c.boot; begun = c.begun; given = c.given; slots = c.cases } };
+
+    ghost invariant = { λ c. IsCoordinator (record { me = c.me; parent = c.parent; tree = c.tree; log = c.log; boot = c.boot; begun = c.begun; given = c.given; slots = c.cases }) };
+}
+
+impl<L: LogStore> Coordinator<L> {
+    /// Which process it is.
+    pub fn me(&self) -> ProcessId
+        ensures { result ≡ (state self.now).place.me }
+    {
+        self.me
+    }
+
+    /// How often it opened.
+    pub fn boot(&self) -> u64
+        ensures { result ≡ (state self.now).boot }
+    {
+        self.boot
+    }
+
+    /// Whether there are numbers left for a transaction and a ticket more, which each input wants.
+    pub fn has_numbers(&self) -> bool
+        ensures yes { IsTrue result → HasNumbers (state self.now) }
+        ensures no { HasNumbers (state self.now) → IsTrue result }
+    {
+        self.begun < LAST_NUMBER && self.given < LAST_NUMBER
+    }
+
+    /// Where a case stands; Unknown, where it is not live.
+    pub fn standing(&self, case: &Case) -> Standing
+        ensures { result ≡ ((state self.now).view_of case.now).standing }
+    {
+        match self.find(case) {
+            None => Standing::Unknown,
+            Some((_, standing)) => standing,
+        }
+    }
+
+    /// How many cases are live.
+    pub fn live(&self) -> usize
+        ensures { result ≡ live_count self.now.slots }
+    {
+        self.cases.len()
+    }
+
+    /// Whether the device failed under it: it answers `Failed` until its restart.
+    pub fn failed(&self) -> bool
+        ensures { result ≡ (state self.now).log.failed }
+    {
+        self.log.failed()
+    }
+
+    /// The records of its log, as a list made anew.
+    pub fn records(&self) -> Result<Vec<LogRecord>, AllocError>
+        ensures { IfOk result (λ records. records.items ≡ records_of (state self.now).log.kept) }
+    {
+        self.log.records(self.alloc)
+    }
+
+    /// The coordinator in one of its cases.
+    pub(crate) fn seat(&self, case: Case) -> Seat
+        ensures { result ≡ record { me = self.now.me; parent = self.now.parent; case = case } }
+    {
+        Seat {
+            me: self.me,
+            parent: self.parent,
+            case,
+        }
+    }
+
+    /// The key of the case and where it stands, if it is live.
+    pub(crate) fn find(&self, case: &Case) -> Option<(usize, Standing)>
+        ensures finds { FindsLive self.now.slots case.now result }
+        ensures apart { AreApart self.now.slots }
+        ensures fits { FitsGiven self.now.slots }
+    {
+        match self.cases.find(case) {
+            None => None,
+            Some(key) => match self.cases.get(key) {
+                None => unreachable!(),
+                Some(live) => Some((key, live.standing())),
+            },
+        }
+    }
+
+    /// The live case of the transaction that has the child's ticket, under its key.
+    pub(crate) fn child(&self, txn: &Txn, ticket: &Ticket) -> Option<(usize, Case)>
+        ensures { FindsAt self.now.slots txn.now ticket.now result }
+    {
+        match self.cases.find_child(txn, ticket) {
+            None => None,
+            Some(key) => match self.cases.case_at(key) {
+                None => unreachable!(),
+                Some(case) => Some((key, case)),
+            },
+        }
+    }
+
+    /// The ticket of an accepted child of the case under the key.
+    pub(crate) fn accepted(&self, key: usize, case: &Case, child: ProcessId) -> Option<Ticket>
+        requires at { IsAt self.now.slots key case.now }
+        requires apart { AreApart self.now.slots }
+        ensures { result ≡ ticket_of_child (view_in self.now.slots case.now).accepted child }
+    {
+        match self.cases.get(key) {
+            None => unreachable!(),
+            Some(live) => live.child_ticket(child),
+        }
+    }
+
+    /// The active ticket that was given for the parent's case.
+    pub(crate) fn ticket_for(&self, case: &Case) -> Option<Ticket>
+        ensures { result ≡ ticket_in self.now.slots case.now }
+    {
+        self.cases.ticket_for(case)
+    }
+}

@@ -1,0 +1,171 @@
+//! Which turn an input meets: the acts.
+
+ghost use Rattle.std.specs.Prelude.{◌≡◌, false, true, IfErr, IfOk};
+ghost use Rattle.live_table.specs.Tables.{AreApart};
+ghost use Rattle.tree_model.specs.declared.events.Input.{Input as AnyInput};
+ghost use Rattle.tree_model.specs.Reactions.{act_is_listed};
+ghost use Rattle.core_model.specs.Turns.{live_turn};
+ghost use Rattle.coord_table.specs.Cases.{view_in};
+ghost use Rattle.coord_turns.specs.Takes.{IsAt};
+ghost use Rattle.coord_core.specs.Meets.{IsClosed, May, Meets, MeetsAct, is_refusal, meant};
+
+use crate::coordinator::Coordinator;
+use crate::places::{is_child, is_manager};
+use crate::turn::Turn;
+use coord_turns::Asked;
+use log_store::LogStore;
+use tree_model::{
+    Act, Case, Input, Op, Presumption, ProcessId, Standing, StepError, Txn,
+};
+
+impl<L: LogStore> Coordinator<L> {
+    /// Which turn an input meets.
+    pub(crate) fn meet<'a>(&self, input: &'a Input) -> Turn<'a>
+        ensures { Meets self.now input.now result }
+    {
+        if !self.is_listed(input) {
+            return Turn::Refuses(StepError::NoSuch);
+        }
+        if self.log.failed() {
+            return Turn::Refuses(StepError::Failed);
+        }
+        match input {
+            Input::Act(act) => self.meet_act(act),
+            Input::Message(number, message) => self.hear(*number, message),
+        }
+    }
+
+    /// Whether the child that an act names is listed; a message names none.
+    fn is_listed(&self, input: &Input) -> bool
+        ensures { result ≡ act_is_listed self.now.tree input.now }
+    {
+        match input {
+            Input::Act(Act::Join(_, child)) | Input::Act(Act::Work(_, child, _)) => {
+                self.tree.is_listed(*child)
+            }
+            _ => true,
+        }
+    }
+
+    fn meet_act<'a>(&self, act: &'a Act) -> Turn<'a>
+        requires { self.now.log.sight.failed ≡ false }
+        ensures { MeetsAct self.now act.now result }
+    {
+        match act {
+            Act::Begin(presumption) => self.meet_begin(*presumption),
+            Act::Join(case, child) => self.meet_join(*case, *child),
+            Act::Work(case, child, op) => self.meet_work(*case, *child, op),
+            Act::Commit(txn) => self.meet_commit(*txn),
+            Act::Abort(txn) => self.meet_abort(*txn),
+            Act::Ask(case) => self.meet_ask(*case),
+            Act::Decide(case, _) => self.meet_operator(case, StepError::NotInDoubt),
+            Act::Forget(case) => self.meet_operator(case, StepError::NothingToForget),
+        }
+    }
+
+    /// Begin: at the root alone.
+    fn meet_begin(&self, presumption: Presumption) -> Turn<'static>
+        ensures { MeetsAct self.now (Act.Begin presumption) result }
+    {
+        match self.parent {
+            None => Turn::Begins(presumption),
+            Some(_) => Turn::Refuses(StepError::NoSuch),
+        }
+    }
+
+    /// The key of a case that is Active. UnknownTxn: it is not live. Closed: it takes no children and no work any more.
+    fn active(&self, case: &Case) -> Result<usize, StepError>
+        ensures ok { IfOk result (λ key. IsAt self.now.slots key case.now × ((view_in self.now.slots case.now).standing ≡ Standing.Active)) }
+        ensures err { IfErr result (λ e. IsClosed (view_in self.now.slots case.now).standing e) }
+        ensures apart { AreApart self.now.slots }
+    {
+        match self.find(case) {
+            Some((key, Standing::Active)) => Ok(key),
+            None | Some((_, Standing::Unknown)) => Err(StepError::UnknownTxn),
+            Some(_) => Err(StepError::Closed),
+        }
+    }
+
+    /// Join: the case is Active, and the process is a child of this one.
+    fn meet_join(&self, case: Case, child: ProcessId) -> Turn<'static>
+        requires { self.now.log.sight.failed ≡ false }
+        ensures { MeetsAct self.now (Act.Join case child) result }
+    {
+        match self.active(&case) {
+            Err(error) => Turn::Refuses(error),
+            Ok(key) => {
+                if is_child(&self.tree, child, self.me) {
+                    Turn::Takes(key, case, Asked::Join(child))
+                } else {
+                    Turn::Refuses(StepError::NotAChild)
+                }
+            }
+        }
+    }
+
+    /// Work: the case is Active, and the process is an accepted child of it, and a manager.
+    fn meet_work<'a>(&self, case: Case, child: ProcessId, op: &'a Op) -> Turn<'a>
+        requires { self.now.log.sight.failed ≡ false }
+        ensures { MeetsAct self.now (Act.Work case child op.now) result }
+    {
+        match self.active(&case) {
+            Err(error) => Turn::Refuses(error),
+            Ok(key) => match self.accepted(key, &case, child) {
+                Some(ticket) if is_manager(&self.tree, ticket.child) => {
+                    Turn::Takes(key, case, Asked::Work(ticket, op))
+                }
+                _ => Turn::Refuses(StepError::NotAChild),
+            },
+        }
+    }
+
+    /// Commit: the root's case is Active.
+    fn meet_commit(&self, txn: Txn) -> Turn<'static>
+        requires { self.now.log.sight.failed ≡ false }
+        ensures { MeetsAct self.now (Act.Commit txn) result }
+    {
+        let case = Case { txn, ticket: None };
+        match self.active(&case) {
+            Err(error) => Turn::Refuses(error),
+            Ok(key) => Turn::Takes(key, case, Asked::Commit),
+        }
+    }
+
+    /// Abort: the root's case is Active, or collects votes.
+    fn meet_abort(&self, txn: Txn) -> Turn<'static>
+        requires { self.now.log.sight.failed ≡ false }
+        ensures { MeetsAct self.now (Act.Abort txn) result }
+    {
+        let case = Case { txn, ticket: None };
+        match self.find(&case) {
+            Some((key, Standing::Active)) => Turn::Takes(key, case, Asked::AbortActive),
+            Some((key, Standing::Collecting)) => Turn::Takes(key, case, Asked::AbortCollecting),
+            None | Some((_, Standing::Unknown)) => Turn::Refuses(StepError::UnknownTxn),
+            Some(_) => Turn::Refuses(StepError::Closed),
+        }
+    }
+
+    /// Ask: the case is in doubt.
+    fn meet_ask(&self, case: Case) -> Turn<'static>
+        requires { self.now.log.sight.failed ≡ false }
+        ensures { MeetsAct self.now (Act.Ask case) result }
+    {
+        match self.find(&case) {
+            Some((key, Standing::Prepared)) => Turn::Takes(key, case, Asked::Ask),
+            None | Some((_, Standing::Unknown)) => Turn::Refuses(StepError::UnknownTxn),
+            Some(_) => Turn::Refuses(StepError::NotInDoubt),
+        }
+    }
+
+    /// What an operator decides or forgets is a manager's: a live case gets this refusal.
+    fn meet_operator(&self, case: &Case, refusal: StepError) -> Turn<'static>
+        requires { is_refusal refusal ≡ true }
+        ensures is { live_turn refusal (view_in self.now.slots case.now).standing ≡ meant self.now result }
+        ensures may { (i : AnyInput) → May self.now i result }
+    {
+        match self.find(case) {
+            None | Some((_, Standing::Unknown)) => Turn::Refuses(StepError::UnknownTxn),
+            Some(_) => Turn::Refuses(refusal),
+        }
+    }
+}

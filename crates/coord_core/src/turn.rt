@@ -1,0 +1,25 @@
+//! What an input meets at a coordinator.
+
+use coord_turns::Asked;
+use tree_model::{Case, Presumption, ProcessId, StepError, Ticket, Txn};
+
+/// What an input meets.
+#[derive(Clone, Copy)]
+pub(crate) enum Turn<'a> {
+    /// A refusal, by this error.
+    Refuses(StepError),
+    /// A transaction begins.
+    Begins(Presumption),
+    /// The parent's case gets a fresh ticket.
+    Issues(ProcessId, Case),
+    /// The case that is live under the key takes the row that it meets.
+    Takes(usize, Case, Asked<'a>),
+    /// A case that is not live answers.
+    Answers(Case, Asked<'a>),
+    /// The parent's case gets its active ticket again.
+    Repeats(ProcessId, Case, Ticket),
+    /// A child of no live case gets what is presumed.
+    Presumes(Txn, Ticket),
+    /// Nothing is done.
+    Nothing,
+}

@@ -1,0 +1,5 @@
+pub mod AnyView
+pub mod Given
+pub mod Lent
+pub mod Standings
+pub mod Taken

@@ -1,0 +1,11 @@
+use Rattle.std.proofs.Common.{rules, ◌≡◌, ap}
+use Rattle.tree_model.specs.declared.standings.Standing.TheVariants.{Committing}
+use Rattle.tree_model.specs.CoordinatorRows.{committing_commit, on_commit}
+use Rattle.coord_rows.specs.Rows.{seat}
+use Rattle.coord_turns.proofs.AnyView.{at_view}
+use Rattle.coord_turns.proofs.rows.on_commit.Goals as goal
+
+pub returns-in-Committing-clause-ok : goal.returns-in-Committing-clause-ok
+returns-in-Committing-clause-ok c =
+    let stands : c.args.live.now.standing ≡ Committing = search rules in
+    at_view c.args.seat (committing_commit (seat c.args.seat)) _ c.args.live.now c.committing_commit.result (ap (on_commit (seat c.args.seat) c.args.live.now) stands) c.committing_commit.ensures

@@ -1,0 +1,20 @@
+//! Room for a record.
+
+ghost use Rattle.std.specs.Prelude.{◌≡◌, OnOk};
+ghost use Rattle.core_log.specs.Writes.{HasRoom};
+
+use log_store::LogStore;
+use rec_log::RecLog;
+use std::alloc::AllocError;
+
+/// How many bytes the longest frame has: a byte for the record's kind, two for the payload's length, and the payload.
+const LONGEST_FRAME: usize = 65_538;
+
+/// Makes room for the frame of any one record. A refusal changes nothing.
+pub fn make_room<L: LogStore>(log: &mut RecLog<L>) -> Result<(), AllocError>
+    ensures stays { log.new.sight ≡ log.old.sight }
+    ensures kind { log.new.kind ≡ log.old.kind }
+    ensures room { OnOk result (HasRoom log.new) }
+{
+    log.reserve(LONGEST_FRAME)
+}
