@@ -4,8 +4,7 @@ use crate::numbers::Numbers;
 use crate::xa_rows::is_run;
 use crate::xa_store::{BRANCH_NAMES, KEY_NAMES, KEYS, NAMES};
 use crate::xa_walks::{FAIL, LEGAL, NONE, Rows, Scan};
-use std::alloc::AllocError;
-use std::test::Fail;
+use std::alloc::{AllocError, Global};
 use xa_codes::{Code, Flags};
 use xa_engine::Status;
 use xa_tables::Verb;
@@ -211,6 +210,16 @@ impl Script {
         Ok(None)
     }
 
+    /// Whether the requests are answered so.
+    fn is_answered(&self, alloc: Global) -> bool {
+        is_run(
+            alloc,
+            self.requests.as_bytes(),
+            self.answers.as_bytes(),
+            Status::Ended,
+        )
+    }
+
     /// Adds a random request.
     fn request(&mut self, rows: &mut Rows, numbers: &mut Numbers) -> Result<(), AllocError> {
         let thread = numbers.below(3);
@@ -273,32 +282,46 @@ impl Script {
     }
 }
 
-#[test]
-fn random_requests(rt: HostRuntime) -> Result<(), Fail> {
-    let mut numbers = Numbers(0x2545_F491_4F6C_DD1D);
-    let mut rows = Rows::new(rt.alloc());
-    for run in 0..SCRIPTS {
-        let mut script = Script {
-            requests: String::new(rt.alloc()),
-            answers: String::new(rt.alloc()),
-        };
-        rows.begin();
-        script.open(&mut rows, NONE, run % 2 == 0)?;
-        for _ in 0..REQUESTS {
-            script.request(&mut rows, &mut numbers)?;
-        }
-        script.answers.push_str("end\n")?;
-        let (requests, answers) = (script.requests.as_bytes(), script.answers.as_bytes());
-        assert!(rt;
-            is_run(rt.alloc(), requests, answers, Status::Ended),
-            "script {run}"
-        );
+/// A script of random requests, the first an open.
+fn random_script(
+    alloc: Global,
+    rows: &mut Rows,
+    numbers: &mut Numbers,
+    migrates: bool,
+) -> Result<Script, AllocError> {
+    let mut script = Script {
+        requests: String::new(alloc),
+        answers: String::new(alloc),
+    };
+    rows.begin();
+    script.open(rows, NONE, migrates)?;
+    for _ in 0..REQUESTS {
+        script.request(rows, numbers)?;
     }
+    script.answers.push_str("end\n")?;
+    Ok(script)
+}
+
+/// Whether each random script is answered so.
+fn are_answered(alloc: Global, rows: &mut Rows) -> Result<bool, AllocError> {
+    let mut numbers = Numbers(0x2545_F491_4F6C_DD1D);
+    for run in 0..SCRIPTS {
+        let script = random_script(alloc, rows, &mut numbers, run % 2 == 0)?;
+        if !script.is_answered(alloc) {
+            return Ok(false);
+        }
+    }
+    Ok(true)
+}
+
+#[test]
+fn random_requests(rt: HostRuntime) {
+    let mut rows = Rows::new(rt.alloc());
+    assert!(rt; are_answered(rt.alloc(), &mut rows) == Ok(true));
     for (i, walked) in rows.associations_walked.iter().enumerate() {
         assert!(rt; *walked, "row {i} of the associations");
     }
     for (i, walked) in rows.branches_walked.iter().enumerate() {
         assert!(rt; *walked, "row {i} of the branches");
     }
-    Ok(())
 }

@@ -1,6 +1,8 @@
 //! A key store kept as data, for the random scripts: what each branch has written, the locks, the data, and the
 //! log with what a restart leaves of it.
 
+ghost use Rattle.std.specs.Prelude.{◌<◌};
+
 use std::alloc::{AllocError, Global};
 
 /// How many branches there are.
@@ -56,11 +58,19 @@ enum Entry {
 #[derive(Drop)]
 pub(crate) struct Store {
     data: Values,
-    writes: [Writes; NAMES],
+    /// What each branch has written, those of the first branch before the others.
+    writes: [Option<Option<u64>>; 9],
     locks: Vec<Lock>,
     log: Vec<Entry>,
     forced: usize,
     pub(crate) boot: u64,
+}
+
+/// Where a branch's write of a key stands.
+fn place_of(name: usize, key: usize) -> usize
+    ensures { result < 9 }
+{
+    name % NAMES * KEYS + key % KEYS
 }
 
 impl Store {
@@ -68,7 +78,7 @@ impl Store {
     pub(crate) fn new(alloc: Global) -> Store {
         Store {
             data: [None; KEYS],
-            writes: [NOTHING; NAMES],
+            writes: [None; 9],
             locks: Vec::new(alloc),
             log: Vec::new(alloc),
             forced: 0,
@@ -79,7 +89,7 @@ impl Store {
     /// Begins anew.
     pub(crate) fn begin(&mut self) {
         self.data = [None; KEYS];
-        self.writes = [NOTHING; NAMES];
+        self.writes = [None; 9];
         self.locks.clear();
         self.log.clear();
         self.forced = 0;
@@ -115,7 +125,7 @@ impl Store {
         if let Some(holder) = self.lock(name, key, false)? {
             return Ok(Err(holder));
         }
-        Ok(Ok(match self.writes[name % NAMES][key % KEYS] {
+        Ok(Ok(match self.writes[place_of(name, key)] {
             Some(value) => value,
             None => self.data[key % KEYS],
         }))
@@ -130,15 +140,30 @@ impl Store {
     ) -> Result<Option<usize>, AllocError> {
         let holder = self.lock(name, key, true)?;
         if holder.is_none() {
-            self.writes[name % NAMES][key % KEYS] = Some(value);
+            self.writes[place_of(name, key)] = Some(value);
         }
         Ok(holder)
     }
 
     /// Whether a branch has written something.
     pub(crate) fn wrote_some(&self, name: usize) -> bool {
-        let writes = &self.writes[name % NAMES];
-        writes.iter().any(|write| write.is_some())
+        (0..KEYS).any(|key| self.writes[place_of(name, key)].is_some())
+    }
+
+    /// What a branch has written.
+    fn writes_of(&self, name: usize) -> Writes {
+        [
+            self.writes[place_of(name, 0)],
+            self.writes[place_of(name, 1)],
+            self.writes[place_of(name, 2)],
+        ]
+    }
+
+    /// A branch has written this and nothing else.
+    fn set_writes(&mut self, name: usize, writes: Writes) {
+        for (key, write) in writes.iter().enumerate() {
+            self.writes[place_of(name, key)] = *write;
+        }
     }
 
     /// Adds a record.
@@ -152,12 +177,12 @@ impl Store {
 
     /// A branch promises what it has written.
     pub(crate) fn prepare(&mut self, name: usize) -> Result<(), AllocError> {
-        self.log(Entry::Prepared(name, self.writes[name % NAMES]), true)
+        self.log(Entry::Prepared(name, self.writes_of(name)), true)
     }
 
     /// A branch commits, behind its promise or not.
     pub(crate) fn commit(&mut self, name: usize, promised: bool) -> Result<(), AllocError> {
-        let writes = self.writes[name % NAMES];
+        let writes = self.writes_of(name);
         if promised {
             self.log(Entry::Committed(name), name != PRESUMED)?;
         } else if self.wrote_some(name) {
@@ -186,7 +211,7 @@ impl Store {
 
     /// A branch is ended, and lets its writes and its locks go.
     pub(crate) fn end(&mut self, name: usize) {
-        self.writes[name % NAMES] = NOTHING;
+        self.set_writes(name, NOTHING);
         self.locks.retain(|lock| lock.name != name);
     }
 
@@ -212,17 +237,17 @@ impl Store {
     fn replay(&mut self, entry: Entry, promised: &mut Vec<usize>) -> Result<(), AllocError> {
         match entry {
             Entry::Prepared(name, writes) => {
-                self.writes[name % NAMES] = writes;
+                self.set_writes(name, writes);
                 promised.push(name)?;
             }
             Entry::Committed(name) => {
-                let writes = self.writes[name % NAMES];
+                let writes = self.writes_of(name);
                 self.apply(&writes);
-                self.writes[name % NAMES] = NOTHING;
+                self.set_writes(name, NOTHING);
                 promised.retain(|other| *other != name);
             }
             Entry::RolledBack(name) => {
-                self.writes[name % NAMES] = NOTHING;
+                self.set_writes(name, NOTHING);
                 promised.retain(|other| *other != name);
             }
             Entry::Direct(writes) => self.apply(&writes),
@@ -238,7 +263,7 @@ impl Store {
         self.log.truncate(left);
         self.forced = self.log.len();
         self.data = [None; KEYS];
-        self.writes = [NOTHING; NAMES];
+        self.writes = [None; 9];
         self.locks.clear();
         for i in 0..self.log.len() {
             if let Some(entry) = self.log.get(i).copied() {
@@ -247,7 +272,7 @@ impl Store {
         }
         for name in &promised {
             for key in 0..KEYS {
-                if self.writes[*name % NAMES][key].is_some() {
+                if self.writes[place_of(*name, key)].is_some() {
                     self.lock(*name, key, true)?;
                 }
             }
