@@ -271,20 +271,23 @@ module _ (v : CoordinatorValue) (log : LogState) (slots : Slots) (c : Case) (ask
   row_breaks breaks =
       let records = logged_is v written (met v c asked).written takes.does.framed does_met.written in
       let at : Breaks (record mid { sight = v.log.sight }) log (logged (state v) (entries_written (met v c asked).written)) =
-      subst (λ s. Breaks (record mid { sight = s }) log (logged (state v) (entries_written (met v c asked).written))) room (subst (Breaks mid log) records breaks) in
-      (row_effect c (met v c asked), refl, record {
-        log = record {
-          kind = refl;
-          appended = at.appended;
-          stand = at.stand;
-          no_less = at.no_less;
-          more = at.more;
-          leaves = at.leaves;
-          failed = at.failed;
-          cause = at.cause;
-        };
-        place = refl;
-      })
+      subst (λ s. Breaks (record mid { sight = s }) log (logged (state v) (entries_written (met v c asked).written))) room (subst (Breaks mid log) records breaks) in (
+        row_effect c (met v c asked),
+        refl,
+        record {
+          log = record {
+            kind = refl;
+            appended = at.appended;
+            stand = at.stand;
+            no_less = at.no_less;
+            more = at.more;
+            leaves = at.leaves;
+            failed = at.failed;
+            cause = at.cause;
+          };
+          place = refl;
+        },
+      )
 
 -- A case that is not live.
 

@@ -187,8 +187,11 @@ scan_moved : (old new : KvSight) (t count flags : ℕ) (r : Result (List Xid) Co
     → (MakesMove old.store.tables new.store.tables (RecoverMove t count flags r)) × Undecided new
 scan_moved old new t count flags r un calls =
     by_failed old new _ _ _ calls
-    (λ is same. (inl (subst (λ (q : Result (List Xid) Code). IsErrAnd q (Declines old.store.tables new.store.tables)) (sym is)
-    (declined old.store.tables new.store.tables code.RmFail refl same.tables)), same_undecided old new same un))
+    (λ is same. (
+      inl (subst (λ (q : Result (List Xid) Code). IsErrAnd q (Declines old.store.tables new.store.tables)) (sym is)
+          (declined old.store.tables new.store.tables code.RmFail refl same.tables)),
+      same_undecided old new same un,
+    ))
     (λ does. (inr does.tables, calls_undecided old new _ _ calls (recovers_keep is_decided old.store.tables new.store.tables t count flags r does.tables) un))
 
 -- The moves of calls on a branch.
@@ -277,13 +280,16 @@ MovesBranch old new v t x flags c = MakesMove old.store.tables new.store.tables 
 turn_moved : (old new : KvSight) (v : Verb) (t : ℕ) (x : Xid) (flags : ℕ) (c : Code) (due : Call × Turn) → is_work_verb v ≡ false → Undecided old
     → IsDue old.store v x flags due → TakesTurn old new x due.1 c → MovesBranch old new v t x flags c
 turn_moved old new v t x flags c due w un is (Made says makes) = (
-  inr (wanted_for old.store x, wanted_fits old.store x (un.branches x),
+  inr (
+    wanted_for old.store x,
+    wanted_fits old.store x (un.branches x),
     finishing (wanted_for old.store x) old.store.tables new.store.tables v t x flags due.0 c w is.checked
-    (λ listed. (
-      says ∙ ap (λ (u : Turn). u.code) is.turn,
-      subst (λ (u : Turn). TakesRow old.store.tables new.store.tables x u.to) is.turn makes.tables,
-    ))
-    (λ none. absurd (none (subst (λ (u : Turn). Contains (branch_rows (state_of old.store x) due.0) (u.code, u.to)) is.turn is.listed)))),
+        (λ listed. (
+          says ∙ ap (λ (u : Turn). u.code) is.turn,
+          subst (λ (u : Turn). TakesRow old.store.tables new.store.tables x u.to) is.turn makes.tables,
+        ))
+        (λ none. absurd (none (subst (λ (u : Turn). Contains (branch_rows (state_of old.store x) due.0) (u.code, u.to)) is.turn is.listed))),
+  ),
   made_undecided old new x due.0 due.1 is.turn makes un,
 )
 turn_moved old new v t x flags c due w un is (Broke says fails) = (
@@ -300,9 +306,12 @@ finish_moved : (old new : KvSight) (v : Verb) (t : ℕ) (x : Xid) (flags : ℕ) 
 finish_moved old new v t x flags c w un (Failed failed says same) =
     (inl (declined old.store.tables new.store.tables c says same.tables), same_undecided old new same un)
 finish_moved old new v t x flags c w un (Refused works off same) = (
-  inr (wanted_for old.store x, wanted_fits old.store x (un.branches x),
+  inr (
+    wanted_for old.store x,
+    wanted_fits old.store x (un.branches x),
     refused_call (wanted_for old.store x) old.store.tables new.store.tables v t x flags c w
-    (checks_alone old.store v x flags c w (not_five (state_of old.store x) (un.branches x)) off) same.tables),
+        (checks_alone old.store v x flags c w (not_five (state_of old.store x) (un.branches x)) off) same.tables,
+  ),
   same_undecided old new same un,
 )
 finish_moved old new v t x flags c w un (Taken works due is takes) = turn_moved old new v t x flags c due w un is takes
