@@ -77,7 +77,12 @@ impl<L: LogStore> Coordinator<L> {
                     txn,
                     ticket: Some(ticket),
                 },
-            ) => self.hear_of(*txn, *ticket, Asked::Vote(*ticket, Vote::Yes), Turn::Nothing),
+            ) => self.hear_of(
+                *txn,
+                *ticket,
+                Asked::Vote(*ticket, Vote::Yes),
+                Turn::Nothing,
+            ),
             Message::No(
                 Case {
                     txn,
@@ -89,7 +94,12 @@ impl<L: LogStore> Coordinator<L> {
                     txn,
                     ticket: Some(ticket),
                 },
-            ) => self.hear_of(*txn, *ticket, Asked::Vote(*ticket, Vote::Read), Turn::Nothing),
+            ) => self.hear_of(
+                *txn,
+                *ticket,
+                Asked::Vote(*ticket, Vote::Read),
+                Turn::Nothing,
+            ),
             Message::Ack(
                 Case {
                     txn,

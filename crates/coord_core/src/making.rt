@@ -22,9 +22,7 @@ use coord_rows::RowEffect;
 use coord_turns::{Asked, answer, take};
 use core_log::make_room;
 use log_store::LogStore;
-use tree_model::{
-    Case, Input, Presumption, ProcessId, Reaction, StepError, Ticket, Txn,
-};
+use tree_model::{Case, Input, Presumption, ProcessId, Reaction, StepError, Ticket, Txn};
 
 impl<L: LogStore> Coordinator<L> {
     /// Handles an input. The refusals of the reaction table, as `StepError` says them, change nothing, nor does Memory.

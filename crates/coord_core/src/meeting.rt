@@ -14,9 +14,7 @@ use crate::places::{is_child, is_manager};
 use crate::turn::Turn;
 use coord_turns::Asked;
 use log_store::LogStore;
-use tree_model::{
-    Act, Case, Input, Op, Presumption, ProcessId, Standing, StepError, Txn,
-};
+use tree_model::{Act, Case, Input, Op, Presumption, ProcessId, Standing, StepError, Txn};
 
 impl<L: LogStore> Coordinator<L> {
     /// Which turn an input meets.

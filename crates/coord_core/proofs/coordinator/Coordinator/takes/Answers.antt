@@ -1,4 +1,4 @@
-use Rattle.std.proofs.Common.{rules, ◌≡◌, subst}
+use Rattle.std.proofs.Common.{rules, subst}
 use Rattle.tree_model.specs.declared.events.Input.{Input}
 use Rattle.rec_log.specs.Sights.{Breaks}
 use Rattle.core_model.specs.Turns.{Takes}
@@ -26,5 +26,5 @@ returns-clause-ok g c =
     subst (λ s. TakesRowOf v.slots c.take.new.cases s c.args.asked c.in_ok-written.field-0) c.seat-seat.ensures c.in_ok-written.ensures.ok in
     let writes : WritesDown c.make_room.new.log c.write_down.new.log c.in_ok-written.field-0.written = search rules in
     subst (λ (w : CoordinatorValue). (i : Input) → RetiresAs i c.args.asked c.args.case
-        → Turned (state w) (state (record v { log = c.write_down.new.log; slots = c.take.new.cases })) i (Takes c.args.case (met w c.args.case c.args.asked)) c.in_ok-written.field-0.reaction) c.self.view_is
+    → Turned (state w) (state (record v { log = c.write_down.new.log; slots = c.take.new.cases })) i (Takes c.args.case (met w c.args.case c.args.asked)) c.in_ok-written.field-0.reaction) c.self.view_is
     (row_turn v c.write_down.new.log c.take.new.cases c.args.case c.args.asked c.in_ok-written.field-0.written c.in_ok-written.field-0.reaction c.make_room.new.log c.make_room.ensures.stays takes writes)
