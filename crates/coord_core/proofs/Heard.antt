@@ -12,7 +12,6 @@ use Rattle.tree_model.specs.declared.standings.Vote.TheVariants.{Yes as VoteYes,
 use Rattle.tree_model.specs.declared.events.Act.{Act}
 use Rattle.tree_model.specs.declared.events.Input.{Input}
 use Rattle.tree_model.specs.declared.events.Input.TheVariants.{Act as ActInput, Message as MessageInput}
-use Rattle.tree_model.specs.declared.events.StepError.{StepError}
 use Rattle.tree_model.specs.declared.events.StepError.TheVariants.{Failed, NoSuch, NotAChild}
 use Rattle.std.specs.Borrow.{Bor}
 use Rattle.tree_model.specs.declared.events.Act.TheVariants.{Work as WorkAct}
@@ -39,7 +38,7 @@ use Rattle.coord_turns.specs.Takes.{IsAt}
 use Rattle.coord_core.specs.declared.turn.Turn.{Turn}
 use Rattle.coord_core.specs.declared.turn.Turn.TheVariants.{Refuses, Takes, Presumes, Nothing}
 use Rattle.coord_core.specs.States.{CoordinatorValue, place_of, role_below, state}
-use Rattle.coord_core.specs.Meets.{FindsAt, Hears, HearsOf, May, MayTake, Meets, MeetsAct, RetiresAs, RetiresNone, is_of_child, meant, met, met_by_child, no_data}
+use Rattle.coord_core.specs.Meets.{FindsAt, Hears, HearsOf, May, Meets, MeetsAct, RetiresAs, RetiresNone, is_of_child, meant, met, met_by_child, no_data}
 
 -- What a child asks.
 

@@ -1,5 +1,5 @@
 -- What each turn makes of a coordinator.
-use Rattle.std.proofs.Common.{◌≡◌, ◌≤◌, ◌<◌, ◌+◌, ◌&&◌, ◌++◌, ◌∷◌, [], ℕ, Bool, true, false, Option, None, Some, List, map, if◌then◌else◌, Result, Ok, Err, IfOk, IfErr, refl, subst, sym, ap, ◌∙◌, arith}
+use Rattle.std.proofs.Common.{◌≡◌, ◌≤◌, ◌+◌, ◌∷◌, [], ℕ, true, false, Option, None, Some, List, map, if◌then◌else◌, Result, Ok, Err, IfOk, IfErr, refl, subst, sym, ap, ◌∙◌, arith}
 use Rattle.std.proofs.lemmas.List.{append-nil}
 use Rattle.tree_model.specs.declared.names.Case.{Case}
 use Rattle.tree_model.specs.declared.names.Presumption.{Presumption}
@@ -8,12 +8,11 @@ use Rattle.tree_model.specs.declared.names.ProcessId.{ProcessId}
 use Rattle.tree_model.specs.declared.names.Ticket.{Ticket}
 use Rattle.tree_model.specs.declared.names.Txn.{Txn}
 use Rattle.tree_model.specs.declared.messages.Envelope.{Envelope}
-use Rattle.tree_model.specs.declared.records.LogRecord.{LogRecord}
 use Rattle.tree_model.specs.declared.events.Input.{Input}
 use Rattle.tree_model.specs.declared.events.Reaction.{Reaction}
 use Rattle.tree_model.specs.declared.events.StepError.{StepError}
 use Rattle.tree_model.specs.declared.events.StepError.TheVariants.{Memory, Device, UnknownTxn, NotAChild, Closed, Failed, NotInDoubt, NothingToForget, NoSuch}
-use Rattle.tree_model.specs.Names.{child_case, root_case, same_case}
+use Rattle.tree_model.specs.Names.{child_case, root_case}
 use Rattle.tree_model.specs.LogNames.{in_log, parent_of}
 use Rattle.tree_model.specs.Nodes.{Written, entries_written, reaction_of}
 use Rattle.tree_model.specs.Standings.{CoordinatorView, unknown_view}
@@ -27,7 +26,7 @@ use Rattle.live_table.proofs.Writes.{live_found}
 use Rattle.rec_log.specs.Sights.{Breaks, LogSight, LogState}
 use Rattle.core_model.specs.Views.{SameView}
 use Rattle.core_model.specs.States.{CoreState, SameCore, logged, wrote}
-use Rattle.core_model.specs.Turns.{Turn as CoreTurn, Says as SaysTurn, Takes as TakesTurn, reacted, seat_in}
+use Rattle.core_model.specs.Turns.{Says as SaysTurn, Takes as TakesTurn, reacted, seat_in}
 use Rattle.core_model.specs.Makes.{BreaksIn, Makes, NotMade, OpensCase, open_view, retired_by}
 use Rattle.core_model.proofs.Alike.{same_view}
 use Rattle.coord_table.specs.declared.held.Held.{Held}

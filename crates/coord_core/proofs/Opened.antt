@@ -9,7 +9,7 @@ use Rattle.tree_model.specs.Standings.{CoordinatorView, unknown_view}
 use Rattle.live_table.specs.Tables.{live_value}
 use Rattle.rec_log.specs.Sights.{LogState, records_of}
 use Rattle.core_model.specs.Views.{SameView}
-use Rattle.core_model.specs.Restarting.{ReadOff, recorded_view_at}
+use Rattle.core_model.specs.Restarting.{recorded_view_at}
 use Rattle.core_model.proofs.Opened.{opened_is_read}
 use Rattle.coord_table.specs.Cases.{Slots, ticket_in, view_in}
 use Rattle.coord_core.specs.States.{IsOpened, WritesOpened, first_opened, role_below, state}

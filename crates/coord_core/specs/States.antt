@@ -1,6 +1,5 @@
 -- What the code of a coordinator keeps, and the process that it stands for.
 use Rattle.std.specs.Prelude.{◌≡◌, ◌≤◌, ℕ, true, Option, Some, None, List, [], ◌∷◌}
-use Rattle.tree_model.specs.declared.names.Case.{Case}
 use Rattle.tree_model.specs.declared.names.Kind.TheVariants.{Coordinator}
 use Rattle.tree_model.specs.declared.names.Presumption.{Presumption}
 use Rattle.tree_model.specs.declared.names.ProcessId.{ProcessId}

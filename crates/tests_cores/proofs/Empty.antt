@@ -8,7 +8,7 @@ use Rattle.rec_log.specs.Sights.{LogState, records_of}
 use Rattle.rec_log.specs.Openings.{Opens}
 
 nothing_read : (p : Kind) → read_log p [] ≡ Whole [] 0
-unfolding read_log
+unfolding read_log same_bytes
 nothing_read p = refl
 
 pub opens_empty : (p : Kind) (bytes : List ℕ) (forced failures : ℕ) (log : LogState) → bytes ≡ [] → Opens p bytes forced failures log → records_of log.sight.kept ≡ []

@@ -68,7 +68,10 @@ fn abort(root: &mut Root, txn: Txn) -> Result<Reaction, Fail> {
 
 /// The child's JOINED.
 fn accept(root: &mut Root, txn: Txn) -> Result<Reaction, Fail> {
-    step(root, &Input::Message(1, Message::Joined(root_case(txn), first_ticket(2))))
+    step(
+        root,
+        &Input::Message(1, Message::Joined(root_case(txn), first_ticket(2))),
+    )
 }
 
 /// A transaction without children has read only; its case is gone.
@@ -79,11 +82,13 @@ fn an_empty_transaction_reads_only(rt: HostRuntime) -> Result<(), Fail> {
     begin(&mut root)?;
     assert!(rt; root.live() == 1 && root.standing(&root_case(txn)) == Standing::Active);
     let reaction = commit(&mut root, txn)?;
-    assert!(rt; reaction.told
-        == Some(Told {
-            txn,
-            conclusion: Conclusion::ReadOnly
-        }));
+    assert!(rt;
+        reaction.told
+            == Some(Told {
+                txn,
+                conclusion: Conclusion::ReadOnly
+            })
+    );
     assert!(rt; root.live() == 0 && root.standing(&root_case(txn)) == Standing::Unknown);
     Ok(())
 }

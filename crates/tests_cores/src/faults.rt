@@ -11,7 +11,6 @@ use tree_model::{
 };
 
 /// A root whose device fails behind so many calls; opening takes three.
-#[tactic(auto, using(crate::proofs::Empty::opens_empty))]
 fn failing(alloc: Global, calls: u64) -> Result<Coordinator<FaultStore>, Fail> {
     let tree = Tree::from_vec(vec![in alloc;
         listed(1, Kind::Coordinator, None),
@@ -35,7 +34,10 @@ fn begin(root: &mut Coordinator<FaultStore>) -> Result<Reaction, Fail> {
 
 /// The child's JOINED.
 fn accept(root: &mut Coordinator<FaultStore>, txn: Txn) -> Result<Reaction, Fail> {
-    step(root, &Input::Message(1, Message::Joined(root_case(txn), first_ticket(2))))
+    step(
+        root,
+        &Input::Message(1, Message::Joined(root_case(txn), first_ticket(2))),
+    )
 }
 
 /// The error by which a commit is refused, if it is.

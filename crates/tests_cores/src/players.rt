@@ -7,8 +7,8 @@ use std::alloc::{AllocError, Global};
 use std::test::Fail;
 use trace_lines::push_entry;
 use tree_model::{
-    Bytes, Case, Entry, Happening, Input, Kind, Op, Presumption, ProcessId, Reaction, Step,
-    Ticket, Tree, TreeEntry, Txn,
+    Bytes, Case, Entry, Happening, Input, Kind, Op, Presumption, ProcessId, Reaction, Step, Ticket,
+    Tree, TreeEntry, Txn,
 };
 
 /// A process of a tree, without a text for xa_open.
@@ -66,7 +66,6 @@ pub(crate) fn put(alloc: Global, key: &str, value: &str) -> Result<Op, AllocErro
 }
 
 /// A coordinator that opened an empty log in memory.
-#[tactic(auto, using(crate::proofs::Empty::opens_empty))]
 pub(crate) fn opened(
     alloc: Global,
     me: u32,

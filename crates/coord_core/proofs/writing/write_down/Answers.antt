@@ -1,4 +1,4 @@
-use Rattle.std.proofs.Common.{rules, Some}
+use Rattle.std.proofs.Common.{rules}
 use Rattle.log_text.specs.Made.{frame_record}
 use Rattle.core_log.proofs.Fitting.{room_for}
 use Rattle.coord_rows.specs.Rows.{IsFramed}
