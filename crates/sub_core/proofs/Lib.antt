@@ -1,0 +1,6 @@
+pub mod Ties
+pub mod Rows
+pub mod Ends
+pub mod Votes
+
+pub mod Outcomes

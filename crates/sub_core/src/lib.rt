@@ -1,0 +1,9 @@
+//! A process below a parent, with a resource manager: it works, votes, and obeys (R*).
+#![tactic(auto)]
+
+mod ending;
+mod replies;
+mod subordinate;
+mod voting;
+
+pub use subordinate::Subordinate;
