@@ -4,3 +4,4 @@ pub mod Ends
 pub mod Votes
 
 pub mod Outcomes
+pub mod Staying

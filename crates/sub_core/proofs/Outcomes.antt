@@ -82,16 +82,16 @@ none_written : (g c : Case) (n : ℕ) (p : Bool) (ws : List Write) → written_b
 none_written g c n true ws = refl
 none_written g c n false ws = refl
 
-retired_abort : (k : ℕ) (c d : Case) (o : Option Ticket) → retired_at c d o ≡ retired_by (MessageInput k (Abort c)) d o
+pub retired_abort : (k : ℕ) (c d : Case) (o : Option Ticket) → retired_at c d o ≡ retired_by (MessageInput k (Abort c)) d o
 retired_abort k c d None = refl
 retired_abort k c d (Some t) = refl
 
-never_retired : (k : ℕ) (c d : Case) (o : Option Ticket) → o ≡ retired_by (MessageInput k (Commit c)) d o
+pub never_retired : (k : ℕ) (c d : Case) (o : Option Ticket) → o ≡ retired_by (MessageInput k (Commit c)) d o
 never_retired k c d None = refl
 never_retired k c d (Some t) = refl
 
 -- the ticket of a case that promised is active no longer
-untouched : (t : BranchTable) (c : Case) (b : Branch) → IsKept t → branch_in t c ≡ Some b → b.stage ≡ Prepared → (d : Case)
+pub untouched : (t : BranchTable) (c : Case) (b : Branch) → IsKept t → branch_in t c ≡ Some b → b.stage ≡ Prepared → (d : Case)
     → retired_at c d (ticket_in t d) ≡ ticket_in t d
 untouched t c b kept at stage d = by_ticket (ticket_in t d) refl
   where

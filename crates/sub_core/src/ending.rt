@@ -2,7 +2,6 @@
 
 ghost use Rattle.std.specs.Prelude.{◌≡◌, ◌==◌, ◌&&◌, [], not, Bool, ℕ, false, IfErr, IfOk};
 ghost use Rattle.tree_model.specs.declared.names.Case.{Case as AnyCase};
-ghost use Rattle.tree_model.specs.declared.names.Outcome.TheVariants as outcome;
 ghost use Rattle.tree_model.specs.declared.messages.Message.TheVariants as message;
 ghost use Rattle.tree_model.specs.declared.records.RecordKind.TheVariants as kind;
 ghost use Rattle.tree_model.specs.ManagerRows.{is_acknowledged};
@@ -69,16 +68,17 @@ fn ends_by(
     })
 }
 
-/// The acknowledgement alone.
-fn aborts(
+/// The acknowledgement of an outcome alone.
+pub(crate) fn acknowledges(
     me: ProcessId,
     parent: ProcessId,
     case: Case,
+    outcome: Outcome,
     alloc: Global,
 ) -> Result<Reaction, AllocError>
-    ensures { IfOk result (λ reaction. reaction ≡ shown [] (acknowledged me parent case outcome.Aborted)) }
+    ensures { IfOk result (λ reaction. reaction ≡ shown [] (acknowledged me parent case outcome)) }
 {
-    let messages = acknowledgement(me, parent, case, Outcome::Aborted, alloc)?;
+    let messages = acknowledgement(me, parent, case, outcome, alloc)?;
     Ok(Reaction {
         messages,
         ..silence(alloc)
@@ -122,7 +122,13 @@ impl<M: ResourceManager> Subordinate<M> {
         ensures ok { IfOk result (Hears (seen M.sight self.old) (seen M.sight self.new) (message.Abort case)) }
         ensures err { IfErr result (NotHeard (seen M.sight self.old) (seen M.sight self.new) (message.Abort case)) }
     {
-        let reaction = aborts(self.me, self.parent, case, self.alloc)?;
+        let reaction = acknowledges(
+            self.me,
+            self.parent,
+            case,
+            Outcome::Aborted,
+            self.alloc,
+        )?;
         match roll_back(&mut self.manager, &xid) {
             Ok(()) => {
                 self.branches.remove(key);

@@ -2,6 +2,7 @@
 #![tactic(auto)]
 
 mod ending;
+mod hearing;
 mod replies;
 mod subordinate;
 mod voting;
