@@ -1,38 +1,31 @@
 -- What the manager's record of a branch is in the subordinate's log, and what comes of a call that was not made.
-use Rattle.std.proofs.Common.{◌≡◌, ◌∙◌, ℕ, Bool, true, false, Option, Some, None, List, [], ◌∷◌, refl, sym, ap, subst, if◌then◌else◌}
+use Rattle.std.proofs.Common.{◌≡◌, ◌∙◌, ℕ, Option, Some, List, [], ◌∷◌, refl, sym, ap, subst}
 use Rattle.std.specs.Prelude.{map}
 use Rattle.xa_tables.specs.declared.call.Call.{Call}
 use Rattle.xa_tables.specs.declared.states.BranchState.{BranchState}
 use Rattle.xa_xid.specs.declared.xid.Xid.{Xid}
 use Rattle.xa_states.specs.Answers.{state_at}
 use Rattle.tree_model.specs.declared.names.Case.{Case}
-use Rattle.tree_model.specs.declared.names.Ticket.{Ticket}
-use Rattle.tree_model.specs.declared.records.Branch.{Branch as AnyName}
 use Rattle.tree_model.specs.declared.records.Branch.TheVariants.{Case as CaseBranch}
 use Rattle.tree_model.specs.declared.records.LogRecord.{LogRecord}
-use Rattle.tree_model.specs.declared.records.Record.{Record}
 use Rattle.tree_model.specs.declared.records.Write.{Write}
 use Rattle.tree_model.specs.declared.events.StepError.{StepError}
 use Rattle.tree_model.specs.declared.events.StepError.TheVariants.{Memory, Device}
-use Rattle.tree_model.specs.declared.messages.Message.{Message}
-use Rattle.tree_model.specs.declared.messages.Message.TheVariants.{Prepare}
-use Rattle.tree_model.specs.declared.events.Input.TheVariants.{Message as MessageInput}
 use Rattle.tree_model.specs.Nodes.{Written, entries_written}
 use Rattle.tree_model.specs.Records.{record_case}
 use Rattle.tree_model.specs.LogNames.{case_parent, in_log}
 use Rattle.tree_model.specs.ManagerRows.{LeafRow}
 use Rattle.tree_model.specs.Reactions.{leaf_effect}
 use Rattle.log_text.specs.Parts.{Name, name_in}
-use Rattle.rec_log.specs.Sights.{Breaks, LogSight}
+use Rattle.rec_log.specs.Sights.{Breaks}
 use Rattle.core_model.specs.States.{log_behind, logged, wrote}
 use Rattle.core_model.specs.Turns.{Handles}
-use Rattle.core_model.specs.Makes.{BreaksIn}
 use Rattle.manager_model.specs.Sights.{ManagerSight}
 use Rattle.manager_model.specs.Ends.{logged_under, state_of, written_by, written_for}
-use Rattle.live_table.specs.Tables.{Moves, entry_at}
-use Rattle.sub_deeds.specs.Deeds.{BreaksUnder, NotFinished}
+use Rattle.live_table.specs.Tables.{Moves}
+use Rattle.sub_deeds.specs.Deeds.{NotFinished}
 use Rattle.sub_table.specs.declared.branch.Branch.{Branch}
-use Rattle.sub_table.specs.Tables.{BranchTable, Retires, branch_in, retired_at, ticket_in}
+use Rattle.sub_table.specs.Tables.{BranchTable, Retires, retired_at, ticket_in}
 use Rattle.sub_core.specs.Subordinates.{IsAt, IsGiven, IsNamed, IsTied, NotTurned, SubState, core_of}
 use Rattle.sub_core.proofs.Ties.{behind, same_tied, still_tied}
 use Rattle.sub_core.proofs.Rows.{same_core}
@@ -64,7 +57,7 @@ module _ (s : SubState) (c : Case) (x : Xid) (named : IsNamed s.parent c x) (giv
   logged_is [] of = refl
   logged_is (w ∷ ws) of =
       let here : record { entry = w.entry; parent = Some s.parent } ≡ in_log (Some s.parent) w.entry =
-          ap (λ (p : _). record { entry = w.entry; parent = p }) (sym (ap (case_parent (Some s.parent)) of.0 ∙ parent_is)) in
+      ap (λ (p : _). record { entry = w.entry; parent = p }) (sym (ap (case_parent (Some s.parent)) of.0 ∙ parent_is)) in
       ap (λ (l : LogRecord). l ∷ map (λ w. record { entry = w.entry; parent = Some s.parent }) ws) here
       ∙ ap (λ (ls : List LogRecord). in_log (Some s.parent) w.entry ∷ ls) (logged_is ws of.1)
 
@@ -74,11 +67,13 @@ module _ (s : SubState) (c : Case) (x : Xid) (named : IsNamed s.parent c x) (giv
       × (logged_under x (written_for s.manager x call) ≡ logged (core_of s) (entries_written rw))
   under st ws call rws at writes is of =
       let written : written_for s.manager x call ≡ rws =
-          ap (λ (q : BranchState). written_by call q (name_in x).1 (s.manager.writes x)) at
-          ∙ ap (λ (n : Name). written_by call st n.1 (s.manager.writes x)) named.reads
-          ∙ ap (λ (vs : List Write). written_by call st (CaseBranch c) vs) writes ∙ is in
-      (written, ap (logged_under x) written
-          ∙ ap (λ (n : Name). map (λ w. record { entry = w.entry; parent = n.0 }) rws) named.reads ∙ logged_is rws of)
+      ap (λ (q : BranchState). written_by call q (name_in x).1 (s.manager.writes x)) at
+      ∙ ap (λ (n : Name). written_by call st n.1 (s.manager.writes x)) named.reads
+      ∙ ap (λ (vs : List Write). written_by call st (CaseBranch c) vs) writes ∙ is in (
+        written,
+        ap (logged_under x) written
+            ∙ ap (λ (n : Name). map (λ w. record { entry = w.entry; parent = n.0 }) rws) named.reads ∙ logged_is rws of,
+      )
 
   pub log_is : (m : ManagerSight) (st : BranchState) (ws : List Write) (call : Call) (rw : List Written) → state_at s.manager.tables x ≡ st → s.manager.writes x ≡ ws
       → written_by call st (CaseBranch c) ws ≡ rw → AreOf c rw
@@ -94,11 +89,14 @@ module _ (s : SubState) (c : Case) (x : Xid) (named : IsNamed s.parent c x) (giv
       → NotTurned s (behind s s.table m) (Handles c row) e
   not_turned m st ws call row Memory at writes is of h = same_core s m h
   not_turned m st ws call row Device at writes is of h =
-      let u = under st ws call row.written at writes is of in
-      (leaf_effect row, refl, record {
-        log = subst (λ (ls : List LogRecord). Breaks (state_of s.manager.log) (state_of m.log) ls) u.1 h.log;
-        place = refl;
-      })
+      let u = under st ws call row.written at writes is of in (
+        leaf_effect row,
+        refl,
+        record {
+          log = subst (λ (ls : List LogRecord). Breaks (state_of s.manager.log) (state_of m.log) ls) u.1 h.log;
+          place = refl;
+        },
+      )
   not_turned m st ws call row _ at writes is of h = absurd h
 
 -- the tie behind a call that was not made

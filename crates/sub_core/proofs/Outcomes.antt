@@ -1,10 +1,8 @@
 -- What comes of a branch that ends.
-use Rattle.std.proofs.Common.{◌≡◌, ◌∙◌, ℕ, Bool, true, false, not, Option, Some, None, List, [], ◌∷◌, refl, sym, ap, subst, if◌then◌else◌}
+use Rattle.std.proofs.Common.{◌≡◌, ◌∙◌, ℕ, Bool, true, false, not, Option, Some, None, List, [], refl, sym, ap, subst, if◌then◌else◌}
 use Rattle.std.specs.Prelude.{◌==◌, ◌&&◌}
 use Rattle.xa_tables.specs.declared.call.Call.{Call}
 use Rattle.xa_tables.specs.declared.call.Call.TheVariants as call
-use Rattle.xa_tables.specs.declared.states.BranchState.{BranchState}
-use Rattle.xa_tables.specs.declared.states.BranchState.TheVariants.{S0}
 use Rattle.xa_xid.specs.declared.xid.Xid.{Xid}
 use Rattle.tree_model.specs.declared.names.Case.{Case}
 use Rattle.tree_model.specs.declared.names.Ticket.{Ticket}
@@ -14,10 +12,8 @@ use Rattle.tree_model.specs.declared.messages.Message.TheVariants.{Prepare, Comm
 use Rattle.tree_model.specs.declared.events.Input.TheVariants.{Message as MessageInput}
 use Rattle.tree_model.specs.declared.events.StepError.{StepError}
 use Rattle.tree_model.specs.declared.records.Branch.TheVariants.{Case as CaseBranch}
-use Rattle.tree_model.specs.declared.records.RecordKind.TheVariants as kind
 use Rattle.tree_model.specs.declared.records.Write.{Write}
 use Rattle.tree_model.specs.Names.{child_case, same_case}
-use Rattle.tree_model.specs.CoordinatorRows.{post}
 use Rattle.tree_model.specs.ManagerRows.{Leaf, LeafRow, active_abort, active_prepare_holding, on_abort, on_commit, on_prepare, prepared_outcome, replies}
 use Rattle.tree_model.specs.Plays.{held_writes}
 use Rattle.tree_model.specs.Standings.{unknown_branch}
@@ -30,7 +26,7 @@ use Rattle.sub_table.specs.declared.branch.Branch.{Branch}
 use Rattle.sub_table.specs.declared.branch.Stage.{Stage}
 use Rattle.sub_table.specs.declared.branch.Stage.TheVariants.{Active, Prepared}
 use Rattle.sub_table.specs.Tables.{BranchTable, IsGivenFor, IsKept, Retires, branch_in, kept_view, nothing, retired_at, ticket_in}
-use Rattle.sub_core.specs.Subordinates.{Hears, IsAt, IsTied, NotHeard, NotTurned, SubState, Turns, acknowledged, active, core_of, outcome_reply, prepared, shown, stage_state, turn_for, xid_of}
+use Rattle.sub_core.specs.Subordinates.{Hears, IsAt, IsTied, NotHeard, NotTurned, SubState, Turns, active, core_of, prepared, shown, stage_state, turn_for, xid_of}
 use Rattle.sub_core.proofs.Ties.{behind, moved_tied, one}
 use Rattle.sub_core.proofs.Rows.{handled}
 use Rattle.sub_core.proofs.Ends.{AreOf, log_is, not_turned, retires_at}

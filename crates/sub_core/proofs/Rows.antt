@@ -1,27 +1,21 @@
 -- What a row makes of a subordinate, as any process is seen.
-use Rattle.std.proofs.Common.{◌≡◌, ◌∙◌, ℕ, Bool, true, false, Option, Some, None, List, [], ◌∷◌, ◌++◌, refl, sym, ap, subst, if◌then◌else◌}
-use Rattle.std.specs.Prelude.{map}
-use Rattle.std.proofs.lemmas.List.{append-nil}
+use Rattle.std.proofs.Common.{◌≡◌, false, refl}
 use Rattle.tree_model.specs.declared.names.Case.{Case}
-use Rattle.tree_model.specs.declared.names.Ticket.{Ticket}
-use Rattle.tree_model.specs.declared.messages.Envelope.{Envelope}
-use Rattle.tree_model.specs.declared.records.LogRecord.{LogRecord}
 use Rattle.tree_model.specs.declared.events.Input.{Input}
-use Rattle.tree_model.specs.declared.events.StepError.TheVariants.{Memory}
-use Rattle.tree_model.specs.Names.{child_case, same_case}
+use Rattle.tree_model.specs.Names.{same_case}
 use Rattle.tree_model.specs.ManagerRows.{LeafRow}
-use Rattle.tree_model.specs.Reactions.{Does, leaf_effect}
+use Rattle.tree_model.specs.Reactions.{leaf_effect}
 use Rattle.tree_model.specs.Standings.{unknown_view}
 use Rattle.core_model.specs.Views.{SameView}
-use Rattle.core_model.specs.States.{CoreState, SameButLog, SameCore, log_behind}
-use Rattle.core_model.specs.Turns.{Handles, Turn}
-use Rattle.core_model.specs.Makes.{HandlesRow, retired_by}
+use Rattle.core_model.specs.States.{SameCore, log_behind}
+use Rattle.core_model.specs.Turns.{Handles}
+use Rattle.core_model.specs.Makes.{retired_by}
 use Rattle.manager_model.specs.Sights.{ManagerSight, SameManager}
-use Rattle.sub_table.specs.Tables.{BranchTable, SameTable, kept_view, ticket_in, view_in}
+use Rattle.sub_table.specs.Tables.{BranchTable, ticket_in, view_in}
 use Rattle.sub_core.specs.Subordinates.{SubState, Turns, core_of, shown}
 use Rattle.sub_core.proofs.Ties.{behind}
 
-no_view : SameView unknown_view unknown_view
+pub no_view : SameView unknown_view unknown_view
 no_view = record { standing = refl; accepted = refl; voted = λ o t. refl; worked = λ t. refl; promised = refl; named = λ t. refl; owed = λ t. refl }
 
 -- a manager's row was made

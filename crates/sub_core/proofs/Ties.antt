@@ -1,18 +1,17 @@
 -- What keeps the live branches tied with the manager's.
-use Rattle.std.proofs.Common.{◌≡◌, ◌≢◌, ◌∙◌, ℕ, List, Bool, true, false, Option, Some, None, refl, sym, ap, subst}
+use Rattle.std.proofs.Common.{◌≡◌, ◌∙◌, List, Bool, true, false, Option, Some, None, refl, sym, ap, subst}
 use Rattle.xa_tables.specs.declared.states.BranchState.{BranchState}
 use Rattle.xa_xid.specs.declared.xid.Xid.{Xid}
 use Rattle.xa_branch.specs.Names.{same}
 use Rattle.xa_branch.specs.Branches.{state_in}
 use Rattle.xa_assoc.proofs.Sound.{same_is}
-use Rattle.xa_states.specs.Answers.{Same, state_at}
+use Rattle.xa_states.specs.Answers.{state_at}
 use Rattle.tree_model.specs.declared.names.Case.{Case}
 use Rattle.tree_model.specs.declared.names.ProcessId.{ProcessId}
-use Rattle.tree_model.specs.declared.records.Branch.{Branch as AnyName}
 use Rattle.tree_model.specs.declared.records.Branch.TheVariants.{Case as CaseBranch}
 use Rattle.tree_model.specs.Names.{same_case}
 use Rattle.tree_model.proofs.NameTests.{case_tells}
-use Rattle.log_text.specs.Parts.{Name, name_in}
+use Rattle.log_text.specs.Parts.{Name}
 use Rattle.live_table.specs.Tables.{Moves}
 use Rattle.live_table.proofs.Writes.{same_case-itself}
 use Rattle.manager_model.specs.Sights.{ManagerSight, SameManager}

@@ -1,11 +1,10 @@
 -- What comes of a PREPARE.
-use Rattle.std.proofs.Common.{◌≡◌, ◌≢◌, ◌∙◌, ℕ, Bool, true, false, not, Option, Some, None, List, [], ◌∷◌, refl, sym, ap, subst, arith, if◌then◌else◌}
-use Rattle.std.specs.Prelude.{◌==◌, ◌&&◌, nat_eq}
+use Rattle.std.proofs.Common.{◌≡◌, ◌≢◌, ◌∙◌, ℕ, true, false, Option, Some, None, List, [], ◌∷◌, refl, sym, ap, subst, arith, if◌then◌else◌}
+use Rattle.std.specs.Prelude.{◌==◌, ◌&&◌}
 use Rattle.std.proofs.lemmas.Bool.Decides.{nat_tests}
 use Rattle.xa_tables.specs.declared.call.Call.TheVariants as call
 use Rattle.xa_tables.specs.declared.states.BranchState.TheVariants.{S2, S3}
 use Rattle.xa_xid.specs.declared.xid.Xid.{Xid}
-use Rattle.xa_states.specs.Answers.{state_at}
 use Rattle.tree_model.specs.declared.names.Case.{Case}
 use Rattle.tree_model.specs.declared.names.Ticket.{Ticket}
 use Rattle.tree_model.specs.declared.messages.Message.TheVariants.{Prepare, No, Yes as YesMessage, Read as ReadMessage}
@@ -16,23 +15,22 @@ use Rattle.tree_model.specs.declared.records.Record.TheVariants.{Prepared as Pre
 use Rattle.tree_model.specs.declared.records.Write.{Write}
 use Rattle.tree_model.specs.declared.standings.Vote.{Vote}
 use Rattle.tree_model.specs.declared.standings.Vote.TheVariants.{Yes, Read}
-use Rattle.tree_model.specs.Names.{same_case}
 use Rattle.tree_model.specs.CoordinatorRows.{forced, post}
 use Rattle.tree_model.specs.ManagerRows.{Leaf, LeafRow, active_prepare_holding, on_prepare, replies}
 use Rattle.tree_model.specs.Nodes.{Holds}
 use Rattle.tree_model.specs.declared.records.RecordKind.TheVariants as kind
 use Rattle.tree_model.specs.declared.records.Subject.TheVariants as subject
 use Rattle.tree_model.specs.Plays.{held_writes}
-use Rattle.tree_model.specs.Standings.{ManagerView, unknown_branch}
+use Rattle.tree_model.specs.Standings.{unknown_branch}
 use Rattle.core_model.specs.Turns.{Handles, Turn, leaf_in}
 use Rattle.core_model.specs.Makes.{retired_by}
 use Rattle.manager_model.specs.Sights.{ManagerSight}
 use Rattle.manager_model.specs.Ends.{row_of, written_by}
 use Rattle.sub_deeds.specs.Deeds.{Finishes, NotFinished, vote_of}
 use Rattle.sub_table.specs.declared.branch.Branch.{Branch}
-use Rattle.sub_table.specs.Tables.{BranchTable, Retires, kept_view, nothing, promised, retired_at, ticket_in, view_in}
+use Rattle.sub_table.specs.Tables.{BranchTable, Retires, kept_view, nothing, promised, retired_at, ticket_in}
 use Rattle.sub_core.specs.Subordinates.{Hears, IsAt, IsTied, NotHeard, NotTurned, SubState, Turns, active, core_of, shown, turn_for, xid_of}
-use Rattle.sub_core.proofs.Ties.{Fits, behind, moved_tied}
+use Rattle.sub_core.proofs.Ties.{behind, moved_tied}
 use Rattle.sub_core.proofs.Rows.{handled}
 use Rattle.sub_core.proofs.Ends.{AreOf, RetiresAt, log_is, not_turned, retires_at}
 
@@ -110,7 +108,7 @@ module _ (s : SubState) (key : ℕ) (c g : Case) (n : ℕ) (x : Xid) (tied : IsT
           → Hears s (behind s t m) (Prepare c n) (shown [] (post s.me s.parent (ReadMessage c) ∷ []))
       by_writes ws is none =
           let row_is : row s c ≡ replies (leaf_in (core_of s) s.parent c) (ReadMessage c) unknown_branch =
-              ap (λ (vs : List Write). active_prepare_holding (leaf_in (core_of s) s.parent c) (held_writes vs)) none in
+          ap (λ (vs : List Write). active_prepare_holding (leaf_in (core_of s) s.parent c) (held_writes vs)) none in
           subst (λ (q : LeafRow). Hears s (behind s t m) (Prepare c n) (shown q.written q.messages)) row_is
           (voted t m None (retires_at s.table t key nothing c (active x g n false) at r) (ap (λ (q : LeafRow). q.view) (sym row_is)) f)
 
@@ -135,7 +133,7 @@ module _ (s : SubState) (key : ℕ) (c g : Case) (n : ℕ) (x : Xid) (tied : IsT
       by_writes [] is some = absurd (some (writes_is ∙ is))
       by_writes (w ∷ ws) is some =
           let row_is : row s c ≡ active_prepare_holding (leaf_in (core_of s) s.parent c) (Holds (w ∷ ws)) =
-              ap (λ (vs : List Write). active_prepare_holding (leaf_in (core_of s) s.parent c) (held_writes vs)) is in
+          ap (λ (vs : List Write). active_prepare_holding (leaf_in (core_of s) s.parent c) (held_writes vs)) is in
           subst (λ (q : LeafRow). Hears s (behind s t m) (Prepare c n) (shown q.written q.messages)) row_is
           (voted t m (promised (active x g n false)) (retires_at s.table t key promised c (active x g n false) at r) (ap (λ (q : LeafRow). q.view) (sym row_is)) f)
 

@@ -122,13 +122,7 @@ impl<M: ResourceManager> Subordinate<M> {
         ensures ok { IfOk result (Hears (seen M.sight self.old) (seen M.sight self.new) (message.Abort case)) }
         ensures err { IfErr result (NotHeard (seen M.sight self.old) (seen M.sight self.new) (message.Abort case)) }
     {
-        let reaction = acknowledges(
-            self.me,
-            self.parent,
-            case,
-            Outcome::Aborted,
-            self.alloc,
-        )?;
+        let reaction = acknowledges(self.me, self.parent, case, Outcome::Aborted, self.alloc)?;
         match roll_back(&mut self.manager, &xid) {
             Ok(()) => {
                 self.branches.remove(key);

@@ -13,7 +13,7 @@ use tree_model::{Case, Message, Outcome, Reaction, StepError};
 
 impl<M: ResourceManager> Subordinate<M> {
     /// PREPARE: an Active case votes, one in doubt says YES again, and of any other nothing is known.
-    pub(crate) fn prepare(&mut self, case: Case, works: u64) -> Result<Reaction, StepError>
+    pub fn prepare(&mut self, case: Case, works: u64) -> Result<Reaction, StepError>
         requires up { (M.sight self.old.manager).log.failed ≡ false }
         ensures ok { IfOk result (Hears (seen M.sight self.old) (seen M.sight self.new) (message.Prepare case works)) }
         ensures err { IfErr result (NotHeard (seen M.sight self.old) (seen M.sight self.new) (message.Prepare case works)) }
@@ -34,19 +34,13 @@ impl<M: ResourceManager> Subordinate<M> {
     }
 
     /// COMMIT: a case in doubt commits, and of one that is not known the outcome is acknowledged.
-    pub(crate) fn commit(&mut self, case: Case) -> Result<Reaction, StepError>
+    pub fn commit(&mut self, case: Case) -> Result<Reaction, StepError>
         requires up { (M.sight self.old.manager).log.failed ≡ false }
         ensures ok { IfOk result (Hears (seen M.sight self.old) (seen M.sight self.new) (message.Commit case)) }
         ensures err { IfErr result (NotHeard (seen M.sight self.old) (seen M.sight self.new) (message.Commit case)) }
     {
         let Some((key, branch)) = find_branch(&self.branches, &case) else {
-            return Ok(acknowledges(
-                self.me,
-                self.parent,
-                case,
-                Outcome::Committed,
-                self.alloc,
-            )?);
+            return Ok(acknowledges(self.me, self.parent, case, Outcome::Committed, self.alloc)?);
         };
         match branch.stage {
             Stage::Prepared => self.commit_prepared(key, case, branch.xid),
@@ -55,19 +49,13 @@ impl<M: ResourceManager> Subordinate<M> {
     }
 
     /// ABORT: an Active case is rolled back, and so is one in doubt; of one that is not known the outcome is acknowledged.
-    pub(crate) fn abort(&mut self, case: Case) -> Result<Reaction, StepError>
+    pub fn abort(&mut self, case: Case) -> Result<Reaction, StepError>
         requires up { (M.sight self.old.manager).log.failed ≡ false }
         ensures ok { IfOk result (Hears (seen M.sight self.old) (seen M.sight self.new) (message.Abort case)) }
         ensures err { IfErr result (NotHeard (seen M.sight self.old) (seen M.sight self.new) (message.Abort case)) }
     {
         let Some((key, branch)) = find_branch(&self.branches, &case) else {
-            return Ok(acknowledges(
-                self.me,
-                self.parent,
-                case,
-                Outcome::Aborted,
-                self.alloc,
-            )?);
+            return Ok(acknowledges(self.me, self.parent, case, Outcome::Aborted, self.alloc)?);
         };
         match branch.stage {
             Stage::Prepared => self.abort_prepared(key, case, branch.xid),

@@ -6,5 +6,6 @@ mod hearing;
 mod replies;
 mod subordinate;
 mod voting;
+mod works;
 
 pub use subordinate::Subordinate;

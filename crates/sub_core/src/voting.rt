@@ -9,18 +9,13 @@ ghost use Rattle.sub_core.specs.Subordinates.{Hears, IsAt, NotHeard, active, log
 use crate::replies::{letter, logged, reply, silence};
 use crate::subordinate::Subordinate;
 use manager_model::ResourceManager;
-use sub_deeds::promise;
 use std::alloc::{AllocError, Global};
+use sub_deeds::promise;
 use tree_model::{Case, Message, ProcessId, Reaction, RecordKind, StepError, Vote};
 use xa_xid::Xid;
 
 /// YES with its record.
-fn yes(
-    me: ProcessId,
-    parent: ProcessId,
-    case: Case,
-    alloc: Global,
-) -> Result<Reaction, AllocError>
+fn yes(me: ProcessId, parent: ProcessId, case: Case, alloc: Global) -> Result<Reaction, AllocError>
     ensures { IfOk result (λ reaction. reaction ≡ logged_reply kind.Prepared case true me parent (message.Yes case)) }
 {
     let written = logged(RecordKind::Prepared, case, true, alloc)?;
