@@ -1,0 +1,100 @@
+-- What comes of a WORK.
+use Rattle.std.proofs.Common.{◌≡◌, ◌∙◌, ◌+◌, ℕ, Bool, true, false, Option, Some, None, [], refl, sym, ap, subst, if◌then◌else◌}
+use Rattle.std.specs.Prelude.{◌==◌, ◌&&◌, is_none}
+use Rattle.xa_tables.specs.declared.states.BranchState.TheVariants.{S2, S4}
+use Rattle.xa_xid.specs.declared.xid.Xid.{Xid}
+use Rattle.tree_model.specs.declared.names.Case.{Case}
+use Rattle.tree_model.specs.declared.names.Ticket.{Ticket}
+use Rattle.tree_model.specs.declared.messages.Op.{Op}
+use Rattle.tree_model.specs.declared.messages.Message.TheVariants.{Work}
+use Rattle.tree_model.specs.declared.events.Input.TheVariants.{Message as MessageInput}
+use Rattle.tree_model.specs.declared.standings.Standing.TheVariants.{Active as ActiveStanding}
+use Rattle.tree_model.specs.ManagerRows.{on_work, unmoved}
+use Rattle.tree_model.specs.Standings.{ManagerView}
+use Rattle.core_model.specs.States.{SameCore}
+use Rattle.core_model.specs.Turns.{Handles, Turn}
+use Rattle.core_model.specs.Makes.{retired_by}
+use Rattle.live_table.specs.Tables.{Moves}
+use Rattle.manager_model.specs.Sights.{ManagerSight}
+use Rattle.sub_deeds.specs.Deeds.{Idles, Works}
+use Rattle.sub_table.specs.declared.branch.Branch.{Branch}
+use Rattle.sub_table.specs.declared.branch.Stage.{Stage}
+use Rattle.sub_table.specs.declared.branch.Stage.TheVariants.{Active}
+use Rattle.sub_table.specs.Tables.{BranchTable, Notes, kept_view, stage_view, ticket_in}
+use Rattle.sub_core.specs.Subordinates.{Hears, IsAt, IsTied, SubState, Turns, active, core_of, shown, turn_for, xid_of}
+use Rattle.sub_core.proofs.Ties.{behind, moved_tied}
+use Rattle.sub_core.proofs.Rows.{handled, no_view}
+use Rattle.sub_core.proofs.Staying.{no_record}
+use Rattle.sub_core.proofs.Votes.{same_number}
+
+some_same : {A : Type 0} (a b : A) → Some a ≡ Some b → a ≡ b
+some_same a b e = cc
+
+never : (k i : ℕ) (op : Op) (c d : Case) (o : Option Ticket) → o ≡ retired_by (MessageInput k (Work c i op)) d o
+never k i op c d None = refl
+never k i op c d (Some t) = refl
+
+-- what a noted key was, is known
+pub record NotesAt (old new : BranchTable) (c : Case) (w : Branch) : Type 0 where
+  pub branches : Moves old.branches new.branches c (Some w)
+  pub tickets : new.tickets ≡ old.tickets
+
+notes_at : (old new : BranchTable) (key : ℕ) (stage : Stage) (c : Case) (b : Branch) → IsAt old key c b → Notes old new key stage
+    → NotesAt old new c (record { xid = b.xid; stage = stage })
+notes_at old new key stage c b at r =
+    let is : (r.owner, r.branch) ≡ (c, b) = some_same (r.owner, r.branch) (c, b) (sym r.was ∙ at.entry) in
+    subst (λ (p : Case × Branch). NotesAt old new p.0 (record { xid = p.1.xid; stage = stage })) is (record { branches = r.branches; tickets = r.tickets })
+
+-- the view behind a work
+abbrev view_after : ℕ → ℕ → Bool → ManagerView
+view_after i n does =
+    let v : ManagerView = record { standing = ActiveStanding; done = n; spoiled = false; told = None } in
+    if does then record v { done = i } else record v { spoiled = true }
+
+module _ (s : SubState) (key : ℕ) (c g : Case) (n i : ℕ) (x : Xid) (op : Op) (tied : IsTied s) (at : IsAt s.table key c (active x g n false)) (next : i ≡ n + 1) where
+  turn_is : (does : Bool) → is_none (s.manager.obstacle x op) ≡ does → turn_for s (Work c i op) ≡ Handles c (unmoved (view_after i n does))
+  turn_is does is =
+      ap (λ (o : Option Branch). Handles c (on_work i (is_none (s.manager.obstacle (xid_of s c) op)) (kept_view o) (kept_view o).standing)) at.live
+      ∙ ap (λ (y : Xid). Handles c (on_work i (is_none (s.manager.obstacle y op)) (stage_view (Active g n false)) ActiveStanding))
+      (sym (tied.named c (active x g n false) at.live).is)
+      ∙ ap (λ b. Handles c (on_work i b (stage_view (Active g n false)) ActiveStanding)) is
+      ∙ ap (λ b. Handles c (if b && true then unmoved (view_after i n does) else unmoved (stage_view (Active g n false))))
+      (ap (λ (m : ℕ). i == m) (sym next) ∙ same_number i)
+
+  done_by : (does : Bool) (done : ℕ) (spoiled : Bool) (t : BranchTable) (m : ManagerSight) → stage_view (Active g done spoiled) ≡ view_after i n does
+      → Notes s.table t key (Active g done spoiled) → Works s.manager m x op does → Hears s (behind s t m) (Work c i op) (shown [] [])
+  done_by does done spoiled t m view notes w k =
+      let r = notes_at s.table t key (Active g done spoiled) c (active x g n false) at notes in
+      subst (λ (turn : Turn). Turns s (behind s t m) (MessageInput k (Work c i op)) turn (shown [] [])) (sym (turn_is does w.allowed))
+      (handled s t m (MessageInput k (Work c i op)) c (unmoved (view_after i n does)) (w.log ∙ no_record s.manager.log)
+      (ap kept_view r.branches.own ∙ view) (λ d apart. ap kept_view (r.branches.others d apart))
+      (λ d. ap (λ ts. ticket_in (record { tickets = ts; branches = t.branches }) d) r.tickets ∙ never k i op c d (ticket_in s.table d)) w.comes.boot)
+
+  pub did : (t : BranchTable) (m : ManagerSight) → Notes s.table t key (Active g i false) → Works s.manager m x op true
+      → Hears s (behind s t m) (Work c i op) (shown [] [])
+  did t m notes w = done_by true i false t m refl notes w
+
+  pub spoils : (t : BranchTable) (m : ManagerSight) → Notes s.table t key (Active g n true) → Works s.manager m x op false
+      → Hears s (behind s t m) (Work c i op) (shown [] [])
+  spoils t m notes w = done_by false n true t m refl notes w
+
+  pub did_tied : (t : BranchTable) (m : ManagerSight) → Notes s.table t key (Active g i false) → Works s.manager m x op true → IsTied (behind s t m)
+  did_tied t m notes w =
+      moved_tied s t m c (active x g n false) (Some (active x g i false)) S2 tied at.live
+      (notes_at s.table t key (Active g i false) c (active x g n false) at notes).branches (refl, refl) w.comes
+
+  pub spoils_tied : (t : BranchTable) (m : ManagerSight) → Notes s.table t key (Active g n true) → Works s.manager m x op false → IsTied (behind s t m)
+  spoils_tied t m notes w =
+      moved_tied s t m c (active x g n false) (Some (active x g n true)) S4 tied at.live
+      (notes_at s.table t key (Active g n true) c (active x g n false) at notes).branches (refl, refl) w.comes
+
+  pub idles_tied : (m : ManagerSight) → Idles s.manager m x → IsTied (behind s s.table m)
+  idles_tied m w =
+      moved_tied s s.table m c (active x g n false) (Some (active x g n false)) S2 tied at.live
+      (record { own = at.live; others = λ d apart. refl }) (refl, refl) w.comes
+
+  pub idles_core : (m : ManagerSight) → Idles s.manager m x → SameCore (core_of s) (core_of (behind s s.table m))
+  idles_core m w = record {
+    log = w.log;
+    rest = record { place = refl; boot = w.comes.boot; begun = refl; given = refl; tickets = λ d. refl; views = λ d. no_view; branches = λ d. refl };
+  }

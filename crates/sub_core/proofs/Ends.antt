@@ -1,0 +1,107 @@
+-- What the manager's record of a branch is in the subordinate's log, and what comes of a call that was not made.
+use Rattle.std.proofs.Common.{◌≡◌, ◌∙◌, ℕ, Option, Some, List, [], ◌∷◌, refl, sym, ap, subst}
+use Rattle.std.specs.Prelude.{map}
+use Rattle.xa_tables.specs.declared.call.Call.{Call}
+use Rattle.xa_tables.specs.declared.states.BranchState.{BranchState}
+use Rattle.xa_xid.specs.declared.xid.Xid.{Xid}
+use Rattle.xa_states.specs.Answers.{state_at}
+use Rattle.tree_model.specs.declared.names.Case.{Case}
+use Rattle.tree_model.specs.declared.records.Branch.TheVariants.{Case as CaseBranch}
+use Rattle.tree_model.specs.declared.records.LogRecord.{LogRecord}
+use Rattle.tree_model.specs.declared.records.Write.{Write}
+use Rattle.tree_model.specs.declared.events.StepError.{StepError}
+use Rattle.tree_model.specs.declared.events.StepError.TheVariants.{Memory, Device}
+use Rattle.tree_model.specs.Nodes.{Written, entries_written}
+use Rattle.tree_model.specs.Records.{record_case}
+use Rattle.tree_model.specs.LogNames.{case_parent, in_log}
+use Rattle.tree_model.specs.ManagerRows.{LeafRow}
+use Rattle.tree_model.specs.Reactions.{leaf_effect}
+use Rattle.log_text.specs.Parts.{Name, name_in}
+use Rattle.rec_log.specs.Sights.{Breaks}
+use Rattle.core_model.specs.States.{log_behind, logged, wrote}
+use Rattle.core_model.specs.Turns.{Handles}
+use Rattle.manager_model.specs.Sights.{ManagerSight}
+use Rattle.manager_model.specs.Ends.{logged_under, state_of, written_by, written_for}
+use Rattle.live_table.specs.Tables.{Moves}
+use Rattle.sub_deeds.specs.Deeds.{NotFinished}
+use Rattle.sub_table.specs.declared.branch.Branch.{Branch}
+use Rattle.sub_table.specs.Tables.{BranchTable, Retires, retired_at, ticket_in}
+use Rattle.sub_core.specs.Subordinates.{IsAt, IsGiven, IsNamed, IsTied, NotTurned, SubState, core_of}
+use Rattle.sub_core.proofs.Ties.{behind, same_tied, still_tied}
+use Rattle.sub_core.proofs.Rows.{same_core}
+
+some_same : {A : Type 0} (a b : A) → Some a ≡ Some b → a ≡ b
+some_same a b e = cc
+
+-- what a retired key was, is known
+pub record RetiresAt (old new : BranchTable) (c : Case) (v : Option Branch) : Type 0 where
+  pub branches : Moves old.branches new.branches c v
+  pub tickets : (d : Case) → ticket_in new d ≡ retired_at c d (ticket_in old d)
+
+pub retires_at : (old new : BranchTable) (key : ℕ) (f : Branch → Option Branch) (c : Case) (b : Branch) → IsAt old key c b
+    → Retires old new key f → RetiresAt old new c (f b)
+retires_at old new key f c b at r =
+    let is : (r.owner, r.branch) ≡ (c, b) = some_same (r.owner, r.branch) (c, b) (sym r.was ∙ at.entry) in
+    subst (λ (p : Case × Branch). RetiresAt old new p.0 (f p.1)) is (record { branches = r.branches; tickets = r.tickets })
+
+-- the records of a case, as the log has them
+abbrev pub AreOf : Case → List Written → Type 0
+AreOf c [] = Unit {0}
+AreOf c (w ∷ ws) = (record_case w.entry ≡ Some c) × AreOf c ws
+
+module _ (s : SubState) (c : Case) (x : Xid) (named : IsNamed s.parent c x) (given : IsGiven s c) where
+  parent_is : case_parent (Some s.parent) (Some c) ≡ Some s.parent
+  parent_is = rw given.has refl
+
+  logged_is : (ws : List Written) → AreOf c ws → map (λ w. record { entry = w.entry; parent = Some s.parent }) ws ≡ logged (core_of s) (entries_written ws)
+  logged_is [] of = refl
+  logged_is (w ∷ ws) of =
+      let here : record { entry = w.entry; parent = Some s.parent } ≡ in_log (Some s.parent) w.entry =
+      ap (λ (p : _). record { entry = w.entry; parent = p }) (sym (ap (case_parent (Some s.parent)) of.0 ∙ parent_is)) in
+      ap (λ (l : LogRecord). l ∷ map (λ w. record { entry = w.entry; parent = Some s.parent }) ws) here
+      ∙ ap (λ (ls : List LogRecord). in_log (Some s.parent) w.entry ∷ ls) (logged_is ws of.1)
+
+  -- the records of a call in the words of the subordinate's row
+  pub under : (st : BranchState) (ws : List Write) (call : Call) (rw : List Written) → state_at s.manager.tables x ≡ st → s.manager.writes x ≡ ws
+      → written_by call st (CaseBranch c) ws ≡ rw → AreOf c rw → (written_for s.manager x call ≡ rw)
+      × (logged_under x (written_for s.manager x call) ≡ logged (core_of s) (entries_written rw))
+  under st ws call rws at writes is of =
+      let written : written_for s.manager x call ≡ rws =
+      ap (λ (q : BranchState). written_by call q (name_in x).1 (s.manager.writes x)) at
+      ∙ ap (λ (n : Name). written_by call st n.1 (s.manager.writes x)) named.reads
+      ∙ ap (λ (vs : List Write). written_by call st (CaseBranch c) vs) writes ∙ is in (
+        written,
+        ap (logged_under x) written
+            ∙ ap (λ (n : Name). map (λ w. record { entry = w.entry; parent = n.0 }) rws) named.reads ∙ logged_is rws of,
+      )
+
+  pub log_is : (m : ManagerSight) (st : BranchState) (ws : List Write) (call : Call) (rw : List Written) → state_at s.manager.tables x ≡ st → s.manager.writes x ≡ ws
+      → written_by call st (CaseBranch c) ws ≡ rw → AreOf c rw
+      → m.log ≡ wrote s.manager.log (written_for s.manager x call) (logged_under x (written_for s.manager x call)) → m.log ≡ log_behind (core_of s) rw
+  log_is m st ws call rws at writes is of log =
+      let u = under st ws call rws at writes is of in
+      log ∙ ap (λ (v : List Written). wrote s.manager.log v (logged_under x (written_for s.manager x call))) u.0
+      ∙ ap (λ (ls : List LogRecord). wrote s.manager.log rws ls) u.1
+
+  -- a call that was not made
+  pub not_turned : (m : ManagerSight) (st : BranchState) (ws : List Write) (call : Call) (row : LeafRow) (e : StepError) → state_at s.manager.tables x ≡ st
+      → s.manager.writes x ≡ ws → written_by call st (CaseBranch c) ws ≡ row.written → AreOf c row.written → NotFinished s.manager m x call e
+      → NotTurned s (behind s s.table m) (Handles c row) e
+  not_turned m st ws call row Memory at writes is of h = same_core s m h
+  not_turned m st ws call row Device at writes is of h =
+      let u = under st ws call row.written at writes is of in (
+        leaf_effect row,
+        refl,
+        record {
+          log = subst (λ (ls : List LogRecord). Breaks (state_of s.manager.log) (state_of m.log) ls) u.1 h.log;
+          place = refl;
+        },
+      )
+  not_turned m st ws call row _ at writes is of h = absurd h
+
+-- the tie behind a call that was not made
+pub not_tied : (s : SubState) (m : ManagerSight) (x : Xid) (call : Call) (e : StepError) → IsTied s → NotFinished s.manager m x call e
+    → IsTied (behind s s.table m)
+not_tied s m x call Memory tied h = same_tied s m tied h
+not_tied s m x call Device tied h = still_tied s m tied h.idle h.states h.boot
+not_tied s m x call _ tied h = absurd h

@@ -1,0 +1,153 @@
+-- What comes of a branch that ends.
+use Rattle.std.proofs.Common.{◌≡◌, ◌∙◌, ℕ, Bool, true, false, not, Option, Some, None, List, [], refl, sym, ap, subst, if◌then◌else◌}
+use Rattle.std.specs.Prelude.{◌==◌, ◌&&◌}
+use Rattle.xa_tables.specs.declared.call.Call.{Call}
+use Rattle.xa_tables.specs.declared.call.Call.TheVariants as call
+use Rattle.xa_xid.specs.declared.xid.Xid.{Xid}
+use Rattle.tree_model.specs.declared.names.Case.{Case}
+use Rattle.tree_model.specs.declared.names.Ticket.{Ticket}
+use Rattle.tree_model.specs.declared.names.Outcome.TheVariants.{Committed as CommittedOutcome, Aborted as AbortedOutcome}
+use Rattle.tree_model.specs.declared.messages.Message.{Message}
+use Rattle.tree_model.specs.declared.messages.Message.TheVariants.{Prepare, Commit, Abort, No}
+use Rattle.tree_model.specs.declared.events.Input.TheVariants.{Message as MessageInput}
+use Rattle.tree_model.specs.declared.events.StepError.{StepError}
+use Rattle.tree_model.specs.declared.records.Branch.TheVariants.{Case as CaseBranch}
+use Rattle.tree_model.specs.declared.records.Write.{Write}
+use Rattle.tree_model.specs.Names.{child_case, same_case}
+use Rattle.tree_model.specs.ManagerRows.{Leaf, LeafRow, active_abort, active_prepare_holding, on_abort, on_commit, on_prepare, prepared_outcome, replies}
+use Rattle.tree_model.specs.Plays.{held_writes}
+use Rattle.tree_model.specs.Standings.{unknown_branch}
+use Rattle.core_model.specs.Turns.{Handles, Turn, leaf_in}
+use Rattle.core_model.specs.Makes.{retired_by}
+use Rattle.manager_model.specs.Sights.{ManagerSight}
+use Rattle.manager_model.specs.Ends.{written_by}
+use Rattle.sub_deeds.specs.Deeds.{Finishes, NotFinished, can_roll_back}
+use Rattle.sub_table.specs.declared.branch.Branch.{Branch}
+use Rattle.sub_table.specs.declared.branch.Stage.{Stage}
+use Rattle.sub_table.specs.declared.branch.Stage.TheVariants.{Active, Prepared}
+use Rattle.sub_table.specs.Tables.{BranchTable, IsGivenFor, IsKept, Retires, branch_in, kept_view, nothing, retired_at, ticket_in}
+use Rattle.sub_core.specs.Subordinates.{Hears, IsAt, IsTied, NotHeard, NotTurned, SubState, Turns, active, core_of, prepared, shown, stage_state, turn_for, xid_of}
+use Rattle.sub_core.proofs.Ties.{behind, moved_tied, one}
+use Rattle.sub_core.proofs.Rows.{handled}
+use Rattle.sub_core.proofs.Ends.{AreOf, log_is, not_turned, retires_at}
+use Rattle.sub_core.proofs.Votes.{retired_prepare}
+
+some_same : {A : Type 0} (a b : A) → Some a ≡ Some b → a ≡ b
+some_same a b e = cc
+
+-- a row that ends a branch, by one call of its manager
+pub record EndsBy (s : SubState) (c : Case) (b : Branch) (message : Message) (call : Call) (row : LeafRow) : Type 0 where
+  pub turn : turn_for s message ≡ Handles c row
+  pub view : unknown_branch ≡ row.view
+  pub written : written_by call (stage_state b.stage) (CaseBranch c) (s.manager.writes b.xid) ≡ row.written
+  pub of : AreOf c row.written
+  pub tickets : (k : ℕ) (d : Case) → retired_at c d (ticket_in s.table d) ≡ retired_by (MessageInput k message) d (ticket_in s.table d)
+
+module _ (s : SubState) (key : ℕ) (c : Case) (b : Branch) (message : Message) (call : Call) (row : LeafRow) (tied : IsTied s) (at : IsAt s.table key c b)
+    (ends : EndsBy s c b message call row) where
+  pub ended : (t : BranchTable) (m : ManagerSight) → Retires s.table t key nothing → Finishes s.manager m b.xid call
+      → Hears s (behind s t m) message (shown row.written row.messages)
+  ended t m gone f k =
+      let r = retires_at s.table t key nothing c b at gone in
+      subst (λ (turn : Turn). Turns s (behind s t m) (MessageInput k message) turn (shown row.written row.messages)) (sym ends.turn)
+      (handled s t m (MessageInput k message) c row
+      (log_is s c b.xid (tied.named c b at.live) (tied.given_before c b at.live) m (stage_state b.stage) (s.manager.writes b.xid) call row.written
+      (tied.stands c b at.live) refl ends.written ends.of f.log)
+      (ap kept_view r.branches.own ∙ ends.view) (λ d apart. ap kept_view (r.branches.others d apart))
+      (λ d. r.tickets d ∙ ends.tickets k d) f.comes.boot)
+
+  pub not_ended : (m : ManagerSight) (e : StepError) → NotFinished s.manager m b.xid call e → NotHeard s (behind s s.table m) message e
+  not_ended m e h =
+      subst (λ (t : Turn). NotTurned s (behind s s.table m) t e) (sym ends.turn)
+      (not_turned s c b.xid (tied.named c b at.live) (tied.given_before c b at.live) m (stage_state b.stage) (s.manager.writes b.xid) call row e
+      (tied.stands c b at.live) refl ends.written ends.of h)
+
+-- the tie behind a branch that ended
+pub ended_tied : (s : SubState) (key : ℕ) (c : Case) (b : Branch) (call : Call) (t : BranchTable) (m : ManagerSight) → IsTied s → IsAt s.table key c b
+    → Retires s.table t key nothing → Finishes s.manager m b.xid call → IsTied (behind s t m)
+ended_tied s key c b call t m tied at gone f =
+    moved_tied s t m c b None _ tied at.live (retires_at s.table t key nothing c b at gone).branches tt f.comes
+
+-- The rows.
+
+pub rollable : (g : Case) (n : ℕ) (p : Bool) → can_roll_back (stage_state (Active g n p)) ≡ true
+rollable g n true = refl
+rollable g n false = refl
+
+none_written : (g c : Case) (n : ℕ) (p : Bool) (ws : List Write) → written_by call.Rollback (stage_state (Active g n p)) (CaseBranch c) ws ≡ []
+none_written g c n true ws = refl
+none_written g c n false ws = refl
+
+pub retired_abort : (k : ℕ) (c d : Case) (o : Option Ticket) → retired_at c d o ≡ retired_by (MessageInput k (Abort c)) d o
+retired_abort k c d None = refl
+retired_abort k c d (Some t) = refl
+
+pub never_retired : (k : ℕ) (c d : Case) (o : Option Ticket) → o ≡ retired_by (MessageInput k (Commit c)) d o
+never_retired k c d None = refl
+never_retired k c d (Some t) = refl
+
+-- the ticket of a case that promised is active no longer
+pub untouched : (t : BranchTable) (c : Case) (b : Branch) → IsKept t → branch_in t c ≡ Some b → b.stage ≡ Prepared → (d : Case)
+    → retired_at c d (ticket_in t d) ≡ ticket_in t d
+untouched t c b kept at stage d = by_ticket (ticket_in t d) refl
+  where
+    by_ticket : (o : Option Ticket) → ticket_in t d ≡ o → retired_at c d o ≡ o
+    by_ticket None e = refl
+    by_ticket (Some k) e = by_case (same_case (child_case d.txn k) c) refl
+      where
+        by_case : (r : Bool) → same_case (child_case d.txn k) c ≡ r → (if r then None else Some k) ≡ Some k
+        by_case false apart = refl
+        by_case true is =
+            let h = kept.given d k e in
+            let entry : b ≡ h.0 = some_same b h.0 (sym at ∙ ap (branch_in t) (sym (one _ c is)) ∙ h.1) in
+            absurd (subst (λ (q : Stage). IsGivenFor d q) (ap (λ (w : Branch). w.stage) (sym entry) ∙ stage) h.2)
+
+pub refuse_row : (s : SubState) (key : ℕ) (c g : Case) (n works : ℕ) (p : Bool) (x : Xid) → IsAt s.table key c (active x g n p) → ((n == works) && not p) ≡ false
+    → EndsBy s c (active x g n p) (Prepare c works) call.Rollback (replies (leaf_in (core_of s) s.parent c) (No c) unknown_branch)
+refuse_row s key c g n works p x at unfit =
+    let l : Leaf = leaf_in (core_of s) s.parent c in
+    let holding = held_writes (s.manager.writes (xid_of s c)) in
+    record {
+      turn = ap (λ (o : Option Branch). Handles c (on_prepare l works holding (kept_view o) (kept_view o).standing)) at.live
+          ∙ ap (λ b. Handles c (if b then active_prepare_holding l holding else replies l (No c) unknown_branch)) unfit;
+      view = refl;
+      written = none_written g c n p (s.manager.writes x);
+      of = tt;
+      tickets = λ k d. retired_prepare k works c d (ticket_in s.table d);
+    }
+
+pub abort_row : (s : SubState) (key : ℕ) (c g : Case) (n : ℕ) (p : Bool) (x : Xid) → IsAt s.table key c (active x g n p)
+    → EndsBy s c (active x g n p) (Abort c) call.Rollback (active_abort (leaf_in (core_of s) s.parent c))
+abort_row s key c g n p x at =
+    let l : Leaf = leaf_in (core_of s) s.parent c in
+    record {
+      turn = ap (λ (o : Option Branch). Handles c (on_abort l (kept_view o) (kept_view o).standing)) at.live;
+      view = refl;
+      written = none_written g c n p (s.manager.writes x);
+      of = tt;
+      tickets = λ k d. retired_abort k c d (ticket_in s.table d);
+    }
+
+pub rolled_row : (s : SubState) (key : ℕ) (c : Case) (x : Xid) → IsKept s.table → IsAt s.table key c (prepared x)
+    → EndsBy s c (prepared x) (Abort c) call.Rollback (prepared_outcome (leaf_in (core_of s) s.parent c) AbortedOutcome)
+rolled_row s key c x kept at =
+    let l : Leaf = leaf_in (core_of s) s.parent c in
+    record {
+      turn = ap (λ (o : Option Branch). Handles c (on_abort l (kept_view o) (kept_view o).standing)) at.live;
+      view = refl;
+      written = refl;
+      of = (refl, tt);
+      tickets = λ k d. retired_abort k c d (ticket_in s.table d);
+    }
+
+pub commit_row : (s : SubState) (key : ℕ) (c : Case) (x : Xid) → IsKept s.table → IsAt s.table key c (prepared x)
+    → EndsBy s c (prepared x) (Commit c) call.Commit (prepared_outcome (leaf_in (core_of s) s.parent c) CommittedOutcome)
+commit_row s key c x kept at =
+    let l : Leaf = leaf_in (core_of s) s.parent c in
+    record {
+      turn = ap (λ (o : Option Branch). Handles c (on_commit l (kept_view o) (kept_view o).standing)) at.live;
+      view = refl;
+      written = refl;
+      of = (refl, tt);
+      tickets = λ k d. untouched s.table c (prepared x) kept at.live refl d ∙ never_retired k c d (ticket_in s.table d);
+    }

@@ -1,0 +1,46 @@
+-- What a row makes of a subordinate, as any process is seen.
+use Rattle.std.proofs.Common.{◌≡◌, false, refl}
+use Rattle.tree_model.specs.declared.names.Case.{Case}
+use Rattle.tree_model.specs.declared.events.Input.{Input}
+use Rattle.tree_model.specs.Names.{same_case}
+use Rattle.tree_model.specs.ManagerRows.{LeafRow}
+use Rattle.tree_model.specs.Reactions.{leaf_effect}
+use Rattle.tree_model.specs.Standings.{unknown_view}
+use Rattle.core_model.specs.Views.{SameView}
+use Rattle.core_model.specs.States.{SameCore, log_behind}
+use Rattle.core_model.specs.Turns.{Handles}
+use Rattle.core_model.specs.Makes.{retired_by}
+use Rattle.manager_model.specs.Sights.{ManagerSight, SameManager}
+use Rattle.sub_table.specs.Tables.{BranchTable, ticket_in, view_in}
+use Rattle.sub_core.specs.Subordinates.{SubState, Turns, core_of, shown}
+use Rattle.sub_core.proofs.Ties.{behind}
+
+pub no_view : SameView unknown_view unknown_view
+no_view = record { standing = refl; accepted = refl; voted = λ o t. refl; worked = λ t. refl; promised = refl; named = λ t. refl; owed = λ t. refl }
+
+-- a manager's row was made
+pub handled : (s : SubState) (t : BranchTable) (m : ManagerSight) (i : Input) (c : Case) (row : LeafRow) → m.log ≡ log_behind (core_of s) row.written
+    → view_in t c ≡ row.view → ((d : Case) → same_case c d ≡ false → view_in t d ≡ view_in s.table d)
+    → ((d : Case) → ticket_in t d ≡ retired_by i d (ticket_in s.table d)) → m.boot ≡ s.manager.boot
+    → Turns s (behind s t m) i (Handles c row) (shown row.written row.messages)
+handled s t m i c row log own others tickets boot = record {
+  moves = record {
+    log = log;
+    own = own;
+    others = others;
+    views = λ d. no_view;
+    begun = refl;
+    given = refl;
+    stays = record { place = refl; boot = boot; tickets = tickets };
+  };
+  effect = leaf_effect row;
+  does = refl;
+  shown = refl;
+}
+
+-- nothing changed but room
+pub same_core : (s : SubState) (m : ManagerSight) → SameManager s.manager m → SameCore (core_of s) (core_of (behind s s.table m))
+same_core s m stays = record {
+  log = stays.log;
+  rest = record { place = refl; boot = stays.boot; begun = refl; given = refl; tickets = λ d. refl; views = λ c. no_view; branches = λ c. refl };
+}

@@ -1,0 +1,153 @@
+-- What comes of a PREPARE.
+use Rattle.std.proofs.Common.{◌≡◌, ◌≢◌, ◌∙◌, ℕ, true, false, Option, Some, None, List, [], ◌∷◌, refl, sym, ap, subst, arith, if◌then◌else◌}
+use Rattle.std.specs.Prelude.{◌==◌, ◌&&◌}
+use Rattle.std.proofs.lemmas.Bool.Decides.{nat_tests}
+use Rattle.xa_tables.specs.declared.call.Call.TheVariants as call
+use Rattle.xa_tables.specs.declared.states.BranchState.TheVariants.{S2, S3}
+use Rattle.xa_xid.specs.declared.xid.Xid.{Xid}
+use Rattle.tree_model.specs.declared.names.Case.{Case}
+use Rattle.tree_model.specs.declared.names.Ticket.{Ticket}
+use Rattle.tree_model.specs.declared.messages.Message.TheVariants.{Prepare, No, Yes as YesMessage, Read as ReadMessage}
+use Rattle.tree_model.specs.declared.events.Input.TheVariants.{Message as MessageInput}
+use Rattle.tree_model.specs.declared.events.StepError.{StepError}
+use Rattle.tree_model.specs.declared.records.Branch.TheVariants.{Case as CaseBranch}
+use Rattle.tree_model.specs.declared.records.Record.TheVariants.{Prepared as PreparedRecord}
+use Rattle.tree_model.specs.declared.records.Write.{Write}
+use Rattle.tree_model.specs.declared.standings.Vote.{Vote}
+use Rattle.tree_model.specs.declared.standings.Vote.TheVariants.{Yes, Read}
+use Rattle.tree_model.specs.CoordinatorRows.{forced, post}
+use Rattle.tree_model.specs.ManagerRows.{Leaf, LeafRow, active_prepare_holding, on_prepare, replies}
+use Rattle.tree_model.specs.Nodes.{Holds}
+use Rattle.tree_model.specs.declared.records.RecordKind.TheVariants as kind
+use Rattle.tree_model.specs.declared.records.Subject.TheVariants as subject
+use Rattle.tree_model.specs.Plays.{held_writes}
+use Rattle.tree_model.specs.Standings.{unknown_branch}
+use Rattle.core_model.specs.Turns.{Handles, Turn, leaf_in}
+use Rattle.core_model.specs.Makes.{retired_by}
+use Rattle.manager_model.specs.Sights.{ManagerSight}
+use Rattle.manager_model.specs.Ends.{row_of, written_by}
+use Rattle.sub_deeds.specs.Deeds.{Finishes, NotFinished, vote_of}
+use Rattle.sub_table.specs.declared.branch.Branch.{Branch}
+use Rattle.sub_table.specs.Tables.{BranchTable, Retires, kept_view, nothing, promised, retired_at, ticket_in}
+use Rattle.sub_core.specs.Subordinates.{Hears, IsAt, IsTied, NotHeard, NotTurned, SubState, Turns, active, core_of, shown, turn_for, xid_of}
+use Rattle.sub_core.proofs.Ties.{behind, moved_tied}
+use Rattle.sub_core.proofs.Rows.{handled}
+use Rattle.sub_core.proofs.Ends.{AreOf, RetiresAt, log_is, not_turned, retires_at}
+
+pub same_number : (n : ℕ) → (n == n) ≡ true
+same_number n = grind (arith, nat_tests)
+
+-- PREPARE ends the time of its case's ticket
+pub retired_prepare : (k n : ℕ) (c d : Case) (o : Option Ticket) → retired_at c d o ≡ retired_by (MessageInput k (Prepare c n)) d o
+retired_prepare k n c d None = refl
+retired_prepare k n c d (Some t) = refl
+
+held_record : (c : Case) (l : Leaf) (ws : List Write) → l.own ≡ c
+    → written_by call.Prepare S2 (CaseBranch c) ws ≡ (active_prepare_holding l (held_writes ws)).written
+held_record c l [] is = refl
+held_record c l (w ∷ ws) is = ap (λ (d : Case). forced (PreparedRecord (CaseBranch d) (w ∷ ws))) (sym is)
+
+held_of : (c : Case) (l : Leaf) (ws : List Write) → l.own ≡ c → AreOf c (active_prepare_holding l (held_writes ws)).written
+held_of c l [] is = tt
+held_of c l (w ∷ ws) is = (ap Some is, tt)
+
+-- the row of an Active case all of whose works are done
+abbrev pub row : SubState → Case → LeafRow
+row s c = active_prepare_holding (leaf_in (core_of s) s.parent c) (held_writes (s.manager.writes (xid_of s c)))
+
+none_written : (ws : List Write) → Read ≡ vote_of ws → ws ≡ []
+none_written [] e = refl
+none_written (w ∷ ws) e = absurd cc
+
+some_written : (ws : List Write) → Yes ≡ vote_of ws → ws ≢ []
+some_written [] e f = absurd cc
+some_written (w ∷ ws) e f = absurd cc
+
+yes_state : (ws : List Write) → Yes ≡ vote_of ws → S3 ≡ (row_of call.Prepare ws).1
+yes_state [] e = absurd cc
+yes_state (w ∷ ws) e = refl
+
+module _ (s : SubState) (key : ℕ) (c g : Case) (n : ℕ) (x : Xid) (tied : IsTied s) (at : IsAt s.table key c (active x g n false)) where
+  turn_is : turn_for s (Prepare c n) ≡ Handles c (row s c)
+  turn_is =
+      let l : Leaf = leaf_in (core_of s) s.parent c in
+      let holding = held_writes (s.manager.writes (xid_of s c)) in
+      ap (λ (o : Option Branch). Handles c (on_prepare l n holding (kept_view o) (kept_view o).standing)) at.live
+      ∙ ap (λ b. Handles c (if b && true then active_prepare_holding l holding else replies l (No c) unknown_branch)) (same_number n)
+
+  writes_is : s.manager.writes x ≡ s.manager.writes (xid_of s c)
+  writes_is = ap s.manager.writes (tied.named c (active x g n false) at.live).is
+
+  pub not_voted : (m : ManagerSight) (e : StepError) → NotFinished s.manager m x call.Prepare e → NotHeard s (behind s s.table m) (Prepare c n) e
+  not_voted m e h =
+      let l : Leaf = leaf_in (core_of s) s.parent c in
+      subst (λ (t : Turn). NotTurned s (behind s s.table m) t e) (sym turn_is)
+      (not_turned s c x (tied.named c _ at.live) (tied.given_before c _ at.live) m S2 (s.manager.writes (xid_of s c)) call.Prepare (row s c) e
+      (tied.stands c _ at.live) writes_is (held_record c l (s.manager.writes (xid_of s c)) refl) (held_of c l (s.manager.writes (xid_of s c)) refl) h)
+
+  voted : (t : BranchTable) (m : ManagerSight) (v : Option Branch) → RetiresAt s.table t c v → kept_view v ≡ (row s c).view
+      → Finishes s.manager m x call.Prepare → Hears s (behind s t m) (Prepare c n) (shown (row s c).written (row s c).messages)
+  voted t m v r view f k =
+      let l : Leaf = leaf_in (core_of s) s.parent c in
+      let ws = s.manager.writes (xid_of s c) in
+      subst (λ (turn : Turn). Turns s (behind s t m) (MessageInput k (Prepare c n)) turn (shown (row s c).written (row s c).messages)) (sym turn_is)
+      (handled s t m (MessageInput k (Prepare c n)) c (row s c)
+      (log_is s c x (tied.named c _ at.live) (tied.given_before c _ at.live) m S2 ws call.Prepare (row s c).written (tied.stands c _ at.live) writes_is
+      (held_record c l ws refl) (held_of c l ws refl) f.log)
+      (ap kept_view r.branches.own ∙ view) (λ d apart. ap kept_view (r.branches.others d apart))
+      (λ d. r.tickets d ∙ retired_prepare k n c d (ticket_in s.table d)) f.comes.boot)
+
+  -- a branch that wrote nothing has only read
+  pub read : (t : BranchTable) (m : ManagerSight) → Retires s.table t key nothing → Read ≡ vote_of (s.manager.writes x) → Finishes s.manager m x call.Prepare
+      → Hears s (behind s t m) (Prepare c n) (shown [] (post s.me s.parent (ReadMessage c) ∷ []))
+  read t m r vote f =
+      let e = sym (none_written (s.manager.writes x) vote) ∙ writes_is in
+      by_writes (s.manager.writes (xid_of s c)) refl (sym e)
+    where
+      by_writes : (ws : List Write) → s.manager.writes (xid_of s c) ≡ ws → s.manager.writes (xid_of s c) ≡ []
+          → Hears s (behind s t m) (Prepare c n) (shown [] (post s.me s.parent (ReadMessage c) ∷ []))
+      by_writes ws is none =
+          let row_is : row s c ≡ replies (leaf_in (core_of s) s.parent c) (ReadMessage c) unknown_branch =
+          ap (λ (vs : List Write). active_prepare_holding (leaf_in (core_of s) s.parent c) (held_writes vs)) none in
+          subst (λ (q : LeafRow). Hears s (behind s t m) (Prepare c n) (shown q.written q.messages)) row_is
+          (voted t m None (retires_at s.table t key nothing c (active x g n false) at r) (ap (λ (q : LeafRow). q.view) (sym row_is)) f)
+
+  pub yes : (t : BranchTable) (m : ManagerSight) → Retires s.table t key promised → Yes ≡ vote_of (s.manager.writes x) → Finishes s.manager m x call.Prepare
+      → Hears s (behind s t m) (Prepare c n) (record {
+        begun = None;
+        written = record { kind = kind.Prepared; subject = subject.Case c; forced = true } ∷ [];
+        told = None;
+        messages = post s.me s.parent (YesMessage c) ∷ [];
+        kept = None;
+      })
+  yes t m r vote f = by_writes (s.manager.writes (xid_of s c)) refl (some_written (s.manager.writes x) vote)
+    where
+      by_writes : (ws : List Write) → s.manager.writes (xid_of s c) ≡ ws → s.manager.writes x ≢ []
+          → Hears s (behind s t m) (Prepare c n) (record {
+            begun = None;
+            written = record { kind = kind.Prepared; subject = subject.Case c; forced = true } ∷ [];
+            told = None;
+            messages = post s.me s.parent (YesMessage c) ∷ [];
+            kept = None;
+          })
+      by_writes [] is some = absurd (some (writes_is ∙ is))
+      by_writes (w ∷ ws) is some =
+          let row_is : row s c ≡ active_prepare_holding (leaf_in (core_of s) s.parent c) (Holds (w ∷ ws)) =
+          ap (λ (vs : List Write). active_prepare_holding (leaf_in (core_of s) s.parent c) (held_writes vs)) is in
+          subst (λ (q : LeafRow). Hears s (behind s t m) (Prepare c n) (shown q.written q.messages)) row_is
+          (voted t m (promised (active x g n false)) (retires_at s.table t key promised c (active x g n false) at r) (ap (λ (q : LeafRow). q.view) (sym row_is)) f)
+
+  pub read_tied : (t : BranchTable) (m : ManagerSight) → Retires s.table t key nothing → Finishes s.manager m x call.Prepare → IsTied (behind s t m)
+  read_tied t m r f =
+      moved_tied s t m c (active x g n false) None _ tied at.live (retires_at s.table t key nothing c (active x g n false) at r).branches tt f.comes
+
+  pub yes_tied : (t : BranchTable) (m : ManagerSight) → Retires s.table t key promised → Yes ≡ vote_of (s.manager.writes x) → Finishes s.manager m x call.Prepare
+      → IsTied (behind s t m)
+  yes_tied t m r vote f =
+      moved_tied s t m c (active x g n false) (promised (active x g n false)) _ tied at.live
+      (retires_at s.table t key promised c (active x g n false) at r).branches (refl, yes_state (s.manager.writes x) vote) f.comes
+
+-- a vote that is not READ
+pub yes_of : (ws : List Write) (v : Vote) → v ≡ vote_of ws → v ≢ Read → Yes ≡ vote_of ws
+yes_of [] v e n = absurd (n e)
+yes_of (w ∷ ws) v e n = refl

@@ -1,0 +1,35 @@
+use Rattle.std.proofs.Common.{sym, subst}
+use Rattle.tree_model.specs.declared.messages.Message.TheVariants.{Commit}
+use Rattle.sub_table.specs.declared.branch.Stage.{Stage}
+use Rattle.sub_core.specs.Subordinates.{Hears, IsAt, SubState, seen}
+use Rattle.sub_core.proofs.Staying.{heard, commit_active, commit_unknown}
+use Rattle.sub_core.proofs.subordinate.Subordinate.commit.Goals as goal
+
+pub returns-in_default-clause-ok : goal.returns-in_default-clause-ok
+returns-in_default-clause-ok g c =
+    let s : SubState = record {
+      me = c.self.inside.me;
+      parent = c.self.inside.parent;
+      tree = c.self.inside.tree;
+      given = c.self.inside.given;
+      table = c.self.inside.branches;
+      manager = g.M.ResourceManager.sight c.self.inside.manager;
+    } in
+    subst (λ v. Hears (seen g.M.ResourceManager.sight v) (seen g.M.ResourceManager.sight v) (Commit c.args.case) c.in_ok-acknowledges.field-0) c.self.view_is
+    (subst (λ r. Hears s s (Commit c.args.case) r) (sym c.in_ok-acknowledges.ensures)
+    (heard s c.args.case (Commit c.args.case) _ (commit_unknown s c.args.case c.in_default.ensures.kept c.in_default.ensures.finds)))
+
+pub returns-in-Active-clause-ok : goal.returns-in-Active-clause-ok
+returns-in-Active-clause-ok g c =
+    let s : SubState = record {
+      me = c.self.inside.me;
+      parent = c.self.inside.parent;
+      tree = c.self.inside.tree;
+      given = c.self.inside.given;
+      table = c.self.inside.branches;
+      manager = g.M.ResourceManager.sight c.self.inside.manager;
+    } in
+    let at = subst (λ (st : Stage). IsAt s.table c.in-Some.key c.args.case (record { xid = c.in-Some.branch.xid; stage = st })) c.in-Active.is c.in-Some.ensures.finds in
+    subst (λ v. Hears (seen g.M.ResourceManager.sight v) (seen g.M.ResourceManager.sight v) (Commit c.args.case) c.silence.result) c.self.view_is
+    (subst (λ r. Hears s s (Commit c.args.case) r) (sym c.silence.ensures)
+    (heard s c.args.case (Commit c.args.case) _ (commit_active s c.args.case c.in-Some.ensures.kept c.in-Some.key c.in-Some.branch.xid c.in-Active.given_for c.in-Active.done c.in-Active.spoiled at)))

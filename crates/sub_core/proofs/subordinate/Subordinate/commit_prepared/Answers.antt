@@ -1,0 +1,80 @@
+use Rattle.std.proofs.Common.{sym, subst}
+use Rattle.xa_tables.specs.declared.call.Call.TheVariants as call
+use Rattle.tree_model.specs.declared.messages.Message.TheVariants.{Commit}
+use Rattle.manager_model.specs.Sights.{ManagerSight}
+use Rattle.sub_table.specs.declared.branch.Branch.{Branch}
+use Rattle.sub_table.specs.Tables.{IsKept}
+use Rattle.sub_core.specs.Subordinates.{Hears, IsAt, NotHeard, SubState, prepared, seen}
+use Rattle.sub_core.proofs.Ties.{behind}
+use Rattle.sub_core.proofs.Outcomes.{ended, ended_tied, not_ended, commit_row}
+use Rattle.sub_core.proofs.subordinate.Subordinate.commit_prepared.Goals as goal
+
+pub commit-requires-clause-named : goal.commit-requires-clause-named
+commit-requires-clause-named g c =
+    let b : Branch = prepared c.args.xid in
+    let at : IsAt c.self.inside.branches c.args.key c.args.case b = subst (λ v. IsAt v.table c.args.key c.args.case b) (sym c.self.view_is) c.requires.at in
+    (c.self.invariant.named c.args.case b at.live).real
+
+pub commit-requires-clause-state : goal.commit-requires-clause-state
+commit-requires-clause-state g c =
+    let s : SubState = record {
+      me = c.self.inside.me;
+      parent = c.self.inside.parent;
+      tree = c.self.inside.tree;
+      given = c.self.inside.given;
+      table = c.self.inside.branches;
+      manager = g.M.ResourceManager.sight c.self.inside.manager;
+    } in
+    let b : Branch = prepared c.args.xid in
+    let at : IsAt c.self.inside.branches c.args.key c.args.case b = subst (λ v. IsAt v.table c.args.key c.args.case b) (sym c.self.view_is) c.requires.at in
+    c.self.invariant.stands c.args.case b at.live
+
+pub invariant_of-self : goal.invariant_of-self
+invariant_of-self g c =
+    let s : SubState = record {
+      me = c.self.inside.me;
+      parent = c.self.inside.parent;
+      tree = c.self.inside.tree;
+      given = c.self.inside.given;
+      table = c.self.inside.branches;
+      manager = g.M.ResourceManager.sight c.self.inside.manager;
+    } in
+    let b : Branch = prepared c.args.xid in
+    let at : IsAt c.self.inside.branches c.args.key c.args.case b = subst (λ v. IsAt v.table c.args.key c.args.case b) (sym c.self.view_is) c.requires.at in
+    let m : ManagerSight = g.M.ResourceManager.sight c.commit.new.manager in
+    ended_tied s c.args.key c.args.case b call.Commit c.remove.new.self m c.self.invariant at c.remove.ensures c.in-Ok.ensures.ok
+
+pub returns-in-Ok-clause-ok : goal.returns-in-Ok-clause-ok
+returns-in-Ok-clause-ok g c =
+    let s : SubState = record {
+      me = c.self.inside.me;
+      parent = c.self.inside.parent;
+      tree = c.self.inside.tree;
+      given = c.self.inside.given;
+      table = c.self.inside.branches;
+      manager = g.M.ResourceManager.sight c.self.inside.manager;
+    } in
+    let b : Branch = prepared c.args.xid in
+    let at : IsAt c.self.inside.branches c.args.key c.args.case b = subst (λ v. IsAt v.table c.args.key c.args.case b) (sym c.self.view_is) c.requires.at in
+    let m : ManagerSight = g.M.ResourceManager.sight c.commit.new.manager in
+    let ends = commit_row s c.args.key c.args.case c.args.xid (subst (λ v. IsKept v.table) (sym c.self.view_is) c.requires.kept) at in
+    subst (λ v. Hears (seen g.M.ResourceManager.sight v) (behind s c.remove.new.self m) (Commit c.args.case) c.in_ok-reaction.reaction) c.self.view_is
+    (subst (λ r. Hears s (behind s c.remove.new.self m) (Commit c.args.case) r) (sym c.in_ok-reaction.ensures)
+    (ended s c.args.key c.args.case b (Commit c.args.case) call.Commit _ c.self.invariant at ends c.remove.new.self m c.remove.ensures c.in-Ok.ensures.ok))
+
+pub returns-in-Err-clause-err : goal.returns-in-Err-clause-err
+returns-in-Err-clause-err g c =
+    let s : SubState = record {
+      me = c.self.inside.me;
+      parent = c.self.inside.parent;
+      tree = c.self.inside.tree;
+      given = c.self.inside.given;
+      table = c.self.inside.branches;
+      manager = g.M.ResourceManager.sight c.self.inside.manager;
+    } in
+    let b : Branch = prepared c.args.xid in
+    let at : IsAt c.self.inside.branches c.args.key c.args.case b = subst (λ v. IsAt v.table c.args.key c.args.case b) (sym c.self.view_is) c.requires.at in
+    let m : ManagerSight = g.M.ResourceManager.sight c.commit.new.manager in
+    let ends = commit_row s c.args.key c.args.case c.args.xid (subst (λ v. IsKept v.table) (sym c.self.view_is) c.requires.kept) at in
+    subst (λ v. NotHeard (seen g.M.ResourceManager.sight v) (behind s s.table m) (Commit c.args.case) c.in-Err.error) c.self.view_is
+    (not_ended s c.args.key c.args.case b (Commit c.args.case) call.Commit _ c.self.invariant at ends m c.in-Err.error c.in-Err.ensures.err)

@@ -1,0 +1,207 @@
+-- A subordinate: a process below a parent, with a resource manager.
+use Rattle.std.specs.Prelude.{◌≡◌, ◌≢◌, ◌≤◌, ℕ, Bool, true, false, is_none, if◌then◌else◌, Option, Some, None, List, [], ◌∷◌, map}
+use Rattle.xa_tables.specs.declared.states.BranchState.{BranchState}
+use Rattle.xa_tables.specs.declared.states.BranchState.TheVariants.{S2, S3, S4}
+use Rattle.xa_xid.specs.declared.xid.Xid.{Xid}
+use Rattle.xa_xid.specs.Xids.{XidParts, null_xid}
+use Rattle.xa_states.specs.Answers.{state_at}
+use Rattle.tree_model.specs.declared.names.Case.{Case}
+use Rattle.tree_model.specs.declared.names.ProcessId.{ProcessId}
+use Rattle.tree_model.specs.declared.names.Ticket.{Ticket}
+use Rattle.tree_model.specs.declared.messages.Envelope.{Envelope}
+use Rattle.tree_model.specs.declared.messages.Message.{Message}
+use Rattle.tree_model.specs.declared.messages.Message.TheVariants.{Join, Work, Prepare, Ack}
+use Rattle.tree_model.specs.declared.records.Branch.TheVariants.{Case as CaseBranch}
+use Rattle.tree_model.specs.declared.trees.TreeEntry.{TreeEntry}
+use Rattle.tree_model.specs.declared.events.Input.{Input}
+use Rattle.tree_model.specs.declared.events.Input.TheVariants.{Message as MessageInput}
+use Rattle.tree_model.specs.declared.events.Reaction.{Reaction}
+use Rattle.tree_model.specs.declared.events.StepError.{StepError}
+use Rattle.tree_model.specs.declared.events.StepError.TheVariants.{Device, Memory}
+use Rattle.tree_model.specs.declared.records.RecordKind.{RecordKind}
+use Rattle.tree_model.specs.declared.records.Subject.TheVariants.{Case as OfCase}
+use Rattle.tree_model.specs.declared.names.Outcome.{Outcome}
+use Rattle.tree_model.specs.ManagerRows.{is_acknowledged}
+use Rattle.tree_model.specs.CoordinatorRows.{post}
+use Rattle.tree_model.specs.Names.{child_case}
+use Rattle.tree_model.specs.Nodes.{AtLeaf, DataAnswer, Effect, Place, ReadsOnly, Written, logged_of, reaction_of}
+use Rattle.tree_model.specs.LogNames.{name_xid}
+use Rattle.tree_model.specs.Plays.{held_writes}
+use Rattle.tree_model.specs.Reactions.{Does}
+use Rattle.tree_model.specs.Standings.{unknown_view}
+use Rattle.log_text.specs.Parts.{name_in}
+use Rattle.core_model.specs.States.{CoreState, SameCore}
+use Rattle.core_model.specs.Turns.{Refuses, Turn, manager_turn, next_ticket, reacted}
+use Rattle.core_model.specs.Makes.{BreaksIn, Moves}
+use Rattle.manager_model.specs.Sights.{ManagerSight}
+use Rattle.sub_deeds.specs.Deeds.{IsIdle, starts}
+use Rattle.sub_table.specs.declared.branch.Branch.{Branch}
+use Rattle.sub_table.specs.declared.branch.Stage.{Stage}
+use Rattle.sub_table.specs.declared.branch.Stage.TheVariants.{Active, Prepared}
+use Rattle.live_table.specs.Tables.{entry_at}
+use Rattle.sub_table.specs.Tables.{BranchTable, branch_in, ticket_in, view_in}
+
+-- what a subordinate is: where it sits, how many tickets it gave in this boot, its live branches, and its manager
+pub record SubValue (M : Type 0) : Type 0 where
+  pub me : ProcessId
+  pub parent : ProcessId
+  pub tree : List TreeEntry
+  pub given : ℕ
+  pub table : BranchTable
+  pub manager : M
+
+-- what a contract sees: the same, but of the manager its sight
+pub record SubState : Type 0 where
+  pub me : ProcessId
+  pub parent : ProcessId
+  pub tree : List TreeEntry
+  pub given : ℕ
+  pub table : BranchTable
+  pub manager : ManagerSight
+
+-- a subordinate with the sight of its manager
+abbrev pub seen : {M : Type 0} → (M → ManagerSight) → SubValue M → SubState
+seen sight s =
+    record {
+      me = s.me;
+      parent = s.parent;
+      tree = s.tree;
+      given = s.given;
+      table = s.table;
+      manager = sight s.manager;
+    }
+
+-- where it sits
+abbrev pub place_of : SubState → Place
+place_of s = record { me = s.me; role = AtLeaf s.parent; tree = s.tree }
+
+-- the same as any process is seen: its log and its boot are its manager's
+abbrev pub core_of : SubState → CoreState
+core_of s =
+    record {
+      place = place_of s;
+      log = s.manager.log;
+      boot = s.manager.boot;
+      begun = 0;
+      given = s.given;
+      ticket_for = λ d. ticket_in s.table d;
+      view_of = λ c. unknown_view;
+      branch_of = λ c. view_in s.table c;
+    }
+
+-- the XID by which the manager knows a case
+abbrev pub xid_of : SubState → Case → XidParts
+xid_of s c = name_xid (Some s.parent) (CaseBranch c)
+
+-- the case that a JOIN of the parent's case would open
+abbrev pub next_case : SubState → Case → Case
+next_case s d = child_case d.txn (next_ticket (core_of s))
+
+-- what the manager's data answer to a message
+abbrev pub answer_for : SubState → Message → DataAnswer
+answer_for s (Join d) = record { starts = starts s.manager (xid_of s (next_case s d)); does = true; holding = ReadsOnly }
+answer_for s (Work c i op) = record { starts = true; does = is_none (s.manager.obstacle (xid_of s c) op); holding = ReadsOnly }
+answer_for s (Prepare c n) = record { starts = true; does = true; holding = held_writes (s.manager.writes (xid_of s c)) }
+answer_for s _ = record { starts = true; does = true; holding = ReadsOnly }
+
+-- The tie of the live branches with the manager's.
+
+-- the state of a branch at the manager by its stage
+abbrev pub stage_state : Stage → BranchState
+stage_state (Active d done false) = S2
+stage_state (Active d done true) = S4
+stage_state Prepared = S3
+
+-- an XID is that of a case below this parent, and reads as its name
+pub record IsNamed (p : ProcessId) (c : Case) (x : Xid) : Type 0 where
+  pub is : x ≡ name_xid (Some p) (CaseBranch c)
+  pub reads : name_in x ≡ (Some p, CaseBranch c)
+  pub real : x ≢ null_xid
+
+-- a case has a ticket, and one of this boot was given already
+pub record IsGiven (s : SubState) (c : Case) : Type 0 where
+  pub ticket : Ticket
+  pub has : c.ticket ≡ Some ticket
+  pub before : ticket.boot ≡ s.manager.boot → ticket.number ≤ s.given
+
+-- the manager is idle, and each live branch stands there as the subordinate keeps it, under its case's XID
+pub record IsTied (s : SubState) : Type 0 where
+  pub idle : IsIdle s.manager
+  pub named : (c : Case) (b : Branch) → branch_in s.table c ≡ Some b → IsNamed s.parent c b.xid
+  pub stands : (c : Case) (b : Branch) → branch_in s.table c ≡ Some b → state_at s.manager.tables b.xid ≡ stage_state b.stage
+  pub given_before : (c : Case) (b : Branch) → branch_in s.table c ≡ Some b → IsGiven s c
+
+-- Turns.
+
+-- a turn was made, and this is the reaction to show
+pub record Turns (old new : SubState) (i : Input) (turn : Turn) (reaction : Reaction) : Type 0 where
+  pub moves : Moves (core_of old) (core_of new) i turn
+  pub effect : Effect
+  pub does : reacted turn ≡ Does effect
+  pub shown : reaction ≡ reaction_of effect
+
+-- why a turn was not made, and what that leaves
+abbrev pub NotTurned : SubState → SubState → Turn → StepError → Type 0
+NotTurned old new turn Memory = SameCore (core_of old) (core_of new)
+NotTurned old new turn Device = BreaksIn (core_of old) (core_of new) turn
+NotTurned old new turn e = SameCore (core_of old) (core_of new) × (turn ≡ Refuses e)
+
+-- what a message meets
+abbrev pub turn_for : SubState → Message → Turn
+turn_for s m = manager_turn (core_of s) s.parent (answer_for s m) m
+
+-- a message was heard, and this is the reaction to show
+abbrev pub Hears : SubState → SubState → Message → Reaction → Type 0
+Hears old new m reaction = (k : ℕ) → Turns old new (MessageInput k m) (turn_for old m) reaction
+
+-- why a message was not heard, and what that leaves
+abbrev pub NotHeard : SubState → SubState → Message → StepError → Type 0
+NotHeard old new m e = NotTurned old new (turn_for old m) e
+
+-- the reaction that shows these records and these messages
+abbrev pub shown : List Written → List Envelope → Reaction
+shown ws ls = record { begun = None; written = map logged_of ws; told = None; messages = ls; kept = None }
+
+-- the reaction that shows one record of a case and one message
+abbrev pub logged_reply : RecordKind → Case → Bool → ProcessId → ProcessId → Message → Reaction
+logged_reply kind c forced from to m =
+    record {
+      begun = None;
+      written = record { kind = kind; subject = OfCase c; forced = forced } ∷ [];
+      told = None;
+      messages = post from to m ∷ [];
+      kept = None;
+    }
+
+-- the acknowledgement of an outcome, unless the presumption covers it
+abbrev pub acknowledged : ProcessId → ProcessId → Case → Outcome → List Envelope
+acknowledged from to c o = if is_acknowledged c.txn.presumption o then post from to (Ack c o) ∷ [] else []
+
+-- the reaction that shows the record of an outcome, and its acknowledgement
+abbrev pub outcome_reply : RecordKind → Case → Outcome → ProcessId → ProcessId → Reaction
+outcome_reply kind c o from to =
+    record {
+      begun = None;
+      written = record { kind = kind; subject = OfCase c; forced = is_acknowledged c.txn.presumption o } ∷ [];
+      told = None;
+      messages = acknowledged from to c o;
+      kept = None;
+    }
+
+-- a case is live under its key, and this is kept of it
+pub record IsAt (t : BranchTable) (key : ℕ) (c : Case) (b : Branch) : Type 0 where
+  pub entry : entry_at t.branches key ≡ Some (c, b)
+  pub live : branch_in t c ≡ Some b
+
+-- what is kept of a case under its key, or there is nothing
+abbrev pub FindsBranch : BranchTable → Case → Option (ℕ × Branch) → Type 0
+FindsBranch t c None = branch_in t c ≡ None
+FindsBranch t c (Some f) = IsAt t f.0 c f.1
+
+-- a branch that takes work
+abbrev pub active : Xid → Case → ℕ → Bool → Branch
+active x g done spoiled = record { xid = x; stage = Active g done spoiled }
+
+-- a branch that promised
+abbrev pub prepared : Xid → Branch
+prepared x = record { xid = x; stage = Prepared }

@@ -1,0 +1,194 @@
+//! How a branch ends: refused at PREPARE, aborted, or committed.
+
+ghost use Rattle.std.specs.Prelude.{◌≡◌, ◌==◌, ◌&&◌, [], not, Bool, ℕ, false, IfErr, IfOk};
+ghost use Rattle.tree_model.specs.declared.names.Case.{Case as AnyCase};
+ghost use Rattle.tree_model.specs.declared.messages.Message.TheVariants as message;
+ghost use Rattle.tree_model.specs.declared.records.RecordKind.TheVariants as kind;
+ghost use Rattle.tree_model.specs.ManagerRows.{is_acknowledged};
+ghost use Rattle.sub_table.specs.Tables.{IsKept};
+ghost use Rattle.sub_core.specs.Subordinates.{Hears, IsAt, NotHeard, acknowledged, active, outcome_reply, prepared, seen, shown};
+
+use crate::replies::{letter, logged, reply, silence};
+use crate::subordinate::Subordinate;
+use manager_model::ResourceManager;
+use std::alloc::{AllocError, Global};
+use sub_deeds::{commit, roll_back};
+use tree_model::{
+    Case, Envelopes, Message, Outcome, Presumption, ProcessId, Reaction, RecordKind, Sequence,
+    StepError,
+};
+use xa_xid::Xid;
+
+/// Whether an outcome is acknowledged, and so forced: where the presumption does not cover it.
+fn is_acknowledged(presumption: Presumption, outcome: Outcome) -> bool
+    ensures { result ≡ is_acknowledged presumption outcome }
+{
+    matches!(
+        (presumption, outcome),
+        (Presumption::PresumeAbort, Outcome::Committed)
+            | (Presumption::PresumeCommit, Outcome::Aborted)
+    )
+}
+
+/// The acknowledgement of an outcome, where it has one.
+fn acknowledgement(
+    me: ProcessId,
+    parent: ProcessId,
+    case: Case,
+    outcome: Outcome,
+    alloc: Global,
+) -> Result<Envelopes, AllocError>
+    ensures { IfOk result (λ messages. messages ≡ acknowledged me parent case outcome) }
+{
+    if is_acknowledged(case.txn.presumption, outcome) {
+        letter(me, parent, Message::Ack(case, outcome), alloc)
+    } else {
+        Ok(Sequence::new(alloc))
+    }
+}
+
+/// The record of an outcome, and its acknowledgement.
+fn ends_by(
+    me: ProcessId,
+    parent: ProcessId,
+    case: Case,
+    kind: RecordKind,
+    outcome: Outcome,
+    alloc: Global,
+) -> Result<Reaction, AllocError>
+    ensures { IfOk result (λ reaction. reaction ≡ outcome_reply kind case outcome me parent) }
+{
+    let forced = is_acknowledged(case.txn.presumption, outcome);
+    let written = logged(kind, case, forced, alloc)?;
+    let messages = acknowledgement(me, parent, case, outcome, alloc)?;
+    Ok(Reaction {
+        written,
+        messages,
+        ..silence(alloc)
+    })
+}
+
+/// The acknowledgement of an outcome alone.
+pub(crate) fn acknowledges(
+    me: ProcessId,
+    parent: ProcessId,
+    case: Case,
+    outcome: Outcome,
+    alloc: Global,
+) -> Result<Reaction, AllocError>
+    ensures { IfOk result (λ reaction. reaction ≡ shown [] (acknowledged me parent case outcome)) }
+{
+    let messages = acknowledgement(me, parent, case, outcome, alloc)?;
+    Ok(Reaction {
+        messages,
+        ..silence(alloc)
+    })
+}
+
+impl<M: ResourceManager> Subordinate<M> {
+    /// PREPARE of an Active case that has not done all its works, or was refused one: NO, and it is rolled back.
+    pub(crate) fn refuse(
+        &mut self,
+        key: usize,
+        case: Case,
+        works: u64,
+        xid: Xid,
+    ) -> Result<Reaction, StepError>
+        requires up { (M.sight self.old.manager).log.failed ≡ false }
+        requires at { (g : AnyCase) × (n : ℕ) × (p : Bool) × IsAt self.old.table key case (active xid g n p)
+            × (((n == works) && not p) ≡ false) }
+        ensures ok { IfOk result (Hears (seen M.sight self.old) (seen M.sight self.new) (message.Prepare case works)) }
+        ensures err { IfErr result (NotHeard (seen M.sight self.old) (seen M.sight self.new) (message.Prepare case works)) }
+    {
+        let reaction = reply(self.me, self.parent, Message::No(case), self.alloc)?;
+        match roll_back(&mut self.manager, &xid) {
+            Ok(()) => {
+                self.branches.remove(key);
+                Ok(reaction)
+            }
+            Err(error) => Err(error),
+        }
+    }
+
+    /// ABORT of an Active case.
+    pub(crate) fn abort_active(
+        &mut self,
+        key: usize,
+        case: Case,
+        xid: Xid,
+    ) -> Result<Reaction, StepError>
+        requires up { (M.sight self.old.manager).log.failed ≡ false }
+        requires at { (g : AnyCase) × (n : ℕ) × (p : Bool) × IsAt self.old.table key case (active xid g n p) }
+        ensures ok { IfOk result (Hears (seen M.sight self.old) (seen M.sight self.new) (message.Abort case)) }
+        ensures err { IfErr result (NotHeard (seen M.sight self.old) (seen M.sight self.new) (message.Abort case)) }
+    {
+        let reaction = acknowledges(self.me, self.parent, case, Outcome::Aborted, self.alloc)?;
+        match roll_back(&mut self.manager, &xid) {
+            Ok(()) => {
+                self.branches.remove(key);
+                Ok(reaction)
+            }
+            Err(error) => Err(error),
+        }
+    }
+
+    /// ABORT of a case in doubt.
+    pub(crate) fn abort_prepared(
+        &mut self,
+        key: usize,
+        case: Case,
+        xid: Xid,
+    ) -> Result<Reaction, StepError>
+        requires up { (M.sight self.old.manager).log.failed ≡ false }
+        requires at { IsAt self.old.table key case (prepared xid) }
+        requires kept { IsKept self.old.table }
+        ensures ok { IfOk result (Hears (seen M.sight self.old) (seen M.sight self.new) (message.Abort case)) }
+        ensures err { IfErr result (NotHeard (seen M.sight self.old) (seen M.sight self.new) (message.Abort case)) }
+    {
+        let reaction = ends_by(
+            self.me,
+            self.parent,
+            case,
+            RecordKind::RolledBack,
+            Outcome::Aborted,
+            self.alloc,
+        )?;
+        match roll_back(&mut self.manager, &xid) {
+            Ok(()) => {
+                self.branches.remove(key);
+                Ok(reaction)
+            }
+            Err(error) => Err(error),
+        }
+    }
+
+    /// COMMIT of a case in doubt.
+    pub(crate) fn commit_prepared(
+        &mut self,
+        key: usize,
+        case: Case,
+        xid: Xid,
+    ) -> Result<Reaction, StepError>
+        requires up { (M.sight self.old.manager).log.failed ≡ false }
+        requires at { IsAt self.old.table key case (prepared xid) }
+        requires kept { IsKept self.old.table }
+        ensures ok { IfOk result (Hears (seen M.sight self.old) (seen M.sight self.new) (message.Commit case)) }
+        ensures err { IfErr result (NotHeard (seen M.sight self.old) (seen M.sight self.new) (message.Commit case)) }
+    {
+        let reaction = ends_by(
+            self.me,
+            self.parent,
+            case,
+            RecordKind::Committed,
+            Outcome::Committed,
+            self.alloc,
+        )?;
+        match commit(&mut self.manager, &xid) {
+            Ok(()) => {
+                self.branches.remove(key);
+                Ok(reaction)
+            }
+            Err(error) => Err(error),
+        }
+    }
+}

@@ -1,0 +1,65 @@
+//! PREPARE, COMMIT and ABORT, in whatever standing they find their case.
+
+ghost use Rattle.std.specs.Prelude.{◌≡◌, false, IfErr, IfOk};
+ghost use Rattle.tree_model.specs.declared.messages.Message.TheVariants as message;
+ghost use Rattle.sub_core.specs.Subordinates.{Hears, NotHeard, seen};
+
+use crate::ending::acknowledges;
+use crate::replies::{reply, silence};
+use crate::subordinate::{Subordinate, find_branch};
+use manager_model::ResourceManager;
+use sub_table::Stage;
+use tree_model::{Case, Message, Outcome, Reaction, StepError};
+
+impl<M: ResourceManager> Subordinate<M> {
+    /// PREPARE: an Active case votes, one in doubt says YES again, and of any other nothing is known.
+    pub fn prepare(&mut self, case: Case, works: u64) -> Result<Reaction, StepError>
+        requires up { (M.sight self.old.manager).log.failed ≡ false }
+        ensures ok { IfOk result (Hears (seen M.sight self.old) (seen M.sight self.new) (message.Prepare case works)) }
+        ensures err { IfErr result (NotHeard (seen M.sight self.old) (seen M.sight self.new) (message.Prepare case works)) }
+    {
+        let Some((key, branch)) = find_branch(&self.branches, &case) else {
+            return Ok(reply(self.me, self.parent, Message::No(case), self.alloc)?);
+        };
+        match branch.stage {
+            Stage::Prepared => Ok(reply(self.me, self.parent, Message::Yes(case), self.alloc)?),
+            Stage::Active { done, spoiled, .. } => {
+                if done == works && !spoiled {
+                    self.vote_with(key, case, works, branch.xid)
+                } else {
+                    self.refuse(key, case, works, branch.xid)
+                }
+            }
+        }
+    }
+
+    /// COMMIT: a case in doubt commits, and of one that is not known the outcome is acknowledged.
+    pub fn commit(&mut self, case: Case) -> Result<Reaction, StepError>
+        requires up { (M.sight self.old.manager).log.failed ≡ false }
+        ensures ok { IfOk result (Hears (seen M.sight self.old) (seen M.sight self.new) (message.Commit case)) }
+        ensures err { IfErr result (NotHeard (seen M.sight self.old) (seen M.sight self.new) (message.Commit case)) }
+    {
+        let Some((key, branch)) = find_branch(&self.branches, &case) else {
+            return Ok(acknowledges(self.me, self.parent, case, Outcome::Committed, self.alloc)?);
+        };
+        match branch.stage {
+            Stage::Prepared => self.commit_prepared(key, case, branch.xid),
+            Stage::Active { .. } => Ok(silence(self.alloc)),
+        }
+    }
+
+    /// ABORT: an Active case is rolled back, and so is one in doubt; of one that is not known the outcome is acknowledged.
+    pub fn abort(&mut self, case: Case) -> Result<Reaction, StepError>
+        requires up { (M.sight self.old.manager).log.failed ≡ false }
+        ensures ok { IfOk result (Hears (seen M.sight self.old) (seen M.sight self.new) (message.Abort case)) }
+        ensures err { IfErr result (NotHeard (seen M.sight self.old) (seen M.sight self.new) (message.Abort case)) }
+    {
+        let Some((key, branch)) = find_branch(&self.branches, &case) else {
+            return Ok(acknowledges(self.me, self.parent, case, Outcome::Aborted, self.alloc)?);
+        };
+        match branch.stage {
+            Stage::Prepared => self.abort_prepared(key, case, branch.xid),
+            Stage::Active { .. } => self.abort_active(key, case, branch.xid),
+        }
+    }
+}

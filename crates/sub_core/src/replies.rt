@@ -1,0 +1,72 @@
+//! Reactions of a subordinate: at most one record and one message.
+
+ghost use Rattle.std.specs.Prelude.{◌≡◌, IfOk, [], ◌∷◌};
+ghost use Rattle.tree_model.specs.CoordinatorRows.{post};
+ghost use Rattle.tree_model.specs.declared.records.Subject.TheVariants as subject;
+ghost use Rattle.sub_core.specs.Subordinates.{shown};
+
+use std::alloc::{AllocError, Global};
+use tree_model::{
+    Case, Envelope, Envelopes, Logged, Message, ProcessId, Reaction, RecordKind, Sequence, Subject,
+};
+
+/// A reaction that shows nothing. It takes no memory.
+pub(crate) fn silence(alloc: Global) -> Reaction
+    ensures { result ≡ shown [] [] }
+{
+    Reaction {
+        begun: None,
+        written: Sequence::new(alloc),
+        told: None,
+        messages: Sequence::new(alloc),
+        kept: None,
+    }
+}
+
+/// One message.
+pub(crate) fn letter(
+    from: ProcessId,
+    to: ProcessId,
+    message: Message,
+    alloc: Global,
+) -> Result<Envelopes, AllocError>
+    ensures { IfOk result (λ messages. messages ≡ post from to message ∷ []) }
+{
+    let mut messages = Sequence::new(alloc);
+    messages.push(Envelope { from, to, message })?;
+    Ok(messages)
+}
+
+/// A reaction with one message.
+pub(crate) fn reply(
+    from: ProcessId,
+    to: ProcessId,
+    message: Message,
+    alloc: Global,
+) -> Result<Reaction, AllocError>
+    ensures { IfOk result (λ reaction. reaction ≡ shown [] (post from to message ∷ [])) }
+{
+    let messages = letter(from, to, message, alloc)?;
+    Ok(Reaction {
+        messages,
+        ..silence(alloc)
+    })
+}
+
+/// The record of a branch, as a reaction shows it.
+pub(crate) fn logged(
+    kind: RecordKind,
+    case: Case,
+    forced: bool,
+    alloc: Global,
+) -> Result<Sequence<Logged>, AllocError>
+    ensures { IfOk result (λ written. written ≡ record { kind = kind; subject = subject.Case case; forced = forced } ∷ []) }
+{
+    let mut written = Sequence::new(alloc);
+    written.push(Logged {
+        kind,
+        subject: Subject::Case(case),
+        forced,
+    })?;
+    Ok(written)
+}
