@@ -6,7 +6,8 @@ use Rattle.tree_model.specs.declared.standings.Standing.TheVariants.{Active, Unk
 use Rattle.tree_model.specs.Names.{same_case}
 use Rattle.tree_model.specs.Standings.{CoordinatorView, unknown_view}
 use Rattle.tree_model.proofs.NameTests.{case_tells}
-use Rattle.live_table.specs.Tables.{case_of, entry_at}
+use Rattle.live_table.specs.Tables.{case_of, entry_at, is_of_case, live_value}
+use Rattle.live_table.proofs.Writes.{live_found, same_case-itself}
 use Rattle.core_model.specs.Views.{SameView}
 use Rattle.core_model.proofs.Alike.{same_view}
 use Rattle.coord_table.specs.declared.held.Held.{Held}
@@ -205,14 +206,16 @@ module _ (old mid later new : Slots) (key : ℕ) (s : Seat) (asked : Asked) (eff
       by_here (inl there) = entry_is (s.case, left.held) p (sym there ∙ at)
       by_here (inr none) = let entry : None ≡ Some p = sym none ∙ at in absurd (cc)
 
-  taken : Left old new key s.case (is_retiring asked) live.held live.behind → TakesRowOf old new s asked effect
-  taken left =
+  taken : Left old new key s.case (is_retiring asked) live.held live.behind → (view_in new s.case ≡ unknown_view → live_value new s.case ≡ None)
+      → TakesRowOf old new s asked effect
+  taken left gone =
       record {
         does =
             subst (λ v. Does s (asked_row (seat s) asked (view_in old s.case)) effect v) (sym left.own)
             (subst (λ v. Does s (asked_row (seat s) asked v) effect live.behind) (sym (stood old mid key s.case live.held live.behind live.was live.relives)) live.does);
         others = left.others;
         tickets = left.tickets;
+        gone = gone;
         given = λ k d p at is.
             elim (cases_eq k key) [
               | inl here ↦
@@ -230,5 +233,25 @@ module _ (old mid later new : Slots) (key : ℕ) (s : Seat) (asked : Asked) (eff
             ];
       }
 
+  -- a case whose key is empty is not live
+  none_left : Left old new key s.case (is_retiring asked) live.held live.behind → entry_at new key ≡ None → (value : Option Held) → live_value new s.case ≡ value
+      → value ≡ None
+  none_left left empty None e = refl
+  none_left left empty (Some h) e =
+      let there = live_found new s.case h e in
+      elim (cases_eq there.0 key) [
+        | inl here ↦ let clash : None ≡ Some (there.1, h) = sym empty ∙ sym (ap (entry_at new) here) ∙ there.2 in absurd (cc)
+        | inr differs ↦
+            let stood : entry_at old there.0 ≡ Some (there.1, h) = sym (left.elsewhere there.0 differs) ∙ there.2 in
+            absurd (differs (live.apart s.case there.0 key (ap (is_of_case s.case) stood ∙ there.3) (ap (is_of_case s.case) live.was ∙ same_case-itself s.case)))
+      ]
+
+  gone_so : RetiresIf (is_retiring asked) mid later key → LetsGo later new key → Left old new key s.case (is_retiring asked) live.held live.behind
+      → view_in new s.case ≡ unknown_view → live_value new s.case ≡ None
+  gone_so retires (inl ends) left is = none_left left ends.0.updates.changed (live_value new s.case) refl
+  gone_so retires (inr stays) left is =
+      let stands = stands_if old mid later key s asked effect live (is_retiring asked) retires in
+      absurd (stays.1 (ap live_of stands.at ∙ ap (λ v. Some v) (stands.left.live ∙ sym left.own ∙ is)))
+
   pub takes : RetiresIf (is_retiring asked) mid later key → LetsGo later new key → TakesRowOf old new s asked effect
-  takes retires goes = taken (left_so retires goes)
+  takes retires goes = let left = left_so retires goes in taken left (gone_so retires goes left)

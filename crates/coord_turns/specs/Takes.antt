@@ -5,7 +5,7 @@ use Rattle.tree_model.specs.declared.names.Ticket.{Ticket}
 use Rattle.tree_model.specs.declared.standings.Standing.TheVariants.{Active}
 use Rattle.tree_model.specs.Names.{child_case, same_case}
 use Rattle.tree_model.specs.Standings.{CoordinatorView, unknown_view}
-use Rattle.live_table.specs.Tables.{AreApart, case_of, entry_at}
+use Rattle.live_table.specs.Tables.{AreApart, case_of, entry_at, live_value}
 use Rattle.core_model.specs.Views.{SameView}
 use Rattle.coord_table.specs.declared.held.Held.{Held}
 use Rattle.coord_table.specs.Cases.{Ends, FitsGiven, Relives, Retires, Slots, is_for, live_at, ticket_in, view_in}
@@ -58,10 +58,12 @@ RetiresIf false old new key = new ≡ old
 abbrev pub LetsGo : Slots → Slots → ℕ → Type 0
 LetsGo old new key = (Ends old new key × (live_at old key ≡ Some unknown_view)) ⊎ ((new ≡ old) × (live_at old key ≡ Some unknown_view → ⊥))
 
--- The case does what the row says, and its ticket is retired if it is to be. No other case and no other ticket moves.
+-- The case does what the row says, and its ticket is retired if it is to be; where nothing is left of it, it leaves the
+-- table. No other case and no other ticket moves.
 pub record TakesRowOf (old new : Slots) (s : Seat) (asked : Asked) (effect : RowEffect) : Type 0 where
   pub does : Does s (asked_row (seat s) asked (view_in old s.case)) effect (view_in new s.case)
   pub others : (d : Case) → same_case s.case d ≡ false → view_in new d ≡ view_in old d
   pub tickets : (d : Case) → ticket_in new d ≡ retired_if (is_retiring asked) s.case d (ticket_in old d)
+  pub gone : view_in new s.case ≡ unknown_view → live_value new s.case ≡ None
   pub given : GivenAreActive new
   pub cases : AddsNone old new
