@@ -94,9 +94,24 @@ FailsToRestart old new keep l Memory = new.sight ≡ old.sight
 FailsToRestart old new keep l Device = RestartBreaks old new keep (l ∷ [])
 FailsToRestart old new keep l e = ⊥
 
--- a manager did not restart: nothing changed, or the device failed and it has failed
+-- this boot comes behind the last one of these records
+pub record ComesNext (ls : List LogRecord) (boot : ℕ) : Type 0 where
+  pub seen : SeenLog
+  pub read : seen_of ls ≡ Some seen
+  pub next : next_boot seen.boot ≡ Some boot
+
+-- the device failed under a restart: it left the log as such a failure does, with the record of the next boot or without;
+-- and nothing else changed
+pub record RestartFails (old new : KvSight) (keep : ℕ) : Type 0 where
+  pub next : ℕ
+  pub comes : ComesNext (left_by old.log.sight keep) next
+  pub log : RestartBreaks old.log new.log keep (opened next ∷ [])
+  pub store : new.store ≡ old.store
+  pub boot : new.boot ≡ old.boot
+
+-- a manager did not restart: nothing changed, or the device failed, and the manager has failed
 abbrev pub NotRestarted : KvSight → KvSight → ℕ → RestartError → Type 0
-NotRestarted old new keep Device = (boot : ℕ) × RestartBreaks old.log new.log keep (opened boot ∷ [])
+NotRestarted old new keep Device = RestartFails old new keep
 NotRestarted old new keep e = NotRebuilt (left_by old.log.sight keep) e × SameManager old new
 
 -- Restoring from a store.
@@ -118,7 +133,7 @@ pub record RestoredFrom (bytes : List ℕ) (forced failures : ℕ) (s : KvSight)
 
 -- the log was opened, and its records leave no manager; or the device failed under the record of the boot
 abbrev pub LeavesNone : LogState → LogState → RestartError → Type 0
-LeavesNone old new Device = (boot : ℕ) × Breaks old new (opened boot ∷ [])
+LeavesNone old new Device = (boot : ℕ) × ComesNext (records_of old.sight.kept) boot × Breaks old new (opened boot ∷ [])
 LeavesNone old new e = NotRebuilt (records_of old.sight.kept) e × (new.sight ≡ old.sight)
 
 -- a store whose log was opened is handed back

@@ -1,6 +1,6 @@
 -- What each request does to the tables of XA is a move, and no operator decides a branch.
-use Rattle.std.proofs.Common.{◌≡◌, ◌≢◌, ◌∙◌, ℕ, Bool, true, false, List, [], ◌∷◌, ◌++◌, take, length, eqb, Option, Some, None, Result, Ok, Err, inl, inr, refl, ap, sym, subst}
-use Rattle.std.specs.Prelude.{if◌then◌else◌, ◌==◌, ◌⊎◌, ◌&&◌, Contains, MatchResult, IsErrAnd}
+use Rattle.std.proofs.Common.{◌≡◌, ◌≢◌, ◌∙◌, ℕ, Bool, true, false, List, [], ◌∷◌, ◌++◌, take, length, Option, Some, None, Result, Ok, Err, inl, inr, refl, ap, sym, subst}
+use Rattle.std.specs.Prelude.{if◌then◌else◌, ◌==◌, Contains, MatchResult, IsErrAnd}
 use Rattle.std.proofs.lemmas.Bool.{eqb-true}
 use Rattle.xa_codes.specs.declared.code.Code.{Code}
 use Rattle.xa_codes.specs.declared.code.Code.TheVariants as code
@@ -13,8 +13,8 @@ use Rattle.xa_tables.specs.declared.call.Verb.TheVariants as verb
 use Rattle.xa_tables.specs.declared.states.BranchState.{BranchState}
 use Rattle.xa_tables.specs.declared.states.BranchState.TheVariants.{S0, S1, S2, S3, S4, S5}
 use Rattle.xa_xid.specs.declared.xid.Xid.{Xid}
-use Rattle.xa_assoc.specs.Associations.{AssocList, IsBare}
-use Rattle.xa_branch.specs.Branches.{BranchList, off_row, state_in}
+use Rattle.xa_assoc.specs.Associations.{IsBare}
+use Rattle.xa_branch.specs.Branches.{BranchList, state_in}
 use Rattle.xa_states.specs.declared.states.States.{States}
 use Rattle.xa_states.specs.Answers.{Answers, Closed, Closes, IsNew, Opened, Opens, Recovers, Same, Takes as TakesRow, Wanted, state_at}
 use Rattle.xa_states.specs.Ready.{is_work_verb}
@@ -36,7 +36,7 @@ use Rattle.tree_model.specs.Records.{same_bytes}
 use Rattle.log_order.specs.Logs.{Whole, read_log}
 use Rattle.log_order.specs.Orders.{SeenLog, left_by as in_doubt_by, nothing_seen}
 use Rattle.rec_log.specs.Openings.{Opens as OpensLog}
-use Rattle.rec_log.specs.Sights.{LogSight, LogState, left_by, records_of}
+use Rattle.rec_log.specs.Sights.{LogSight, LogState, RestartBreaks, left_by, records_of}
 use Rattle.tree_model.specs.Nodes.{Written, is_any_forced}
 use Rattle.core_model.specs.States.{wrote}
 use Rattle.kv_replay.specs.Replays.{seen_after, seen_of}
@@ -46,14 +46,14 @@ use Rattle.kv_turns.specs.declared.turns.Turn.{Turn}
 use Rattle.kv_turns.specs.Turns.{entry_record, presumption_of, turn_of}
 use Rattle.kv_writes.specs.Writes.{writes_of}
 use Rattle.kv_core.specs.Stores.{KeySight, MovesTables, state_of}
-use Rattle.kv_core.specs.Works.{IsRefused, Reads, Writes}
+use Rattle.kv_core.specs.Works.{IsRefused}
 use Rattle.kv_core.specs.Ends.{IsDue, turn_for, wrote_some}
 use Rattle.kv_core.proofs.Moves.{IsApart, Keeps, moves_keep, recovers_keep, same_keeps, works_keep}
 use Rattle.kv_law.specs.Rows.{rows_of}
 use Rattle.kv_law.proofs.Rows.{checks_alone, fits}
 use Rattle.kv_manager.specs.Sights.{KvSight, SameManager}
 use Rattle.kv_manager.specs.Turns.{Calls, Fails, Finishes, Logs, Makes as MakesTurn, Refuses as RefusesWork, Takes as TakesTurn, Made, Broke, Spent, Failed, Refused, Taken}
-use Rattle.kv_manager.specs.Restarts.{NotRestarted, Restarted, opened}
+use Rattle.kv_manager.specs.Restarts.{NotRestarted, RestartFails, Restarted, opened}
 use Rattle.kv_manager.specs.declared.restart.RestartError.{RestartError}
 use Rattle.kv_manager.specs.declared.restart.RestartError.TheVariants as restart_error
 use Rattle.xa_script.specs.declared.request.BranchCall.{BranchCall}
@@ -62,8 +62,8 @@ use Rattle.xa_script.specs.declared.request.Request.{Request}
 use Rattle.xa_script.specs.declared.request.Request.TheVariants.{Open, Close, Branch, Recover, Work, Restart}
 use Rattle.xa_engine.specs.declared.answer.Answer.{Answer}
 use Rattle.xa_engine.specs.declared.answer.Answer.TheVariants as answer
-use Rattle.xa_engine.specs.Histories.{IsHistory, ShowEach, Shows, device_works, devices_work, verb_of}
-use Rattle.xa_engine.specs.Makes.{Boots, CallsBranch, IsRead, IsWritten, Makes, Moves, Scans, Works, kept_bytes}
+use Rattle.xa_engine.specs.Histories.{IsHistory, ShowEach, Shows, verb_of}
+use Rattle.xa_engine.specs.Makes.{Boots, CallsBranch, IsRead, IsWritten, Makes, Moves, Works, kept_bytes}
 use Rattle.xa_engine.specs.Runs.{IsFresh, Leads}
 use Rattle.xa_engine.proofs.Undecided.{NoneDecides, all_open, is_decided, none_append, none_crashed, none_left, none_left_decided, none_right, none_take}
 
@@ -389,84 +389,95 @@ restarted_undecided old new keep given un h = record {
       (none_append (left_by old.log.sight keep) (opened new.boot ∷ []) (none_crashed old.log.sight keep un.records) (refl, tt)) tt);
 }
 
-unbooted_stands : (old new : KvSight) (keep : ℕ) (e : RestartError) → Undecided old → (e ≡ restart_error.Memory → ⊥) → device_works (answer.NotBooted e) ≡ true
-    → NotRestarted old new keep e → Stands old new
-unbooted_stands old new keep restart_error.Memory un no_memory works h = absurd (no_memory refl)
-unbooted_stands old new keep restart_error.Device un no_memory works h = absurd (cc)
-unbooted_stands old new keep restart_error.Unfit un no_memory works h = (h.1.tables, same_undecided old new h.1 un)
-unbooted_stands old new keep restart_error.Exhausted un no_memory works h = (h.1.tables, same_undecided old new h.1 un)
+-- a device that failed under a restart left what the crash left, perhaps with the next boot
+none_broken : (old new : LogState) (keep boot : ℕ) → NoneDecides (records_of old.sight.kept) → RestartBreaks old new keep (opened boot ∷ [])
+    → NoneDecides (records_of new.sight.kept)
+none_broken old new keep boot un h = elim h.either [
+  | inl left ↦ subst NoneDecides (sym left.0) (none_crashed old.sight keep un)
+  | inr one ↦ subst NoneDecides (sym (ap (λ k. records_of k) one))
+      (none_append (left_by old.sight keep ++ opened boot ∷ []) []
+      (none_append (left_by old.sight keep) (opened boot ∷ []) (none_crashed old.sight keep un) (refl, tt)) tt)
+]
 
-boot_moved : (old new : KvSight) (keep : Option ℕ) (a : Answer) → Undecided old → device_works a ≡ true → Boots old new keep a → Moved old new (Restart keep) a
-boot_moved old new keep (answer.Booted n) un works h = record {
+broken_stands : (old new : KvSight) (keep : ℕ) → Undecided old → RestartFails old new keep → Stands old new
+broken_stands old new keep un h = (
+  same_one old.store.tables new.store.tables (ap (λ (s : KeySight). s.tables) h.store),
+  record {
+    branches = λ x. ap (λ (s : KeySight). is_decided (state_of s x)) h.store ∙ un.branches x;
+    records = none_broken old.log new.log keep h.next un.records h.log;
+  },
+)
+
+unbooted_stands : (old new : KvSight) (keep : ℕ) (e : RestartError) → Undecided old → (e ≡ restart_error.Memory → ⊥)
+    → NotRestarted old new keep e → Stands old new
+unbooted_stands old new keep restart_error.Memory un no_memory h = absurd (no_memory refl)
+unbooted_stands old new keep restart_error.Device un no_memory h = broken_stands old new keep un h
+unbooted_stands old new keep restart_error.Unfit un no_memory h = (h.1.tables, same_undecided old new h.1 un)
+unbooted_stands old new keep restart_error.Exhausted un no_memory h = (h.1.tables, same_undecided old new h.1 un)
+
+boot_moved : (old new : KvSight) (keep : Option ℕ) (a : Answer) → Undecided old → Boots old new keep a → Moved old new (Restart keep) a
+boot_moved old new keep (answer.Booted n) un h = record {
   move = RestartMove (in_doubt_by h.2.left.seen);
   shown = (in_doubt_by h.2.left.seen, refl);
   makes = h.2.left.tables;
   still = restarted_undecided old new (kept_bytes keep) h.1 un h.2;
 }
-boot_moved old new keep (answer.NotBooted e) un works h =
-    let stands = unbooted_stands old new (kept_bytes keep) e un h.0 works h.1 in
+boot_moved old new keep (answer.NotBooted e) un h =
+    let stands = unbooted_stands old new (kept_bytes keep) e un h.0 h.1 in
     record { move = WorkMove; shown = refl; makes = stands.0; still = stands.1 }
-boot_moved old new keep (answer.Code c) un works h = absurd h
-boot_moved old new keep (answer.Given xs) un works h = absurd h
-boot_moved old new keep (answer.Found v) un works h = absurd h
-boot_moved old new keep answer.Done un works h = absurd h
-boot_moved old new keep (answer.Refused e) un works h = absurd h
+boot_moved old new keep (answer.Code c) un h = absurd h
+boot_moved old new keep (answer.Given xs) un h = absurd h
+boot_moved old new keep (answer.Found v) un h = absurd h
+boot_moved old new keep answer.Done un h = absurd h
+boot_moved old new keep (answer.Refused e) un h = absurd h
 
 -- Each request.
 
-moved : (old new : KvSight) (r : Request) (a : Answer) → Undecided old → device_works a ≡ true → Makes old new r a → Moved old new r a
-moved old new (Open flags migrates) (answer.Code c) un works h =
+moved : (old new : KvSight) (r : Request) (a : Answer) → Undecided old → Makes old new r a → Moved old new r a
+moved old new (Open flags migrates) (answer.Code c) un h =
     let done = open_moved old new flags.0 migrates c un h in
     record { move = OpenMove flags.0 migrates c; shown = refl; makes = done.0; still = done.1 }
-moved old new (Open flags migrates) (answer.Given xs) un works h = absurd h
-moved old new (Open flags migrates) (answer.Found v) un works h = absurd h
-moved old new (Open flags migrates) answer.Done un works h = absurd h
-moved old new (Open flags migrates) (answer.Refused e) un works h = absurd h
-moved old new (Open flags migrates) (answer.Booted n) un works h = absurd h
-moved old new (Open flags migrates) (answer.NotBooted e) un works h = absurd h
-moved old new (Close flags) (answer.Code c) un works h =
+moved old new (Open flags migrates) (answer.Given xs) un h = absurd h
+moved old new (Open flags migrates) (answer.Found v) un h = absurd h
+moved old new (Open flags migrates) answer.Done un h = absurd h
+moved old new (Open flags migrates) (answer.Refused e) un h = absurd h
+moved old new (Open flags migrates) (answer.Booted n) un h = absurd h
+moved old new (Open flags migrates) (answer.NotBooted e) un h = absurd h
+moved old new (Close flags) (answer.Code c) un h =
     let done = close_moved old new flags.0 c un h in
     record { move = CloseMove flags.0 c; shown = refl; makes = done.0; still = done.1 }
-moved old new (Close flags) (answer.Given xs) un works h = absurd h
-moved old new (Close flags) (answer.Found v) un works h = absurd h
-moved old new (Close flags) answer.Done un works h = absurd h
-moved old new (Close flags) (answer.Refused e) un works h = absurd h
-moved old new (Close flags) (answer.Booted n) un works h = absurd h
-moved old new (Close flags) (answer.NotBooted e) un works h = absurd h
-moved old new (Branch f t x flags) (answer.Code c) un works h =
+moved old new (Close flags) (answer.Given xs) un h = absurd h
+moved old new (Close flags) (answer.Found v) un h = absurd h
+moved old new (Close flags) answer.Done un h = absurd h
+moved old new (Close flags) (answer.Refused e) un h = absurd h
+moved old new (Close flags) (answer.Booted n) un h = absurd h
+moved old new (Close flags) (answer.NotBooted e) un h = absurd h
+moved old new (Branch f t x flags) (answer.Code c) un h =
     let done = branch_moved f old new t x flags.0 c un h in
     record { move = BranchMove (verb_of f) t x flags.0 c; shown = refl; makes = done.0; still = done.1 }
-moved old new (Branch f t x flags) (answer.Given xs) un works h = absurd h
-moved old new (Branch f t x flags) (answer.Found v) un works h = absurd h
-moved old new (Branch f t x flags) answer.Done un works h = absurd h
-moved old new (Branch f t x flags) (answer.Refused e) un works h = absurd h
-moved old new (Branch f t x flags) (answer.Booted n) un works h = absurd h
-moved old new (Branch f t x flags) (answer.NotBooted e) un works h = absurd h
-moved old new (Recover t count flags) (answer.Code c) un works h =
+moved old new (Branch f t x flags) (answer.Given xs) un h = absurd h
+moved old new (Branch f t x flags) (answer.Found v) un h = absurd h
+moved old new (Branch f t x flags) answer.Done un h = absurd h
+moved old new (Branch f t x flags) (answer.Refused e) un h = absurd h
+moved old new (Branch f t x flags) (answer.Booted n) un h = absurd h
+moved old new (Branch f t x flags) (answer.NotBooted e) un h = absurd h
+moved old new (Recover t count flags) (answer.Code c) un h =
     let done = scan_moved old new t count flags.0 (Err c) un h in
     record { move = RecoverMove t count flags.0 (Err c); shown = refl; makes = done.0; still = done.1 }
-moved old new (Recover t count flags) (answer.Given xs) un works h =
+moved old new (Recover t count flags) (answer.Given xs) un h =
     let done = scan_moved old new t count flags.0 (Ok xs) un h in
     record { move = RecoverMove t count flags.0 (Ok xs); shown = refl; makes = done.0; still = done.1 }
-moved old new (Recover t count flags) (answer.Found v) un works h = absurd h
-moved old new (Recover t count flags) answer.Done un works h = absurd h
-moved old new (Recover t count flags) (answer.Refused e) un works h = absurd h
-moved old new (Recover t count flags) (answer.Booted n) un works h = absurd h
-moved old new (Recover t count flags) (answer.NotBooted e) un works h = absurd h
-moved old new (Work t op) a un works h =
+moved old new (Recover t count flags) (answer.Found v) un h = absurd h
+moved old new (Recover t count flags) answer.Done un h = absurd h
+moved old new (Recover t count flags) (answer.Refused e) un h = absurd h
+moved old new (Recover t count flags) (answer.Booted n) un h = absurd h
+moved old new (Recover t count flags) (answer.NotBooted e) un h = absurd h
+moved old new (Work t op) a un h =
     let stands = op_stands old new t op a un h in
     record { move = WorkMove; shown = refl; makes = stands.0; still = stands.1 }
-moved old new (Restart keep) a un works h = boot_moved old new keep a un works h
+moved old new (Restart keep) a un h = boot_moved old new keep a un h
 
 -- Whole runs.
-
-and_left : (a b : Bool) → a && b ≡ true → a ≡ true
-and_left true b h = refl
-and_left false b h = absurd (cc)
-
-and_right : (a b : Bool) → a && b ≡ true → b ≡ true
-and_right true b h = h
-and_right false b h = absurd (cc)
 
 -- a run of the tables
 record Run (m : KvSight) (rs : List Request) (given : List Answer) (n : KvSight) : Type 0 where
@@ -474,13 +485,13 @@ record Run (m : KvSight) (rs : List Request) (given : List Answer) (n : KvSight)
   shown : ShowEach rs given moves
   leads : LeadsMoves m.store.tables moves n.store.tables
 
-run_of : (m n : KvSight) (rs : List Request) (given : List Answer) → Undecided m → Leads m rs given n → devices_work given ≡ true → Run m rs given n
-run_of m n [] [] un e works = record { moves = []; shown = tt; leads = ap (λ (s : KvSight). s.store.tables) e }
-run_of m n [] (a ∷ given) un e works = absurd e
-run_of m n (r ∷ rs) [] un e works = absurd e
-run_of m n (r ∷ rs) (a ∷ given) un e works =
-    let first = moved m e.0 r a un (and_left (device_works a) (devices_work given) works) e.1 in
-    let rest = run_of e.0 n rs given first.still e.2 (and_right (device_works a) (devices_work given) works) in
+run_of : (m n : KvSight) (rs : List Request) (given : List Answer) → Undecided m → Leads m rs given n → Run m rs given n
+run_of m n [] [] un e = record { moves = []; shown = tt; leads = ap (λ (s : KvSight). s.store.tables) e }
+run_of m n [] (a ∷ given) un e = absurd e
+run_of m n (r ∷ rs) [] un e = absurd e
+run_of m n (r ∷ rs) (a ∷ given) un e =
+    let first = moved m e.0 r a un e.1 in
+    let rest = run_of e.0 n rs given first.still e.2 in
     record { moves = first.move ∷ rest.moves; shown = (first.shown, rest.shown); leads = (e.0.store.tables, first.makes, rest.leads) }
 
 -- a new manager has new tables and an empty log
@@ -508,7 +519,7 @@ new_undecided m fresh = record {
       ∙ ap (λ ls. (ls ++ opened m.boot ∷ []) ++ []) (no_records fresh.log fresh.opens))) (refl, tt);
 }
 
-pub legal_history_of : (m n : KvSight) (rs : List Request) (given : List Answer) → IsFresh m → Leads m rs given n → devices_work given ≡ true → IsHistory m rs given n
-legal_history_of m n rs given fresh leads works =
-    let run = run_of m n rs given (new_undecided m fresh) leads works in
+pub legal_history_of : (m n : KvSight) (rs : List Request) (given : List Answer) → IsFresh m → Leads m rs given n → IsHistory m rs given n
+legal_history_of m n rs given fresh leads =
+    let run = run_of m n rs given (new_undecided m fresh) leads in
     record { moves = run.moves; shown = run.shown; legal = legal_history m.store.tables n.store.tables run.moves (new_tables m fresh) run.leads }

@@ -1,10 +1,10 @@
 -- A log without records of an operator leaves no branch decided by one.
-use Rattle.std.proofs.Common.{◌≡◌, ◌≤◌, ◌+◌, ◌-◌, ℕ, zero, suc, Bool, true, false, not, cond, List, [], ◌∷◌, ◌++◌, take, map, Option, Some, None, refl, ap, sym, subst, ◌∙◌}
+use Rattle.std.proofs.Common.{◌≡◌, ◌+◌, ◌-◌, ℕ, zero, suc, Bool, true, false, not, cond, List, [], ◌∷◌, ◌++◌, take, map, Option, Some, None, refl, ap, subst}
 use Rattle.std.specs.Prelude.{nat_le, unwrap_or, if◌then◌else◌}
 use Rattle.std.specs.Map.{lookup, remove_entry}
 use Rattle.indexmap.specs.IndexMap.{insert_entry}
 use Rattle.xa_tables.specs.declared.states.BranchState.{BranchState}
-use Rattle.xa_tables.specs.declared.states.BranchState.TheVariants.{S0, S1, S2, S3, S4, S5}
+use Rattle.xa_tables.specs.declared.states.BranchState.TheVariants.{S0, S5}
 use Rattle.xa_xid.specs.declared.xid.Xid.{Xid}
 use Rattle.xa_branch.specs.Branches.{state_in}
 use Rattle.xa_branch.specs.Names.{same as same_branch}
@@ -13,7 +13,7 @@ use Rattle.tree_model.specs.declared.records.LogRecord.{LogRecord}
 use Rattle.tree_model.specs.declared.records.Record.{Record}
 use Rattle.tree_model.specs.declared.records.Record.TheVariants.{Opened, Collecting, Prepare, Commit, Abort, End, Prepared, Committed, RolledBack, Direct, HeurCommit, HeurRollback, Told, Forgot, Base, Pair}
 use Rattle.log_order.specs.declared.seen.Promise.{Promise}
-use Rattle.log_order.specs.Orders.{SeenLog, after, followed, is_opened, left_by as in_doubt_by, nothing_seen, opens, same}
+use Rattle.log_order.specs.Orders.{SeenLog, after, followed, left_by as in_doubt_by, nothing_seen, opens, same}
 use Rattle.rec_log.specs.Sights.{LogSight, left_by, record_size, records_of, whole_within}
 use Rattle.kv_replay.specs.Replays.{seen_after, seen_of}
 

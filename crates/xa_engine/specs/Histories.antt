@@ -1,12 +1,11 @@
 -- What the requests of a script do to the tables of XA.
-use Rattle.std.specs.Prelude.{◌≡◌, Bool, true, false, ◌&&◌, List, [], ◌∷◌, Ok, Err}
+use Rattle.std.specs.Prelude.{◌≡◌, Bool, List, [], ◌∷◌, Ok, Err}
 use Rattle.xa_tables.specs.declared.call.Verb.{Verb}
 use Rattle.xa_tables.specs.declared.call.Verb.TheVariants as verb
 use Rattle.xa_xid.specs.declared.xid.Xid.{Xid}
 use Rattle.xa_law.specs.Moves.{Move, Open as OpenMove, Close as CloseMove, Branch as BranchMove, Recover as RecoverMove, Work as WorkMove, Restart as RestartMove}
 use Rattle.xa_law.specs.Histories.{IsLegalHistory}
 use Rattle.kv_manager.specs.Sights.{KvSight}
-use Rattle.kv_manager.specs.declared.restart.RestartError.TheVariants.{Device}
 use Rattle.xa_script.specs.declared.request.BranchCall.{BranchCall}
 use Rattle.xa_script.specs.declared.request.BranchCall.TheVariants.{Start, End, Prepare, Commit, Rollback, Forget}
 use Rattle.xa_script.specs.declared.request.Request.{Request}
@@ -41,16 +40,6 @@ abbrev pub ShowEach : List Request → List Answer → List Move → Type 0
 ShowEach [] [] [] = Unit {0}
 ShowEach (r ∷ rs) (a ∷ rest) (move ∷ moves) = Shows r a move × ShowEach rs rest moves
 ShowEach _ _ _ = ⊥
-
--- this answer does not say that a device failed under a restart
-abbrev pub device_works : Answer → Bool
-device_works (NotBooted Device) = false
-device_works _ = true
-
--- no device failed under a restart
-abbrev pub devices_work : List Answer → Bool
-devices_work [] = true
-devices_work (a ∷ answers) = device_works a && devices_work answers
 
 -- requests with their answers do to the tables of states what a legal history does
 pub record IsHistory (m : KvSight) (requests : List Request) (answers : List Answer) (n : KvSight) : Type 0 where

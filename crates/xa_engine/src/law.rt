@@ -1,16 +1,16 @@
 //! That the history of a script is legal.
 
-ghost use Rattle.std.specs.Prelude.{◌≡◌, true, List};
+ghost use Rattle.std.specs.Prelude.{List};
 ghost use Rattle.kv_manager.specs.Sights.{KvSight};
 ghost use Rattle.xa_script.specs.declared.request.Request.{Request as AnyRequest};
 ghost use Rattle.xa_engine.specs.declared.answer.Answer.{Answer as AnyAnswer};
-ghost use Rattle.xa_engine.specs.Histories.{IsHistory, devices_work};
+ghost use Rattle.xa_engine.specs.Histories.{IsHistory};
 ghost use Rattle.xa_engine.specs.Runs.{IsFresh, Leads};
 
-/// Whatever requests are made of a new manager, as long as no device fails under a restart, what they do to the tables of
-/// XA is a legal history: each projection walks rows of the tables and what restarts leave, and each answer off the rows is
-/// that of the first check that applies, or the manager's own.
+/// Whatever requests are made of a new manager, what they do to the tables of XA is a legal history: each projection walks
+/// rows of the tables and what restarts leave, and each answer off the rows is that of the first check that applies, or the
+/// manager's own.
 pub fn histories_are_legal()
     ensures { (m n : KvSight) (requests : List AnyRequest) (answers : List AnyAnswer)
-        → IsFresh m → Leads m requests answers n → devices_work answers ≡ true → IsHistory m requests answers n }
+        → IsFresh m → Leads m requests answers n → IsHistory m requests answers n }
 {}
