@@ -1,12 +1,11 @@
 -- The name that an XID is.
-use Rattle.std.proofs.Common.{◌≡◌, ◌≢◌, ◌+◌, ◌<◌, ◌^◌, ℕ, zero, suc, ℤ, Bool, true, false, ◌&&◌, List, [], ◌∷◌, ◌++◌, length, drop, Option, Some, None, refl, sym, ap, ◌∙◌, arith, if◌then◌else◌, nat_eq, get_or, nat_lt, is_some}
+use Rattle.std.proofs.Common.{◌≡◌, ◌≢◌, ◌+◌, ◌<◌, ◌^◌, ℕ, Bool, true, false, List, [], ◌∷◌, ◌++◌, length, drop, Option, Some, None, refl, sym, ap, ◌∙◌, arith, if◌then◌else◌, get_or, is_some}
 use Rattle.std.proofs.lemmas.Bool.Decides.{nat_tests}
 use Rattle.std.proofs.lemmas.Grind.{common_steps}
 use Rattle.xa_xid.specs.declared.error.XidError.{XidError}
 use Rattle.std.specs.List.{All}
-use Rattle.std.specs.Ordering.{int_eq}
 use Rattle.std.proofs.lemmas.Bool.{and_parts}
-use Rattle.byteorder.specs.Endian.{big_bytes, big_number}
+use Rattle.byteorder.specs.Endian.{big_number}
 use Rattle.byteorder.specs.Numbers.{big_from-lt}
 use Rattle.xa_xid.specs.Xids.{XidParts, FitsParts, IsXid}
 use Rattle.xa_xid.specs.Bytes.{xid_bytes, front_fault, front_parts}
@@ -17,7 +16,7 @@ use Rattle.tree_model.specs.declared.names.Presumption.TheVariants.{PresumeAbort
 use Rattle.tree_model.specs.declared.names.Ticket.{Ticket}
 use Rattle.tree_model.specs.declared.names.Txn.{Txn}
 use Rattle.tree_model.specs.declared.records.Branch.TheVariants.{Foreign}
-use Rattle.tree_model.specs.Branches.{branch_format, branch_parts, below_bytes, txn_bytes, ticket_bytes, FitsTxn, FitsBelow, FitsTicket}
+use Rattle.tree_model.specs.Branches.{branch_format, branch_parts, below_bytes, txn_bytes, ticket_bytes, FitsTxn, FitsBelow}
 use Rattle.tree_model.specs.Records.{same_bytes, same_xid}
 use Rattle.tree_xids.proofs.BranchLaws.{txn_again, ticket_again, txn_is, ticket_is, length-ticket_bytes}
 use Rattle.log_text.specs.Parts.{Front, Name, below_in, case_name, name_by, name_at, name_in, presumption_in, txn_in, xid_at}

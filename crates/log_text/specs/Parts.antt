@@ -1,10 +1,9 @@
 -- The parts of a payload, as they are read from its front: each with the bytes behind it.
-use Rattle.std.specs.Prelude.{ℕ, zero, suc, ℤ, pos, ◌+◌, ◌*◌, ◌^◌, ◌&&◌, nat_le, nat_lt, ◌==◌, Bool, true, false, if◌then◌else◌, is_some, List, [], ◌∷◌, Option, Some, None, length, take, drop, option_map}
+use Rattle.std.specs.Prelude.{ℕ, zero, suc, ℤ, pos, ◌+◌, ◌*◌, ◌^◌, ◌&&◌, nat_le, nat_lt, ◌==◌, Bool, if◌then◌else◌, is_some, List, [], ◌∷◌, Option, Some, None, length, take, drop, option_map}
 use Rattle.std.specs.Ordering.{int_eq}
 use Rattle.byteorder.specs.Endian.{big_number}
 use Rattle.xa_xid.specs.Xids.{XidParts}
 use Rattle.xa_xid.specs.Bytes.{xid_bytes, front_fault, front_parts}
-use Rattle.tree_model.specs.declared.names.Case.{Case}
 use Rattle.tree_model.specs.declared.names.ProcessId.{ProcessId}
 use Rattle.tree_model.specs.declared.names.Presumption.{Presumption}
 use Rattle.tree_model.specs.declared.names.Presumption.TheVariants.{PresumeAbort, PresumeCommit}

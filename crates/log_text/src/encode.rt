@@ -31,6 +31,9 @@ use tree_model::{
 use tree_xids::branch_xid;
 use xa_xid::Xid;
 
+/// How many bytes a frame is thought to have. A longer one grows.
+const FRAME: usize = 128;
+
 /// The XID that a log writes for a name: a branch, and the parent of a case below the root. It takes no memory.
 pub fn name_xid(parent: Option<ProcessId>, branch: Branch) -> Xid
     ensures { result ≡ name_xid parent branch }
@@ -44,16 +47,26 @@ pub fn name_xid(parent: Option<ProcessId>, branch: Branch) -> Xid
     }
 }
 
+/// The bytes of an XID.
+#[tactic(auto, using(crate::proofs::Texts::joined4))]
+fn push_xid(text: &mut Vec<u8>, xid: &Xid) -> Result<(), AllocError>
+    ensures { OnOk result (text.new.items ≡ text.old.items ++ xid_bytes xid.now) }
+{
+    let (format, gtrid, bqual) = xid.parts();
+    text.extend_from_slice(&format.to_be_bytes())?;
+    text.extend_from_slice(&[gtrid.len() as u8, bqual.len() as u8])?;
+    text.extend_from_slice(gtrid)?;
+    text.extend_from_slice(bqual)
+}
+
 fn push_name(
     text: &mut Vec<u8>,
     parent: Option<ProcessId>,
     branch: &Branch,
-    alloc: Global,
 ) -> Result<(), AllocError>
     ensures { OnOk result (text.new.items ≡ text.old.items ++ name_text parent branch.now) }
 {
-    let bytes = name_xid(parent, *branch).to_bytes(alloc)?;
-    text.extend_from_slice(&bytes)
+    push_xid(text, &name_xid(parent, *branch))
 }
 
 #[tactic(auto, unfolding(crate::specs::Payloads::ticket_text), using(crate::proofs::Texts::joined3))]
@@ -127,7 +140,6 @@ fn push_payload(
     text: &mut Vec<u8>,
     parent: Option<ProcessId>,
     entry: &Record,
-    alloc: Global,
 ) -> Result<(), AllocError>
     requires { IsSized entry.now }
     ensures { OnOk result (text.new.items ≡ text.old.items ++ payload_text parent entry.now) }
@@ -140,21 +152,21 @@ fn push_payload(
         | Record::Prepare(case, tickets)
         | Record::Commit(case, tickets)
         | Record::Abort(case, tickets) => {
-            push_name(text, parent, &Branch::Case(*case), alloc)?;
+            push_name(text, parent, &Branch::Case(*case))?;
             push_tickets(text, tickets)
         }
-        Record::End(case) => push_name(text, parent, &Branch::Case(*case), alloc),
+        Record::End(case) => push_name(text, parent, &Branch::Case(*case)),
         Record::Prepared(branch, writes) | Record::Direct(branch, writes) => {
-            push_name(text, parent, branch, alloc)?;
+            push_name(text, parent, branch)?;
             push_writes(text, writes)
         }
         Record::Committed(branch)
         | Record::RolledBack(branch)
         | Record::HeurCommit(branch)
         | Record::HeurRollback(branch)
-        | Record::Forgot(branch) => push_name(text, parent, branch, alloc),
+        | Record::Forgot(branch) => push_name(text, parent, branch),
         Record::Told(branch, outcome) => {
-            push_name(text, parent, branch, alloc)?;
+            push_name(text, parent, branch)?;
             text.push(matches!(outcome, Outcome::Committed) as u8)?;
             Ok(())
         }
@@ -195,12 +207,12 @@ fn record_bytes(entry: &LogRecord, alloc: Global) -> Result<Vec<u8>, AllocError>
     requires { FitsFrame entry.now }
     ensures { IfOk result (λ text. text.items ≡ record_text entry.now) }
 {
-    let mut payload = Vec::new(alloc);
-    push_payload(&mut payload, entry.parent, &entry.entry, alloc)?;
-    let mut text = Vec::with_capacity(alloc, 3 + payload.len())?;
-    text.push(kind_byte(&entry.entry))?;
-    text.extend_from_slice(&(payload.len() as u16).to_be_bytes())?;
-    text.extend_from_slice(&payload)?;
+    let mut text = Vec::with_capacity(alloc, FRAME)?;
+    text.extend_from_slice(&[kind_byte(&entry.entry), 0, 0])?;
+    push_payload(&mut text, entry.parent, &entry.entry)?;
+    let length = ((text.len() - 3) as u16).to_be_bytes();
+    text[1] = length[0];
+    text[2] = length[1];
     Ok(text)
 }
 

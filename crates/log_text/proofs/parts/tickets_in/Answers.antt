@@ -1,4 +1,4 @@
-use Rattle.std.proofs.Common.{◌≡◌, ◌∙◌, ◌-◌, ◌+◌, suc, sym, ap, subst, arith, Some, None}
+use Rattle.std.proofs.Common.{◌∙◌, ◌-◌, ◌+◌, sym, ap, subst, arith, Some}
 use Rattle.log_text.specs.Parts.{ticket_at}
 use Rattle.log_text.proofs.Lists.{Goes, begins_with, goes_on, stops, ends, trails}
 use Rattle.log_text.proofs.parts.tickets_in.Goals as goal
