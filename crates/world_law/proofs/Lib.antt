@@ -1,0 +1,4 @@
+pub mod Openings
+pub mod Steps
+pub mod Events
+pub mod Unchanged

@@ -1,5 +1,5 @@
 -- Lists of events, and how a tree that runs begins.
-use Rattle.std.specs.Prelude.{◌≡◌, ℕ, Option, Some, is_some, List, [], ◌∷◌, take, slice_get}
+use Rattle.std.specs.Prelude.{◌≡◌, ℕ, Some, is_some, List, [], ◌∷◌, take, slice_get}
 use Rattle.tree_model.specs.declared.names.ProcessId.{ProcessId}
 use Rattle.tree_model.specs.declared.events.Event.{Event}
 use Rattle.tree_model.specs.declared.events.StepError.{StepError}
