@@ -104,13 +104,13 @@ module _ (place : Place) (n : Node) (fit : ChildrenFit place n) where
   belongs_to : Ticket → Case → Bool
   belongs_to t c = belongs (memory_of place n c) (kept n) c t
 
-  and_all : (a b c : Bool) → (a && (b && c)) ≡ true → (a ≡ true) × (b ≡ true) × (c ≡ true)
+  pub and_all : (a b c : Bool) → (a && (b && c)) ≡ true → (a ≡ true) × (b ≡ true) × (c ≡ true)
   and_all true true true h = (refl, refl, refl)
   and_all true true false h = absurd (cc)
   and_all true false c h = absurd (cc)
   and_all false b c h = absurd (cc)
 
-  lists : (c : Case) (t : Ticket) → is_known (coordinator_view place n c).standing ≡ true
+  pub lists : (c : Case) (t : Ticket) → is_known (coordinator_view place n c).standing ≡ true
       → (in_list (coordinator_view place n c).accepted t || in_list (coordinator_view place n c).named t) ≡ belongs (memory_of place n c) (kept n) c t
   unfolding coordinator_view
   lists c t known = known_lists (coordinator_standing (kept n) c (memory_of place n c)) (kept n) c (memory_of place n c) t known

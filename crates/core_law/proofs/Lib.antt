@@ -1,7 +1,12 @@
 pub mod Acts
 pub mod Children
+pub mod Coordinators
+pub mod Elsewhere
 pub mod ManagerSteps
 pub mod Managers
+pub mod OwnRows
 pub mod Records
+pub mod RootSteps
+pub mod Roots
 pub mod Tickets
 pub mod Turns

@@ -51,7 +51,7 @@ is_leaf_place : (q : Place) (p : ProcessId) → q.role ≡ AtLeaf p → q ≡ le
 is_leaf_place q p is = λ i. record { me = q.me; role = is i; tree = q.tree }
 
 -- in any turn that is made the place stays
-place_stays : (old new : CoreState) (i : Input) (turn : Turn) → Moves old new i turn → new.place ≡ old.place
+pub place_stays : (old new : CoreState) (i : Input) (turn : Turn) → Moves old new i turn → new.place ≡ old.place
 place_stays old new i (Refuses e) made = absurd made
 place_stays old new i (Begins x) made = made.stays.place
 place_stays old new i (Issues d t l) made = made.place

@@ -1,17 +1,18 @@
 -- What a process makes is what the model's process makes.
-use Rattle.std.specs.Prelude.{◌≡◌, Option}
+use Rattle.std.specs.Prelude.{◌≡◌, false, Option}
 use Rattle.tree_model.specs.declared.names.Case.{Case}
 use Rattle.tree_model.specs.declared.events.Input.{Input}
 use Rattle.tree_model.specs.declared.events.Reaction.{Reaction}
 use Rattle.tree_model.specs.declared.names.ProcessId.{ProcessId}
 use Rattle.tree_model.specs.declared.records.Branch.TheVariants.{Case as CaseBranch}
-use Rattle.tree_model.specs.Nodes.{AtLeaf, DataAnswer, Effect, Heard, Node, Place, after, kept, reaction_of}
+use Rattle.tree_model.specs.Nodes.{AtLeaf, AtRoot, DataAnswer, Effect, Heard, Node, Place, after, kept, reaction_of}
 use Rattle.tree_model.specs.Standings.{Unmarked, mark_of}
 use Rattle.tree_model.specs.Views.{fresh_case}
 use Rattle.tree_model.specs.Reactions.{Does, reacts}
 use Rattle.core_model.specs.States.{CoreState}
 use Rattle.core_model.specs.Makes.{Makes}
 use Rattle.core_model.specs.Turns.{Finds, asked_by, reacted, turn_of}
+use Rattle.core_law.specs.Fits.{RootFits}
 use Rattle.core_law.specs.Ties.{ChildrenFit, Stands}
 
 -- a process meets each input as the model's process does for which it stands
@@ -35,4 +36,10 @@ FreshIsUnmarked place n = (d : Case) → mark_of (CaseBranch (fresh_case place n
 abbrev pub ManagersMakeAsTheModel : Type 0
 ManagersMakeAsTheModel = (n : Node) (old new : CoreState) (p : ProcessId) (a : DataAnswer) (i : Input) (reaction : Reaction)
     → old.place.role ≡ AtLeaf p → Stands n old → ChildrenFit old.place n → FreshIsUnmarked old.place n
+    → Makes old new a i reaction → MadeAs n (record { input = i; data_answer = a }) old new reaction
+
+-- what a root makes of an input is what the model's root makes of it
+abbrev pub RootsMakeAsTheModel : Type 0
+RootsMakeAsTheModel = (n : Node) (old new : CoreState) (a : DataAnswer) (i : Input) (reaction : Reaction)
+    → old.place.role ≡ AtRoot → Stands n old → (n.failed ≡ false → RootFits old.place n)
     → Makes old new a i reaction → MadeAs n (record { input = i; data_answer = a }) old new reaction

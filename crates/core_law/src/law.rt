@@ -1,6 +1,6 @@
 //! The laws. The functions do nothing: each one's contract is a law.
 
-ghost use Rattle.core_law.specs.Laws.{ManagersMakeAsTheModel, MeetsAsTheModel};
+ghost use Rattle.core_law.specs.Laws.{ManagersMakeAsTheModel, MeetsAsTheModel, RootsMakeAsTheModel};
 
 /// Where a process stands for a process of the model, each input meets at it the row, the refusal or the nothing that it
 /// meets there.
@@ -12,4 +12,10 @@ pub fn inputs_meet_the_models_turns()
 /// stands for what is left.
 pub fn managers_make_as_the_model()
     ensures { ManagersMakeAsTheModel }
+{}
+
+/// Where a root stands for a root of the model that keeps of its cases what holds in every run, it makes of each input what
+/// that makes of it: it shows the same, and stands for what is left.
+pub fn roots_make_as_the_model()
+    ensures { RootsMakeAsTheModel }
 {}
