@@ -1,4 +1,5 @@
 pub mod Acts
+pub mod CascadeQuiet
 pub mod Children
 pub mod Coordinators
 pub mod Elsewhere

@@ -13,7 +13,8 @@ use Rattle.tree_model.specs.Views.{leaf_place}
 use Rattle.core_model.specs.States.{CoreState}
 use Rattle.core_model.specs.Makes.{Makes, Moves}
 use Rattle.core_model.specs.Turns.{Begins, Handles, Issues, Refuses, Says, Takes, Turn, reacted, turn_of, up_turn}
-use Rattle.core_law.specs.Laws.{FreshIsUnmarked, MadeAs}
+use Rattle.core_law.specs.Fits.{FreshIsUnmarked}
+use Rattle.core_law.specs.Laws.{MadeAs}
 use Rattle.core_law.specs.Ties.{ChildrenFit, Stands}
 use Rattle.core_law.proofs.Managers.{Follows, acted, heard_so}
 use Rattle.core_law.proofs.Turns.{meets_as}

@@ -4,15 +4,12 @@ use Rattle.tree_model.specs.declared.names.Case.{Case}
 use Rattle.tree_model.specs.declared.events.Input.{Input}
 use Rattle.tree_model.specs.declared.events.Reaction.{Reaction}
 use Rattle.tree_model.specs.declared.names.ProcessId.{ProcessId}
-use Rattle.tree_model.specs.declared.records.Branch.TheVariants.{Case as CaseBranch}
-use Rattle.tree_model.specs.Nodes.{AtLeaf, AtRoot, DataAnswer, Effect, Heard, Node, Place, after, kept, reaction_of}
-use Rattle.tree_model.specs.Standings.{Unmarked, mark_of}
-use Rattle.tree_model.specs.Views.{fresh_case}
+use Rattle.tree_model.specs.Nodes.{AtLeaf, AtRoot, DataAnswer, Effect, Heard, Node, after, reaction_of}
 use Rattle.tree_model.specs.Reactions.{Does, reacts}
 use Rattle.core_model.specs.States.{CoreState}
 use Rattle.core_model.specs.Makes.{Makes}
 use Rattle.core_model.specs.Turns.{Finds, asked_by, reacted, turn_of}
-use Rattle.core_law.specs.Fits.{RootFits}
+use Rattle.core_law.specs.Fits.{FreshIsUnmarked, RootFits}
 use Rattle.core_law.specs.Ties.{ChildrenFit, Stands}
 
 -- a process meets each input as the model's process does for which it stands
@@ -27,10 +24,6 @@ pub record MadeAs (n : Node) (h : Heard) (old new : CoreState) (reaction : React
   pub does : reacts old.place n h ≡ Does effect
   pub shown : reaction ≡ reaction_of effect
   pub stands : Stands (after n h effect) new
-
--- no record is of the ticket that is given next for a case of the parent
-abbrev pub FreshIsUnmarked : Place → Node → Type 0
-FreshIsUnmarked place n = (d : Case) → mark_of (CaseBranch (fresh_case place n d)) (kept n) ≡ Unmarked
 
 -- what a manager makes of an input is what the model's manager makes of it
 abbrev pub ManagersMakeAsTheModel : Type 0
