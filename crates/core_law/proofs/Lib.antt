@@ -3,6 +3,7 @@ pub mod CascadeQuiet
 pub mod Children
 pub mod Coordinators
 pub mod Elsewhere
+pub mod Faults
 pub mod ManagerSteps
 pub mod Managers
 pub mod OwnRows

@@ -66,7 +66,7 @@ pub managers_make : (n : Node) (old new : CoreState) (p : ProcessId) (a : DataAn
 managers_make n old new p a i reaction role stands fit fresh made =
     record {
       effect = made.effect;
-      does = meets_as n old a made.found i fit made.finds stands ∙ made.does;
+      does = meets_as n old a made.found i (λ _. fit) made.finds stands ∙ made.does;
       shown = made.shown;
       stands = at_place old.place new.place (is_leaf_place old.place p role) (place_stays old new i (turn_of old a made.found i) made.moves) stands fresh made.does made.moves;
     }

@@ -77,7 +77,7 @@ module _ (n : Node) (old new : CoreState) (a : DataAnswer) (i : Input) (reaction
   made_so runs fits =
       record {
         effect = made.effect;
-        does = meets_as n old a made.found i fits.children made.finds stands ∙ made.does;
+        does = meets_as n old a made.found i (λ _. fits.children) made.finds stands ∙ made.does;
         shown = made.shown;
         stands = placed runs old.place new.place (is_root_place old.place role) (place_stays old new i (turn_of old a made.found i) made.moves)
             stands fits made.finds made.does made.moves;

@@ -1,13 +1,14 @@
 -- What a process makes is what the model's process makes.
-use Rattle.std.specs.Prelude.{◌≡◌, false, Option}
+use Rattle.std.specs.Prelude.{◌≡◌, ℕ, false, Option}
 use Rattle.tree_model.specs.declared.names.Case.{Case}
 use Rattle.tree_model.specs.declared.events.Input.{Input}
 use Rattle.tree_model.specs.declared.events.Reaction.{Reaction}
+use Rattle.tree_model.specs.declared.events.StepError.{StepError}
 use Rattle.tree_model.specs.declared.names.ProcessId.{ProcessId}
-use Rattle.tree_model.specs.Nodes.{AtLeaf, AtRoot, DataAnswer, Effect, Heard, Node, after, reaction_of}
-use Rattle.tree_model.specs.Reactions.{Does, reacts}
-use Rattle.core_model.specs.States.{CoreState}
-use Rattle.core_model.specs.Makes.{Makes}
+use Rattle.tree_model.specs.Nodes.{AtLeaf, AtRoot, DataAnswer, Effect, Heard, Node, after, fails_in, reaction_of}
+use Rattle.tree_model.specs.Reactions.{Does, Refused, reacts}
+use Rattle.core_model.specs.States.{CoreState, SameCore}
+use Rattle.core_model.specs.Makes.{IsBroken, IsRefused, Makes}
 use Rattle.core_model.specs.Turns.{Finds, asked_by, reacted, turn_of}
 use Rattle.core_law.specs.Fits.{FreshIsUnmarked, RootFits}
 use Rattle.core_law.specs.Ties.{ChildrenFit, Stands}
@@ -15,7 +16,7 @@ use Rattle.core_law.specs.Ties.{ChildrenFit, Stands}
 -- a process meets each input as the model's process does for which it stands
 abbrev pub MeetsAsTheModel : Type 0
 MeetsAsTheModel = (n : Node) (s : CoreState) (a : DataAnswer) (found : Option Case) (i : Input)
-    → Stands n s → ChildrenFit s.place n → Finds s (asked_by i) found
+    → Stands n s → (n.failed ≡ false → ChildrenFit s.place n) → Finds s (asked_by i) found
     → reacts s.place n (record { input = i; data_answer = a }) ≡ reacted (turn_of s a found i)
 
 -- The model's process makes the input too and shows the same, and the process stands for what that leaves.
@@ -36,3 +37,28 @@ abbrev pub RootsMakeAsTheModel : Type 0
 RootsMakeAsTheModel = (n : Node) (old new : CoreState) (a : DataAnswer) (i : Input) (reaction : Reaction)
     → old.place.role ≡ AtRoot → Stands n old → (n.failed ≡ false → RootFits old.place n)
     → Makes old new a i reaction → MadeAs n (record { input = i; data_answer = a }) old new reaction
+
+-- between processes between which nothing is otherwise, both stand for the model's process or neither does
+abbrev pub SameStandsForTheSame : Type 0
+SameStandsForTheSame = (n : Node) (old new : CoreState) → SameCore old new → Stands n old → Stands n new
+
+-- what a process refuses the model's process refuses by the same error, and the process still stands for it
+abbrev pub RefusesAsTheModel : Type 0
+RefusesAsTheModel = (n : Node) (old new : CoreState) (a : DataAnswer) (i : Input) (e : StepError)
+    → Stands n old → (n.failed ≡ false → ChildrenFit old.place n) → IsRefused old new a i e
+    → (reacts old.place n (record { input = i; data_answer = a }) ≡ Refused e) × Stands n new
+
+-- The model's process makes the input too, its device fails in it with some front of the records appended and some of
+-- those behind the forced front forced, and the process stands for what that leaves.
+pub record BrokenAs (n : Node) (h : Heard) (old new : CoreState) : Type 0 where
+  pub effect : Effect
+  pub does : reacts old.place n h ≡ Does effect
+  pub appended : ℕ
+  pub forced : ℕ
+  pub stands : Stands (fails_in n h effect appended forced) new
+
+-- where a process's device fails in an input, the model's process's may fail so too
+abbrev pub BreaksAsTheModel : Type 0
+BreaksAsTheModel = (n : Node) (old new : CoreState) (a : DataAnswer) (i : Input)
+    → Stands n old → (n.failed ≡ false → ChildrenFit old.place n) → IsBroken old new a i
+    → BrokenAs n (record { input = i; data_answer = a }) old new
