@@ -1,5 +1,5 @@
 -- What a turn leaves of a coordinator, at the root and below it: the half that no row has to itself.
-use Rattle.std.proofs.Common.{◌≡◌, ℕ, false, if◌then◌else◌, Option, Some, None, List, [], map, inl, inr, refl, sym, ap, subst, ◌∙◌}
+use Rattle.std.proofs.Common.{◌≡◌, ℕ, false, if◌then◌else◌, Option, Some, None, List, ◌++◌, [], map, inl, inr, refl, sym, ap, subst, ◌∙◌}
 use Rattle.std.proofs.lemmas.List.{append-nil}
 use Rattle.tree_model.specs.declared.names.Case.{Case}
 use Rattle.tree_model.specs.declared.names.Ticket.{Ticket}
@@ -97,6 +97,12 @@ module _ (n : Node) (s s' : CoreState) (place : Place) (a : DataAnswer)
   unfolding coordinator_view
   nothing_written i e none d keeps =
       view-after place n (heard i) e d (λ b. rw none refl) ∙ rw none (ap (λ rs. read rs d (next i d)) (append-nil (kept n)) ∙ keeps)
+
+  -- the case's own view behind a row, by how the extended lists read
+  pub own_moved : (i : Input) (c : Case) (row : Row) → IsOf c row → read (kept n ++ entries_written row.written) c (next i c) ≡ row.view
+      → coordinator_view place (after n (heard i) (row_effect c row)) c ≡ row.view
+  unfolding coordinator_view
+  own_moved i c row own reads = view-after place n (heard i) (row_effect c row) c own.boot ∙ reads
 
   module _ (runs : n.failed ≡ false) (stands : Stands n old) where
     pub up : StandsUp n old

@@ -57,6 +57,9 @@ module _ (place : Place) (n : Node) (fit : ChildrenFit place n) (s : CoreState) 
   pub found_known : (x : Txn) (t : Ticket) (c : Case) → Finds s (Some (x, t)) (Some c) → (c.txn ≡ x) × (is_known (view c).standing ≡ true)
   found_known x t c is = let parts = its_parts x t c is in (parts.0, parts.1)
 
+  pub found_belongs : (x : Txn) (t : Ticket) (c : Case) → Finds s (Some (x, t)) (Some c) → belongs (memory_of place n c) (kept n) c t ≡ true
+  found_belongs x t c is = (its_parts x t c is).2
+
   -- the child belongs to no live case but to the one that was found
   pub belongs_not : (x : Txn) (t : Ticket) (found : Option Case) → Finds s (Some (x, t)) found → (d : Case) → IsOther found d
       → same_txn x d.txn ≡ true → is_known (view d).standing ≡ true → belongs (memory_of place n d) (kept n) d t ≡ false

@@ -1,5 +1,9 @@
 pub mod Acts
 pub mod CascadeQuiet
+pub mod CascadeSteps
+pub mod CascadeTickets
+pub mod CascadeViews
+pub mod Cascades
 pub mod Children
 pub mod Coordinators
 pub mod Elsewhere

@@ -69,7 +69,7 @@ none_active me boot g [] = refl
 none_active me boot g (h ∷ hs) = none_active me boot (root_self g h.input) hs ∙ none_given me boot g h.input
 
 -- is_known says which standing it is not
-unknown_if : (st : Standing) → is_known st ≡ false → st ≡ standing.Unknown
+pub unknown_if : (st : Standing) → is_known st ≡ false → st ≡ standing.Unknown
 unknown_if standing.Unknown e = refl
 unknown_if standing.Active e = absurd (cc)
 unknown_if standing.Collecting e = absurd (cc)

@@ -5,8 +5,9 @@ use Rattle.tree_model.specs.declared.names.Case.{Case}
 use Rattle.tree_model.specs.declared.names.Outcome.{Outcome}
 use Rattle.tree_model.specs.declared.names.Presumption.{Presumption}
 use Rattle.tree_model.specs.declared.names.Ticket.{Ticket}
+use Rattle.tree_model.specs.declared.names.Txn.{Txn}
 use Rattle.tree_model.specs.declared.records.Branch.TheVariants.{Case as CaseBranch}
-use Rattle.tree_model.specs.declared.standings.Standing.TheVariants.{Prepared}
+use Rattle.tree_model.specs.declared.standings.Standing.TheVariants.{Prepared, Unknown}
 use Rattle.tree_model.specs.Names.{root_case}
 use Rattle.tree_model.specs.Records.{in_list, promised_by}
 use Rattle.tree_model.specs.Nodes.{AtLeaf, AtRoot, Below, Node, Place, Role, kept}
@@ -22,12 +23,13 @@ pub record RootFits (place : Place) (n : Node) : Type 0 where
   pub alike : (c : Case) → IsOpenAlike place n c
   pub fresh : (p : Presumption) → IsUnrecorded (kept n) (root_case (next_begun place n p))
 
--- Below the root: the same, of the case that is joined next; and no acknowledgement of a promised child was noted before
--- the parent decided.
+-- Below the root: the same, of the case that is joined next; no case without a ticket is known; and no acknowledgement of
+-- a promised child was noted before the parent decided.
 pub record CascadeFits (place : Place) (n : Node) : Type 0 where
   pub children : ChildrenFit place n
   pub alike : (c : Case) → IsOpenAlike place n c
   pub fresh : (d : Case) → IsUnrecorded (kept n) (fresh_case place n d)
+  pub ticketed : (x : Txn) → (coordinator_view place n (root_case x)).standing ≡ Unknown
   pub none_early : (c : Case) (t : Ticket) (o : Outcome) → (coordinator_view place n c).standing ≡ Prepared
       → in_list (promised_by c (kept n)) t ≡ true → has_acked (memory_of place n c).acks o t ≡ false
 

@@ -5,12 +5,12 @@ use Rattle.tree_model.specs.declared.events.Input.{Input}
 use Rattle.tree_model.specs.declared.events.Reaction.{Reaction}
 use Rattle.tree_model.specs.declared.events.StepError.{StepError}
 use Rattle.tree_model.specs.declared.names.ProcessId.{ProcessId}
-use Rattle.tree_model.specs.Nodes.{AtLeaf, AtRoot, DataAnswer, Effect, Heard, Node, after, fails_in, reaction_of}
-use Rattle.tree_model.specs.Reactions.{Does, Refused, reacts}
+use Rattle.tree_model.specs.Nodes.{AtLeaf, AtRoot, Below, DataAnswer, Effect, Heard, Node, after, fails_in, reaction_of}
+use Rattle.tree_model.specs.Reactions.{Does, Refused, is_passed_over, reacts}
 use Rattle.core_model.specs.States.{CoreState, SameCore}
 use Rattle.core_model.specs.Makes.{IsBroken, IsRefused, Makes}
 use Rattle.core_model.specs.Turns.{Finds, asked_by, reacted, turn_of}
-use Rattle.core_law.specs.Fits.{FreshIsUnmarked, RootFits}
+use Rattle.core_law.specs.Fits.{CascadeFits, FreshIsUnmarked, RootFits}
 use Rattle.core_law.specs.Ties.{ChildrenFit, Stands}
 
 -- a process meets each input as the model's process does for which it stands
@@ -36,6 +36,12 @@ ManagersMakeAsTheModel = (n : Node) (old new : CoreState) (p : ProcessId) (a : D
 abbrev pub RootsMakeAsTheModel : Type 0
 RootsMakeAsTheModel = (n : Node) (old new : CoreState) (a : DataAnswer) (i : Input) (reaction : Reaction)
     → old.place.role ≡ AtRoot → Stands n old → (n.failed ≡ false → RootFits old.place n)
+    → Makes old new a i reaction → MadeAs n (record { input = i; data_answer = a }) old new reaction
+
+-- what a coordinator below the root makes of an input that is not passed over is what the model's makes of it
+abbrev pub CascadesMakeAsTheModel : Type 0
+CascadesMakeAsTheModel = (n : Node) (old new : CoreState) (p : ProcessId) (a : DataAnswer) (i : Input) (reaction : Reaction)
+    → old.place.role ≡ Below p → Stands n old → (n.failed ≡ false → CascadeFits old.place n) → is_passed_over old.place n i ≡ false
     → Makes old new a i reaction → MadeAs n (record { input = i; data_answer = a }) old new reaction
 
 -- between processes between which nothing is otherwise, both stand for the model's process or neither does

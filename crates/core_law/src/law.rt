@@ -1,6 +1,6 @@
 //! The laws. The functions do nothing: each one's contract is a law.
 
-ghost use Rattle.core_law.specs.Laws.{BreaksAsTheModel, ManagersMakeAsTheModel, MeetsAsTheModel, RefusesAsTheModel, RootsMakeAsTheModel, SameStandsForTheSame};
+ghost use Rattle.core_law.specs.Laws.{BreaksAsTheModel, CascadesMakeAsTheModel, ManagersMakeAsTheModel, MeetsAsTheModel, RefusesAsTheModel, RootsMakeAsTheModel, SameStandsForTheSame};
 
 /// Where a process stands for a process of the model, each input meets at it the row, the refusal or the nothing that it
 /// meets there.
@@ -18,6 +18,12 @@ pub fn managers_make_as_the_model()
 /// that makes of it: it shows the same, and stands for what is left.
 pub fn roots_make_as_the_model()
     ensures { RootsMakeAsTheModel }
+{}
+
+/// Where a coordinator below the root stands for one of the model that keeps of its cases what holds in every run, it makes
+/// of each input that is not passed over what that makes of it: it shows the same, and stands for what is left.
+pub fn cascades_make_as_the_model()
+    ensures { CascadesMakeAsTheModel }
 {}
 
 /// A process between which and one that stands for a process of the model nothing is otherwise stands for that too.

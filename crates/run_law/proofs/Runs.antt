@@ -26,7 +26,7 @@ use Rattle.tree_nodes.proofs.Worlds.{put}
 use Rattle.core_law.specs.Fits.{CascadeFits, NodeFits}
 use Rattle.core_law.proofs.CascadeQuiet.{cascaded_place}
 use Rattle.core_law.proofs.Records.{failed-after}
-use Rattle.run_law.proofs.Cascades.{cascade_children, coordinates, issues}
+use Rattle.run_law.proofs.Cascades.{cascade_children, coordinates, issues, ticketed}
 use Rattle.run_law.proofs.Cases.{unrecorded}
 use Rattle.run_law.proofs.Early.{NoneEarly, opened_none_early, prepared_undecided, promised_so, restarted_none_early, still_none_early, trims_none_early}
 use Rattle.run_law.proofs.Given.{fresh_unrecorded}
@@ -99,6 +99,7 @@ module _ (tree : List TreeEntry) where
         alike = (coordinates q p tree net n holds up).alike up;
         fresh = λ d. unrecorded (fresh_case (cascaded_place q p tree) n d) (kept n)
             (fresh_unrecorded (cascaded_place q p tree) net n holds.lasts.nested up (issues q p tree net n holds up) d);
+        ticketed = ticketed q p tree net n holds up;
         none_early = none_early q p n early;
       }
 
