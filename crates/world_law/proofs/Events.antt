@@ -72,7 +72,7 @@ module _ (law : (tree : List TreeEntry) → IsTree tree → InputsAsTheModel tre
       then_on tree es w made.0 t (delivered_on s made.0 k es w is f made.1)
       (λ es' w' g. again made.0 es' w' (made.1.steps.moves.tree ∙ is) g made.2)
 
-  settles_on : (n : ℕ) (s t : WorldState) (es : List Made) (w : World) → s.tree ≡ tree → Follows es w s → Settles n s t → GoesOnIn tree es w t
+  pub settles_on : (n : ℕ) (s t : WorldState) (es : List Made) (w : World) → s.tree ≡ tree → Follows es w s → Settles n s t → GoesOnIn tree es w t
   settles_on zero s t es w is f made = subst (λ z. GoesOnIn tree es w z) (sym made) (waits tree es w s f is)
   settles_on (suc n) s t es w is f made =
       settle_step n s t (least_open 1 s.delivered) es w (λ mid es' w' still g. settles_on n mid t es' w' still g) is f made
