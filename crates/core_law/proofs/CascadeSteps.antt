@@ -48,7 +48,7 @@ module _ (n : Node) (s s' : CoreState) (me p : ProcessId) (tree : List TreeEntry
           subst (λ z. Leads i (if z then Refuses Failed else up_turn old a found i)) (sym (stands.failed ∙ runs)) (up_follows runs stands fits i finds late)
 
 -- the place of a process is that of a coordinator below the root
-is_cascaded_place : (q : Place) (p : ProcessId) → q.role ≡ Below p → q ≡ cascaded_place q.me p q.tree
+pub is_cascaded_place : (q : Place) (p : ProcessId) → q.role ≡ Below p → q ≡ cascaded_place q.me p q.tree
 is_cascaded_place q p is = λ i. record { me = q.me; role = is i; tree = q.tree }
 
 module _ (n : Node) (old new : CoreState) (p : ProcessId) (a : DataAnswer) (i : Input) (reaction : Reaction) (role : old.place.role ≡ Below p)

@@ -11,8 +11,10 @@ pub mod Faults
 pub mod ManagerSteps
 pub mod Managers
 pub mod OwnRows
+pub mod PassedOver
 pub mod Records
 pub mod RootSteps
 pub mod Roots
+pub mod Steps
 pub mod Tickets
 pub mod Turns

@@ -1,5 +1,6 @@
 //! The laws. The functions do nothing: each one's contract is a law.
 
+ghost use Rattle.core_law.specs.Steps.{FaultsAreMoves, InputsAreMoves, RefusalsAreMoves};
 ghost use Rattle.core_law.specs.Laws.{BreaksAsTheModel, CascadesMakeAsTheModel, ManagersMakeAsTheModel, MeetsAsTheModel, RefusesAsTheModel, RootsMakeAsTheModel, SameStandsForTheSame};
 
 /// Where a process stands for a process of the model, each input meets at it the row, the refusal or the nothing that it
@@ -41,4 +42,22 @@ pub fn refuses_as_the_model()
 /// too so that the one stands for what is left of the other.
 pub fn breaks_as_the_model()
     ensures { BreaksAsTheModel }
+{}
+
+/// Where a process of any role stands for a process of the model that keeps of its cases what holds in every run, each
+/// input that it makes is a move of that: it shows the same, and stands for what is left. Where the model passes an input
+/// over, the process does nothing with it.
+pub fn inputs_are_moves()
+    ensures { InputsAreMoves }
+{}
+
+/// What it refuses is refused there by the same error, and it still stands for it.
+pub fn refusals_are_moves()
+    ensures { RefusalsAreMoves }
+{}
+
+/// Where its device fails in an input that is not passed over, that is a move with a fault in it, and it stands for what
+/// that leaves.
+pub fn faults_are_moves()
+    ensures { FaultsAreMoves }
 {}
