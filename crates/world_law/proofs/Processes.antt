@@ -24,7 +24,7 @@ use Rattle.core_model.proofs.Alike.{same_view}
 use Rattle.core_law.specs.Fits.{NodeFits}
 use Rattle.core_law.specs.Ties.{Stands}
 use Rattle.core_law.proofs.ManagerSteps.{place_stays}
-use Rattle.core_law.proofs.Moves.{inputs_are_moves, refusals_are_moves}
+use Rattle.core_law.proofs.Steps.{refusals_so, steps_so}
 use Rattle.run_law.proofs.Runs.{runs_fit}
 use Rattle.world_law.specs.Worlds.{RefusesAt, WorldState}
 use Rattle.world_law.specs.Ties.{Follows}
@@ -37,7 +37,7 @@ fits_at tree es w q place run is works = subst (λ p. NodeFits p.role p (w.at q)
 
 pub as_the_model : (tree : List TreeEntry) → IsTree tree → InputsAsTheModel tree
 as_the_model tree is_tree es w q old new a i reaction run listed stands place kept made =
-    let step = inputs_are_moves (w.at q) old new a i reaction kept (fits_at tree es w q old.place run place) made in
+    let step = steps_so (w.at q) old new a i kept (fits_at tree es w q old.place run place) reaction made in
     record {
       effect = step.effect;
       node = step.left;
@@ -93,7 +93,7 @@ refused_by es w s q None i e f there why d =
 refused_by es w s q (Some c) i e f there why d =
     let here = f.nodes q c there in
     let listed : is_listed s.tree q ≡ true = sym (f.listed q) ∙ ap is_some there in
-    let is = refusals_are_moves (w.at q) c c why.0 i e here.stands (fits_at s.tree es w q c.place f.is_run here.place)
+    let is = refusals_so (w.at q) c c why.0 i here.stands (fits_at s.tree es w q c.place f.is_run here.place) e
     (record { same = same_core c; found = why.1; finds = why.2; refuses = why.3 }) in
     let made : node_makes (place_of s.tree q) (w.at q) (move_of q (Handles i) why.0) ≡ RefusesMove e =
     subst (λ p. node_makes p (w.at q) (move_of p.me (Handles i) why.0) ≡ RefusesMove e) here.place is.0 in

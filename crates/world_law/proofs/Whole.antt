@@ -13,7 +13,7 @@ use Rattle.tree_model.specs.Outcomes.{Headline}
 use Rattle.tree_model.specs.Plays.{process_of_act, sent_as}
 use Rattle.tree_model.specs.Trees.{IsTree, root_of}
 use Rattle.tree_model.specs.World.{IsRun, Made, World, opened_world}
-use Rattle.tree_runs.proofs.Headlines.{headline}
+use Rattle.tree_runs.proofs.Headline as runs
 use Rattle.world_law.specs.Worlds.{NoneDelivered, NotActed, NotDelivered, RefusesAt, RefusesMessage, Same, SettleStops, Stops, WorldState, least_open}
 use Rattle.world_law.specs.Runs.{IsOpened, LeadsUntil}
 use Rattle.world_law.specs.Ties.{Follows, GoesOn, IsModelled, RunsOn}
@@ -109,7 +109,7 @@ module _ (tree : List TreeEntry) (is_tree : IsTree tree) where
   stopped_so s t (Trim q) e es w is itself f h = absurd h
 
   headline_of : (s : WorldState) (es : List Made) (w : World) → s.tree ≡ tree → Follows es w s → Headline tree es w
-  headline_of s es w is f = headline tree es w is_tree (subst (λ z. IsRun z es w) is f.is_run)
+  headline_of s es w is f = runs.headline tree is_tree es w (subst (λ z. IsRun z es w) is f.is_run)
 
   pub run_so : (start end : WorldState) (events : List Event) (refusal : Refusal) → IsOpened start tree → LeadsTo start events refusal end → IsForItself refusal
       → IsRunOf tree events refusal end
