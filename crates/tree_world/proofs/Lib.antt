@@ -1,0 +1,4 @@
+pub mod Journals
+pub mod OpenPlaces
+pub mod Processes
+pub mod Steps
