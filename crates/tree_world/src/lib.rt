@@ -5,5 +5,7 @@ mod journal;
 mod marks;
 mod node;
 mod nodes;
+mod world;
 
 pub use node::Node;
+pub use world::{World, is_run_event};

@@ -1,4 +1,4 @@
-use Rattle.std.proofs.Common.{false, refl}
+use Rattle.std.proofs.Common.{false}
 use Rattle.tree_model.specs.Nodes.{ReadsOnly}
 use Rattle.tree_world.proofs.Steps.{same_core}
 use Rattle.tree_world.proofs.node.Node.handle.Goals as goal
