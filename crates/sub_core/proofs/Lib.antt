@@ -5,3 +5,4 @@ pub mod Votes
 pub mod Outcomes
 pub mod Staying
 pub mod Doing
+pub mod Joins

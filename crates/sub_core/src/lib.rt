@@ -3,6 +3,7 @@
 
 mod ending;
 mod hearing;
+mod joining;
 mod replies;
 mod subordinate;
 mod voting;
