@@ -6,3 +6,4 @@ pub mod Outcomes
 pub mod Staying
 pub mod Doing
 pub mod Joins
+pub mod Steps
