@@ -7,3 +7,4 @@ pub mod Staying
 pub mod Doing
 pub mod Joins
 pub mod Steps
+pub mod Opened

@@ -1,7 +1,7 @@
 //! The live branches by case, and the active tickets by the parent's case.
 
 ghost use Rattle.std.specs.Prelude.{◌≡◌, ◌≢◌, [], None, Some, IfOk, IsSome, OnErr, OnOk};
-ghost use Rattle.live_table.specs.Tables.{Finds, Moves, entry_at, live_value, value_at};
+ghost use Rattle.live_table.specs.Tables.{Finds, Moves, entry_at, live_count, live_value, value_at};
 ghost use Rattle.tree_model.specs.Names.{child_case};
 ghost use Rattle.sub_table.specs.declared.branch.Branch.{Branch as AnyBranch};
 ghost use Rattle.sub_table.specs.declared.branch.Stage.TheVariants as stage;
@@ -51,6 +51,13 @@ impl Branches {
             tickets: LiveTable::new(alloc),
             branches: LiveTable::new(alloc),
         }
+    }
+
+    /// How many cases are live.
+    pub fn len(&self) -> usize
+        ensures { result ≡ live_count self.now.branches }
+    {
+        self.branches.len()
     }
 
     /// The key of the case, if it is live.
