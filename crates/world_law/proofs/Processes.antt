@@ -1,35 +1,30 @@
 -- In every run each process makes of an input what the model's process makes of it, and refuses what that refuses.
-use Rattle.std.proofs.Common.{◌≡◌, ◌∙◌, ap, sym, subst, refl, Bool, true, false, ℕ, List, Option, Some, None, is_some}
+use Rattle.std.proofs.Common.{◌≡◌, ◌∙◌, ap, sym, subst, refl, Bool, true, false, List, Option, Some, None, is_some}
 use Rattle.std.specs.Prelude.{if◌then◌else◌}
-use Rattle.tree_model.specs.declared.names.Case.{Case}
 use Rattle.tree_model.specs.declared.names.ProcessId.{ProcessId}
 use Rattle.tree_model.specs.declared.events.Input.{Input}
 use Rattle.tree_model.specs.declared.events.Input.TheVariants.{Act as ActInput, Message as MessageInput}
 use Rattle.tree_model.specs.declared.events.Happening.TheVariants.{Input as Handles}
-use Rattle.tree_model.specs.declared.events.Reaction.{Reaction}
 use Rattle.tree_model.specs.declared.events.StepError.{StepError}
-use Rattle.tree_model.specs.declared.events.StepError.TheVariants.{Failed, NoSuch}
+use Rattle.tree_model.specs.declared.events.StepError.TheVariants.{Failed}
 use Rattle.tree_model.specs.declared.trees.TreeEntry.{TreeEntry}
-use Rattle.tree_model.specs.Nodes.{DataAnswer, Effect, Heard, Node, Place, is_listed, place_of}
+use Rattle.tree_model.specs.Nodes.{DataAnswer, Effect, Node, Place, is_listed, place_of}
 use Rattle.tree_model.specs.Plays.{move_of}
 use Rattle.tree_model.specs.Trees.{IsTree}
 use Rattle.tree_model.specs.Reactions.{Does, Reacts, Refused, hears, is_passed_over, reacts}
-use Rattle.tree_model.specs.World.{InputStands, IsRun, Made, Stepped, World, input_makes, node_makes, passes_over}
+use Rattle.tree_model.specs.World.{IsRun, Made, World, input_makes, node_makes, passes_over}
 use Rattle.tree_model.specs.World.{Makes as Leaves, Refuses as RefusesMove}
-use Rattle.core_model.specs.Views.{SameView}
 use Rattle.core_model.specs.States.{CoreState, SameCore}
-use Rattle.core_model.specs.Makes.{Makes}
-use Rattle.core_model.specs.Turns.{Finds, Refuses, asked_by, turn_of}
+use Rattle.core_model.specs.Turns.{turn_of}
 use Rattle.core_model.proofs.Alike.{same_view}
 use Rattle.core_law.specs.Fits.{NodeFits}
-use Rattle.core_law.specs.Ties.{Stands}
 use Rattle.core_law.proofs.ManagerSteps.{place_stays}
 use Rattle.core_law.proofs.Steps.{refusals_so, steps_so}
 use Rattle.run_law.proofs.Runs.{runs_fit}
 use Rattle.world_law.specs.Worlds.{RefusesAt, WorldState}
 use Rattle.world_law.specs.Ties.{Follows}
-use Rattle.world_law.specs.Refusals.{RefusesSo, model_refusal, refusal_in}
-use Rattle.world_law.proofs.Steps.{InputsAsTheModel, MadeSo}
+use Rattle.world_law.specs.Refusals.{RefusesSo, refusal_in}
+use Rattle.world_law.proofs.Steps.{InputsAsTheModel}
 
 fits_at : (tree : List TreeEntry) (es : List Made) (w : World) (q : ProcessId) (place : Place) → IsRun tree es w → place ≡ place_of tree q
     → (w.at q).failed ≡ false → NodeFits place.role place (w.at q)

@@ -1,5 +1,5 @@
 -- What events lead an opened tree to is a run of the model, of which the headline holds.
-use Rattle.std.proofs.Common.{◌≡◌, ◌≢◌, ◌∙◌, ap, sym, subst, refl, ℕ, Option, Some, None, List, [], ◌++◌, take}
+use Rattle.std.proofs.Common.{◌≡◌, ◌≢◌, ◌∙◌, subst, refl, ℕ, Option, Some, None, List, [], ◌++◌, take}
 use Rattle.tree_model.specs.declared.names.ProcessId.{ProcessId}
 use Rattle.tree_model.specs.declared.messages.Envelope.{Envelope}
 use Rattle.tree_model.specs.declared.events.Act.{Act}
@@ -14,9 +14,9 @@ use Rattle.tree_model.specs.Plays.{process_of_act, sent_as}
 use Rattle.tree_model.specs.Trees.{IsTree, root_of}
 use Rattle.tree_model.specs.World.{IsRun, Made, World, opened_world}
 use Rattle.tree_runs.proofs.Headline as runs
-use Rattle.world_law.specs.Worlds.{NoneDelivered, NotActed, NotDelivered, RefusesAt, RefusesMessage, Same, SettleStops, Stops, WorldState, least_open}
-use Rattle.world_law.specs.Runs.{IsOpened, LeadsUntil}
-use Rattle.world_law.specs.Ties.{Follows, GoesOn, IsModelled, RunsOn}
+use Rattle.world_law.specs.Worlds.{NoneDelivered, NotActed, NotDelivered, RefusesAt, RefusesMessage, Same, Stops, WorldState, least_open}
+use Rattle.world_law.specs.Runs.{IsOpened}
+use Rattle.world_law.specs.Ties.{Follows, IsModelled}
 use Rattle.world_law.specs.Refusals.{IsForItself, IsRunOf, LeadsTo, Refusal, RefusesDelivery, RefusesEvent}
 use Rattle.world_law.proofs.Openings.{opened_follows}
 use Rattle.world_law.proofs.Unchanged.{same_follows}
@@ -139,3 +139,6 @@ module _ (tree : List TreeEntry) (is_tree : IsTree tree) where
 pub run_of : (tree : List TreeEntry) (start end : WorldState) (events : List Event) (refusal : Refusal) → IsTree tree → IsOpened start tree
     → LeadsTo start events refusal end → IsForItself refusal → IsRunOf tree events refusal end
 run_of tree start end events refusal is_tree opened leads itself = run_so tree is_tree start end events refusal opened leads itself
+
+pub modelled : (s : WorldState) (es : List Made) (w : World) → IsTree s.tree → Follows es w s → IsModelled s
+modelled s es w is_tree f = record { moves = es; world = w; follows = f; headline = headline_of s.tree is_tree s es w refl f }
