@@ -12,7 +12,8 @@ use Rattle.core_model.specs.Views.{SameView}
 use Rattle.core_model.specs.Restarting.{recorded_view_at}
 use Rattle.core_model.proofs.Opened.{opened_is_read}
 use Rattle.coord_table.specs.Cases.{Slots, ticket_in, view_in}
-use Rattle.coord_core.specs.States.{IsOpened, WritesOpened, first_opened, role_below, state}
+use Rattle.core_model.specs.Opening.{IsOpened, first_opened}
+use Rattle.coord_core.specs.States.{WritesOpened, role_below, state}
 
 none_given : (d : Case) → ticket_in [] d ≡ None
 unfolding ticket_in

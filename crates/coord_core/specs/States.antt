@@ -15,8 +15,8 @@ use Rattle.tree_model.specs.Nodes.{Place, Role, AtRoot, Below}
 use Rattle.tree_model.specs.Standings.{unknown_branch}
 use Rattle.live_table.specs.Tables.{case_of, entry_at}
 use Rattle.rec_log.specs.Sights.{Breaks, LogState}
-use Rattle.core_model.specs.States.{CoreState, forced_sight, wrote}
-use Rattle.core_model.specs.Restarting.{ReadOff}
+use Rattle.core_model.specs.States.{CoreState, wrote}
+use Rattle.core_model.specs.Opening.{first_opened}
 use Rattle.coord_table.specs.Cases.{Slots, ticket_in, view_in}
 use Rattle.coord_turns.specs.Takes.{GivenAreActive}
 
@@ -70,16 +70,6 @@ pub record IsCoordinator (v : CoordinatorValue) : Type 0 where
   pub active : GivenAreActive v.slots
   pub begun : (k : ℕ) (p : Presumption) (n : ℕ) → case_of (entry_at v.slots k) ≡ Some (root_case (own_txn v p n)) → n ≤ v.begun
   pub given : (k : ℕ) (x : Txn) (n : ℕ) → case_of (entry_at v.slots k) ≡ Some (child_case x (own_ticket v n)) → n ≤ v.given
-
--- the first record of a log
-abbrev pub first_opened : LogRecord
-first_opened = record { entry = Opened 1; parent = None }
-
--- a process that opened an empty log over this device: it stands as its one record says, which is forced
-pub record IsOpened (s : CoreState) (place : Place) (failures : ℕ) : Type 0 where
-  pub place_is : s.place ≡ place
-  pub log : s.log ≡ forced_sight (first_opened ∷ []) failures
-  pub read : ReadOff s (Opened 1 ∷ [])
 
 -- the first record stands forced in an empty log
 pub record WritesOpened (old new : LogState) : Type 0 where

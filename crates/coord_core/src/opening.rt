@@ -3,7 +3,8 @@
 ghost use Rattle.std.specs.Prelude.{◌≡◌, [], false, IfErr, IfOk, OnOk};
 ghost use Rattle.tree_model.specs.declared.names.Kind.TheVariants as kind;
 ghost use Rattle.rec_log.specs.Sights.{records_of};
-ghost use Rattle.coord_core.specs.States.{IsOpened, NotOpened, WritesOpened, role_below, state};
+ghost use Rattle.core_model.specs.Opening.{IsOpened};
+ghost use Rattle.coord_core.specs.States.{NotOpened, WritesOpened, role_below, state};
 
 use crate::coordinator::Coordinator;
 use coord_table::Cases;

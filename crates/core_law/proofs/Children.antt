@@ -104,13 +104,13 @@ module _ (place : Place) (n : Node) (fit : ChildrenFit place n) where
   belongs_to : Ticket → Case → Bool
   belongs_to t c = belongs (memory_of place n c) (kept n) c t
 
-  and_all : (a b c : Bool) → (a && (b && c)) ≡ true → (a ≡ true) × (b ≡ true) × (c ≡ true)
+  pub and_all : (a b c : Bool) → (a && (b && c)) ≡ true → (a ≡ true) × (b ≡ true) × (c ≡ true)
   and_all true true true h = (refl, refl, refl)
   and_all true true false h = absurd (cc)
   and_all true false c h = absurd (cc)
   and_all false b c h = absurd (cc)
 
-  lists : (c : Case) (t : Ticket) → is_known (coordinator_view place n c).standing ≡ true
+  pub lists : (c : Case) (t : Ticket) → is_known (coordinator_view place n c).standing ≡ true
       → (in_list (coordinator_view place n c).accepted t || in_list (coordinator_view place n c).named t) ≡ belongs (memory_of place n c) (kept n) c t
   unfolding coordinator_view
   lists c t known = known_lists (coordinator_standing (kept n) c (memory_of place n c)) (kept n) c (memory_of place n c) t known
@@ -118,6 +118,14 @@ module _ (place : Place) (n : Node) (fit : ChildrenFit place n) where
   nothing : (c : Case) → is_known (coordinator_view place n c).standing ≡ false → coordinator_view place n c ≡ unknown_view
   unfolding coordinator_view
   nothing c gone = unknown_is (coordinator_standing (kept n) c (memory_of place n c)) (kept n) c (memory_of place n c) gone
+
+  -- the case to which the child belongs is found
+  pub found_case : (x : Txn) (t : Ticket) (c : Case) → has_case (own_cases place.role place n x) c ≡ true
+      → belongs (memory_of place n c) (kept n) c t ≡ true → case_of_child place n x t ≡ Some c
+  found_case x t c there its =
+      let found = found_if (λ d. belongs (memory_of place n d) (kept n) d t) (own_cases place.role place n x) c there its in
+      let is_there = found_in (λ d. belongs (memory_of place n d) (kept n) d t) (own_cases place.role place n x) found.0 found.1 in
+      found.1 ∙ ap (λ d. Some d) (fit.one x t found.0 c is_there.1 is_there.0 there its)
 
   module _ (s : CoreState) (views : (c : Case) → s.view_of c ≡ coordinator_view place n c) (x : Txn) (t : Ticket) where
     is_case-at : (c : Case) → is_case_of s x t c
@@ -130,9 +138,7 @@ module _ (place : Place) (n : Node) (fit : ChildrenFit place n) where
         let of_txn : c.txn ≡ x = (txn_tells c.txn x).0 parts.0 in
         let there : has_case (own_cases place.role place n x) c ≡ true = ap (λ y. has_case (own_cases place.role place n y) c) (sym of_txn) ∙ fit.listed c parts.1 in
         let its : belongs (memory_of place n c) (kept n) c t ≡ true = sym (lists c t parts.1) ∙ parts.2 in
-        let found = found_if (λ d. belongs (memory_of place n d) (kept n) d t) (own_cases place.role place n x) c there its in
-        let is_there = found_in (λ d. belongs (memory_of place n d) (kept n) d t) (own_cases place.role place n x) found.0 found.1 in
-        found.1 ∙ ap (λ d. Some d) (fit.one x t found.0 c is_there.1 is_there.0 there its)
+        found_case x t c there its
 
     found_dead : ((c : Case) → is_case_of s x t c ≡ false) → (found : Option Case) → case_of_child place n x t ≡ found → FoundAs place n x found None
     found_dead none None e = alike None

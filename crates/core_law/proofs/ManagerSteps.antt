@@ -13,7 +13,8 @@ use Rattle.tree_model.specs.Views.{leaf_place}
 use Rattle.core_model.specs.States.{CoreState}
 use Rattle.core_model.specs.Makes.{Makes, Moves}
 use Rattle.core_model.specs.Turns.{Begins, Handles, Issues, Refuses, Says, Takes, Turn, reacted, turn_of, up_turn}
-use Rattle.core_law.specs.Laws.{FreshIsUnmarked, MadeAs}
+use Rattle.core_law.specs.Fits.{FreshIsUnmarked}
+use Rattle.core_law.specs.Laws.{MadeAs}
 use Rattle.core_law.specs.Ties.{ChildrenFit, Stands}
 use Rattle.core_law.proofs.Managers.{Follows, acted, heard_so}
 use Rattle.core_law.proofs.Turns.{meets_as}
@@ -51,7 +52,7 @@ is_leaf_place : (q : Place) (p : ProcessId) → q.role ≡ AtLeaf p → q ≡ le
 is_leaf_place q p is = λ i. record { me = q.me; role = is i; tree = q.tree }
 
 -- in any turn that is made the place stays
-place_stays : (old new : CoreState) (i : Input) (turn : Turn) → Moves old new i turn → new.place ≡ old.place
+pub place_stays : (old new : CoreState) (i : Input) (turn : Turn) → Moves old new i turn → new.place ≡ old.place
 place_stays old new i (Refuses e) made = absurd made
 place_stays old new i (Begins x) made = made.stays.place
 place_stays old new i (Issues d t l) made = made.place
@@ -65,7 +66,7 @@ pub managers_make : (n : Node) (old new : CoreState) (p : ProcessId) (a : DataAn
 managers_make n old new p a i reaction role stands fit fresh made =
     record {
       effect = made.effect;
-      does = meets_as n old a made.found i fit made.finds stands ∙ made.does;
+      does = meets_as n old a made.found i (λ _. fit) made.finds stands ∙ made.does;
       shown = made.shown;
       stands = at_place old.place new.place (is_leaf_place old.place p role) (place_stays old new i (turn_of old a made.found i) made.moves) stands fresh made.does made.moves;
     }

@@ -59,7 +59,7 @@ same_view-trans u v w first second =
 abbrev pub Follows : Node → Heard → CoreState → CoreState → Input → Turn → Type 0
 Follows n h old new i turn = (e : Effect) → reacted turn ≡ Does e → Moves old new i turn → Stands (after n h e) new
 
-done_is : (e f : Effect) → Does e ≡ Does f → e ≡ f
+pub done_is : (e f : Effect) → Does e ≡ Does f → e ≡ f
 done_is e f h = cc
 
 -- How many transactions were begun does not move at a manager.

@@ -17,7 +17,7 @@ pub record Holds (q : Option ProcessId) (n : Node) (l : LogSight) : Type 0 where
   pub unforced : l.kept.unforced ≡ map (in_log q) n.unforced
   pub failed : l.failed ≡ n.failed
 
-map_append : {X Y : Type 0} (f : X → Y) (xs ys : List X) → map f (xs ++ ys) ≡ map f xs ++ map f ys
+pub map_append : {X Y : Type 0} (f : X → Y) (xs ys : List X) → map f (xs ++ ys) ≡ map f xs ++ map f ys
 map_append f [] ys = refl
 map_append f (x ∷ xs) ys = ap (λ zs. f x ∷ zs) (map_append f xs ys)
 

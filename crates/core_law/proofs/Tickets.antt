@@ -114,7 +114,7 @@ found_fresh d t (a ∷ more) none = by_test (same_case a.0 d) none (found_fresh 
     by_test true h rest = absurd (cc)
     by_test false h rest = rest h
 
-once_more : (d : Case) (t : Ticket) (active : Actives) → active_ticket active d ≡ None → IsOnce active → IsOnce (active ++ (d, t) ∷ [])
+pub once_more : (d : Case) (t : Ticket) (active : Actives) → active_ticket active d ≡ None → IsOnce active → IsOnce (active ++ (d, t) ∷ [])
 unfolding active_ticket
 once_more d t [] none once = (refl, tt)
 once_more d t (a ∷ more) none once = by_test (same_case a.0 d) refl none (λ h. once_more d t more h once.1)

@@ -217,11 +217,12 @@ same_view-sym v w same =
       owed = λ t. sym (same.owed t);
     }
 
-module _ (n : Node) (s : CoreState) (a : DataAnswer) (found : Option Case) (i : Input) (fit : ChildrenFit s.place n) (finds : Finds s (asked_by i) found) where
+module _ (n : Node) (s : CoreState) (a : DataAnswer) (found : Option Case) (i : Input) (fit : n.failed ≡ false → ChildrenFit s.place n)
+    (finds : Finds s (asked_by i) found) where
   up_as : StandsUp n s → n.failed ≡ false → s.log.failed ≡ false → act_is_listed s.place.tree i ≡ true
       → handles s.place n (record { input = i; data_answer = a }) i ≡ reacted (up_turn (read_off s n) a found i)
   up_as up runs works listed =
-      up_at (read_off s n) n fit (record { boot = refl; begun = refl; given = up.given; tickets = λ d. refl; views = λ c. refl; branches = λ c. refl })
+      up_at (read_off s n) n (fit runs) (record { boot = refl; begun = refl; given = up.given; tickets = λ d. refl; views = λ c. refl; branches = λ c. refl })
       a found i (finds-alike s (read_off s n) (asked_by i) found (λ c. same_view-sym (s.view_of c) (view_at s.place.role s.place n c) (up.views c)) finds) runs
 
   same_as : StandsUp n s → SameCore (read_off s n) s

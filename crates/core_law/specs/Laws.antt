@@ -1,23 +1,22 @@
 -- What a process makes is what the model's process makes.
-use Rattle.std.specs.Prelude.{◌≡◌, Option}
+use Rattle.std.specs.Prelude.{◌≡◌, ℕ, false, Option}
 use Rattle.tree_model.specs.declared.names.Case.{Case}
 use Rattle.tree_model.specs.declared.events.Input.{Input}
 use Rattle.tree_model.specs.declared.events.Reaction.{Reaction}
+use Rattle.tree_model.specs.declared.events.StepError.{StepError}
 use Rattle.tree_model.specs.declared.names.ProcessId.{ProcessId}
-use Rattle.tree_model.specs.declared.records.Branch.TheVariants.{Case as CaseBranch}
-use Rattle.tree_model.specs.Nodes.{AtLeaf, DataAnswer, Effect, Heard, Node, Place, after, kept, reaction_of}
-use Rattle.tree_model.specs.Standings.{Unmarked, mark_of}
-use Rattle.tree_model.specs.Views.{fresh_case}
-use Rattle.tree_model.specs.Reactions.{Does, reacts}
-use Rattle.core_model.specs.States.{CoreState}
-use Rattle.core_model.specs.Makes.{Makes}
+use Rattle.tree_model.specs.Nodes.{AtLeaf, AtRoot, Below, DataAnswer, Effect, Heard, Node, after, fails_in, reaction_of}
+use Rattle.tree_model.specs.Reactions.{Does, Refused, is_passed_over, reacts}
+use Rattle.core_model.specs.States.{CoreState, SameCore}
+use Rattle.core_model.specs.Makes.{IsBroken, IsRefused, Makes}
 use Rattle.core_model.specs.Turns.{Finds, asked_by, reacted, turn_of}
+use Rattle.core_law.specs.Fits.{CascadeFits, FreshIsUnmarked, RootFits}
 use Rattle.core_law.specs.Ties.{ChildrenFit, Stands}
 
 -- a process meets each input as the model's process does for which it stands
 abbrev pub MeetsAsTheModel : Type 0
 MeetsAsTheModel = (n : Node) (s : CoreState) (a : DataAnswer) (found : Option Case) (i : Input)
-    → Stands n s → ChildrenFit s.place n → Finds s (asked_by i) found
+    → Stands n s → (n.failed ≡ false → ChildrenFit s.place n) → Finds s (asked_by i) found
     → reacts s.place n (record { input = i; data_answer = a }) ≡ reacted (turn_of s a found i)
 
 -- The model's process makes the input too and shows the same, and the process stands for what that leaves.
@@ -27,12 +26,45 @@ pub record MadeAs (n : Node) (h : Heard) (old new : CoreState) (reaction : React
   pub shown : reaction ≡ reaction_of effect
   pub stands : Stands (after n h effect) new
 
--- no record is of the ticket that is given next for a case of the parent
-abbrev pub FreshIsUnmarked : Place → Node → Type 0
-FreshIsUnmarked place n = (d : Case) → mark_of (CaseBranch (fresh_case place n d)) (kept n) ≡ Unmarked
-
 -- what a manager makes of an input is what the model's manager makes of it
 abbrev pub ManagersMakeAsTheModel : Type 0
 ManagersMakeAsTheModel = (n : Node) (old new : CoreState) (p : ProcessId) (a : DataAnswer) (i : Input) (reaction : Reaction)
     → old.place.role ≡ AtLeaf p → Stands n old → ChildrenFit old.place n → FreshIsUnmarked old.place n
     → Makes old new a i reaction → MadeAs n (record { input = i; data_answer = a }) old new reaction
+
+-- what a root makes of an input is what the model's root makes of it
+abbrev pub RootsMakeAsTheModel : Type 0
+RootsMakeAsTheModel = (n : Node) (old new : CoreState) (a : DataAnswer) (i : Input) (reaction : Reaction)
+    → old.place.role ≡ AtRoot → Stands n old → (n.failed ≡ false → RootFits old.place n)
+    → Makes old new a i reaction → MadeAs n (record { input = i; data_answer = a }) old new reaction
+
+-- what a coordinator below the root makes of an input that is not passed over is what the model's makes of it
+abbrev pub CascadesMakeAsTheModel : Type 0
+CascadesMakeAsTheModel = (n : Node) (old new : CoreState) (p : ProcessId) (a : DataAnswer) (i : Input) (reaction : Reaction)
+    → old.place.role ≡ Below p → Stands n old → (n.failed ≡ false → CascadeFits old.place n) → is_passed_over old.place n i ≡ false
+    → Makes old new a i reaction → MadeAs n (record { input = i; data_answer = a }) old new reaction
+
+-- between processes between which nothing is otherwise, both stand for the model's process or neither does
+abbrev pub SameStandsForTheSame : Type 0
+SameStandsForTheSame = (n : Node) (old new : CoreState) → SameCore old new → Stands n old → Stands n new
+
+-- what a process refuses the model's process refuses by the same error, and the process still stands for it
+abbrev pub RefusesAsTheModel : Type 0
+RefusesAsTheModel = (n : Node) (old new : CoreState) (a : DataAnswer) (i : Input) (e : StepError)
+    → Stands n old → (n.failed ≡ false → ChildrenFit old.place n) → IsRefused old new a i e
+    → (reacts old.place n (record { input = i; data_answer = a }) ≡ Refused e) × Stands n new
+
+-- The model's process makes the input too, its device fails in it with some front of the records appended and some of
+-- those behind the forced front forced, and the process stands for what that leaves.
+pub record BrokenAs (n : Node) (h : Heard) (old new : CoreState) : Type 0 where
+  pub effect : Effect
+  pub does : reacts old.place n h ≡ Does effect
+  pub appended : ℕ
+  pub forced : ℕ
+  pub stands : Stands (fails_in n h effect appended forced) new
+
+-- where a process's device fails in an input, the model's process's may fail so too
+abbrev pub BreaksAsTheModel : Type 0
+BreaksAsTheModel = (n : Node) (old new : CoreState) (a : DataAnswer) (i : Input)
+    → Stands n old → (n.failed ≡ false → ChildrenFit old.place n) → IsBroken old new a i
+    → BrokenAs n (record { input = i; data_answer = a }) old new

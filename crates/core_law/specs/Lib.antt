@@ -1,2 +1,4 @@
 pub mod Ties
+pub mod Fits
 pub mod Laws
+pub mod Steps

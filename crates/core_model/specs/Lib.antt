@@ -3,4 +3,5 @@ pub mod States
 pub mod Turns
 pub mod Makes
 pub mod Restarting
+pub mod Opening
 pub mod Laws

@@ -2,3 +2,4 @@ pub mod Keeping
 pub mod Resources
 pub mod Restoring
 pub mod Turns
+pub mod Creating

@@ -122,6 +122,7 @@ pub record StartsOver (log : LogState) (s : KvSight) : Type 0 where
   pub left : LeavesStore (records_of log.sight.kept) s.store s.boot
   pub forced : s.log.sight.kept.forced ≡ records_of log.sight.kept ++ opened s.boot ∷ []
   pub unforced : s.log.sight.kept.unforced ≡ []
+  pub behind : s.log.sight.behind ≡ 0
   pub works : s.log.sight.failed ≡ false
   pub failures : s.log.sight.failures ≡ log.sight.failures
 

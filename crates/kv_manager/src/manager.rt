@@ -8,7 +8,9 @@ ghost use Rattle.kv_core.specs.Ends.{IsDue};
 ghost use Rattle.xa_states.specs.Answers.{Answers, Closes, Opens, Recovers, Wanted, map_ok};
 ghost use Rattle.xa_states.specs.Ready.{is_work_verb, leaves};
 ghost use Rattle.xa_tables.specs.Calls.{legal};
+ghost use Rattle.kv_manager.specs.Resources.{sight_of};
 ghost use Rattle.kv_manager.specs.Sights.{IsLogged, SameManager};
+ghost use Rattle.manager_model.specs.Opening.{IsNew};
 ghost use Rattle.log_text.specs.Made.{frame_record};
 ghost use Rattle.log_text.specs.Payloads.{record_text};
 ghost use Rattle.rec_log.specs.Sights.{IsRecord, Restarts, left_by, records_of};
@@ -430,6 +432,17 @@ impl<L: LogStore> KvManager<L> {
 }
 
 impl<L: LogStore + Drop> KvManager<L> {
+    /// A manager over an empty store, which is not open: its log has the record of its first boot. The errors are those of
+    /// `restore`.
+    pub fn create(store: L, alloc: Global) -> Result<Self, (RestoreError, L)>
+        requires { L.bytes store ≡ [] }
+        ensures ok { IfOk result (λ manager. IsNew (sight_of manager)) }
+        ensures failures { IfOk result (λ manager. manager.log.sight.failures ≡ L.failures store) }
+        ensures err { IfErr result (λ e. NotRestored L.bytes L.forced L.failures store e.1 e.0) }
+    {
+        KvManager::restore(store, alloc)
+    }
+
     /// A manager over the log in a store, which is not open: it stands as the log's records say, and the
     /// record of its boot is written behind them. With a refusal the store is handed back. Log: the bytes are
     /// no log, or it was not opened. Records: the log's records leave no manager, and the log is as it was

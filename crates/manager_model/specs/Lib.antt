@@ -1,3 +1,4 @@
 pub mod Sights
 pub mod Works
 pub mod Ends
+pub mod Opening

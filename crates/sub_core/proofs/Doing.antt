@@ -16,12 +16,13 @@ use Rattle.core_model.specs.Turns.{Handles, Turn}
 use Rattle.core_model.specs.Makes.{retired_by}
 use Rattle.live_table.specs.Tables.{Moves}
 use Rattle.manager_model.specs.Sights.{ManagerSight}
-use Rattle.sub_deeds.specs.Deeds.{Idles, Works}
+use Rattle.sub_deeds.specs.Deeds.{Idles, Works, Wrote}
+use Rattle.tree_model.specs.Plays.{op_writes}
 use Rattle.sub_table.specs.declared.branch.Branch.{Branch}
 use Rattle.sub_table.specs.declared.branch.Stage.{Stage}
 use Rattle.sub_table.specs.declared.branch.Stage.TheVariants.{Active}
 use Rattle.sub_table.specs.Tables.{BranchTable, Notes, kept_view, stage_view, ticket_in}
-use Rattle.sub_core.specs.Subordinates.{Hears, IsAt, IsTied, SubState, Turns, active, core_of, shown, turn_for, xid_of}
+use Rattle.sub_core.specs.Subordinates.{Hears, IsAt, IsTied, SubState, Turns, active, core_of, shown, takes_work, turn_for, written_behind, xid_of}
 use Rattle.sub_core.proofs.Ties.{behind, moved_tied}
 use Rattle.sub_core.proofs.Rows.{handled, no_view}
 use Rattle.sub_core.proofs.Staying.{no_record}
@@ -61,14 +62,30 @@ module _ (s : SubState) (key : ℕ) (c g : Case) (n i : ℕ) (x : Xid) (op : Op)
       ∙ ap (λ b. Handles c (if b && true then unmoved (view_after i n does) else unmoved (stage_view (Active g n false))))
       (ap (λ (m : ℕ). i == m) (sym next) ∙ same_number i)
 
+  -- the case takes the work, and so the data alone say what is written
+  written_is : (does : Bool) → is_none (s.manager.obstacle x op) ≡ does
+      → written_behind s c i op ≡ (if does then op_writes (s.manager.writes x) op else s.manager.writes x)
+  written_is does is =
+      ap (λ (o : Option Branch). if takes_work o i && is_none (s.manager.obstacle (xid_of s c) op) then op_writes (s.manager.writes (xid_of s c)) op else s.manager.writes (xid_of s c)) at.live
+      ∙ ap (λ (y : Xid). if ((i == n + 1) && true) && is_none (s.manager.obstacle y op) then op_writes (s.manager.writes y) op else s.manager.writes y)
+      (sym (tied.named c (active x g n false) at.live).is)
+      ∙ ap (λ b. if (b && true) && is_none (s.manager.obstacle x op) then op_writes (s.manager.writes x) op else s.manager.writes x)
+      (ap (λ (m : ℕ). i == m) (sym next) ∙ same_number i)
+      ∙ ap (λ b. if b then op_writes (s.manager.writes x) op else s.manager.writes x) is
+
   done_by : (does : Bool) (done : ℕ) (spoiled : Bool) (t : BranchTable) (m : ManagerSight) → stage_view (Active g done spoiled) ≡ view_after i n does
       → Notes s.table t key (Active g done spoiled) → Works s.manager m x op does → Hears s (behind s t m) (Work c i op) (shown [] [])
-  done_by does done spoiled t m view notes w k =
+  done_by does done spoiled t m view notes w =
       let r = notes_at s.table t key (Active g done spoiled) c (active x g n false) at notes in
-      subst (λ (turn : Turn). Turns s (behind s t m) (MessageInput k (Work c i op)) turn (shown [] [])) (sym (turn_is does w.allowed))
-      (handled s t m (MessageInput k (Work c i op)) c (unmoved (view_after i n does)) (w.log ∙ no_record s.manager.log)
-      (ap kept_view r.branches.own ∙ view) (λ d apart. ap kept_view (r.branches.others d apart))
-      (λ d. ap (λ ts. ticket_in (record { tickets = ts; branches = t.branches }) d) r.tickets ∙ never k i op c d (ticket_in s.table d)) w.comes.boot)
+      record {
+        turns = λ k.
+            subst (λ (turn : Turn). Turns s (behind s t m) (MessageInput k (Work c i op)) turn (shown [] [])) (sym (turn_is does w.allowed))
+            (handled s t m (MessageInput k (Work c i op)) c (unmoved (view_after i n does)) (w.log ∙ no_record s.manager.log)
+            (ap kept_view r.branches.own ∙ view) (λ d apart. ap kept_view (r.branches.others d apart))
+            (λ d. ap (λ ts. ticket_in (record { tickets = ts; branches = t.branches }) d) r.tickets ∙ never k i op c d (ticket_in s.table d)) w.comes.boot);
+        writes = subst (λ (y : Xid). Wrote s.manager m y (written_behind s c i op)) (tied.named c (active x g n false) at.live).is
+            (subst (λ ws. Wrote s.manager m x ws) (sym (written_is does w.allowed)) w.wrote);
+      }
 
   pub did : (t : BranchTable) (m : ManagerSight) → Notes s.table t key (Active g i false) → Works s.manager m x op true
       → Hears s (behind s t m) (Work c i op) (shown [] [])

@@ -5,3 +5,6 @@ pub mod Votes
 pub mod Outcomes
 pub mod Staying
 pub mod Doing
+pub mod Joins
+pub mod Steps
+pub mod Opened

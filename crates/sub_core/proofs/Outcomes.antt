@@ -4,6 +4,7 @@ use Rattle.std.specs.Prelude.{◌==◌, ◌&&◌}
 use Rattle.xa_tables.specs.declared.call.Call.{Call}
 use Rattle.xa_tables.specs.declared.call.Call.TheVariants as call
 use Rattle.xa_xid.specs.declared.xid.Xid.{Xid}
+use Rattle.xa_branch.specs.Names.{same}
 use Rattle.tree_model.specs.declared.names.Case.{Case}
 use Rattle.tree_model.specs.declared.names.Ticket.{Ticket}
 use Rattle.tree_model.specs.declared.names.Outcome.TheVariants.{Committed as CommittedOutcome, Aborted as AbortedOutcome}
@@ -26,7 +27,7 @@ use Rattle.sub_table.specs.declared.branch.Branch.{Branch}
 use Rattle.sub_table.specs.declared.branch.Stage.{Stage}
 use Rattle.sub_table.specs.declared.branch.Stage.TheVariants.{Active, Prepared}
 use Rattle.sub_table.specs.Tables.{BranchTable, IsGivenFor, IsKept, Retires, branch_in, kept_view, nothing, retired_at, ticket_in}
-use Rattle.sub_core.specs.Subordinates.{Hears, IsAt, IsTied, NotHeard, NotTurned, SubState, Turns, active, core_of, prepared, shown, stage_state, turn_for, xid_of}
+use Rattle.sub_core.specs.Subordinates.{Hears, IsAt, IsTied, NotHeard, NotTurned, OthersWriteNothing, SubState, Turns, Writes, active, core_of, prepared, shown, stage_state, turn_for, xid_of}
 use Rattle.sub_core.proofs.Ties.{behind, moved_tied, one}
 use Rattle.sub_core.proofs.Rows.{handled}
 use Rattle.sub_core.proofs.Ends.{AreOf, log_is, not_turned, retires_at}
@@ -42,19 +43,24 @@ pub record EndsBy (s : SubState) (c : Case) (b : Branch) (message : Message) (ca
   pub written : written_by call (stage_state b.stage) (CaseBranch c) (s.manager.writes b.xid) ≡ row.written
   pub of : AreOf c row.written
   pub tickets : (k : ℕ) (d : Case) → retired_at c d (ticket_in s.table d) ≡ retired_by (MessageInput k message) d (ticket_in s.table d)
+  pub writes : (new : SubState) → OthersWriteNothing s new c → Writes s new message
 
 module _ (s : SubState) (key : ℕ) (c : Case) (b : Branch) (message : Message) (call : Call) (row : LeafRow) (tied : IsTied s) (at : IsAt s.table key c b)
     (ends : EndsBy s c b message call row) where
   pub ended : (t : BranchTable) (m : ManagerSight) → Retires s.table t key nothing → Finishes s.manager m b.xid call
       → Hears s (behind s t m) message (shown row.written row.messages)
-  ended t m gone f k =
+  ended t m gone f =
       let r = retires_at s.table t key nothing c b at gone in
-      subst (λ (turn : Turn). Turns s (behind s t m) (MessageInput k message) turn (shown row.written row.messages)) (sym ends.turn)
-      (handled s t m (MessageInput k message) c row
-      (log_is s c b.xid (tied.named c b at.live) (tied.given_before c b at.live) m (stage_state b.stage) (s.manager.writes b.xid) call row.written
-      (tied.stands c b at.live) refl ends.written ends.of f.log)
-      (ap kept_view r.branches.own ∙ ends.view) (λ d apart. ap kept_view (r.branches.others d apart))
-      (λ d. r.tickets d ∙ ends.tickets k d) f.comes.boot)
+      record {
+        turns = λ k.
+            subst (λ (turn : Turn). Turns s (behind s t m) (MessageInput k message) turn (shown row.written row.messages)) (sym ends.turn)
+            (handled s t m (MessageInput k message) c row
+            (log_is s c b.xid (tied.named c b at.live) (tied.given_before c b at.live) m (stage_state b.stage) (s.manager.writes b.xid) call row.written
+            (tied.stands c b at.live) refl ends.written ends.of f.log)
+            (ap kept_view r.branches.own ∙ ends.view) (λ d apart. ap kept_view (r.branches.others d apart))
+            (λ d. r.tickets d ∙ ends.tickets k d) f.comes.boot);
+        writes = ends.writes (behind s t m) (λ y apart. f.others y (ap (λ (x : Xid). same x y) (tied.named c b at.live).is ∙ apart));
+      }
 
   pub not_ended : (m : ManagerSight) (e : StepError) → NotFinished s.manager m b.xid call e → NotHeard s (behind s s.table m) message e
   not_ended m e h =
@@ -114,6 +120,7 @@ refuse_row s key c g n works p x at unfit =
       written = none_written g c n p (s.manager.writes x);
       of = tt;
       tickets = λ k d. retired_prepare k works c d (ticket_in s.table d);
+      writes = λ new others. others;
     }
 
 pub abort_row : (s : SubState) (key : ℕ) (c g : Case) (n : ℕ) (p : Bool) (x : Xid) → IsAt s.table key c (active x g n p)
@@ -126,6 +133,7 @@ abort_row s key c g n p x at =
       written = none_written g c n p (s.manager.writes x);
       of = tt;
       tickets = λ k d. retired_abort k c d (ticket_in s.table d);
+      writes = λ new others. others;
     }
 
 pub rolled_row : (s : SubState) (key : ℕ) (c : Case) (x : Xid) → IsKept s.table → IsAt s.table key c (prepared x)
@@ -138,6 +146,7 @@ rolled_row s key c x kept at =
       written = refl;
       of = (refl, tt);
       tickets = λ k d. retired_abort k c d (ticket_in s.table d);
+      writes = λ new others. others;
     }
 
 pub commit_row : (s : SubState) (key : ℕ) (c : Case) (x : Xid) → IsKept s.table → IsAt s.table key c (prepared x)
@@ -150,4 +159,5 @@ commit_row s key c x kept at =
       written = refl;
       of = (refl, tt);
       tickets = λ k d. untouched s.table c (prepared x) kept at.live refl d ∙ never_retired k c d (ticket_in s.table d);
+      writes = λ new others. others;
     }

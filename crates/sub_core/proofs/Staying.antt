@@ -13,14 +13,14 @@ use Rattle.tree_model.specs.declared.events.Input.TheVariants.{Message as Messag
 use Rattle.tree_model.specs.declared.records.LogRecord.{LogRecord}
 use Rattle.tree_model.specs.Names.{child_case, same_case}
 use Rattle.tree_model.specs.ManagerRows.{Leaf, LeafRow, on_abort, on_commit, on_prepare, on_work, promised_prepare, unknown_outcome, unknown_prepare, unmoved}
-use Rattle.tree_model.specs.Plays.{held_writes}
+use Rattle.tree_model.specs.Plays.{held_writes, op_writes}
 use Rattle.rec_log.specs.Sights.{LogSight}
 use Rattle.core_model.specs.States.{log_behind, wrote}
 use Rattle.core_model.specs.Turns.{Handles, Turn, leaf_in}
 use Rattle.core_model.specs.Makes.{retired_by}
 use Rattle.sub_table.specs.declared.branch.Branch.{Branch}
 use Rattle.sub_table.specs.Tables.{BranchTable, IsKept, branch_in, kept_view, retired_at, ticket_in, view_in}
-use Rattle.sub_core.specs.Subordinates.{Hears, IsAt, SubState, Turns, active, core_of, prepared, shown, turn_for, xid_of}
+use Rattle.sub_core.specs.Subordinates.{Hears, IsAt, SubState, Turns, Writes, active, core_of, prepared, shown, takes_work, turn_for, xid_of}
 use Rattle.sub_core.proofs.Ties.{one}
 use Rattle.sub_core.proofs.Rows.{handled}
 use Rattle.sub_core.proofs.Outcomes.{never_retired, retired_abort, untouched}
@@ -36,13 +36,26 @@ pub record Stays (s : SubState) (c : Case) (message : Message) (row : LeafRow) :
   pub view : view_in s.table c ≡ row.view
   pub written : row.written ≡ []
   pub tickets : (k : ℕ) (d : Case) → ticket_in s.table d ≡ retired_by (MessageInput k message) d (ticket_in s.table d)
+  pub writes : Writes s s message
 
 pub heard : (s : SubState) (c : Case) (message : Message) (row : LeafRow) → Stays s c message row → Hears s s message (shown [] row.messages)
-heard s c message row stays k =
-    subst (λ (turn : Turn). Turns s s (MessageInput k message) turn (shown [] row.messages)) (sym stays.turn)
-    (subst (λ ws. Turns s s (MessageInput k message) (Handles c row) (shown ws row.messages)) stays.written
-    (handled s s.table s.manager (MessageInput k message) c row
-    (no_record s.manager.log ∙ ap (λ ws. log_behind (core_of s) ws) (sym stays.written)) stays.view (λ d apart. refl) (stays.tickets k) refl))
+heard s c message row stays = record {
+  turns = λ k.
+      subst (λ (turn : Turn). Turns s s (MessageInput k message) turn (shown [] row.messages)) (sym stays.turn)
+      (subst (λ ws. Turns s s (MessageInput k message) (Handles c row) (shown ws row.messages)) stays.written
+      (handled s s.table s.manager (MessageInput k message) c row
+      (no_record s.manager.log ∙ ap (λ ws. log_behind (core_of s) ws) (sym stays.written)) stays.view (λ d apart. refl) (stays.tickets k) refl));
+  writes = stays.writes;
+}
+
+-- a work that its case does not take writes nothing
+passed : (s : SubState) (c : Case) (i : ℕ) (op : Op) → takes_work (branch_in s.table c) i ≡ false → Writes s s (Work c i op)
+passed s c i op not_taken =
+    let x = xid_of s c in
+    record {
+      own = ap (λ b. if b && is_none (s.manager.obstacle x op) then op_writes (s.manager.writes x) op else s.manager.writes x) (sym not_taken);
+      others = λ y apart. refl;
+    }
 
 -- the ticket of a case that is not live is active no longer
 unknown_untouched : (t : BranchTable) (c : Case) → IsKept t → branch_in t c ≡ None → (d : Case) → ticket_in t d ≡ retired_at c d (ticket_in t d)
@@ -73,6 +86,7 @@ module _ (s : SubState) (c : Case) (kept : IsKept s.table) where
         view = refl;
         written = refl;
         tickets = λ k d. unknown_untouched s.table c kept none d ∙ retired_prepare k n c d (ticket_in s.table d);
+        writes = λ y apart. refl;
       }
 
   pub prepare_again : (n key : ℕ) (x : Xid) → IsAt s.table key c (prepared x)
@@ -85,6 +99,7 @@ module _ (s : SubState) (c : Case) (kept : IsKept s.table) where
         view = refl;
         written = refl;
         tickets = λ k d. sym (untouched s.table c (prepared x) kept at.live refl d) ∙ retired_prepare k n c d (ticket_in s.table d);
+        writes = λ y apart. refl;
       }
 
   pub commit_unknown : branch_in s.table c ≡ None
@@ -96,6 +111,7 @@ module _ (s : SubState) (c : Case) (kept : IsKept s.table) where
         view = refl;
         written = refl;
         tickets = λ k d. never_retired k c d (ticket_in s.table d);
+        writes = λ y apart. refl;
       }
 
   pub commit_active : (key : ℕ) (x : Xid) (g : Case) (n : ℕ) (p : Bool) → IsAt s.table key c (active x g n p) → Stays s c (Commit c) (unmoved (view_in s.table c))
@@ -106,6 +122,7 @@ module _ (s : SubState) (c : Case) (kept : IsKept s.table) where
         view = refl;
         written = refl;
         tickets = λ k d. never_retired k c d (ticket_in s.table d);
+        writes = λ y apart. refl;
       }
 
   pub abort_unknown : branch_in s.table c ≡ None
@@ -117,6 +134,7 @@ module _ (s : SubState) (c : Case) (kept : IsKept s.table) where
         view = refl;
         written = refl;
         tickets = λ k d. unknown_untouched s.table c kept none d ∙ retired_abort k c d (ticket_in s.table d);
+        writes = λ y apart. refl;
       }
 
   pub work_unknown : (i : ℕ) (op : Op) → branch_in s.table c ≡ None → Stays s c (Work c i op) (unmoved (view_in s.table c))
@@ -125,6 +143,7 @@ module _ (s : SubState) (c : Case) (kept : IsKept s.table) where
     view = refl;
     written = refl;
     tickets = λ k d. never_worked k i op c d (ticket_in s.table d);
+    writes = passed s c i op (ap (λ (o : Option Branch). takes_work o i) none);
   }
 
   pub work_prepared : (i : ℕ) (op : Op) (key : ℕ) (x : Xid) → IsAt s.table key c (prepared x) → Stays s c (Work c i op) (unmoved (view_in s.table c))
@@ -133,6 +152,7 @@ module _ (s : SubState) (c : Case) (kept : IsKept s.table) where
     view = refl;
     written = refl;
     tickets = λ k d. never_worked k i op c d (ticket_in s.table d);
+    writes = passed s c i op (ap (λ (o : Option Branch). takes_work o i) at.live);
   }
 
   pub work_passed : (i : ℕ) (op : Op) (key : ℕ) (x : Xid) (g : Case) (n : ℕ) (p : Bool) → IsAt s.table key c (active x g n p)
@@ -147,4 +167,5 @@ module _ (s : SubState) (c : Case) (kept : IsKept s.table) where
         view = refl;
         written = refl;
         tickets = λ k d. never_worked k i op c d (ticket_in s.table d);
+        writes = passed s c i op (ap (λ (o : Option Branch). takes_work o i) at.live ∙ unfit);
       }

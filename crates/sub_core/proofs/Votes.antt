@@ -5,6 +5,7 @@ use Rattle.std.proofs.lemmas.Bool.Decides.{nat_tests}
 use Rattle.xa_tables.specs.declared.call.Call.TheVariants as call
 use Rattle.xa_tables.specs.declared.states.BranchState.TheVariants.{S2, S3}
 use Rattle.xa_xid.specs.declared.xid.Xid.{Xid}
+use Rattle.xa_branch.specs.Names.{same}
 use Rattle.tree_model.specs.declared.names.Case.{Case}
 use Rattle.tree_model.specs.declared.names.Ticket.{Ticket}
 use Rattle.tree_model.specs.declared.messages.Message.TheVariants.{Prepare, No, Yes as YesMessage, Read as ReadMessage}
@@ -87,15 +88,19 @@ module _ (s : SubState) (key : ℕ) (c g : Case) (n : ℕ) (x : Xid) (tied : IsT
 
   voted : (t : BranchTable) (m : ManagerSight) (v : Option Branch) → RetiresAt s.table t c v → kept_view v ≡ (row s c).view
       → Finishes s.manager m x call.Prepare → Hears s (behind s t m) (Prepare c n) (shown (row s c).written (row s c).messages)
-  voted t m v r view f k =
+  voted t m v r view f =
       let l : Leaf = leaf_in (core_of s) s.parent c in
       let ws = s.manager.writes (xid_of s c) in
-      subst (λ (turn : Turn). Turns s (behind s t m) (MessageInput k (Prepare c n)) turn (shown (row s c).written (row s c).messages)) (sym turn_is)
-      (handled s t m (MessageInput k (Prepare c n)) c (row s c)
-      (log_is s c x (tied.named c _ at.live) (tied.given_before c _ at.live) m S2 ws call.Prepare (row s c).written (tied.stands c _ at.live) writes_is
-      (held_record c l ws refl) (held_of c l ws refl) f.log)
-      (ap kept_view r.branches.own ∙ view) (λ d apart. ap kept_view (r.branches.others d apart))
-      (λ d. r.tickets d ∙ retired_prepare k n c d (ticket_in s.table d)) f.comes.boot)
+      record {
+        turns = λ k.
+            subst (λ (turn : Turn). Turns s (behind s t m) (MessageInput k (Prepare c n)) turn (shown (row s c).written (row s c).messages)) (sym turn_is)
+            (handled s t m (MessageInput k (Prepare c n)) c (row s c)
+            (log_is s c x (tied.named c _ at.live) (tied.given_before c _ at.live) m S2 ws call.Prepare (row s c).written (tied.stands c _ at.live) writes_is
+            (held_record c l ws refl) (held_of c l ws refl) f.log)
+            (ap kept_view r.branches.own ∙ view) (λ d apart. ap kept_view (r.branches.others d apart))
+            (λ d. r.tickets d ∙ retired_prepare k n c d (ticket_in s.table d)) f.comes.boot);
+        writes = λ y apart. f.others y (ap (λ (z : Xid). same z y) (tied.named c _ at.live).is ∙ apart);
+      }
 
   -- a branch that wrote nothing has only read
   pub read : (t : BranchTable) (m : ManagerSight) → Retires s.table t key nothing → Read ≡ vote_of (s.manager.writes x) → Finishes s.manager m x call.Prepare

@@ -1,1 +1,2 @@
 pub mod Subordinates
+pub mod Steps

@@ -1,14 +1,24 @@
 //! A subordinate.
 
-ghost use Rattle.std.specs.Prelude.{◌≡◌};
+ghost use Rattle.std.specs.Prelude.{◌≡◌, IsTrue};
+ghost use Rattle.tree_model.specs.Nodes.{AtLeaf};
+ghost use Rattle.core_model.specs.Opening.{IsOpened};
+ghost use Rattle.core_model.specs.States.{HasNumbers};
+ghost use Rattle.live_table.specs.Tables.{live_count};
+ghost use Rattle.manager_model.specs.Opening.{IsNew};
 ghost use Rattle.sub_table.specs.Tables.{IsKept};
 ghost use Rattle.sub_core.specs.Subordinates.{FindsBranch};
+ghost use Rattle.sub_core.specs.Steps.{state};
 
 use manager_model::ResourceManager;
 use std::alloc::Global;
 use std::marker::Model;
-use sub_table::{Branch, Branches};
-use tree_model::{Case, ProcessId, Tree};
+use sub_table::{Branch, Branches, Stage};
+use tree_model::{Case, ProcessId, Standing, Tree};
+use xa_codes::Flags;
+
+/// The largest number of a ticket.
+const LAST_NUMBER: u64 = (1 << 63) - 1;
 
 /// A process below a parent, with a resource manager.
 #[derive(Drop)]
@@ -30,6 +40,88 @@ impl<M: ResourceManager> Model for Subordinate<M> {
     ghost view = { λ s. record { me = s.me; parent = s.parent; tree = s.tree; given = s.given; table = s.branches; manager = s.manager } };
 
     ghost invariant = { λ s. IsTied (record { me = s.me; parent = s.parent; tree = s.tree; given = s.given; table = s.branches; manager = M.sight s.manager }) };
+}
+
+impl<M: ResourceManager> Subordinate<M> {
+    /// The manager `me` of this tree below this parent, which drives a manager that was just made over an empty log, and
+    /// opens it. It takes no memory.
+    pub fn open(
+        alloc: Global,
+        me: ProcessId,
+        parent: ProcessId,
+        tree: Tree,
+        mut manager: M,
+    ) -> Subordinate<M>
+        requires { IsNew (M.sight manager) }
+        ensures { IsOpened (state M.sight result) (record { me = me; role = AtLeaf parent; tree = tree }) (M.sight manager).log.failures }
+    {
+        let _ = manager.open(Flags::TMNOFLAGS, false);
+        Subordinate {
+            alloc,
+            me,
+            parent,
+            tree,
+            given: 0,
+            branches: Branches::new(alloc),
+            manager,
+        }
+    }
+
+    /// Which process it is.
+    pub fn me(&self) -> ProcessId
+        ensures { result ≡ (state M.sight self.now).place.me }
+    {
+        self.me
+    }
+
+    /// How often it opened.
+    pub fn boot(&self) -> u64
+        ensures { result ≡ (state M.sight self.now).boot }
+    {
+        self.manager.boot()
+    }
+
+    /// Whether there is a number left for a ticket more, which each input wants.
+    pub fn has_numbers(&self) -> bool
+        ensures yes { IsTrue result → HasNumbers (state M.sight self.now) }
+        ensures none { HasNumbers (state M.sight self.now) → IsTrue result }
+    {
+        self.given < LAST_NUMBER
+    }
+
+    /// Where a case stands; Unknown, where it is not live.
+    pub fn standing(&self, case: &Case) -> Standing
+        ensures { result ≡ ((state M.sight self.now).branch_of case.now).standing }
+    {
+        match find_branch(&self.branches, case) {
+            None => Standing::Unknown,
+            Some((_, branch)) => match branch.stage {
+                Stage::Active { .. } => Standing::Active,
+                Stage::Prepared => Standing::Prepared,
+            },
+        }
+    }
+
+    /// How many cases are live.
+    pub fn live(&self) -> usize
+        ensures { result ≡ live_count self.now.table.branches }
+    {
+        self.branches.len()
+    }
+
+    /// Whether the device failed under it: it answers `Failed` until its restart.
+    pub fn failed(&self) -> bool
+        ensures { result ≡ (state M.sight self.now).log.failed }
+    {
+        self.manager.has_failed()
+    }
+
+    /// The manager that it drives, which has its log.
+    pub fn manager(&self) -> &M
+        ensures { result.now ≡ self.now.manager }
+    {
+        &self.manager
+    }
 }
 
 /// What is kept of a case, and its key.

@@ -68,9 +68,13 @@ pub record SameTable (old new : BranchTable) : Type 0 where
   pub branches : (c : Case) → branch_in new c ≡ branch_in old c
   pub tickets : (d : Case) → ticket_in new d ≡ ticket_in old d
 
+-- what is kept of a branch that just began, by a ticket for the parent's case
+abbrev pub opened : Xid → Case → Branch
+opened x d = record { xid = x; stage = Active d 0 false }
+
 -- the case of a fresh ticket is live and Active, and the ticket is active for the parent's case
 pub record Opens (old new : BranchTable) (d : Case) (t : Ticket) (x : Xid) : Type 0 where
-  pub branches : Moves old.branches new.branches (child_case d.txn t) (Some (record { xid = x; stage = Active d 0 false }))
+  pub branches : Moves old.branches new.branches (child_case d.txn t) (Some (opened x d))
   pub tickets : Moves old.tickets new.tickets d (Some t)
 
 -- the case of a key has this in place of what it had, and no ticket moves

@@ -1,11 +1,11 @@
 //! The live branches by case, and the active tickets by the parent's case.
 
-ghost use Rattle.std.specs.Prelude.{◌≡◌, ◌≢◌, [], None, Some, IsSome, OnErr, OnOk};
-ghost use Rattle.live_table.specs.Tables.{Finds, Moves, entry_at, live_value, value_at};
+ghost use Rattle.std.specs.Prelude.{◌≡◌, ◌≢◌, [], None, Some, IfOk, IsSome, OnErr, OnOk};
+ghost use Rattle.live_table.specs.Tables.{Finds, Moves, entry_at, live_count, live_value, value_at};
 ghost use Rattle.tree_model.specs.Names.{child_case};
 ghost use Rattle.sub_table.specs.declared.branch.Branch.{Branch as AnyBranch};
 ghost use Rattle.sub_table.specs.declared.branch.Stage.TheVariants as stage;
-ghost use Rattle.sub_table.specs.Tables.{IsGivenFor, IsKept, Notes, Opens, Retires, SameTable, branch_in, nothing, promised, ticket_in};
+ghost use Rattle.sub_table.specs.Tables.{IsGivenFor, IsKept, Notes, Opens, Retires, SameTable, branch_in, nothing, opened, promised, ticket_in};
 
 use crate::branch::{Branch, Stage};
 use live_table::LiveTable;
@@ -53,6 +53,13 @@ impl Branches {
         }
     }
 
+    /// How many cases are live.
+    pub fn len(&self) -> usize
+        ensures { result ≡ live_count self.now.branches }
+    {
+        self.branches.len()
+    }
+
     /// The key of the case, if it is live.
     pub fn find(&self, case: &Case) -> Option<usize>
         ensures finds { Finds self.now.branches case.now result }
@@ -70,7 +77,8 @@ impl Branches {
 
     /// The active ticket that was given for the parent's case.
     pub fn ticket_for(&self, case: &Case) -> Option<Ticket>
-        ensures { result ≡ ticket_in self.now case.now }
+        ensures is { result ≡ ticket_in self.now case.now }
+        ensures kept { IsKept self.now }
     {
         match self.tickets.find(case) {
             None => None,
@@ -78,11 +86,13 @@ impl Branches {
         }
     }
 
-    /// The case of a fresh ticket is live now, which was just given for the parent's case. Memory: nothing changed.
-    pub fn open(&mut self, given_for: Case, ticket: Ticket, xid: Xid) -> Result<(), AllocError>
+    /// The case of a fresh ticket is live now, which was just given for the parent's case; this is its key. Memory: nothing
+    /// changed.
+    pub fn open(&mut self, given_for: Case, ticket: Ticket, xid: Xid) -> Result<usize, AllocError>
         requires fresh { branch_in self.old (child_case given_for.txn ticket) ≡ None }
         requires ungiven { ticket_in self.old given_for ≡ None }
         ensures ok { OnOk result (Opens self.old self.new given_for ticket xid) }
+        ensures at { IfOk result (λ key. entry_at self.new.branches key ≡ Some (child_case given_for.txn ticket, opened xid given_for)) }
         ensures err { OnErr result (SameTable self.old self.new) }
     {
         let case = Case {
@@ -99,7 +109,7 @@ impl Branches {
         };
         let key = self.tickets.insert(given_for, ticket)?;
         match self.branches.insert(case, branch) {
-            Ok(_) => Ok(()),
+            Ok(opened) => Ok(opened),
             Err(error) => {
                 let _ = self.tickets.remove(key);
                 Err(error)

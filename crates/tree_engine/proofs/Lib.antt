@@ -1,2 +1,1 @@
-pub mod FlatTrees
 pub mod TreeReports

@@ -6,7 +6,7 @@ use Rattle.sub_table.proofs.table.Branches.open.Goals as goal
 
 pub invariant_of-self-in-Ok : goal.invariant_of-self-in-Ok
 invariant_of-self-in-Ok c =
-    opens c.self.inside.tickets c.insert.new.self c.self.inside.branches c.insert-2.new.self c.args.given_for c.args.ticket c.args.xid c.in_ok-key.key c.in-Ok.field-0
+    opens c.self.inside.tickets c.insert.new.self c.self.inside.branches c.insert-2.new.self c.args.given_for c.args.ticket c.args.xid c.in_ok-key.key c.in-Ok.opened
     c.self.invariant (ap (λ t. branch_in t (child_case c.args.given_for.txn c.args.ticket)) c.self.view_is ∙ c.requires.fresh)
     (ap (λ t. ticket_in t c.args.given_for) c.self.view_is ∙ c.requires.ungiven) c.in_ok-key.ensures.ok c.in-Ok.ensures.ok
 

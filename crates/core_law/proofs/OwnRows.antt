@@ -1,0 +1,175 @@
+-- Each row of a coordinator writes of its own case alone, and writes no boot.
+use Rattle.std.proofs.Common.{◌≡◌, Bool, true, false, if◌then◌else◌, Option, None, Some, List, [], ◌∷◌, ◌++◌, refl}
+use Rattle.tree_model.specs.declared.names.Case.{Case}
+use Rattle.tree_model.specs.declared.names.Outcome.TheVariants.{Committed, Aborted}
+use Rattle.tree_model.specs.declared.names.Outcome.{Outcome}
+use Rattle.tree_model.specs.declared.names.ProcessId.{ProcessId}
+use Rattle.tree_model.specs.declared.names.Presumption.{Presumption}
+use Rattle.tree_model.specs.declared.names.Presumption.TheVariants.{PresumeAbort, PresumeCommit}
+use Rattle.tree_model.specs.declared.names.Ticket.{Ticket}
+use Rattle.tree_model.specs.declared.messages.Op.{Op}
+use Rattle.tree_model.specs.declared.records.Record.TheVariants.{Prepare as PrepareRecord}
+use Rattle.tree_model.specs.declared.standings.Standing.{Standing}
+use Rattle.tree_model.specs.declared.standings.Standing.TheVariants.{Unknown, Active, Collecting, Prepared, Committing, Aborting, Heuristic}
+use Rattle.tree_model.specs.declared.standings.Vote.{Vote}
+use Rattle.tree_model.specs.declared.standings.Vote.TheVariants.{Yes, No, Read}
+use Rattle.tree_model.specs.Records.{in_list, none_of}
+use Rattle.tree_model.specs.Memory.{all_voted, has_child, is_counted, undecided_of, yes_of}
+use Rattle.tree_model.specs.Standings.{CoordinatorView}
+use Rattle.tree_model.specs.CoordinatorRows.{Reason, Row, Seat, ByVote, ByAbort, active_abort, active_commit, active_commit_with, active_join, active_work, collecting_abort, collecting_abort_by, collecting_after, collecting_full, collecting_vote, decided_ack, decides, on_abort, on_ack, on_commit, on_inquiry, on_joined, on_prepare, on_vote, other_tickets, prepared_ask, prepared_abort_by, prepared_commit_by, read_only_end, root_commits, unknown_commit_by}
+use Rattle.tree_model.proofs.TicketLaws.{pushed}
+use Rattle.tree_model.proofs.RootViewLaws.{IsOf, abort_of, collecting_of, commit_of, end_of, quiet_of}
+
+prepare_of : (c : Case) (ts : List Ticket) (row : Row) (b : Bool) → row.written ≡ record { entry = PrepareRecord c ts; is_forced = b } ∷ [] → IsOf c row
+prepare_of c ts row b h = record { boot = λ b. rw h refl; others = λ d rs m o. rw h (simp (pushed, o) refl) }
+
+either_of : (c : Case) (b : Bool) (r q : Row) → IsOf c r → IsOf c q → IsOf c (if b then r else q)
+either_of c true r q here there = here
+either_of c false r q here there = there
+
+-- what is counted writes nothing
+counting : (c : Case) (r : Row) (counts : List (Ticket × Vote)) → IsOf c r → IsOf c (record r { counts = counts })
+counting c r counts own = record { boot = own.boot; others = own.others }
+
+module _ (s : Seat) (v : CoordinatorView) where
+  pub join_of : (q : ProcessId) → IsOf s.own (active_join s q v)
+  join_of q = either_of s.own (has_child v.accepted q) _ _ (quiet_of s.own _ refl) (quiet_of s.own _ refl)
+
+  pub work_of : (t : Ticket) (op : Op) → IsOf s.own (active_work s t op v)
+  work_of t op = quiet_of s.own _ refl
+
+  with_of : (p : Presumption) → IsOf s.own (active_commit_with s v p)
+  with_of PresumeAbort = quiet_of s.own _ refl
+  with_of PresumeCommit = collecting_of s.own v.accepted _ true refl
+
+  pub active_commit_of : IsOf s.own (active_commit s v)
+  active_commit_of = either_of s.own (none_of v.accepted) _ _ (quiet_of s.own _ refl) (with_of s.own.txn.presumption)
+
+  pub active_abort_of : IsOf s.own (active_abort s v)
+  active_abort_of = quiet_of s.own _ refl
+
+  abort_by_of : (why : Reason) (us : List Ticket) (p : Presumption) → IsOf s.own (collecting_abort_by s why v us p)
+  abort_by_of why us PresumeAbort = abort_of s.own [] _ false refl
+  abort_by_of why us PresumeCommit = abort_of s.own us _ true refl
+
+  pub collecting_abort_of : (why : Reason) → IsOf s.own (collecting_abort s why v)
+  collecting_abort_of why = abort_by_of why (undecided_of v.accepted v.votes) s.own.txn.presumption
+
+  pub ask_of : IsOf s.own (prepared_ask s v)
+  ask_of = quiet_of s.own _ refl
+
+  read_only_of : (p : Presumption) (row : Row) → row.written ≡ read_only_end s p → IsOf s.own row
+  read_only_of PresumeAbort row h = quiet_of s.own row h
+  read_only_of PresumeCommit row h = end_of s.own row false h
+
+  root_commits_of : (ys : List Ticket) (p : Presumption) → IsOf s.own (root_commits s v ys p)
+  root_commits_of ys PresumeAbort = commit_of s.own ys _ true refl
+  root_commits_of ys PresumeCommit = commit_of s.own [] _ true refl
+
+  decides_of : (ys : List Ticket) (o : Option ProcessId) → IsOf s.own (decides s v ys o)
+  decides_of ys None = root_commits_of ys s.own.txn.presumption
+  decides_of ys (Some p) = prepare_of s.own ys _ true refl
+
+  full_of : IsOf s.own (collecting_full s v)
+  full_of =
+      either_of s.own (none_of (yes_of v.accepted v.votes)) _ _ (read_only_of s.own.txn.presumption _ refl)
+      (decides_of (yes_of v.accepted v.votes) s.parent)
+
+  after_of : (w : Vote) → IsOf s.own (collecting_after s v w)
+  after_of No = collecting_abort_of ByVote
+  after_of Yes = either_of s.own (all_voted v.accepted v.votes) _ _ full_of (quiet_of s.own _ refl)
+  after_of Read = either_of s.own (all_voted v.accepted v.votes) _ _ full_of (quiet_of s.own _ refl)
+
+  decided_of : (t : Ticket) → IsOf s.own (decided_ack s t v)
+  decided_of t =
+      either_of s.own (in_list v.owed t) _ _
+      (either_of s.own (none_of (other_tickets t v.owed)) _ _ (end_of s.own _ false refl) (quiet_of s.own _ refl))
+      (quiet_of s.own _ refl)
+
+module _ (s : Seat) (v : CoordinatorView) where
+  vote_of : (t : Ticket) (w : Vote) → IsOf s.own (collecting_vote s t w v)
+  vote_of t w =
+      either_of s.own (is_counted v.accepted v.votes t) _ _
+      (counting s.own _ _ (after_of s (record v { votes = v.votes ++ (t, w) ∷ [] }) w)) (quiet_of s.own _ refl)
+
+  pub on_vote_of : (t : Ticket) (w : Vote) (st : Standing) → IsOf s.own (on_vote s t w v st)
+  on_vote_of t w Collecting = vote_of t w
+  on_vote_of t w Unknown = quiet_of s.own _ refl
+  on_vote_of t w Active = quiet_of s.own _ refl
+  on_vote_of t w Prepared = quiet_of s.own _ refl
+  on_vote_of t w Committing = quiet_of s.own _ refl
+  on_vote_of t w Aborting = quiet_of s.own _ refl
+  on_vote_of t w Heuristic = quiet_of s.own _ refl
+
+  pub on_ack_of : (t : Ticket) (o : Outcome) (st : Standing) → IsOf s.own (on_ack s t o v st)
+  on_ack_of t Committed Committing = decided_of s v t
+  on_ack_of t Aborted Aborting = decided_of s v t
+  on_ack_of t Committed Aborting = quiet_of s.own _ refl
+  on_ack_of t Committed Unknown = quiet_of s.own _ refl
+  on_ack_of t Committed Active = quiet_of s.own _ refl
+  on_ack_of t Committed Collecting = quiet_of s.own _ refl
+  on_ack_of t Committed Prepared = quiet_of s.own _ refl
+  on_ack_of t Committed Heuristic = quiet_of s.own _ refl
+  on_ack_of t Aborted Committing = quiet_of s.own _ refl
+  on_ack_of t Aborted Unknown = quiet_of s.own _ refl
+  on_ack_of t Aborted Active = quiet_of s.own _ refl
+  on_ack_of t Aborted Collecting = quiet_of s.own _ refl
+  on_ack_of t Aborted Prepared = quiet_of s.own _ refl
+  on_ack_of t Aborted Heuristic = quiet_of s.own _ refl
+
+  pub on_inquiry_of : (t : Ticket) (st : Standing) → IsOf s.own (on_inquiry s t v st)
+  on_inquiry_of t Committing = quiet_of s.own _ refl
+  on_inquiry_of t Aborting = quiet_of s.own _ refl
+  on_inquiry_of t Unknown = quiet_of s.own _ refl
+  on_inquiry_of t Active = quiet_of s.own _ refl
+  on_inquiry_of t Collecting = quiet_of s.own _ refl
+  on_inquiry_of t Prepared = quiet_of s.own _ refl
+  on_inquiry_of t Heuristic = quiet_of s.own _ refl
+
+  pub on_joined_of : (t : Ticket) (st : Standing) → IsOf s.own (on_joined t v st)
+  on_joined_of t Active = either_of s.own (has_child v.accepted t.child) _ _ (quiet_of s.own _ refl) (quiet_of s.own _ refl)
+  on_joined_of t Unknown = quiet_of s.own _ refl
+  on_joined_of t Collecting = quiet_of s.own _ refl
+  on_joined_of t Prepared = quiet_of s.own _ refl
+  on_joined_of t Committing = quiet_of s.own _ refl
+  on_joined_of t Aborting = quiet_of s.own _ refl
+  on_joined_of t Heuristic = quiet_of s.own _ refl
+
+  pub on_prepare_of : (st : Standing) → IsOf s.own (on_prepare s v st)
+  on_prepare_of Active = active_commit_of s v
+  on_prepare_of Unknown = quiet_of s.own _ refl
+  on_prepare_of Collecting = quiet_of s.own _ refl
+  on_prepare_of Prepared = quiet_of s.own _ refl
+  on_prepare_of Committing = quiet_of s.own _ refl
+  on_prepare_of Aborting = quiet_of s.own _ refl
+  on_prepare_of Heuristic = quiet_of s.own _ refl
+
+  passed_commit_of : (p : Presumption) → IsOf s.own (prepared_commit_by s v p)
+  passed_commit_of PresumeAbort = commit_of s.own v.promised _ true refl
+  passed_commit_of PresumeCommit = commit_of s.own [] _ false refl
+
+  no_commit_of : (p : Presumption) → IsOf s.own (unknown_commit_by s v p)
+  no_commit_of PresumeAbort = quiet_of s.own _ refl
+  no_commit_of PresumeCommit = quiet_of s.own _ refl
+
+  pub on_commit_of : (st : Standing) → IsOf s.own (on_commit s v st)
+  on_commit_of Prepared = passed_commit_of s.own.txn.presumption
+  on_commit_of Unknown = no_commit_of s.own.txn.presumption
+  on_commit_of Active = quiet_of s.own _ refl
+  on_commit_of Collecting = quiet_of s.own _ refl
+  on_commit_of Committing = quiet_of s.own _ refl
+  on_commit_of Aborting = quiet_of s.own _ refl
+  on_commit_of Heuristic = quiet_of s.own _ refl
+
+  passed_abort_of : (p : Presumption) → IsOf s.own (prepared_abort_by s v p)
+  passed_abort_of PresumeAbort = abort_of s.own [] _ false refl
+  passed_abort_of PresumeCommit = abort_of s.own v.promised _ true refl
+
+  pub on_abort_of : (st : Standing) → IsOf s.own (on_abort s v st)
+  on_abort_of Active = active_abort_of s v
+  on_abort_of Collecting = collecting_abort_of s v ByAbort
+  on_abort_of Prepared = passed_abort_of s.own.txn.presumption
+  on_abort_of Unknown = quiet_of s.own _ refl
+  on_abort_of Committing = quiet_of s.own _ refl
+  on_abort_of Aborting = quiet_of s.own _ refl
+  on_abort_of Heuristic = quiet_of s.own _ refl

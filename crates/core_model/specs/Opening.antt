@@ -1,0 +1,17 @@
+-- A process that opened an empty log.
+use Rattle.std.specs.Prelude.{◌≡◌, ℕ, None, [], ◌∷◌}
+use Rattle.tree_model.specs.declared.records.LogRecord.{LogRecord}
+use Rattle.tree_model.specs.declared.records.Record.TheVariants.{Opened}
+use Rattle.tree_model.specs.Nodes.{Place}
+use Rattle.core_model.specs.States.{CoreState, forced_sight}
+use Rattle.core_model.specs.Restarting.{ReadOff}
+
+-- the first record of a log
+abbrev pub first_opened : LogRecord
+first_opened = record { entry = Opened 1; parent = None }
+
+-- a process that opened an empty log over a device that failed so often: it stands as its one record says, which is forced
+pub record IsOpened (s : CoreState) (place : Place) (failures : ℕ) : Type 0 where
+  pub place_is : s.place ≡ place
+  pub log : s.log ≡ forced_sight (first_opened ∷ []) failures
+  pub read : ReadOff s (Opened 1 ∷ [])

@@ -1,0 +1,54 @@
+-- A manager over an empty store.
+use Rattle.std.proofs.Common.{◌≡◌, ◌∙◌, ◌∷◌, [], ◌++◌, ℕ, false, List, Option, Some, Result, Ok, Err, IfOk, refl, sym, subst, ap}
+use Rattle.tree_model.specs.declared.names.Kind.TheVariants.{Manager}
+use Rattle.tree_model.specs.declared.records.LogRecord.{LogRecord}
+use Rattle.tree_model.specs.Records.{same_bytes}
+use Rattle.log_order.specs.Logs.{LogReading, Whole, read_log}
+use Rattle.log_order.specs.Orders.{SeenLog, nothing_seen}
+use Rattle.rec_log.specs.Sights.{LogSight, LogState, records_of}
+use Rattle.kv_replay.specs.Replays.{seen_after, seen_of}
+use Rattle.core_model.specs.Opening.{first_opened}
+use Rattle.manager_model.specs.Opening.{IsNew}
+use Rattle.kv_manager.specs.Resources.{sight_of}
+use Rattle.kv_manager.specs.Restarts.{LeavesStore, RestoredFrom, next_boot, opened}
+use Rattle.kv_manager.specs.Sights.{KvSight}
+
+nothing_read : read_log Manager [] ≡ Whole [] 0
+unfolding read_log same_bytes
+nothing_read = refl
+
+same_records : (a b : List LogRecord) (m n : ℕ) → Whole a m ≡ Whole b n → a ≡ b
+same_records a b m n e = cc
+
+nothing_said : (s : SeenLog) → seen_of [] ≡ Some s → nothing_seen ≡ s
+unfolding seen_after
+nothing_said s e = cc
+
+one : (b : ℕ) → Some 1 ≡ Some b → b ≡ 1
+one b e = cc
+
+first_boot : (s : SeenLog) (b : ℕ) → nothing_seen ≡ s → next_boot s.boot ≡ Some b → b ≡ 1
+first_boot s b is e = one b (ap (λ (t : SeenLog). next_boot t.boot) is ∙ e)
+
+pub created : (forced failures : ℕ) (s : KvSight) → RestoredFrom [] forced failures s → IsNew (sight_of s)
+created forced failures s r =
+    let none : records_of r.log.sight.kept ≡ [] = sym (same_records [] (records_of r.log.sight.kept) 0 r.opens.torn (sym nothing_read ∙ r.opens.read)) in
+    let left : LeavesStore [] s.store s.boot = subst (λ ls. LeavesStore ls s.store s.boot) none r.starts.left in
+    let boot : s.boot ≡ 1 = first_boot left.seen s.boot (nothing_said left.seen left.read) left.next in
+    let kept : s.log.sight.kept.forced ≡ first_opened ∷ [] =
+    r.starts.forced ∙ ap (λ ls. ls ++ opened s.boot ∷ []) none ∙ ap (λ b. opened b ∷ []) boot in
+    record {
+      closed = left.tables.init;
+      boot = boot;
+      log = λ i. record {
+        kept = record { forced = kept i; unforced = r.starts.unforced i };
+        behind = r.starts.behind i;
+        failed = r.starts.works i;
+        failures = s.log.sight.failures;
+      };
+    }
+
+pub each_new : {E : Type 0} (bytes : List ℕ) (forced failures : ℕ) (r : Result KvSight E) → bytes ≡ [] → IfOk r (RestoredFrom bytes forced failures)
+    → IfOk r (λ m. IsNew (sight_of m))
+each_new bytes forced failures (Ok m) empty r = created forced failures m (subst (λ bs. RestoredFrom bs forced failures m) empty r)
+each_new bytes forced failures (Err e) empty r = r

@@ -1,0 +1,204 @@
+-- What comes of a JOIN.
+use Rattle.std.proofs.Common.{◌≡◌, ◌≢◌, ◌≤◌, ◌+◌, ◌∙◌, ℕ, ℤ, pos, negsuc, Bool, true, false, Option, Some, None, List, [], ◌∷◌, Result, Ok, Err, refl, sym, ap, subst, arith, if◌then◌else◌}
+use Rattle.xa_tables.specs.declared.states.BranchState.TheVariants.{S2}
+use Rattle.xa_xid.specs.declared.xid.Xid.{Xid}
+use Rattle.xa_xid.specs.Xids.{XidParts, null_xid}
+use Rattle.xa_branch.specs.Names.{same}
+use Rattle.xa_states.specs.Answers.{state_at}
+use Rattle.tree_model.specs.declared.names.Case.{Case}
+use Rattle.tree_model.specs.declared.names.Presumption.{Presumption}
+use Rattle.tree_model.specs.declared.names.Presumption.TheVariants.{PresumeAbort, PresumeCommit}
+use Rattle.tree_model.specs.declared.names.ProcessId.{ProcessId}
+use Rattle.tree_model.specs.declared.names.Ticket.{Ticket}
+use Rattle.tree_model.specs.declared.names.Txn.{Txn}
+use Rattle.tree_model.specs.declared.messages.Envelope.{Envelope}
+use Rattle.tree_model.specs.declared.messages.Message.TheVariants.{Join, Joined}
+use Rattle.tree_model.specs.declared.events.Input.{Input}
+use Rattle.tree_model.specs.declared.events.Input.TheVariants.{Message as MessageInput}
+use Rattle.tree_model.specs.declared.events.Reaction.{Reaction}
+use Rattle.tree_model.specs.Branches.{branch_format, branch_parts}
+use Rattle.tree_model.specs.Names.{child_case, same_case}
+use Rattle.tree_model.specs.CoordinatorRows.{post}
+use Rattle.tree_model.specs.Reactions.{sends_only}
+use Rattle.core_model.specs.States.{SameCore}
+use Rattle.core_model.specs.Turns.{Issues, Says, Turn, leaf_joined_turn, next_ticket}
+use Rattle.core_model.specs.Makes.{IssuesTicket}
+use Rattle.live_table.specs.Tables.{Moves}
+use Rattle.manager_model.specs.Sights.{ManagerSight, SameManager}
+use Rattle.sub_deeds.specs.Deeds.{Begins, HasBegun, starts}
+use Rattle.sub_table.specs.declared.branch.Branch.{Branch}
+use Rattle.sub_table.specs.Tables.{BranchTable, Opens, SameTable, branch_in, kept_view, opened, ticket_in}
+use Rattle.sub_core.specs.Subordinates.{Hears, IsGiven, IsNamed, IsTied, Joins, SubState, Turns, WritesNothing, core_of, next_case, shown, stage_state, turn_for, xid_of}
+use Rattle.sub_core.proofs.Ties.{apart_xids, behind, one, same_tied}
+use Rattle.sub_core.proofs.Rows.{no_view, same_core}
+
+some_same : {A : Type 0} (a b : A) → Some a ≡ Some b → a ≡ b
+some_same a b e = cc
+
+-- a subordinate that gave a ticket more
+abbrev pub numbered : SubState → BranchTable → ManagerSight → ℕ → SubState
+numbered s t m n = record (behind s t m) { given = n }
+
+-- these messages go out, and nothing moves
+said : (old new : SubState) (i : Input) (ls : List Envelope) → SameCore (core_of old) (core_of new) → Turns old new i (Says ls) (shown [] ls)
+said old new i ls same = record { moves = same; effect = sends_only ls; does = refl; shown = refl }
+
+pub stays_core : (s : SubState) → SameCore (core_of s) (core_of s)
+stays_core s = record {
+  log = refl;
+  rest = record { place = refl; boot = refl; begun = refl; given = refl; tickets = λ d. refl; views = λ d. no_view; branches = λ d. refl };
+}
+
+-- the turn of a JOIN by the ticket that is active
+abbrev turn_by : SubState → Case → Bool → Option Ticket → Turn
+turn_by s d b o = leaf_joined_turn (core_of s) s.parent d b o
+
+-- the active ticket is told again
+pub repeated : (s : SubState) (d : Case) (t : Ticket) → Some t ≡ ticket_in s.table d → Hears s s (Join d) (shown [] (post s.me s.parent (Joined d t) ∷ []))
+repeated s d t e = record {
+  turns = λ k.
+      subst (λ (turn : Turn). Turns s s (MessageInput k (Join d)) turn (shown [] (post s.me s.parent (Joined d t) ∷ [])))
+      (ap (turn_by s d (starts s.manager (xid_of s (next_case s d)))) e)
+      (said s s (MessageInput k (Join d)) (post s.me s.parent (Joined d t) ∷ []) (stays_core s));
+  writes = λ y. refl;
+}
+
+-- a fresh ticket was given
+pub issued : (s new : SubState) (d : Case) → ticket_in s.table d ≡ None → Joins s new d true
+    → Hears s new (Join d) (shown [] (post s.me s.parent (Joined d (next_ticket (core_of s))) ∷ []))
+issued s new d ungiven j =
+    let ls : List Envelope = post s.me s.parent (Joined d (next_ticket (core_of s))) ∷ [] in
+    let is : turn_by s d (starts s.manager (xid_of s (next_case s d))) (ticket_in s.table d)
+        ≡ Issues d (next_ticket (core_of s)) (post s.me s.parent (Joined d (next_ticket (core_of s)))) =
+    ap (turn_by s d (starts s.manager (xid_of s (next_case s d)))) ungiven ∙ ap (λ b. turn_by s d b None) j.0 in
+    record {
+      turns = λ k.
+          subst (λ (turn : Turn). Turns s new (MessageInput k (Join d)) turn (shown [] ls)) (sym is)
+          (record { moves = j.1; effect = sends_only ls; does = refl; shown = refl });
+      writes = j.2;
+    }
+
+-- the manager refused the start: nothing is said
+pub refused : (s new : SubState) (d : Case) → ticket_in s.table d ≡ None → Joins s new d false → Hears s new (Join d) (shown [] [])
+refused s new d ungiven j =
+    let is : turn_by s d (starts s.manager (xid_of s (next_case s d))) (ticket_in s.table d) ≡ Says [] =
+    ap (turn_by s d (starts s.manager (xid_of s (next_case s d)))) ungiven ∙ ap (λ b. turn_by s d b None) j.0 in
+    record {
+      turns = λ k.
+          subst (λ (turn : Turn). Turns s new (MessageInput k (Join d)) turn (shown [] [])) (sym is) (said s new (MessageInput k (Join d)) [] j.1);
+      writes = j.2;
+    }
+
+-- The case of a fresh ticket.
+
+-- the case of the ticket that is given next is not live
+pub is_fresh : (s : SubState) (d : Case) → IsTied s → branch_in s.table (next_case s d) ≡ None
+is_fresh s d tied = by_branch (branch_in s.table (next_case s d)) refl
+  where
+    by_branch : (o : Option Branch) → branch_in s.table (next_case s d) ≡ o → o ≡ None
+    by_branch None e = refl
+    by_branch (Some b) e =
+        let g = tied.given_before (next_case s d) b e in
+        let is : next_ticket (core_of s) ≡ g.ticket = some_same (next_ticket (core_of s)) g.ticket g.has in
+        let before : g.ticket.number ≤ s.given = g.before (ap (λ (t : Ticket). t.boot) (sym is)) in
+        let number : s.given + 1 ≡ g.ticket.number = ap (λ (t : Ticket). t.number) is in
+        absurd (omega arith)
+
+module _ (s : SubState) (d : Case) (t : BranchTable) (m : ManagerSight) (x : Xid) (tied : IsTied s) (named : IsNamed s.parent (next_case s d) x)
+    (opens : Opens s.table t d (next_ticket (core_of s)) x) where
+  abbrev own : Case
+  own = next_case s d
+
+  abbrev new : SubState
+  new = numbered s t m (s.given + 1)
+
+  named_at : Begins s.manager m x → (c : Case) (w : Branch) (r : Bool) → same_case own c ≡ r → branch_in t c ≡ Some w → IsNamed s.parent c w.xid
+  named_at b c w true e h =
+      let entry : opened x d ≡ w = some_same (opened x d) w (sym opens.branches.own ∙ ap (branch_in t) (one own c e) ∙ h) in
+      subst (λ (q : Case). IsNamed s.parent q w.xid) (one own c e) (subst (λ (y : Xid). IsNamed s.parent own y) (ap (λ (z : Branch). z.xid) entry) named)
+  named_at b c w false e h = tied.named c w (sym (opens.branches.others c e) ∙ h)
+
+  stands_at : Begins s.manager m x → (c : Case) (w : Branch) (r : Bool) → same_case own c ≡ r → branch_in t c ≡ Some w
+      → state_at m.tables w.xid ≡ stage_state w.stage
+  stands_at b c w true e h =
+      let entry : opened x d ≡ w = some_same (opened x d) w (sym opens.branches.own ∙ ap (branch_in t) (one own c e) ∙ h) in
+      subst (λ (z : Branch). state_at m.tables z.xid ≡ stage_state z.stage) entry b.comes.own
+  stands_at b c w false e h =
+      let stood = sym (opens.branches.others c e) ∙ h in
+      let apart = apart_xids s.parent own c x w.xid named (tied.named c w stood) e (same x w.xid) refl in
+      b.comes.others w.xid apart ∙ tied.stands c w stood
+
+  given_at : Begins s.manager m x → (c : Case) (w : Branch) (r : Bool) → same_case own c ≡ r → branch_in t c ≡ Some w → IsGiven new c
+  given_at b c w true e h =
+      subst (λ (q : Case). IsGiven new q) (one own c e) (record { ticket = next_ticket (core_of s); has = refl; before = λ f. omega arith })
+  given_at b c w false e h =
+      let g = tied.given_before c w (sym (opens.branches.others c e) ∙ h) in
+      record {
+        ticket = g.ticket;
+        has = g.has;
+        before = λ f. let before : g.ticket.number ≤ s.given = g.before (f ∙ b.comes.boot) in omega arith;
+      }
+
+  pub begun_tied : Begins s.manager m x → IsTied new
+  begun_tied b = record {
+    idle = b.comes.idle;
+    named = λ c w h. named_at b c w (same_case own c) refl h;
+    stands = λ c w h. stands_at b c w (same_case own c) refl h;
+    given_before = λ c w h. given_at b c w (same_case own c) refl h;
+  }
+
+  pub begun : HasBegun s.manager m x true → Joins s new d true
+  begun h = (
+    ap (starts s.manager) (sym named.is) ∙ h.0,
+    record {
+      log = h.1.log;
+      cases = (ap kept_view opens.branches.own, λ c apart. ap kept_view (opens.branches.others c apart), λ c. no_view);
+      ticket = opens.tickets.own;
+      tickets = λ e apart. opens.tickets.others e apart;
+      begun = refl;
+      given = refl;
+      place = refl;
+      boot = h.1.comes.boot;
+    },
+    h.1.rest.writes,
+  )
+
+-- The start was refused, or wanted memory.
+
+pub table_tied : (s : SubState) (t : BranchTable) → IsTied s → SameTable s.table t → IsTied (behind s t s.manager)
+table_tied s t tied same = record {
+  idle = tied.idle;
+  named = λ c w h. tied.named c w (sym (same.branches c) ∙ h);
+  stands = λ c w h. tied.stands c w (sym (same.branches c) ∙ h);
+  given_before = λ c w h. let g = tied.given_before c w (sym (same.branches c) ∙ h) in record { ticket = g.ticket; has = g.has; before = g.before };
+}
+
+pub undone_tied : (s : SubState) (t : BranchTable) (m : ManagerSight) → IsTied s → SameTable s.table t → SameManager s.manager m → IsTied (behind s t m)
+undone_tied s t m tied same stays = same_tied (behind s t s.manager) m (table_tied s t tied same) stays
+
+pub undone_core : (s : SubState) (t : BranchTable) (m : ManagerSight) → SameTable s.table t → SameManager s.manager m → SameCore (core_of s) (core_of (behind s t m))
+undone_core s t m same stays = record {
+  log = stays.log;
+  rest = record {
+    place = refl;
+    boot = stays.boot;
+    begun = refl;
+    given = refl;
+    tickets = same.tickets;
+    views = λ c. no_view;
+    branches = λ c. ap kept_view (same.branches c);
+  };
+}
+
+pub not_begun : (s : SubState) (d : Case) (t : BranchTable) (m : ManagerSight) (x : Xid) → IsNamed s.parent (next_case s d) x → SameTable s.table t
+    → HasBegun s.manager m x false → Joins s (behind s t m) d false
+not_begun s d t m x named same h = (ap (starts s.manager) (sym named.is) ∙ h.0, undone_core s t m same h.1, h.1.rest.writes)
+
+-- The XID.
+
+pub is_real : (x : Txn) (b : Option (ProcessId × Ticket)) → branch_parts x b ≢ null_xid
+is_real x b e = by_presumption x.presumption (ap (λ (q : XidParts). q.format) e)
+  where
+    by_presumption : (p : Presumption) → branch_format p ≡ negsuc 0 → ⊥
+    by_presumption PresumeAbort f = absurd cc
+    by_presumption PresumeCommit f = absurd cc

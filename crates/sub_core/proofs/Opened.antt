@@ -1,0 +1,85 @@
+-- A subordinate whose manager was just made over an empty log.
+use Rattle.std.proofs.Common.{◌≡◌, ◌∙◌, ◌∷◌, [], ℕ, false, List, None, refl, sym, ap, arith}
+use Rattle.std.specs.Prelude.{length}
+use Rattle.xa_codes.specs.declared.code.Code.{Code}
+use Rattle.xa_assoc.specs.Associations.{AssocList, IsBare, moved_of}
+use Rattle.xa_xid.specs.declared.xid.Xid.{Xid}
+use Rattle.xa_states.specs.Answers.{Opens}
+use Rattle.tree_model.specs.declared.names.Case.{Case}
+use Rattle.tree_model.specs.declared.names.ProcessId.{ProcessId}
+use Rattle.tree_model.specs.declared.trees.TreeEntry.{TreeEntry}
+use Rattle.tree_model.specs.declared.records.Record.TheVariants.{Opened}
+use Rattle.tree_model.specs.Nodes.{AtLeaf, Place}
+use Rattle.tree_model.specs.Standings.{ManagerView}
+use Rattle.live_table.specs.Tables.{live_value}
+use Rattle.core_model.specs.Opening.{IsOpened}
+use Rattle.core_model.specs.Restarting.{recorded_branch_at}
+use Rattle.core_model.proofs.Opened.{opened_is_read}
+use Rattle.manager_model.specs.Opening.{IsNew}
+use Rattle.manager_model.specs.Sights.{Calls, ManagerSight}
+use Rattle.sub_deeds.specs.Deeds.{IsIdle, IsQuiet}
+use Rattle.sub_table.specs.Tables.{BranchTable, branch_in, kept_view, ticket_in, view_in}
+use Rattle.sub_core.specs.Subordinates.{IsTied, SubState, core_of}
+
+abbrev none : BranchTable
+none = record { tickets = []; branches = [] }
+
+no_ticket : (d : Case) → ticket_in none d ≡ None
+unfolding live_value
+no_ticket d = refl
+
+no_branch : (c : Case) → branch_in none c ≡ None
+unfolding live_value
+no_branch c = refl
+
+-- a list of no length
+no_items : {A : Type 0} (xs : List A) → length xs ≡ 0 → xs ≡ []
+no_items [] e = refl
+no_items (x ∷ xs) e = absurd (omega arith)
+
+bare_quiet : (a : AssocList) → IsBare a → a.seats ≡ [] → IsQuiet a
+bare_quiet a bare seats = record {
+  holders = no_items a.holders bare.holders;
+  seats = seats;
+  moved = λ x. ap (λ ms. moved_of (record a { moved = ms }) x) (no_items a.moved bare.moved);
+}
+
+module _ (old m : ManagerSight) (new : IsNew old) (refuses : Code → Type 0) (answer : Code) (calls : Calls old m (refuses answer) (λ s t. Opens s t 0 false answer)) where
+  up : old.log.failed ≡ false
+  up = ap (λ l. l.failed) new.log
+
+  idle : IsIdle m
+  idle = let o = calls.works up in record {
+    opened = o.init;
+    quiet = bare_quiet m.tables.associations (o.anew new.closed).0 (o.anew new.closed).1;
+  }
+
+  pub opened_tied : (me parent : ProcessId) (tree : List TreeEntry) (t : BranchTable) → t.tickets ≡ [] → t.branches ≡ []
+      → IsTied (record { me = me; parent = parent; tree = tree; given = 0; table = t; manager = m })
+  opened_tied me parent tree t tickets branches = record {
+    idle = idle;
+    named = λ c b e. absurd (let f = sym e ∙ bare c in cc);
+    stands = λ c b e. absurd (let f = sym e ∙ bare c in cc);
+    given_before = λ c b e. absurd (let f = sym e ∙ bare c in cc);
+  }
+    where
+      bare : (c : Case) → branch_in t c ≡ None
+      bare c = ap (λ bs. branch_in (record { tickets = t.tickets; branches = bs }) c) branches ∙ no_branch c
+
+  pub opened : (me parent : ProcessId) (tree : List TreeEntry) (t : BranchTable) → t.tickets ≡ [] → t.branches ≡ []
+      → IsOpened (core_of (record { me = me; parent = parent; tree = tree; given = 0; table = t; manager = m }))
+      (record { me = me; role = AtLeaf parent; tree = tree }) old.log.failures
+  opened me parent tree t tickets branches =
+      let read = opened_is_read (record { me = me; role = AtLeaf parent; tree = tree }) in
+      record {
+        place_is = refl;
+        log = calls.log ∙ new.log;
+        read = record {
+          boot = calls.boot ∙ new.boot ∙ read.boot;
+          begun = refl;
+          given = refl;
+          tickets = λ d. ap (λ ts. ticket_in (record { tickets = ts; branches = t.branches }) d) tickets ∙ no_ticket d;
+          views = read.views;
+          branches = λ c. ap (λ bs. view_in (record { tickets = t.tickets; branches = bs }) c) branches ∙ ap kept_view (no_branch c) ∙ read.branches c;
+        };
+      }

@@ -1,0 +1,169 @@
+-- What an input makes of a subordinate.
+use Rattle.std.proofs.Common.{◌≡◌, ◌∙◌, ℕ, Bool, true, false, Option, Some, None, List, [], ◌∷◌, Result, Ok, Err, IfOk, IfErr, refl, sym, ap, subst, if◌then◌else◌}
+use Rattle.std.specs.Prelude.{◌&&◌, OnOk}
+use Rattle.std.proofs.lemmas.Bool.{cases_eq}
+use Rattle.tree_model.specs.declared.names.Case.{Case}
+use Rattle.tree_model.specs.declared.names.Ticket.{Ticket}
+use Rattle.tree_model.specs.declared.names.Txn.{Txn}
+use Rattle.tree_model.specs.declared.messages.Message.{Message}
+use Rattle.tree_model.specs.declared.messages.Message.TheVariants.{Join, Joined, Work, Prepare, Yes, No, Read, Commit, Abort, Ack, Inquire}
+use Rattle.tree_model.specs.declared.messages.Op.{Op}
+use Rattle.tree_model.specs.declared.events.Act.{Act}
+use Rattle.tree_model.specs.declared.events.Act.TheVariants.{Ask}
+use Rattle.tree_model.specs.declared.events.Input.{Input}
+use Rattle.tree_model.specs.declared.events.Input.TheVariants.{Act as ActInput, Message as MessageInput}
+use Rattle.tree_model.specs.declared.events.Reaction.{Reaction}
+use Rattle.tree_model.specs.declared.events.StepError.{StepError}
+use Rattle.tree_model.specs.declared.events.StepError.TheVariants.{Memory, Device, UnknownTxn, NotAChild, Closed, Failed, NotInDoubt, NothingToForget, NoSuch}
+use Rattle.tree_model.specs.declared.trees.TreeEntry.{TreeEntry}
+use Rattle.tree_model.specs.Names.{same_txn}
+use Rattle.tree_model.specs.Nodes.{DataAnswer}
+use Rattle.tree_model.specs.CoordinatorRows.{post}
+use Rattle.tree_model.specs.ManagerRows.{untold_ask}
+use Rattle.tree_model.specs.Reactions.{act_is_listed, sends_only}
+use Rattle.core_model.specs.States.{CoreState}
+use Rattle.core_model.specs.Turns.{Finds, Handles, Refuses, Says, Turn, asked_by, asked_in, is_case_of, leaf_ask_turn, leaf_in, manager_turn, reacted, turn_of, up_turn}
+use Rattle.core_model.specs.Makes.{Makes, NotMade, retired_by}
+use Rattle.sub_table.specs.declared.branch.Branch.{Branch}
+use Rattle.sub_table.specs.Tables.{branch_in, kept_view, ticket_in, view_in}
+use Rattle.sub_core.specs.Subordinates.{Hears, NotHeard, NotTurned, SubState, Turns, Writes, answer_for, core_of, prepared, shown, turn_for}
+use Rattle.sub_core.specs.Steps.{Acts, Leaves, NotActed, data_answer, is_refusal, turn_at}
+use Rattle.sub_core.proofs.Joins.{stays_core}
+use Rattle.sub_core.proofs.Rows.{handled}
+use Rattle.sub_core.proofs.Staying.{no_record}
+
+-- Acts.
+
+-- the reaction table refuses it by this error
+pub refuses : (s : SubState) (turn : Turn) (e : StepError) → turn ≡ Refuses e → is_refusal e ≡ true → NotTurned s s turn e
+refuses s turn Device is no_device = absurd cc
+refuses s turn Memory is ok = stays_core s
+refuses s turn UnknownTxn is ok = (stays_core s, is)
+refuses s turn NotAChild is ok = (stays_core s, is)
+refuses s turn Closed is ok = (stays_core s, is)
+refuses s turn Failed is ok = (stays_core s, is)
+refuses s turn NotInDoubt is ok = (stays_core s, is)
+refuses s turn NothingToForget is ok = (stays_core s, is)
+refuses s turn NoSuch is ok = (stays_core s, is)
+
+-- an ask ends the time of no ticket
+no_retire : (c d : Case) (o : Option Ticket) → o ≡ retired_by (ActInput (Ask c)) d o
+no_retire c d None = refl
+no_retire c d (Some t) = refl
+
+-- a case in doubt is asked about
+pub asked : (s : SubState) (c : Case) (b : Branch) → Some b ≡ branch_in s.table c → b.stage ≡ (prepared b.xid).stage
+    → Acts s (Ask c) (shown [] (post s.me s.parent (Inquire c) ∷ []))
+asked s c b at is =
+    let v = view_in s.table c in
+    let turn : turn_at s (Ask c) ≡ Handles c (untold_ask (leaf_in (core_of s) s.parent c) v) =
+    ap (λ (o : Option Branch). leaf_ask_turn (leaf_in (core_of s) s.parent c) v (kept_view o).standing) (sym at)
+    ∙ ap (λ st. leaf_ask_turn (leaf_in (core_of s) s.parent c) v (kept_view (Some (record { xid = b.xid; stage = st }))).standing) is in
+    subst (λ (t : Turn). Turns s s (ActInput (Ask c)) t (shown [] (post s.me s.parent (Inquire c) ∷ []))) (sym turn)
+    (handled s s.table s.manager (ActInput (Ask c)) c (untold_ask (leaf_in (core_of s) s.parent c) v) (no_record s.manager.log) refl (λ d apart. refl)
+    (λ d. no_retire c d (ticket_in s.table d)) refl)
+
+-- Which turn an input meets.
+
+none_asked : (s : SubState) (o : Option (Txn × Ticket)) → Finds (core_of s) o None
+none_asked s None = refl
+none_asked s (Some p) = λ c. by_txn (same_txn c.txn p.0)
+  where
+    by_txn : (b : Bool) → (b && false) ≡ false
+    by_txn true = refl
+    by_txn false = refl
+
+module _ (s : SubState) (a : DataAnswer) (i : Input) where
+  pub unlisted : act_is_listed s.tree i ≡ false → turn_of (core_of s) a None i ≡ Refuses NoSuch
+  unfolding turn_of
+  unlisted e = ap (λ b. if b then (if s.manager.log.failed then Refuses Failed else up_turn (core_of s) a None i) else Refuses NoSuch) e
+
+  pub has_failed : act_is_listed s.tree i ≡ true → s.manager.log.failed ≡ true → turn_of (core_of s) a None i ≡ Refuses Failed
+  unfolding turn_of
+  has_failed e f =
+      ap (λ b. if b then (if s.manager.log.failed then Refuses Failed else up_turn (core_of s) a None i) else Refuses NoSuch) e
+      ∙ ap (λ b. if b then Refuses Failed else up_turn (core_of s) a None i) f
+
+  pub up : act_is_listed s.tree i ≡ true → s.manager.log.failed ≡ false → turn_of (core_of s) a None i ≡ up_turn (core_of s) a None i
+  unfolding turn_of
+  up e f =
+      ap (λ b. if b then (if s.manager.log.failed then Refuses Failed else up_turn (core_of s) a None i) else Refuses NoSuch) e
+      ∙ ap (λ b. if b then Refuses Failed else up_turn (core_of s) a None i) f
+
+none_found : (s : SubState) (i : Input) → Finds (core_of s) (asked_by i) None
+none_found s (ActInput a) = refl
+none_found s (MessageInput k m) = none_asked s (asked_in m)
+
+-- Makes.
+
+pub made : (old new : SubState) (a : DataAnswer) (i : Input) (turn : Turn) (reaction : Reaction) → turn_of (core_of old) a None i ≡ turn
+    → Turns old new i turn reaction → Makes (core_of old) (core_of new) a i reaction
+made old new a i turn reaction is t = record {
+  found = None;
+  finds = none_found old i;
+  moves = rw is t.moves;
+  effect = t.effect;
+  does = ap reacted is ∙ t.does;
+  shown = t.shown;
+}
+
+pub not_made : (old new : SubState) (a : DataAnswer) (i : Input) (turn : Turn) (e : StepError) → turn_of (core_of old) a None i ≡ turn
+    → NotTurned old new turn e → NotMade (core_of old) (core_of new) a i e
+not_made old new a i turn Memory is t = t
+not_made old new a i turn Device is t = record { found = None; finds = none_found old i; breaks = rw is t }
+not_made old new a i turn UnknownTxn is t = record { same = t.0; found = None; finds = none_found old i; refuses = is ∙ t.1 }
+not_made old new a i turn NotAChild is t = record { same = t.0; found = None; finds = none_found old i; refuses = is ∙ t.1 }
+not_made old new a i turn Closed is t = record { same = t.0; found = None; finds = none_found old i; refuses = is ∙ t.1 }
+not_made old new a i turn Failed is t = record { same = t.0; found = None; finds = none_found old i; refuses = is ∙ t.1 }
+not_made old new a i turn NotInDoubt is t = record { same = t.0; found = None; finds = none_found old i; refuses = is ∙ t.1 }
+not_made old new a i turn NothingToForget is t = record { same = t.0; found = None; finds = none_found old i; refuses = is ∙ t.1 }
+not_made old new a i turn NoSuch is t = record { same = t.0; found = None; finds = none_found old i; refuses = is ∙ t.1 }
+
+-- Results.
+
+pub act_ok : (s : SubState) (a : Act) (r : Result Reaction StepError) → act_is_listed s.tree (ActInput a) ≡ true → s.manager.log.failed ≡ false
+    → IfOk r (Acts s a) → IfOk r (Makes (core_of s) (core_of s) (data_answer s (ActInput a)) (ActInput a))
+act_ok s a (Ok reaction) listed works acts = made s s _ (ActInput a) (turn_at s a) reaction (up s _ (ActInput a) listed works) acts
+act_ok s a (Err e) listed works acts = acts
+
+pub act_err : (s : SubState) (a : Act) (r : Result Reaction StepError) → act_is_listed s.tree (ActInput a) ≡ true → s.manager.log.failed ≡ false
+    → IfErr r (NotActed s a) → IfErr r (NotMade (core_of s) (core_of s) (data_answer s (ActInput a)) (ActInput a))
+act_err s a (Ok reaction) listed works acts = acts
+act_err s a (Err e) listed works acts = not_made s s _ (ActInput a) (turn_at s a) e (up s _ (ActInput a) listed works) acts
+
+pub hear_ok : (old new : SubState) (k : ℕ) (m : Message) (r : Result Reaction StepError) → old.manager.log.failed ≡ false → IfOk r (Hears old new m)
+    → IfOk r (Makes (core_of old) (core_of new) (data_answer old (MessageInput k m)) (MessageInput k m))
+hear_ok old new k m (Ok reaction) works h = made old new _ (MessageInput k m) (turn_for old m) reaction (up old _ (MessageInput k m) refl works) (h.turns k)
+hear_ok old new k m (Err e) works h = h
+
+pub hear_writes : (old new : SubState) (k : ℕ) (m : Message) (r : Result Reaction StepError) → IfOk r (Hears old new m) → OnOk r (Leaves (MessageInput k m) old new)
+hear_writes old new k m (Ok reaction) h = h.writes
+hear_writes old new k m (Err e) h = h
+
+pub hear_err : (old new : SubState) (k : ℕ) (m : Message) (r : Result Reaction StepError) → old.manager.log.failed ≡ false → IfErr r (NotHeard old new m)
+    → IfErr r (NotMade (core_of old) (core_of new) (data_answer old (MessageInput k m)) (MessageInput k m))
+hear_err old new k m (Ok reaction) works h = h
+hear_err old new k m (Err e) works h = not_made old new _ (MessageInput k m) (turn_for old m) e (up old _ (MessageInput k m) refl works) h
+
+-- a message that says nothing to a manager
+pub unheard : (s : SubState) (m : Message) → turn_for s m ≡ Says [] → Writes s s m → Hears s s m (shown [] [])
+unheard s m is writes = record {
+  turns = λ k. subst (λ (t : Turn). Turns s s (MessageInput k m) t (shown [] [])) (sym is)
+      (record { moves = stays_core s; effect = sends_only []; does = refl; shown = refl });
+  writes = writes;
+}
+
+-- a message that is none of a parent
+pub unheard_of : (s : SubState) (m : Message) → ((c : Case) → m ≡ Join c → ⊥) → ((c : Case) (i : ℕ) (op : Op) → m ≡ Work c i op → ⊥)
+    → ((c : Case) (n : ℕ) → m ≡ Prepare c n → ⊥) → ((c : Case) → m ≡ Commit c → ⊥) → ((c : Case) → m ≡ Abort c → ⊥) → Hears s s m (shown [] [])
+unheard_of s (Join c) no_join no_work no_prepare no_commit no_abort = absurd (no_join c refl)
+unheard_of s (Work c i op) no_join no_work no_prepare no_commit no_abort = absurd (no_work c i op refl)
+unheard_of s (Prepare c n) no_join no_work no_prepare no_commit no_abort = absurd (no_prepare c n refl)
+unheard_of s (Commit c) no_join no_work no_prepare no_commit no_abort = absurd (no_commit c refl)
+unheard_of s (Abort c) no_join no_work no_prepare no_commit no_abort = absurd (no_abort c refl)
+unheard_of s (Joined d t) no_join no_work no_prepare no_commit no_abort = unheard s (Joined d t) refl (λ y. refl)
+unheard_of s (Yes c) no_join no_work no_prepare no_commit no_abort = unheard s (Yes c) refl (λ y. refl)
+unheard_of s (No c) no_join no_work no_prepare no_commit no_abort = unheard s (No c) refl (λ y. refl)
+unheard_of s (Read c) no_join no_work no_prepare no_commit no_abort = unheard s (Read c) refl (λ y. refl)
+unheard_of s (Ack c o) no_join no_work no_prepare no_commit no_abort = unheard s (Ack c o) refl (λ y. refl)
+unheard_of s (Inquire c) no_join no_work no_prepare no_commit no_abort = unheard s (Inquire c) refl (λ y. refl)

@@ -1,0 +1,17 @@
+use Rattle.std.proofs.Common.{Some, subst, sym, arith, ◌≢◌, ◌≡◌, ◌∙◌, ap}
+use Rattle.xa_xid.specs.Xids.{XidParts, null_xid}
+use Rattle.tree_model.specs.Names.{child_case}
+use Rattle.log_text.proofs.NameReading.{case_of}
+use Rattle.sub_core.proofs.Joins.{is_real}
+use Rattle.sub_core.proofs.joining.child_xid.Goals as goal
+
+pub returns : goal.returns
+returns c =
+    record {
+      is = c.name_xid.ensures;
+      reads = case_of c.args.txn (Some (c.args.parent, c.args.ticket)) c.name_xid.result
+          (record { root = omega arith; boot = omega arith; sequence = omega arith })
+          (record { parent = omega arith; child = omega arith; boot = omega arith; number = omega arith })
+          (sym c.name_xid.ensures);
+      real = λ e. is_real c.args.txn (Some (c.args.parent, c.args.ticket)) (sym c.name_xid.ensures ∙ e);
+    }

@@ -1,0 +1,59 @@
+use Rattle.std.proofs.Common.{◌≡◌, true, false, refl, sym, subst, rules, IfOk, IfErr}
+use Rattle.tree_model.specs.declared.events.Input.{Input}
+use Rattle.tree_model.specs.declared.events.Input.TheVariants.{Act as ActInput, Message as MessageInput}
+use Rattle.tree_model.specs.declared.events.StepError.TheVariants.{Failed, NoSuch}
+use Rattle.tree_model.specs.Reactions.{act_is_listed}
+use Rattle.core_model.specs.Turns.{Refuses}
+use Rattle.core_model.specs.Makes.{Makes, NotMade}
+use Rattle.sub_core.specs.Subordinates.{SubState, core_of, seen}
+use Rattle.sub_core.specs.Steps.{data_answer}
+use Rattle.sub_core.proofs.Joins.{stays_core}
+use Rattle.sub_core.proofs.Steps.{act_err, act_ok, has_failed, hear_err, hear_ok, not_made, unlisted}
+use Rattle.sub_core.proofs.subordinate.Subordinate.step.Goals as goal
+
+pub returns-then-not-is_listed-clause-err : goal.returns-then-not-is_listed-clause-err
+returns-then-not-is_listed-clause-err g c =
+    let s : SubState = seen g.M.ResourceManager.sight c.args.self.now in
+    let i : Input = c.args.input.now in
+    let unknown : act_is_listed s.tree i ≡ false = search rules in
+    not_made s s (data_answer s i) i (Refuses NoSuch) NoSuch (unlisted s (data_answer s i) i unknown) (stays_core s, refl)
+
+pub returns-then-has_failed-clause-err : goal.returns-then-has_failed-clause-err
+returns-then-has_failed-clause-err g c =
+    let s : SubState = seen g.M.ResourceManager.sight c.args.self.now in
+    let i : Input = c.args.input.now in
+    let listed : act_is_listed s.tree i ≡ true = search rules in
+    let failed : s.manager.log.failed ≡ true = search rules in
+    not_made s s (data_answer s i) i (Refuses Failed) Failed (has_failed s (data_answer s i) i listed failed) (stays_core s, refl)
+
+pub returns-in-Act-clause-ok : goal.returns-in-Act-clause-ok
+returns-in-Act-clause-ok g c =
+    let s : SubState = seen g.M.ResourceManager.sight c.args.self.now in
+    let listed : act_is_listed s.tree (ActInput c.in-Act.act) ≡ true = search rules in
+    let works : s.manager.log.failed ≡ false = search rules in
+    subst (λ (i : Input). IfOk c.act.result (Makes (core_of s) (core_of s) (data_answer s i) i)) (sym c.in-Act.is)
+    (act_ok s c.in-Act.act c.act.result listed works c.act.ensures.ok)
+
+pub returns-in-Act-clause-err : goal.returns-in-Act-clause-err
+returns-in-Act-clause-err g c =
+    let s : SubState = seen g.M.ResourceManager.sight c.args.self.now in
+    let listed : act_is_listed s.tree (ActInput c.in-Act.act) ≡ true = search rules in
+    let works : s.manager.log.failed ≡ false = search rules in
+    subst (λ (i : Input). IfErr c.act.result (NotMade (core_of s) (core_of s) (data_answer s i) i)) (sym c.in-Act.is)
+    (act_err s c.in-Act.act c.act.result listed works c.act.ensures.err)
+
+pub returns-in-Message-clause-ok : goal.returns-in-Message-clause-ok
+returns-in-Message-clause-ok g c =
+    let s : SubState = seen g.M.ResourceManager.sight c.args.self.now in
+    let t : SubState = seen g.M.ResourceManager.sight c.hear.new.self in
+    let works : s.manager.log.failed ≡ false = search rules in
+    subst (λ (i : Input). IfOk c.hear.result (Makes (core_of s) (core_of t) (data_answer s i) i)) (sym c.in-Message.is)
+    (hear_ok s t c.in-Message.field-0 c.in-Message.message c.hear.result works c.hear.ensures.ok)
+
+pub returns-in-Message-clause-err : goal.returns-in-Message-clause-err
+returns-in-Message-clause-err g c =
+    let s : SubState = seen g.M.ResourceManager.sight c.args.self.now in
+    let t : SubState = seen g.M.ResourceManager.sight c.hear.new.self in
+    let works : s.manager.log.failed ≡ false = search rules in
+    subst (λ (i : Input). IfErr c.hear.result (NotMade (core_of s) (core_of t) (data_answer s i) i)) (sym c.in-Message.is)
+    (hear_err s t c.in-Message.field-0 c.in-Message.message c.hear.result works c.hear.ensures.err)

@@ -1,0 +1,76 @@
+//! What an input makes of a subordinate.
+
+ghost use Rattle.std.specs.Prelude.{◌≡◌, ◌↔◌, false, true, IfErr, IfOk, IsTrue, OnOk};
+ghost use Rattle.tree_model.specs.Reactions.{act_is_listed};
+ghost use Rattle.core_model.specs.States.{HasNumbers};
+ghost use Rattle.core_model.specs.Makes.{Makes, NotMade};
+ghost use Rattle.sub_core.specs.Subordinates.{Hears, NotHeard, seen};
+ghost use Rattle.sub_core.specs.Steps.{Leaves, data_answer, is_decision, state};
+
+use crate::replies::silence;
+use crate::subordinate::Subordinate;
+use manager_model::ResourceManager;
+use tree_model::{Act, Input, Message, Reaction, StepError, Tree};
+
+/// Whether the input is an operator's decision, which no subordinate takes yet.
+pub fn is_decision(input: &Input) -> bool
+    ensures { result ≡ is_decision input.now }
+{
+    match input {
+        Input::Act(Act::Decide(_, _)) => true,
+        _ => false,
+    }
+}
+
+/// Whether the child that an act names is listed; a message names none.
+fn is_listed(tree: &Tree, input: &Input) -> bool
+    ensures { result ≡ act_is_listed tree.now input.now }
+{
+    match input {
+        Input::Act(Act::Join(_, child)) | Input::Act(Act::Work(_, child, _)) => {
+            tree.is_listed(*child)
+        }
+        _ => true,
+    }
+}
+
+impl<M: ResourceManager> Subordinate<M> {
+    /// A message. One that is not for a manager does nothing. The errors are those of `step`.
+    fn hear(&mut self, message: &Message) -> Result<Reaction, StepError>
+        requires up { (M.sight self.old.manager).log.failed ≡ false }
+        requires numbers { HasNumbers (state M.sight self.old) }
+        ensures ok { IfOk result (Hears (seen M.sight self.old) (seen M.sight self.new) message.now) }
+        ensures err { IfErr result (NotHeard (seen M.sight self.old) (seen M.sight self.new) message.now) }
+    {
+        match message {
+            Message::Join(case) => self.join(*case),
+            Message::Work(case, number, op) => self.work(*case, *number, op),
+            Message::Prepare(case, works) => self.prepare(*case, *works),
+            Message::Commit(case) => self.commit(*case),
+            Message::Abort(case) => self.abort(*case),
+            _ => Ok(silence(self.alloc)),
+        }
+    }
+
+    /// Handles an input, which is no operator's decision. The refusals of the reaction table, as `StepError` says them,
+    /// change nothing, nor does Memory. Device: the device failed under the record of the input, which stands or not, and the
+    /// subordinate answers Failed until its restart.
+    pub fn step(&mut self, input: &Input) -> Result<Reaction, StepError>
+        requires numbers { HasNumbers (state M.sight self.old) }
+        requires undecided { is_decision input.now ≡ false }
+        ensures ok { IfOk result (Makes (state M.sight self.old) (state M.sight self.new) (data_answer (seen M.sight self.old) input.now) input.now) }
+        ensures writes { OnOk result (Leaves input.now (seen M.sight self.old) (seen M.sight self.new)) }
+        ensures err { IfErr result (NotMade (state M.sight self.old) (state M.sight self.new) (data_answer (seen M.sight self.old) input.now) input.now) }
+    {
+        if !is_listed(&self.tree, input) {
+            return Err(StepError::NoSuch);
+        }
+        if self.manager.has_failed() {
+            return Err(StepError::Failed);
+        }
+        match input {
+            Input::Act(act) => self.act(act),
+            Input::Message(_, message) => self.hear(message),
+        }
+    }
+}

@@ -1,0 +1,30 @@
+-- What stays of a world's state, and an error that is passed on.
+use Rattle.std.proofs.Common.{◌≡◌, sym, subst, refl, Option, List, Result, Ok, Err, IfErr, IsErrAnd}
+use Rattle.tree_model.specs.declared.names.ProcessId.{ProcessId}
+use Rattle.tree_model.specs.declared.events.StepError.{StepError}
+use Rattle.tree_model.specs.declared.trees.TreeEntry.{TreeEntry}
+use Rattle.core_model.specs.States.{CoreState}
+use Rattle.world_law.specs.Worlds.{Same, WorldState}
+use Rattle.tree_world.specs.Journals.{JournalState, Keeps}
+use Rattle.tree_world.proofs.Steps.{same_as_it_is}
+
+-- a state of these parts
+abbrev pub world : List TreeEntry → (ProcessId → Option CoreState) → JournalState → WorldState
+world tree nodes j = record { tree = tree; node_at = nodes; net = j.net; delivered = j.delivered; entries = j.entries }
+
+-- a state stays where its journal keeps all
+pub stays : (tree : List TreeEntry) (nodes : ProcessId → Option CoreState) (j k : JournalState) → Keeps j k
+    → world tree nodes k ≡ world tree nodes j
+stays tree nodes j k keeps = rw (keeps.net, keeps.delivered, keeps.entries) refl
+
+-- where a state is as it was, nothing is otherwise
+pub same_as_before : (old new : WorldState) → new ≡ old → Same old new
+same_as_before old new is =
+    subst (λ w. Same old w) (sym is)
+    (record { tree = refl; nodes = λ q. same_as_it_is (old.node_at q); net = refl; delivered = refl; entries = refl })
+
+-- an error that is passed on
+pub passed_on : (r : Result (Unit {0}) StepError) (e : StepError) (P : StepError → Type 0)
+    → IsErrAnd r (λ y. y ≡ e) → P e → IfErr r P
+passed_on (Ok x) e P is p = tt
+passed_on (Err y) e P is p = subst P (sym is) p

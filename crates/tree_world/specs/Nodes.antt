@@ -1,0 +1,76 @@
+-- The processes of a tree, of every kind, as the definitions see them.
+use Rattle.std.specs.Prelude.{◌≡◌, ℕ, false, Option, Some, None, List, [], option_map}
+use Rattle.std.specs.Map.{lookup}
+use Rattle.live_table.specs.Tables.{live_count}
+use Rattle.tree_model.specs.declared.names.ProcessId.{ProcessId}
+use Rattle.tree_model.specs.contracts.names.ProcessIdPartialEq.TheImpl as processes
+use Rattle.tree_model.specs.declared.records.LogRecord.{LogRecord}
+use Rattle.tree_model.specs.declared.events.Input.{Input}
+use Rattle.tree_model.specs.declared.events.Reaction.{Reaction}
+use Rattle.tree_model.specs.declared.events.StepError.{StepError}
+use Rattle.tree_model.specs.declared.events.StepError.TheVariants.{Memory, Device}
+use Rattle.tree_model.specs.Names.{same_process}
+use Rattle.tree_model.specs.Nodes.{DataAnswer}
+use Rattle.rec_log.specs.Sights.{records_of}
+use Rattle.core_model.specs.States.{CoreState}
+use Rattle.core_model.specs.Makes.{IsBroken, NotMade}
+use Rattle.coord_core.specs.States as coordinators
+use Rattle.world_law.specs.Worlds.{HandlesInput, RefusesAt, SameNode}
+use Rattle.tree_world.specs.declared.node.Node.{Node}
+use Rattle.tree_world.specs.declared.node.Node.TheVariants.{Coordinator}
+
+-- what a process keeps
+abbrev pub core_of : {L : Type 0} → Node L → CoreState
+core_of (Coordinator c) = coordinators.state c
+
+-- how many cases are live at a process
+abbrev pub live_at : {L : Type 0} → Node L → ℕ
+live_at (Coordinator c) = live_count c.slots
+
+-- the process with this name
+abbrev pub node_in : {L : Type 0} → List (ProcessId × Node L) → ProcessId → Option (Node L)
+node_in ns q = lookup (processes.ghosts.eq q) ns
+
+-- what each process keeps
+abbrev pub nodes_at : {L : Type 0} → List (ProcessId × Node L) → ProcessId → Option CoreState
+nodes_at ns q = option_map core_of (node_in ns q)
+
+-- the records of a process's log; none, where there is no such process
+abbrev pub log_by : Option CoreState → List LogRecord
+log_by None = []
+log_by (Some s) = records_of s.log.kept
+
+-- why a process did not handle an input, and what that leaves
+abbrev pub NotHandled : CoreState → CoreState → Input → StepError → Type 0
+NotHandled old new i e = (answer : DataAnswer) × NotMade old new answer i e
+
+-- of the processes this one alone moves, from the first state to the second
+pub record MovesAt (old new : ProcessId → Option CoreState) (q : ProcessId) (before behind : CoreState) : Type 0 where
+  pub stood : old q ≡ Some before
+  pub stands : new q ≡ Some behind
+  pub others : (p : ProcessId) → same_process q p ≡ false → new p ≡ old p
+
+-- a process handles an input
+pub record StepsAt (old new : ProcessId → Option CoreState) (q : ProcessId) (input : Input) (reaction : Reaction) : Type 0 where
+  pub before : CoreState
+  pub behind : CoreState
+  pub moves : MovesAt old new q before behind
+  pub handles : HandlesInput before behind input reaction
+
+-- the device of the process failed under an input
+pub record BreaksAt (old new : ProcessId → Option CoreState) (q : ProcessId) (input : Input) : Type 0 where
+  pub before : CoreState
+  pub behind : CoreState
+  pub moves : MovesAt old new q before behind
+  pub answer : DataAnswer
+  pub broken : IsBroken before behind answer input
+
+-- nothing is otherwise at any process
+abbrev pub SameNodes : (ProcessId → Option CoreState) → (ProcessId → Option CoreState) → Type 0
+SameNodes old new = (q : ProcessId) → SameNode (old q) (new q)
+
+-- why a process did not handle an input, and what that leaves of all
+abbrev pub NoStepAt : (ProcessId → Option CoreState) → (ProcessId → Option CoreState) → ProcessId → Input → StepError → Type 0
+NoStepAt old new q i Memory = SameNodes old new
+NoStepAt old new q i Device = BreaksAt old new q i
+NoStepAt old new q i e = SameNodes old new × RefusesAt (old q) i e

@@ -1,0 +1,31 @@
+-- What the code of a world keeps, as the definitions see it.
+use Rattle.std.specs.Prelude.{List, map}
+use Rattle.tree_model.specs.declared.names.ProcessId.{ProcessId}
+use Rattle.tree_model.specs.declared.records.LogRecord.{LogRecord}
+use Rattle.tree_model.specs.declared.events.Input.{Input}
+use Rattle.tree_model.specs.declared.events.StepError.{StepError}
+use Rattle.tree_model.specs.declared.events.StepError.TheVariants.{Memory, Device}
+use Rattle.tree_model.specs.declared.trees.TreeEntry.{TreeEntry}
+use Rattle.world_law.specs.Worlds.{DeviceFails, RefusesAt, Same, WorldState}
+use Rattle.tree_world.specs.declared.world.World.{World}
+use Rattle.tree_world.specs.Nodes.{log_by, nodes_at}
+
+-- what the definitions see of a tree that runs
+abbrev pub state : {L : Type 0} → World L → WorldState
+state w = record {
+  tree = w.tree;
+  node_at = nodes_at w.nodes.nodes.entries;
+  net = w.journal.net;
+  delivered = w.journal.delivered;
+  entries = w.journal.entries;
+}
+
+-- the records of these processes
+abbrev pub logs_at : WorldState → List TreeEntry → List (List LogRecord)
+logs_at w tree = map (λ e. log_by (w.node_at e.id)) tree
+
+-- why a process did not handle an input, and what that leaves: Memory and a refusal change nothing
+abbrev pub NotTaken : WorldState → WorldState → ProcessId → Input → StepError → Type 0
+NotTaken old new q i Memory = Same old new
+NotTaken old new q i Device = DeviceFails old new q i
+NotTaken old new q i e = Same old new × RefusesAt (old.node_at q) i e

@@ -1,0 +1,95 @@
+//! One process of a tree, of either kind.
+
+ghost use Rattle.std.specs.Prelude.{◌≡◌, IfErr, IfOk, IsTrue};
+ghost use Rattle.rec_log.specs.Sights.{records_of};
+ghost use Rattle.core_model.specs.States.{HasNumbers};
+ghost use Rattle.coord_core.specs.States.{state as coordinator_state};
+ghost use Rattle.world_law.specs.Worlds.{HandlesInput};
+ghost use Rattle.tree_world.specs.Nodes.{NotHandled, core_of, live_at};
+
+use coord_core::Coordinator;
+use log_store::LogStore;
+use std::alloc::AllocError;
+use tree_model::{Input, LogRecord, Reaction, StepError};
+
+/// One process of a tree, over its log in a store.
+#[derive(Drop)]
+pub enum Node<L: LogStore> {
+    /// The root, or a coordinator below it.
+    Coordinator(Coordinator<L>),
+}
+
+impl<L: LogStore> Node<L> {
+    /// Whether there are numbers left for a transaction and a ticket more, which each input wants.
+    pub fn has_numbers(&self) -> bool
+        ensures yes { IsTrue result → HasNumbers (core_of self.now) }
+        ensures no { HasNumbers (core_of self.now) → IsTrue result }
+    {
+        match self {
+            Node::Coordinator(coordinator) => coordinator.has_numbers(),
+        }
+    }
+
+    /// How many cases are live.
+    pub fn live(&self) -> usize
+        ensures { result ≡ live_at self.now }
+    {
+        match self {
+            Node::Coordinator(coordinator) => coordinator.live(),
+        }
+    }
+
+    /// Whether the device failed under it: it answers `Failed` until its restart.
+    pub fn failed(&self) -> bool
+        ensures { result ≡ (core_of self.now).log.failed }
+    {
+        match self {
+            Node::Coordinator(coordinator) => coordinator.failed(),
+        }
+    }
+
+    /// The records of its log, as a list made anew.
+    pub fn records(&self) -> Result<Vec<LogRecord>, AllocError>
+        ensures { IfOk result (λ records. records.items ≡ records_of (core_of self.now).log.kept) }
+    {
+        match self {
+            Node::Coordinator(coordinator) => coordinator.records(),
+        }
+    }
+
+    /// Handles an input. The refusals of the reaction table, as `StepError` says them, change nothing, nor does Memory.
+    /// Device: the device failed under the record of the input, which stands or not, and the process answers Failed until
+    /// its restart.
+    pub fn step(&mut self, input: &Input) -> Result<Reaction, StepError>
+        requires { HasNumbers (core_of self.old) }
+        ensures ok { IfOk result (HandlesInput (core_of self.old) (core_of self.new) input.now) }
+        ensures err { IfErr result (NotHandled (core_of self.old) (core_of self.new) input.now) }
+    {
+        match self {
+            Node::Coordinator(coordinator) => step_coordinator(coordinator, input),
+        }
+    }
+
+    /// The same, and Memory where no numbers are left, by which nothing changed.
+    pub(crate) fn handle(&mut self, input: &Input) -> Result<Reaction, StepError>
+        ensures ok { IfOk result (HandlesInput (core_of self.old) (core_of self.new) input.now) }
+        ensures err { IfErr result (NotHandled (core_of self.old) (core_of self.new) input.now) }
+    {
+        if !self.has_numbers() {
+            return Err(StepError::Memory);
+        }
+        self.step(input)
+    }
+}
+
+/// A coordinator handles an input; it has no data that answer.
+fn step_coordinator<L: LogStore>(
+    coordinator: &mut Coordinator<L>,
+    input: &Input,
+) -> Result<Reaction, StepError>
+    requires { HasNumbers (coordinator_state coordinator.old) }
+    ensures ok { IfOk result (HandlesInput (coordinator_state coordinator.old) (coordinator_state coordinator.new) input.now) }
+    ensures err { IfErr result (NotHandled (coordinator_state coordinator.old) (coordinator_state coordinator.new) input.now) }
+{
+    coordinator.step(input)
+}

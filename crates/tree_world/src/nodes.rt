@@ -1,0 +1,49 @@
+//! The processes of a tree.
+
+ghost use Rattle.std.specs.Prelude.{◌≡◌, IfErr, IfOk, option_map};
+ghost use Rattle.tree_world.specs.Nodes.{NoStepAt, StepsAt, live_at, log_by, node_in, nodes_at};
+
+use crate::node::Node;
+use indexmap::IndexMap;
+use log_store::LogStore;
+use std::alloc::{AllocError, Global};
+use tree_model::{Input, LogRecord, ProcessId, Reaction, StepError};
+
+/// The processes of a tree, each by its name.
+#[derive(Drop)]
+pub(crate) struct Nodes<L: LogStore> {
+    nodes: IndexMap<ProcessId, Node<L>>,
+}
+
+impl<L: LogStore> Nodes<L> {
+    /// A process handles an input. NoSuch: there is no such process. Memory also comes where its numbers are used up.
+    pub(crate) fn step(&mut self, process: ProcessId, input: &Input) -> Result<Reaction, StepError>
+        ensures ok { IfOk result (StepsAt (nodes_at self.old.nodes.entries) (nodes_at self.new.nodes.entries) process input.now) }
+        ensures err { IfErr result (NoStepAt (nodes_at self.old.nodes.entries) (nodes_at self.new.nodes.entries) process input.now) }
+    {
+        match self.nodes.get_mut(&process) {
+            None => Err(StepError::NoSuch),
+            Some(node) => node.handle(input),
+        }
+    }
+
+    /// How many cases are live at a process, if there is one.
+    pub(crate) fn live(&self, process: ProcessId) -> Option<usize>
+        ensures { result ≡ option_map live_at (node_in self.now.nodes.entries process) }
+    {
+        match self.nodes.get(&process) {
+            None => None,
+            Some(node) => Some(node.live()),
+        }
+    }
+
+    /// The records of a process's log; none, where there is no such process.
+    pub(crate) fn records(&self, alloc: Global, process: ProcessId) -> Result<Vec<LogRecord>, AllocError>
+        ensures { IfOk result (λ records. records.items ≡ log_by (nodes_at self.now.nodes.entries process)) }
+    {
+        match self.nodes.get(&process) {
+            None => Ok(Vec::new(alloc)),
+            Some(node) => node.records(),
+        }
+    }
+}

@@ -1,0 +1,210 @@
+//! The tree that runs.
+
+ghost use Rattle.std.specs.Prelude.{◌≡◌, ◌<◌, [], true, All, IfErr, IfOk, OnOk, length, map, option_map};
+ghost use Rattle.tree_model.specs.Plays.{process_of_act};
+ghost use Rattle.world_law.specs.Worlds.{Applies, Stops, Steps, is_run_event as is_run_event_of};
+ghost use Rattle.world_law.specs.Runs.{Leads, LeadsUntil};
+ghost use Rattle.tree_world.specs.Journals.{IsReady, marked_by};
+ghost use Rattle.tree_world.specs.Nodes.{live_at, node_in};
+ghost use Rattle.tree_world.specs.Worlds.{NotTaken, logs_at, state};
+
+use crate::journal::Journal;
+use crate::nodes::Nodes;
+use log_store::LogStore;
+use std::alloc::{AllocError, Global};
+use tree_model::{
+    Act, Entry, Envelope, Event, Input, LogRecord, ProcessId, StepError, Tree,
+};
+
+/// At most so many messages are delivered by one settle.
+const SETTLE_LIMIT: u32 = 10_000;
+
+/// A tree of processes, each with its log in a store; every message ever sent, with the mark whether it was delivered; and
+/// every step that was made.
+#[derive(Drop)]
+pub struct World<L: LogStore> {
+    pub(crate) alloc: Global,
+    pub(crate) tree: Tree,
+    pub(crate) nodes: Nodes<L>,
+    pub(crate) journal: Journal,
+}
+
+/// Whether an event is one of those that a world makes so far: an application's act, or a delivery; no operator's act, no
+/// restart and no trim.
+pub fn is_run_event(event: &Event) -> bool
+    ensures { result ≡ is_run_event_of event.now }
+{
+    match event {
+        Event::Act(Act::Decide(..) | Act::Forget(_)) | Event::Restart(..) | Event::Trim(_) => false,
+        _ => true,
+    }
+}
+
+/// The process of an act: its case's ticket's child, or the root.
+fn process_of(root: ProcessId, act: &Act) -> ProcessId
+    ensures { result ≡ process_of_act root act.now }
+{
+    match act {
+        Act::Begin(_) => root,
+        Act::Join(case, _)
+        | Act::Work(case, _, _)
+        | Act::Ask(case)
+        | Act::Decide(case, _)
+        | Act::Forget(case) => match case.ticket {
+            None => case.txn.root,
+            Some(ticket) => ticket.child,
+        },
+        Act::Commit(txn) | Act::Abort(txn) => txn.root,
+    }
+}
+
+/// Lets go of logs.
+fn discard(_logs: Vec<Vec<LogRecord>>) {}
+
+impl<L: LogStore> World<L> {
+    /// The steps that were made, each with its reaction.
+    pub fn trace(&self) -> &[Entry]
+        ensures { result.now ≡ (state self.now).entries }
+    {
+        self.journal.entries()
+    }
+
+    /// The tree.
+    pub fn tree(&self) -> &Tree
+        ensures { result.now ≡ (state self.now).tree }
+    {
+        &self.tree
+    }
+
+    /// Every message that was ever sent, as a list made anew; the first has number 1.
+    pub fn sent(&self) -> Result<Vec<Envelope>, AllocError>
+        ensures { IfOk result (λ sent. sent.items ≡ (state self.now).net) }
+    {
+        self.journal.sent()
+    }
+
+    /// How many cases are live at a process, if there is one.
+    pub fn live(&self, process: ProcessId) -> Option<usize>
+        ensures { result ≡ option_map live_at (node_in self.now.nodes.nodes.entries process) }
+    {
+        self.nodes.live(process)
+    }
+
+    /// The records of each process's log, in the order of the tree.
+    pub fn logs(&self) -> Result<Vec<Vec<LogRecord>>, AllocError>
+        ensures { IfOk result (λ logs. map (λ log. log.items) logs.items ≡ logs_at (state self.now) (state self.now).tree) }
+    {
+        let mut logs = Vec::new(self.alloc);
+        match self.add_logs(&mut logs) {
+            Ok(()) => Ok(logs),
+            Err(error) => {
+                discard(logs);
+                Err(error)
+            }
+        }
+    }
+
+    /// Adds the records of each process's log to a list that has none.
+    fn add_logs(&self, logs: &mut Vec<Vec<LogRecord>>) -> Result<(), AllocError>
+        requires { logs.old.items ≡ [] }
+        ensures { OnOk result (map (λ log. log.items) logs.new.items ≡ logs_at (state self.now) (state self.now).tree) }
+    {
+        for entry in self.tree.entries() {
+            logs.push(self.nodes.records(self.alloc, entry.id)?)?;
+        }
+        Ok(())
+    }
+
+    /// Makes an event. After a refusal nothing has changed, but for what a settle had delivered. Device: a process's device
+    /// failed under its record, and it answers Failed from then on. Memory: a growth was refused, or a process has no
+    /// numbers left.
+    pub fn apply(&mut self, event: &Event) -> Result<(), StepError>
+        requires { is_run_event_of event.now ≡ true }
+        ensures ok { OnOk result (Applies (state self.old) event.now (state self.new)) }
+        ensures err { IfErr result (λ e. Stops (state self.old) event.now e (state self.new)) }
+    {
+        self.make(event)
+    }
+
+    fn make(&mut self, event: &Event) -> Result<(), StepError>
+        requires { is_run_event_of event.now ≡ true }
+        ensures ok { OnOk result (Applies (state self.old) event.now (state self.new)) }
+        ensures err { IfErr result (λ e. Stops (state self.old) event.now e (state self.new)) }
+    {
+        match event {
+            Event::Act(act) => self.act(act),
+            Event::Deliver(number) => self.deliver(*number),
+            Event::Settle => self.settle(),
+            Event::Restart(..) | Event::Trim(_) => unreachable!(),
+        }
+    }
+
+    /// Makes these events, in order, up to the first that is refused: then how many were made, and why the next was not.
+    pub fn run(&mut self, events: &[Event]) -> Result<(), (usize, StepError)>
+        requires { All (λ e. is_run_event_of e ≡ true) events.now }
+        ensures ok { OnOk result (Leads (state self.old) events.now (state self.new)) }
+        ensures err { IfErr result (λ refusal. LeadsUntil (state self.old) events.now refusal.0 refusal.1 (state self.new)) }
+        ensures within { IfErr result (λ refusal. refusal.0 < length events.now) }
+    {
+        self.make_all(events)
+    }
+
+    fn make_all(&mut self, events: &[Event]) -> Result<(), (usize, StepError)>
+        requires { All (λ e. is_run_event_of e ≡ true) events.now }
+        ensures ok { OnOk result (Leads (state self.old) events.now (state self.new)) }
+        ensures err { IfErr result (λ refusal. LeadsUntil (state self.old) events.now refusal.0 refusal.1 (state self.new)) }
+        ensures within { IfErr result (λ refusal. refusal.0 < length events.now) }
+    {
+        for (made, event) in events.iter().enumerate() {
+            if let Err(refusal) = self.make(event) {
+                return Err((made, refusal));
+            }
+        }
+        Ok(())
+    }
+
+    /// What an application asks.
+    fn act(&mut self, act: &Act) -> Result<(), StepError>
+        ensures ok { OnOk result (Applies (state self.old) (Event.Act act.now) (state self.new)) }
+        ensures err { IfErr result (λ e. Stops (state self.old) (Event.Act act.now) e (state self.new)) }
+    {
+        let process = process_of(self.tree.root(), act);
+        let input = self.journal.take_act(act)?;
+        self.handle(process, input)
+    }
+
+    /// Delivers the message with this number.
+    fn deliver(&mut self, number: u64) -> Result<(), StepError>
+        ensures ok { OnOk result (Applies (state self.old) (Event.Deliver number) (state self.new)) }
+        ensures err { IfErr result (λ e. Stops (state self.old) (Event.Deliver number) e (state self.new)) }
+    {
+        match self.journal.take_message(number)? {
+            None => Err(StepError::NoSuch),
+            Some((to, input)) => self.handle(to, input),
+        }
+    }
+
+    /// Delivers the least numbered message that was not delivered, again and again, at most 10,000 times.
+    fn settle(&mut self) -> Result<(), StepError>
+        ensures ok { OnOk result (Applies (state self.old) Event.Settle (state self.new)) }
+        ensures err { IfErr result (λ e. Stops (state self.old) Event.Settle e (state self.new)) }
+    {
+        for _ in 0..SETTLE_LIMIT {
+            let Some(number) = self.journal.least_open()? else {
+                return Ok(());
+            };
+            self.deliver(number)?;
+        }
+        Ok(())
+    }
+
+    /// A process handles an input, for whose step there is room.
+    fn handle(&mut self, process: ProcessId, input: Input) -> Result<(), StepError>
+        requires { IsReady self.old.journal }
+        ensures ok { OnOk result (Steps (state self.old) (state self.new) process input (marked_by input (state self.old).delivered)) }
+        ensures err { IfErr result (NotTaken (state self.old) (state self.new) process input) }
+    {
+        let made = self.nodes.step(process, &input);
+        self.journal.close(process, input, made)
+    }
+}

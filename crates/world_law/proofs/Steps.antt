@@ -1,0 +1,144 @@
+-- A step of a tree that runs is a step of the model's world, where each process steps as the model's does.
+use Rattle.std.proofs.Common.{◌≡◌, ◌∙◌, ap, sym, subst, refl, ◌-◌, ℕ, zero, suc, Bool, true, false, inl, inr, Some, is_some, List, [], ◌∷◌, ◌++◌, arith}
+use Rattle.std.specs.Prelude.{slice_get}
+use Rattle.tree_model.specs.declared.names.ProcessId.{ProcessId}
+use Rattle.tree_model.specs.declared.messages.Envelope.{Envelope}
+use Rattle.tree_model.specs.declared.events.Input.{Input}
+use Rattle.tree_model.specs.declared.events.Happening.TheVariants.{Input as Handles}
+use Rattle.tree_model.specs.declared.events.Reaction.{Reaction}
+use Rattle.tree_model.specs.declared.trees.TreeEntry.{TreeEntry}
+use Rattle.tree_model.specs.Names.{same_process}
+use Rattle.tree_model.specs.NameLaws.{same_process_tells}
+use Rattle.tree_model.specs.Nodes.{DataAnswer, Effect, Node, is_listed, place_of, reaction_of}
+use Rattle.tree_model.specs.Plays.{move_of, sent_as}
+use Rattle.tree_model.specs.Trees.{IsTree}
+use Rattle.tree_model.specs.World.{Continues, InputStands, IsRun, IsSent, Made, Move, World, goes_on, journal_of, makes, node_makes, put_at, stays, world_makes, world_stepped}
+use Rattle.tree_model.specs.World.{Makes as Leaves}
+use Rattle.core_model.specs.States.{CoreState}
+use Rattle.core_model.specs.Makes.{Makes}
+use Rattle.core_law.specs.Ties.{Stands}
+use Rattle.world_law.specs.Worlds.{Steps, WorldState, entry_at}
+use Rattle.world_law.specs.Ties.{Follows, GoesOn, StandsAt}
+
+-- the model's process makes the input too and shows the same, and what is kept stands for what that leaves
+pub record MadeSo (tree : List TreeEntry) (w : World) (q : ProcessId) (a : DataAnswer) (i : Input) (new : CoreState) (reaction : Reaction) : Type 0 where
+  pub effect : Effect
+  pub node : Node
+  pub makes : node_makes (place_of tree q) (w.at q) (move_of q (Handles i) a) ≡ Leaves effect node
+  pub shown : reaction ≡ reaction_of effect
+  pub place : new.place ≡ place_of tree q
+  pub stands : Stands node new
+
+-- in every run each process makes of an input what the model's process makes of it
+abbrev pub InputsAsTheModel : List TreeEntry → Type 0
+InputsAsTheModel tree = (es : List Made) (w : World) (q : ProcessId) (old new : CoreState) (a : DataAnswer) (i : Input) (reaction : Reaction)
+    → IsRun tree es w → is_listed tree q ≡ true → InputStands w.net q i → old.place ≡ place_of tree q → Stands (w.at q) old
+    → Makes old new a i reaction → MadeSo tree w q a i new reaction
+
+-- The world behind a move.
+
+abbrev pub made_of : ProcessId → Input → DataAnswer → Effect → Made
+made_of q i a e = record { move = move_of q (Handles i) a; effect = e }
+
+abbrev pub world_after : World → ProcessId → Node → Effect → World
+world_after w q n e = record { at = put_at q n w.at; net = w.net ++ e.messages }
+
+made_at : (tree : List TreeEntry) (w : World) (m : Move) (e : Effect) (n : Node) → is_listed tree m.step.process ≡ true
+    → node_makes (place_of tree m.step.process) (w.at m.step.process) m ≡ Leaves e n
+    → world_makes tree w m ≡ Some (e, world_after w m.step.process n e)
+unfolding world_makes
+made_at tree w m e n listed done = rw listed (ap (λ s. world_stepped w m.step.process s) done)
+
+same_self : (q : ProcessId) → same_process q q ≡ true
+same_self q = elim (same_process_tells q q) [ inl t ↦ t.0 | inr z ↦ absurd (z.1 refl) ]
+
+put_here : (q : ProcessId) (n : Node) (at : ProcessId → Node) → put_at q n at q ≡ n
+put_here q n at = rw (same_self q) refl
+
+put_there : (q p : ProcessId) (n : Node) (at : ProcessId → Node) → same_process q p ≡ false → put_at q n at p ≡ at p
+put_there q p n at h = rw h refl
+
+-- The journal and the net grow by the step.
+
+shown_by : (es : List Made) (s s' : WorldState) (q : ProcessId) (i : Input) (a : DataAnswer) (e : Effect) (reaction : Reaction)
+    → journal_of es ≡ s.entries → reaction ≡ reaction_of e → s'.entries ≡ s.entries ++ entry_at q i reaction ∷ []
+    → journal_of (made_of q i a e ∷ es) ≡ s'.entries
+unfolding journal_of
+shown_by es s s' q i a e reaction before shown grown =
+    ap (λ xs. xs ++ entry_at q i (reaction_of e) ∷ []) before
+    ∙ (ap (λ y. s.entries ++ entry_at q i y ∷ []) (sym shown) ∙ sym grown)
+
+sent_by : (w : World) (s s' : WorldState) (e : Effect) (reaction : Reaction) → s.net ≡ w.net → reaction ≡ reaction_of e
+    → s'.net ≡ s.net ++ reaction.messages → s'.net ≡ w.net ++ e.messages
+sent_by w s s' e reaction before shown grown =
+    grown ∙ (ap (λ xs. xs ++ reaction.messages) before ∙ ap (λ (y : Reaction). w.net ++ y.messages) shown)
+
+some_one : (a b : CoreState) → Some a ≡ Some b → a ≡ b
+some_one a b h = cc
+
+module _ (es : List Made) (w : World) (s s' : WorldState) (q : ProcessId) (n : Node) (e : Effect) (tree : s'.tree ≡ s.tree) where
+  -- a process that did not move stands as before
+  stays_at : (p : ProcessId) (c : CoreState) → same_process q p ≡ false → StandsAt w s p c → StandsAt (world_after w q n e) s' p c
+  stays_at p c away h = record {
+    place = h.place ∙ ap (λ t. place_of t p) (sym tree);
+    stands = subst (λ m. Stands m c) (sym (put_there q p n w.at away)) h.stands;
+  }
+
+  -- and the one that moved as it was left
+  moved_at : (p : ProcessId) (b c : CoreState) → q ≡ p → b.place ≡ place_of s.tree q → Stands n b → b ≡ c → StandsAt (world_after w q n e) s' p c
+  moved_at p b c here place stands is =
+      subst (λ r. StandsAt (world_after w q n e) s' r c) here
+      (subst (λ k. StandsAt (world_after w q n e) s' q k) is
+      (record {
+        place = place ∙ ap (λ t. place_of t q) (sym tree);
+        stands = subst (λ m. Stands m b) (sym (put_here q n w.at)) stands;
+      }))
+
+  -- so each process of the new state stands for the model's
+  nodes_after : (before behind : CoreState) → s'.node_at q ≡ Some behind → ((p : ProcessId) → same_process q p ≡ false → s'.node_at p ≡ s.node_at p)
+      → ((p : ProcessId) (c : CoreState) → s.node_at p ≡ Some c → StandsAt w s p c) → behind.place ≡ place_of s.tree q → Stands n behind
+      → (p : ProcessId) (c : CoreState) → s'.node_at p ≡ Some c → StandsAt (world_after w q n e) s' p c
+  nodes_after before behind left others nodes place stands p c there = elim (same_process_tells q p) [
+    | inl t ↦ moved_at p behind c t.1 place stands (some_one behind c (sym left ∙ (ap s'.node_at t.1 ∙ there)))
+    | inr z ↦ stays_at p c z.0 (nodes p c (sym (others p z.0) ∙ there))
+  ]
+
+-- the processes are still those of the tree
+listed_after : (s s' : WorldState) (q : ProcessId) (before behind : CoreState) → s'.tree ≡ s.tree → s.node_at q ≡ Some before → s'.node_at q ≡ Some behind
+    → ((p : ProcessId) → same_process q p ≡ false → s'.node_at p ≡ s.node_at p) → ((p : ProcessId) → is_some (s.node_at p) ≡ is_listed s.tree p)
+    → (p : ProcessId) → is_some (s'.node_at p) ≡ is_listed s'.tree p
+listed_after s s' q before behind tree stood left others listed p = elim (same_process_tells q p) [
+  | inl t ↦ ap (λ r. is_some (s'.node_at r)) (sym t.1) ∙ (ap is_some left ∙ (ap is_some (sym stood)
+      ∙ (listed q ∙ (ap (λ r. is_listed s.tree r) t.1 ∙ ap (λ z. is_listed z p) (sym tree)))))
+  | inr z ↦ ap is_some (others p z.0) ∙ (listed p ∙ ap (λ t. is_listed t p) (sym tree))
+]
+
+pub step_goes_on : (law : (tree : List TreeEntry) → IsTree tree → InputsAsTheModel tree) (es : List Made) (w : World) (s s' : WorldState)
+    (q : ProcessId) (i : Input) (marked : List Bool) → IsTree s.tree → Follows es w s → InputStands w.net q i → Steps s s' q i marked → GoesOn es w s'
+step_goes_on law es w s s' q i marked is_tree f stands h =
+    let here = f.nodes q h.before h.moves.stood in
+    let listed : is_listed s.tree q ≡ true = sym (f.listed q) ∙ ap is_some h.moves.stood in
+    let made : MadeSo s.tree w q h.handles.answer i h.behind h.reaction =
+    law s.tree is_tree es w q h.before h.behind h.handles.answer i h.reaction f.is_run listed stands here.place here.stands h.handles.makes in
+    let m = made_of q i h.handles.answer made.effect in
+    let w' = world_after w q made.node made.effect in
+    let step = made_at s.tree w m.move made.effect made.node listed made.makes in
+    record {
+      later = m ∷ [];
+      world = w';
+      leads = subst (λ t. Continues t w (m ∷ []) w') (sym h.moves.tree) (goes_on [] w m.move made.effect w' stays stands step);
+      follows = record {
+        is_run = subst (λ t. IsRun t (m ∷ es) w') (sym h.moves.tree) (makes es w m.move made.effect w' f.is_run stands step);
+        shown = shown_by es s s' q i h.handles.answer made.effect h.reaction f.shown made.shown h.enters.entries;
+        net = sent_by w s s' made.effect h.reaction f.net made.shown h.enters.net;
+        nodes = nodes_after es w s s' q made.node made.effect h.moves.tree h.before h.behind h.moves.stands h.moves.others f.nodes made.place made.stands;
+        listed = listed_after s s' q h.before h.behind h.moves.tree h.moves.stood h.moves.stands h.moves.others f.listed;
+      };
+    }
+
+-- a message with a number stands in the net
+pub sent_stands : (net : List Envelope) (k : ℕ) (envelope : Envelope) → sent_as net k ≡ Some envelope → IsSent net envelope.to k envelope.message
+sent_stands net zero envelope h = absurd (cc)
+sent_stands net (suc j) envelope h =
+    let e : suc j - 1 ≡ j = omega arith in
+    record { sender = envelope.from; counted = omega arith; stands = ap (λ i. slice_get net i) e ∙ h }

@@ -1,0 +1,4 @@
+pub mod Worlds
+pub mod Runs
+pub mod Ties
+pub mod Refusals

@@ -1,0 +1,190 @@
+-- A tree that runs: its processes, every message ever sent, and every step made. What each event makes of it.
+use Rattle.std.specs.Prelude.{◌≡◌, ◌+◌, ◌<◌, ℕ, zero, suc, Bool, true, false, Option, Some, None, List, [], ◌∷◌, ◌++◌, slice_set, map}
+use Rattle.tree_model.specs.declared.names.Case.{Case}
+use Rattle.tree_model.specs.declared.names.ProcessId.{ProcessId}
+use Rattle.tree_model.specs.declared.messages.Envelope.{Envelope}
+use Rattle.tree_model.specs.declared.events.Act.{Act}
+use Rattle.tree_model.specs.declared.events.Act.TheVariants.{Decide, Forget}
+use Rattle.tree_model.specs.declared.events.Input.{Input}
+use Rattle.tree_model.specs.declared.events.Input.TheVariants.{Act as ActInput, Message as MessageInput}
+use Rattle.tree_model.specs.declared.events.Event.{Event}
+use Rattle.tree_model.specs.declared.events.Event.TheVariants.{Act as ActOf, Deliver, Settle, Restart, Trim}
+use Rattle.tree_model.specs.declared.events.Happening.TheVariants.{Input as Handles}
+use Rattle.tree_model.specs.declared.events.Entry.{Entry}
+use Rattle.tree_model.specs.declared.events.Reaction.{Reaction}
+use Rattle.tree_model.specs.declared.events.StepError.{StepError}
+use Rattle.tree_model.specs.declared.events.StepError.TheVariants.{Memory, Device, NoSuch}
+use Rattle.tree_model.specs.declared.trees.TreeEntry.{TreeEntry}
+use Rattle.tree_model.specs.Names.{same_process}
+use Rattle.tree_model.specs.Nodes.{DataAnswer}
+use Rattle.tree_model.specs.Trees.{root_of}
+use Rattle.tree_model.specs.Plays.{process_of_act, sent_as}
+use Rattle.core_model.specs.States.{CoreState, SameCore}
+use Rattle.core_model.specs.Turns.{Finds, Refuses, asked_by, turn_of}
+use Rattle.core_model.specs.Makes.{IsBroken, Makes}
+
+-- The tree, what each process keeps, every message ever sent (the first has number 1) with the mark whether it was
+-- delivered, and every step that was made with its reaction.
+pub record WorldState : Type 0 where
+  pub tree : List TreeEntry
+  pub node_at : ProcessId → Option CoreState
+  pub net : List Envelope
+  pub delivered : List Bool
+  pub entries : List Entry
+
+-- One step.
+
+-- a process makes an input, with what its manager's data answer to it
+pub record HandlesInput (old new : CoreState) (input : Input) (reaction : Reaction) : Type 0 where
+  pub answer : DataAnswer
+  pub makes : Makes old new answer input reaction
+
+-- of the processes this one alone moves, from the first state to the second
+pub record MovesNode (old new : WorldState) (q : ProcessId) (before behind : CoreState) : Type 0 where
+  pub tree : new.tree ≡ old.tree
+  pub stood : old.node_at q ≡ Some before
+  pub stands : new.node_at q ≡ Some behind
+  pub others : (p : ProcessId) → same_process q p ≡ false → new.node_at p ≡ old.node_at p
+
+-- the journal's entry of an input
+abbrev pub entry_at : ProcessId → Input → Reaction → Entry
+entry_at q input reaction = record { step = record { process = q; happening = Handles input; fault = None }; reaction = reaction }
+
+-- the marks of messages that were just sent
+abbrev pub undelivered : List Envelope → List Bool
+undelivered ls = map (λ l. false) ls
+
+-- a step was entered: its messages are sent, and the journal has one entry more
+pub record Enters (old new : WorldState) (q : ProcessId) (input : Input) (reaction : Reaction) (marked : List Bool) : Type 0 where
+  pub net : new.net ≡ old.net ++ reaction.messages
+  pub delivered : new.delivered ≡ marked ++ undelivered reaction.messages
+  pub entries : new.entries ≡ old.entries ++ entry_at q input reaction ∷ []
+
+-- a process handles an input, and the step is entered
+pub record Steps (old new : WorldState) (q : ProcessId) (input : Input) (marked : List Bool) : Type 0 where
+  pub before : CoreState
+  pub behind : CoreState
+  pub reaction : Reaction
+  pub moves : MovesNode old new q before behind
+  pub handles : HandlesInput before behind input reaction
+  pub enters : Enters old new q input reaction marked
+
+-- Events.
+
+-- the event is made at this stage: an application's act, or a delivery; no operator's act, no restart, no trim
+abbrev pub is_run_event : Event → Bool
+is_run_event (ActOf (Decide c o)) = false
+is_run_event (ActOf (Forget c)) = false
+is_run_event (Restart q k) = false
+is_run_event (Trim q) = false
+is_run_event _ = true
+
+-- the mark of the message with this number is set
+abbrev pub marks : List Bool → ℕ → List Bool
+marks bs zero = bs
+marks bs (suc k) = slice_set bs k true
+
+-- the message with this number is delivered
+pub record Delivers (old new : WorldState) (k : ℕ) : Type 0 where
+  pub envelope : Envelope
+  pub sent : sent_as old.net k ≡ Some envelope
+  pub steps : Steps old new envelope.to (MessageInput k envelope.message) (marks old.delivered k)
+
+-- the number of the first message that was not delivered, the marks being those from this number on
+abbrev pub least_open : ℕ → List Bool → Option ℕ
+least_open k [] = None
+least_open k (true ∷ bs) = least_open (k + 1) bs
+least_open k (false ∷ bs) = Some k
+
+-- the message with this number is delivered, and then it goes on; without a number nothing is
+abbrev pub settles_by : WorldState → WorldState → (WorldState → Type 0) → Option ℕ → Type 0
+settles_by old new again None = new ≡ old
+settles_by old new again (Some k) = (mid : WorldState) × Delivers old mid k × again mid
+
+-- so many times at most the least numbered message that was not delivered is
+abbrev pub Settles : ℕ → WorldState → WorldState → Type 0
+Settles zero old new = new ≡ old
+Settles (suc n) old new = settles_by old new (λ mid. Settles n mid new) (least_open 1 old.delivered)
+
+-- an event was made
+abbrev pub Applies : WorldState → Event → WorldState → Type 0
+Applies old (ActOf a) new = Steps old new (process_of_act (root_of old.tree) a) (ActInput a) old.delivered
+Applies old (Deliver k) new = Delivers old new k
+Applies old Settle new = Settles 10000 old new
+Applies old (Restart q k) new = ⊥
+Applies old (Trim q) new = ⊥
+
+-- Refusals.
+
+-- at each process the same, in which nothing is otherwise
+abbrev pub SameNode : Option CoreState → Option CoreState → Type 0
+SameNode None None = Unit {0}
+SameNode (Some s) (Some t) = SameCore s t
+SameNode _ _ = ⊥
+
+-- nothing is otherwise
+pub record Same (old new : WorldState) : Type 0 where
+  pub tree : new.tree ≡ old.tree
+  pub nodes : (q : ProcessId) → SameNode (old.node_at q) (new.node_at q)
+  pub net : new.net ≡ old.net
+  pub delivered : new.delivered ≡ old.delivered
+  pub entries : new.entries ≡ old.entries
+
+-- why a process refuses an input: there is no such process, or the input meets this refusal
+abbrev pub RefusesAt : Option CoreState → Input → StepError → Type 0
+RefusesAt None i e = e ≡ NoSuch
+RefusesAt (Some s) i e = (a : DataAnswer) × (found : Option Case) × Finds s (asked_by i) found × (turn_of s a found i ≡ Refuses e)
+
+-- why a message is not delivered: there is none with the number, or its process refuses it
+abbrev pub RefusesMessage : WorldState → ℕ → Option Envelope → StepError → Type 0
+RefusesMessage w k None e = e ≡ NoSuch
+RefusesMessage w k (Some l) e = RefusesAt (w.node_at l.to) (MessageInput k l.message) e
+
+-- the device of the process failed under an input; the step was not entered
+pub record DeviceFails (old new : WorldState) (q : ProcessId) (input : Input) : Type 0 where
+  pub before : CoreState
+  pub behind : CoreState
+  pub moves : MovesNode old new q before behind
+  pub answer : DataAnswer
+  pub broken : IsBroken before behind answer input
+  pub net : new.net ≡ old.net
+  pub delivered : new.delivered ≡ old.delivered
+  pub entries : new.entries ≡ old.entries
+
+-- the device of the receiver failed under the message
+abbrev pub DeviceFailsUnder : WorldState → WorldState → ℕ → Option Envelope → Type 0
+DeviceFailsUnder old new k None = ⊥
+DeviceFailsUnder old new k (Some l) = DeviceFails old new l.to (MessageInput k l.message)
+
+-- why one message was not delivered, and what that leaves: Memory and a refusal change nothing
+abbrev pub NotDelivered : WorldState → WorldState → ℕ → StepError → Type 0
+NotDelivered old new k Memory = Same old new
+NotDelivered old new k Device = DeviceFailsUnder old new k (sent_as old.net k)
+NotDelivered old new k e = Same old new × RefusesMessage old k (sent_as old.net k) e
+
+-- why an act was not made, and what that leaves
+abbrev pub NotActed : WorldState → WorldState → ProcessId → Act → StepError → Type 0
+NotActed old new q a Memory = Same old new
+NotActed old new q a Device = DeviceFails old new q (ActInput a)
+NotActed old new q a e = Same old new × RefusesAt (old.node_at q) (ActInput a) e
+
+-- a settle went no further: for memory, also as it looked for the next message, or as that one was not delivered
+abbrev pub NoneDelivered : WorldState → WorldState → StepError → Option ℕ → Type 0
+NoneDelivered old new e None = (e ≡ Memory) × Same old new
+NoneDelivered old new e (Some k) = NotDelivered old new k e
+
+-- a settle ended within: what it had delivered stands
+pub record SettleStops (limit : ℕ) (old new : WorldState) (e : StepError) : Type 0 where
+  pub count : ℕ
+  pub within : count < limit
+  pub before : WorldState
+  pub settles : Settles count old before
+  pub stops : NoneDelivered before new e (least_open 1 before.delivered)
+
+-- an event was not made, for this error, and this is left
+abbrev pub Stops : WorldState → Event → StepError → WorldState → Type 0
+Stops old (ActOf a) e new = NotActed old new (process_of_act (root_of old.tree) a) a e
+Stops old (Deliver k) e new = NotDelivered old new k e
+Stops old Settle e new = SettleStops 10000 old new e
+Stops old (Restart q k) e new = ⊥
+Stops old (Trim q) e new = ⊥
