@@ -11,7 +11,8 @@ use Rattle.tree_model.specs.declared.events.StepError.{StepError}
 use Rattle.tree_model.specs.declared.events.StepError.TheVariants.{Failed}
 use Rattle.tree_model.specs.Nodes.{AtLeaf, AtRoot, Below, DataAnswer, Node, Place, Role, after, fails_in, no_effect, reaction_of}
 use Rattle.tree_model.specs.Reactions.{Does, Reacts, Refused, hears, is_passed_over, passes_at, reacts}
-use Rattle.tree_model.specs.World.{Makes as Leaves, Refuses as StepRefuses, fault_effect, input_makes, node_makes, passes_over}
+use Rattle.tree_model.specs.World.{Refuses as StepRefuses, fault_effect, input_makes, node_makes, passes_over}
+use Rattle.rec_log.specs.Sights.{Kept}
 use Rattle.core_model.specs.States.{CoreState}
 use Rattle.core_model.specs.Makes.{IsBroken, IsRefused, Makes, Moves}
 use Rattle.core_model.specs.Turns.{Finds, asked_by, turn_of}
@@ -35,12 +36,12 @@ handled_so place n i fault a r late does =
     ap (λ b. if b then passes_over n fault else input_makes n (record { input = i; data_answer = a }) fault (reacts place n (record { input = i; data_answer = a }))) late
     ∙ ap (input_makes n (record { input = i; data_answer = a }) fault) does
 
--- one that is passed over leaves the process as it was
-passed_so : (place : Place) (n : Node) (i : Input) (a : DataAnswer) → is_passed_over place n i ≡ true
-    → node_makes place n (input_move place.me i None a) ≡ Leaves no_effect n
+-- one that is passed over leaves the process as it was, but for its device
+passed_by : (place : Place) (n : Node) (i : Input) (fault : Option Fault) (a : DataAnswer) → is_passed_over place n i ≡ true
+    → node_makes place n (input_move place.me i fault a) ≡ passes_over n fault
 unfolding node_makes
-passed_so place n i a over =
-    ap (λ b. if b then passes_over n None else input_makes n (record { input = i; data_answer = a }) None (reacts place n (record { input = i; data_answer = a }))) over
+passed_by place n i fault a over =
+    ap (λ b. if b then passes_over n fault else input_makes n (record { input = i; data_answer = a }) fault (reacts place n (record { input = i; data_answer = a }))) over
 
 -- a process that is up refuses no message
 message_done : (place : Place) (n : Node) (k : ℕ) (m : Message) (a : DataAnswer) → n.failed ≡ false
@@ -99,7 +100,7 @@ module _ (n : Node) (old new : CoreState) (a : DataAnswer) (i : Input) (stands :
         record {
           effect = no_effect;
           left = n;
-          makes = passed_so old.place n i a over;
+          makes = passed_by old.place n i None a over;
           shown = made.shown ∙ ap reaction_of same.0;
           stands = same_stands n old new same.1 stands;
         }
@@ -149,8 +150,8 @@ module _ (n : Node) (old new : CoreState) (a : DataAnswer) (i : Input) (stands :
 
   -- A fault.
 
-  pub faults_so : is_passed_over old.place n i ≡ false → IsBroken old new a i → FaultsAs n old new old.place.me i a
-  faults_so late broken =
+  handled_fault : is_passed_over old.place n i ≡ false → IsBroken old new a i → FaultsAs n old new old.place.me i a
+  handled_fault late broken =
       let so = breaks_so n old new a i stands broken children in
       record {
         fault = record { appended = so.appended; forced = so.forced };
@@ -159,3 +160,30 @@ module _ (n : Node) (old new : CoreState) (a : DataAnswer) (i : Input) (stands :
         makes = handled_so old.place n i (Some (record { appended = so.appended; forced = so.forced })) a (Does so.effect) late so.does;
         stands = so.stands;
       }
+
+  -- the records of a process that passed an input over are as they were
+  passed_left : new.log.kept ≡ old.log.kept → IsBroken old new a i → Stands (record n { failed = true }) (record new { place = old.place })
+  passed_left same broken =
+      record {
+        forced = ap (λ (k : Kept). k.forced) same ∙ stands.forced;
+        unforced = ap (λ (k : Kept). k.unforced) same ∙ stands.unforced;
+        failed = broken.breaks.2.log.failed;
+        up = λ runs. absurd (cc);
+      }
+
+  passed_fault : is_passed_over old.place n i ≡ true → new.log.kept ≡ old.log.kept → IsBroken old new a i → FaultsAs n old new old.place.me i a
+  passed_fault over same broken =
+      record {
+        fault = record { appended = 0; forced = 0 };
+        effect = no_effect;
+        left = record n { failed = true };
+        makes = passed_by old.place n i (Some (record { appended = 0; forced = 0 })) a over;
+        stands = subst (λ (p : Place). Stands (record n { failed = true }) (record new { place = p })) (sym broken.breaks.2.place) (passed_left same broken);
+      }
+
+  pub faults_so : (is_passed_over old.place n i ≡ true → new.log.kept ≡ old.log.kept) → IsBroken old new a i → FaultsAs n old new old.place.me i a
+  faults_so same broken = by_over (is_passed_over old.place n i) refl
+    where
+      by_over : (b : Bool) → is_passed_over old.place n i ≡ b → FaultsAs n old new old.place.me i a
+      by_over false late = handled_fault late broken
+      by_over true over = passed_fault over (same over) broken

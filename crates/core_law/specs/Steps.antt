@@ -1,5 +1,5 @@
 -- What a process does with an input is a move of the model's process, in the form in which a run of the model has it.
-use Rattle.std.specs.Prelude.{◌≡◌, false, Option, None, Some}
+use Rattle.std.specs.Prelude.{◌≡◌, true, false, Option, None, Some}
 use Rattle.tree_model.specs.declared.names.ProcessId.{ProcessId}
 use Rattle.tree_model.specs.declared.events.Fault.{Fault}
 use Rattle.tree_model.specs.declared.events.Happening.TheVariants.{Input as Handles}
@@ -46,8 +46,10 @@ pub record FaultsAs (n : Node) (old new : CoreState) (q : ProcessId) (i : Input)
   pub makes : node_makes old.place n (input_move q i (Some fault) a) ≡ Leaves effect left
   pub stands : Stands left new
 
--- a device's failure in an input that is not passed over is a move of the model's process with a fault in it
+-- A device's failure in an input is a move of the model's process with a fault in it. Of an input that is passed over the
+-- model writes nothing, not even a front of the records that stand behind the forced ones.
 abbrev pub FaultsAreMoves : Type 0
 FaultsAreMoves = (n : Node) (old new : CoreState) (a : DataAnswer) (i : Input)
-    → Stands n old → (n.failed ≡ false → NodeFits old.place.role old.place n) → is_passed_over old.place n i ≡ false
+    → Stands n old → (n.failed ≡ false → NodeFits old.place.role old.place n)
+    → (is_passed_over old.place n i ≡ true → new.log.kept ≡ old.log.kept)
     → IsBroken old new a i → FaultsAs n old new old.place.me i a

@@ -56,8 +56,8 @@ pub fn refusals_are_moves()
     ensures { RefusalsAreMoves }
 {}
 
-/// Where its device fails in an input that is not passed over, that is a move with a fault in it, and it stands for what
-/// that leaves.
+/// Where its device fails in an input, that is a move with a fault in it, and it stands for what that leaves; where the
+/// model passes the input over, if no record was written or forced.
 pub fn faults_are_moves()
     ensures { FaultsAreMoves }
 {}

@@ -1,14 +1,16 @@
 -- What each process of the model keeps of its cases in every run.
-use Rattle.std.specs.Prelude.{◌≡◌, true, false, Option, None, Some, List, ◌++◌}
+use Rattle.std.specs.Prelude.{◌≡◌, true, false, None, Some, List, ◌++◌}
 use Rattle.tree_model.specs.declared.names.ProcessId.{ProcessId}
+use Rattle.tree_model.specs.declared.events.Fault.{Fault}
 use Rattle.tree_model.specs.declared.events.Input.{Input}
 use Rattle.tree_model.specs.declared.events.Reaction.{Reaction}
 use Rattle.tree_model.specs.declared.events.StepError.{StepError}
 use Rattle.tree_model.specs.declared.trees.TreeEntry.{TreeEntry}
 use Rattle.tree_model.specs.Nodes.{DataAnswer, Effect, Node, is_listed, place_of, reaction_of, role_of}
+use Rattle.tree_model.specs.Reactions.{is_passed_over}
 use Rattle.tree_model.specs.World.{IsRun, Made, Move, World, put_at, world_makes}
 use Rattle.core_model.specs.States.{CoreState}
-use Rattle.core_model.specs.Makes.{IsRefused, Makes}
+use Rattle.core_model.specs.Makes.{IsBroken, IsRefused, Makes}
 use Rattle.core_law.specs.Fits.{NodeFits}
 use Rattle.core_law.specs.Steps.{input_move}
 use Rattle.core_law.specs.Ties.{Stands}
@@ -40,3 +42,21 @@ RefusalsMoveNothing = (tree : List TreeEntry) (es : List Made) (w : World) → I
     → (q : ProcessId) (old new : CoreState) (a : DataAnswer) (i : Input) (e : StepError)
     → old.place ≡ place_of tree q → Stands (w.at q) old → IsRefused old new a i e
     → (world_makes tree w (input_move q i None a) ≡ None) × Stands (w.at q) new
+
+-- The process's move by this input is one of the model's world with a fault in it, which then has the process as the fault
+-- leaves it; the process stands for that.
+pub record BreaksWorld (tree : List TreeEntry) (w : World) (q : ProcessId) (new : CoreState) (i : Input) (a : DataAnswer) : Type 0 where
+  pub fault : Fault
+  pub effect : Effect
+  pub left : Node
+  pub makes : world_makes tree w (input_move q i (Some fault) a)
+      ≡ Some (effect, record { at = put_at q left w.at; net = w.net ++ effect.messages })
+  pub stands : Stands left new
+
+-- behind any run, a device's failure in an input of a listed process is a move of the model's world with a fault in it
+abbrev pub FaultsMoveRuns : Type 0
+FaultsMoveRuns = (tree : List TreeEntry) (es : List Made) (w : World) → IsRun tree es w
+    → (q : ProcessId) → is_listed tree q ≡ true → (old new : CoreState) (a : DataAnswer) (i : Input)
+    → old.place ≡ place_of tree q → Stands (w.at q) old
+    → (is_passed_over old.place (w.at q) i ≡ true → new.log.kept ≡ old.log.kept)
+    → IsBroken old new a i → BreaksWorld tree w q new i a

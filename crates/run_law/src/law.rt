@@ -1,6 +1,6 @@
 //! The laws. The functions do nothing: each one's contract is a law.
 
-ghost use Rattle.run_law.specs.Laws.{InputsMoveRuns, RefusalsMoveNothing, RunsFit};
+ghost use Rattle.run_law.specs.Laws.{FaultsMoveRuns, InputsMoveRuns, RefusalsMoveNothing, RunsFit};
 
 /// In every run of every tree each process whose device did not fail keeps of its cases what the laws of roots, of
 /// coordinators below them and of managers ask for.
@@ -19,4 +19,11 @@ pub fn inputs_move_runs()
 /// model's process there.
 pub fn refusals_move_nothing()
     ensures { RefusalsMoveNothing }
+{}
+
+/// Behind every run of every tree, a device's failure in an input of a listed process is a move of the model's world with a
+/// fault in it, and the process stands for what that leaves; where the model passes the input over, if no record was
+/// written or forced.
+pub fn faults_move_runs()
+    ensures { FaultsMoveRuns }
 {}
