@@ -20,32 +20,38 @@ abbrev pub RunsFit : Type 0
 RunsFit = (tree : List TreeEntry) (es : List Made) (w : World) → IsRun tree es w → (q : ProcessId)
     → (w.at q).failed ≡ false → NodeFits (role_of tree q) (place_of tree q) (w.at q)
 
--- The process's move is one of the model's world, which then has the process as the move leaves it, and the net with what
--- the move sent behind it; the move shows the same, and the process stands for what is left of the model's.
-pub record MovesWorld (tree : List TreeEntry) (w : World) (q : ProcessId) (new : CoreState) (m : Move) (reaction : Reaction) : Type 0 where
+-- The process's move is one of the model's world, which then has the process as the move leaves it, and the
+-- net with what the move sent behind it; the move shows the same, and the process stands for what is left of
+-- the model's.
+pub record MovesWorld (tree : List TreeEntry) (w : World) (q : ProcessId) (new : CoreState) (m : Move)
+    (reaction : Reaction) : Type 0 where
   pub effect : Effect
   pub left : Node
-  pub makes : world_makes tree w m ≡ Some (effect, record { at = put_at q left w.at; net = w.net ++ effect.messages })
+  pub makes : world_makes tree w m
+      ≡ Some (effect, record { at = put_at q left w.at; net = w.net ++ effect.messages })
   pub shown : reaction ≡ reaction_of effect
   pub stands : Stands left new
 
 -- behind any run, what a listed process makes of an input is a move of the model's world
 abbrev pub InputsMoveRuns : Type 0
 InputsMoveRuns = (tree : List TreeEntry) (es : List Made) (w : World) → IsRun tree es w
-    → (q : ProcessId) → is_listed tree q ≡ true → (old new : CoreState) (a : DataAnswer) (i : Input) (reaction : Reaction)
+    → (q : ProcessId) → is_listed tree q ≡ true
+    → (old new : CoreState) (a : DataAnswer) (i : Input) (reaction : Reaction)
     → old.place ≡ place_of tree q → Stands (w.at q) old → Makes old new a i reaction
     → MovesWorld tree w q new (input_move q i None a) reaction
 
--- behind any run, what a process refuses is no move of the model's world, and the process still stands for the model's
+-- behind any run, what a process refuses is no move of the model's world, and the process still stands for
+-- the model's
 abbrev pub RefusalsMoveNothing : Type 0
 RefusalsMoveNothing = (tree : List TreeEntry) (es : List Made) (w : World) → IsRun tree es w
     → (q : ProcessId) (old new : CoreState) (a : DataAnswer) (i : Input) (e : StepError)
     → old.place ≡ place_of tree q → Stands (w.at q) old → IsRefused old new a i e
     → (world_makes tree w (input_move q i None a) ≡ None) × Stands (w.at q) new
 
--- The process's move by this input is one of the model's world with a fault in it, which then has the process as the fault
--- leaves it; the process stands for that.
-pub record BreaksWorld (tree : List TreeEntry) (w : World) (q : ProcessId) (new : CoreState) (i : Input) (a : DataAnswer) : Type 0 where
+-- The process's move by this input is one of the model's world with a fault in it, which then has the process
+-- as the fault leaves it; the process stands for that.
+pub record BreaksWorld (tree : List TreeEntry) (w : World) (q : ProcessId) (new : CoreState) (i : Input)
+    (a : DataAnswer) : Type 0 where
   pub fault : Fault
   pub effect : Effect
   pub left : Node
@@ -53,7 +59,8 @@ pub record BreaksWorld (tree : List TreeEntry) (w : World) (q : ProcessId) (new 
       ≡ Some (effect, record { at = put_at q left w.at; net = w.net ++ effect.messages })
   pub stands : Stands left new
 
--- behind any run, a device's failure in an input of a listed process is a move of the model's world with a fault in it
+-- behind any run, a device's failure in an input of a listed process is a move of the model's world with a
+-- fault in it
 abbrev pub FaultsMoveRuns : Type 0
 FaultsMoveRuns = (tree : List TreeEntry) (es : List Made) (w : World) → IsRun tree es w
     → (q : ProcessId) → is_listed tree q ≡ true → (old new : CoreState) (a : DataAnswer) (i : Input)
