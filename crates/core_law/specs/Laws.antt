@@ -5,8 +5,9 @@ use Rattle.tree_model.specs.declared.events.Input.{Input}
 use Rattle.tree_model.specs.declared.events.Reaction.{Reaction}
 use Rattle.tree_model.specs.declared.events.StepError.{StepError}
 use Rattle.tree_model.specs.declared.names.ProcessId.{ProcessId}
-use Rattle.tree_model.specs.Nodes.{AtLeaf, AtRoot, Below, DataAnswer, Effect, Heard, Node, after, fails_in, reaction_of}
+use Rattle.tree_model.specs.Nodes.{AtLeaf, AtRoot, Below, DataAnswer, Effect, Heard, Node, Place, after, fails_in, opened_node, reaction_of}
 use Rattle.tree_model.specs.Reactions.{Does, Refused, is_passed_over, reacts}
+use Rattle.core_model.specs.Laws.{opened_core}
 use Rattle.core_model.specs.States.{CoreState, SameCore}
 use Rattle.core_model.specs.Makes.{IsBroken, IsRefused, Makes}
 use Rattle.core_model.specs.Turns.{Finds, asked_by, reacted, turn_of}
@@ -71,3 +72,7 @@ abbrev pub BreaksAsTheModel : Type 0
 BreaksAsTheModel = (n : Node) (old new : CoreState) (a : DataAnswer) (i : Input)
     → Stands n old → (n.failed ≡ false → ChildrenFit old.place n) → IsBroken old new a i
     → BrokenAs n (record { input = i; data_answer = a }) old new
+
+-- a process that opens an empty log stands for the model's process as it opens
+abbrev pub OpenedStands : Type 0
+OpenedStands = (place : Place) → Stands opened_node (opened_core place)

@@ -1,7 +1,7 @@
 //! The laws. The functions do nothing: each one's contract is a law.
 
 ghost use Rattle.core_law.specs.Steps.{FaultsAreMoves, InputsAreMoves, RefusalsAreMoves};
-ghost use Rattle.core_law.specs.Laws.{BreaksAsTheModel, CascadesMakeAsTheModel, ManagersMakeAsTheModel, MeetsAsTheModel, RefusesAsTheModel, RootsMakeAsTheModel, SameStandsForTheSame};
+ghost use Rattle.core_law.specs.Laws.{BreaksAsTheModel, CascadesMakeAsTheModel, ManagersMakeAsTheModel, MeetsAsTheModel, OpenedStands, RefusesAsTheModel, RootsMakeAsTheModel, SameStandsForTheSame};
 
 /// Where a process stands for a process of the model, each input meets at it the row, the refusal or the
 /// nothing that it meets there.
@@ -62,4 +62,9 @@ pub fn refusals_are_moves()
 /// where the model passes the input over, if no record was written or forced.
 pub fn faults_are_moves()
     ensures { FaultsAreMoves }
+{}
+
+/// A process that opens an empty log stands for the model's process as it opens.
+pub fn opened_stands()
+    ensures { OpenedStands }
 {}
