@@ -33,7 +33,8 @@ module _ (me : ProcessId) (boot : ℕ) (c : Case) where
 
   quiet_message : (m : Memory) (x : Message) → Quiet m → Quiet (cascaded_hears me boot c m x)
   quiet_message m (Join d) q = quiet_joins m d (active_ticket m.active d) q
-  quiet_message m (Prepare d k) q = either_quiet (same_case d c) (retires m d) _ q (quiet_asks (retires m d) m.phase q refl)
+  quiet_message m (Prepare d k) q =
+      either_quiet (same_case d c) (retires m d) _ q (quiet_asks (retires m d) m.phase q refl)
   quiet_message m (Abort d) q = either_quiet (same_case d c) (retires m d) _ q (quiet_closes (retires m d) m.phase refl)
   quiet_message m (Joined d t) q = quiet_hears c m (Joined d t) q
   quiet_message m (Yes d) q = quiet_hears c m (Yes d) q
@@ -47,7 +48,8 @@ module _ (me : ProcessId) (boot : ℕ) (c : Case) where
   quiet_input : (m : Memory) (i : Input) → Quiet m → Quiet (cascaded_remembers me boot c m i)
   quiet_input m (MessageInput k x) q = quiet_message m x q
   quiet_input m (ActInput (WorkAct d r op)) q =
-      either_quiet (same_case d c) m (sends_work m (ticket_of_child m.accepted r) m.phase) q (quiet_work m (ticket_of_child m.accepted r) m.phase q)
+      either_quiet (same_case d c) m (sends_work m (ticket_of_child m.accepted r) m.phase) q
+      (quiet_work m (ticket_of_child m.accepted r) m.phase q)
   quiet_input m (ActInput (Begin p)) q = q
   quiet_input m (ActInput (CommitAct x)) q = q
   quiet_input m (ActInput (AbortAct x)) q = q
@@ -56,10 +58,12 @@ module _ (me : ProcessId) (boot : ℕ) (c : Case) where
   quiet_input m (ActInput (Decide d o)) q = q
   quiet_input m (ActInput (Forget d)) q = q
 
-  quiet_inputs : (p : ProcessId) (m : Memory) (hs : List Heard) → Quiet m → Quiet (fold (remembers me (Below p) boot c) m hs)
+  quiet_inputs : (p : ProcessId) (m : Memory) (hs : List Heard) → Quiet m
+      → Quiet (fold (remembers me (Below p) boot c) m hs)
   quiet_inputs p m [] q = q
   quiet_inputs p m (h ∷ hs) q = quiet_inputs p (cascaded_remembers me boot c m h.input) hs (quiet_input m h.input q)
 
-pub cascaded_quiet : (me p : ProcessId) (tree : List TreeEntry) (n : Node) (c : Case) → Quiet (memory_of (cascaded_place me p tree) n c)
+pub cascaded_quiet : (me p : ProcessId) (tree : List TreeEntry) (n : Node) (c : Case)
+    → Quiet (memory_of (cascaded_place me p tree) n c)
 unfolding memory_of
 cascaded_quiet me p tree n c = quiet_inputs me (boot_of (kept n)) c p fresh_memory n.heard tt

@@ -22,7 +22,8 @@ use Rattle.core_law.proofs.ManagerSteps.{place_stays}
 use Rattle.core_law.proofs.RootSteps.{failed_makes}
 use Rattle.core_law.proofs.Turns.{meets_as}
 
-module _ (n : Node) (s s' : CoreState) (me p : ProcessId) (tree : List TreeEntry) (a : DataAnswer) (i : Input) (found : Option Case) where
+module _ (n : Node) (s s' : CoreState) (me p : ProcessId) (tree : List TreeEntry) (a : DataAnswer) (i : Input)
+    (found : Option Case) where
   abbrev old : CoreState
   old = record s { place = cascaded_place me p tree }
 
@@ -32,31 +33,38 @@ module _ (n : Node) (s s' : CoreState) (me p : ProcessId) (tree : List TreeEntry
   abbrev Leads : Input → Turn → Type 0
   Leads i turn = Follows n (record { input = i; data_answer = a }) old new i turn
 
-  up_follows : n.failed ≡ false → Stands n old → CascadeFits (cascaded_place me p tree) n → (i : Input) → Finds old (asked_by i) found
+  up_follows : n.failed ≡ false → Stands n old → CascadeFits (cascaded_place me p tree) n → (i : Input)
+      → Finds old (asked_by i) found
       → is_passed_over (cascaded_place me p tree) n i ≡ false → Leads i (up_turn old a found i)
   up_follows runs stands fits (ActInput x) finds late = acted n s s' me p tree a fits runs stands x
-  up_follows runs stands fits (MessageInput k m) finds late = heard_so n s s' me p tree a fits runs stands k found m finds late
+  up_follows runs stands fits (MessageInput k m) finds late =
+      heard_so n s s' me p tree a fits runs stands k found m finds late
 
   follows : n.failed ≡ false → Stands n old → CascadeFits (cascaded_place me p tree) n → Finds old (asked_by i) found
       → is_passed_over (cascaded_place me p tree) n i ≡ false → Leads i (turn_of old a found i)
   unfolding turn_of
   follows runs stands fits finds late = by_test (act_is_listed tree i)
     where
-      by_test : (b : Bool) → Leads i (if b then (if s.log.failed then Refuses Failed else up_turn old a found i) else Refuses NoSuch)
+      by_test : (b : Bool)
+          → Leads i (if b then (if s.log.failed then Refuses Failed else up_turn old a found i) else Refuses NoSuch)
       by_test false = λ e is made. absurd made
       by_test true =
-          subst (λ z. Leads i (if z then Refuses Failed else up_turn old a found i)) (sym (stands.failed ∙ runs)) (up_follows runs stands fits i finds late)
+          subst (λ z. Leads i (if z then Refuses Failed else up_turn old a found i)) (sym (stands.failed ∙ runs))
+          (up_follows runs stands fits i finds late)
 
 -- the place of a process is that of a coordinator below the root
 pub is_cascaded_place : (q : Place) (p : ProcessId) → q.role ≡ Below p → q ≡ cascaded_place q.me p q.tree
 is_cascaded_place q p is = λ i. record { me = q.me; role = is i; tree = q.tree }
 
-module _ (n : Node) (old new : CoreState) (p : ProcessId) (a : DataAnswer) (i : Input) (reaction : Reaction) (role : old.place.role ≡ Below p)
+module _ (n : Node) (old new : CoreState) (p : ProcessId) (a : DataAnswer) (i : Input) (reaction : Reaction)
+    (role : old.place.role ≡ Below p)
     (stands : Stands n old) (made : Makes old new a i reaction) where
   abbrev at_place : Place → Place → Type 0
-  at_place q r = Stands n (record old { place = q }) → CascadeFits q n → Finds (record old { place = q }) (asked_by i) made.found
+  at_place q r =
+      Stands n (record old { place = q }) → CascadeFits q n → Finds (record old { place = q }) (asked_by i) made.found
       → is_passed_over q n i ≡ false → reacted (turn_of (record old { place = q }) a made.found i) ≡ Does made.effect
-      → Moves (record old { place = q }) (record new { place = r }) i (turn_of (record old { place = q }) a made.found i)
+      → Moves (record old { place = q }) (record new { place = r }) i
+      (turn_of (record old { place = q }) a made.found i)
       → Stands (after n (record { input = i; data_answer = a }) made.effect) (record new { place = r })
 
   placed : n.failed ≡ false → (q r : Place) → q ≡ cascaded_place old.place.me p old.place.tree → r ≡ q → at_place q r
@@ -72,7 +80,8 @@ module _ (n : Node) (old new : CoreState) (p : ProcessId) (a : DataAnswer) (i : 
         effect = made.effect;
         does = meets_as n old a made.found i (λ _. fits.children) made.finds stands ∙ made.does;
         shown = made.shown;
-        stands = placed runs old.place new.place (is_cascaded_place old.place p role) (place_stays old new i (turn_of old a made.found i) made.moves)
+        stands = placed runs old.place new.place (is_cascaded_place old.place p role)
+            (place_stays old new i (turn_of old a made.found i) made.moves)
             stands fits made.finds late made.does made.moves;
       }
 

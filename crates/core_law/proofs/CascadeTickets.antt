@@ -17,7 +17,8 @@ use Rattle.core_law.proofs.CascadeQuiet.{cascaded_place}
 use Rattle.core_law.proofs.Tickets.{IsOnce, once_more, once_without}
 
 module _ (me : ProcessId) (boot : ℕ) where
-  once_joins : (s : Self) (d : Case) (o : Option Ticket) → active_ticket s.active d ≡ o → IsOnce s.active → IsOnce (joins_self me boot s d o).active
+  once_joins : (s : Self) (d : Case) (o : Option Ticket) → active_ticket s.active d ≡ o → IsOnce s.active
+      → IsOnce (joins_self me boot s d o).active
   once_joins s d (Some t) is once = once
   once_joins s d None is once = once_more d _ s.active is once
 
@@ -38,11 +39,13 @@ module _ (me : ProcessId) (boot : ℕ) where
   once_heard s (ActInput x) once = once
   once_heard s (MessageInput k m) once = once_hears s m once
 
-  once_all : (p : ProcessId) (s : Self) (hs : List Heard) → IsOnce s.active → IsOnce (fold (self_after me (Below p) boot) s hs).active
+  once_all : (p : ProcessId) (s : Self) (hs : List Heard) → IsOnce s.active
+      → IsOnce (fold (self_after me (Below p) boot) s hs).active
   once_all p s [] once = once
   once_all p s (h ∷ hs) once = once_all p (issuer_self me boot true s h.input) hs (once_heard s h.input once)
 
-pub cascaded_once : (me p : ProcessId) (tree : List TreeEntry) (n : Node) (c : Case) → IsOnce (memory_of (cascaded_place me p tree) n c).active
+pub cascaded_once : (me p : ProcessId) (tree : List TreeEntry) (n : Node) (c : Case)
+    → IsOnce (memory_of (cascaded_place me p tree) n c).active
 cascaded_once me p tree n c =
     subst (λ (s : Self). IsOnce s.active) (sym (self_is (cascaded_place me p tree) n c))
     (once_all me (boot_of (kept n)) p (self_of fresh_memory) n.heard tt)

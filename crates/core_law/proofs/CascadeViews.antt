@@ -36,13 +36,15 @@ pub record PreparedFacts (E C A P : Bool) : Type 0 where
   pub no_abort : A ≡ false
   pub prepared : P ≡ true
 
-pub prepared_facts : (E C A P K N : Bool) (hs : Standing) → (hs ≡ Prepared → ⊥) → standing_by E C A P K N hs ≡ Prepared → PreparedFacts E C A P
+pub prepared_facts : (E C A P K N : Bool) (hs : Standing) → (hs ≡ Prepared → ⊥) → standing_by E C A P K N hs ≡ Prepared
+    → PreparedFacts E C A P
 prepared_facts true C A P K N hs d e = absurd (cc)
 prepared_facts false true A P K true hs d e = absurd (cc)
 prepared_facts false true A P K false hs d e = absurd (cc)
 prepared_facts false false true P K true hs d e = absurd (cc)
 prepared_facts false false true P K false hs d e = absurd (cc)
-prepared_facts false false false true K N hs d e = record { no_end = refl; no_commit = refl; no_abort = refl; prepared = refl }
+prepared_facts false false false true K N hs d e =
+    record { no_end = refl; no_commit = refl; no_abort = refl; prepared = refl }
 prepared_facts false false false false true N hs d e = absurd (cc)
 prepared_facts false false false false false N hs d e = absurd (d e)
 
@@ -59,7 +61,8 @@ in_later u t ts e = either (same_ticket u t) e
     either false e = e
 
 -- whom nobody has acknowledged all owe
-pub all_still : (acks : List (Ticket × Outcome)) (o : Outcome) (ts : List Ticket) → ((t : Ticket) → in_list ts t ≡ true → has_acked acks o t ≡ false)
+pub all_still : (acks : List (Ticket × Outcome)) (o : Outcome) (ts : List Ticket)
+    → ((t : Ticket) → in_list ts t ≡ true → has_acked acks o t ≡ false)
     → still_owed acks o ts ≡ ts
 unfolding still_owed
 all_still acks o [] none = refl
@@ -85,9 +88,11 @@ module _ (me p : ProcessId) (c : Case) (rs : List Record) where
   -- PREPARE at an Active case
 
   pub asks_reads : (q : Presumption) (b : Bool) (m : Memory)
-      → ActiveFacts (has (is_end c) rs) (has (is_commit c) rs) (has (is_abort c) rs) (has (is_prepare c) rs) (has (is_collecting c) rs) Active
+      → ActiveFacts (has (is_end c) rs) (has (is_commit c) rs) (has (is_abort c) rs) (has (is_prepare c) rs)
+      (has (is_collecting c) rs) Active
       → let row = commit_row seat (view_at Active rs c m) q b in
-      let m' : Memory = record m { phase = if b then Over else Asked } in reads q (rs ++ entries_written row.written) m' ≡ row.view
+      let m' : Memory =
+      record m { phase = if b then Over else Asked } in reads q (rs ++ entries_written row.written) m' ≡ row.view
   asks_reads PresumeAbort true m f = commit_pure me c PresumeAbort true rs m f
   asks_reads PresumeCommit true m f = commit_pure me c PresumeCommit true rs m f
   asks_reads PresumeAbort false m f = commit_pure me c PresumeAbort false rs m f
@@ -95,11 +100,14 @@ module _ (me p : ProcessId) (c : Case) (rs : List Record) where
 
   -- an abort of a case that collects votes
 
-  pub aborts_reads : (q : Presumption) (why : Reason) (us : List Ticket) (m : Memory) → Collects → owing_by c rs ≡ [] → m.acks ≡ []
+  pub aborts_reads : (q : Presumption) (why : Reason) (us : List Ticket) (m : Memory) → Collects → owing_by c rs ≡ []
+      → m.acks ≡ []
       → let row = collecting_abort_by seat why (view_at Collecting rs c m) us q in
       let m' : Memory = record m { phase = Over } in reads q (rs ++ entries_written row.written) m' ≡ row.view
-  aborts_reads PresumeAbort why us m f owes acks = collecting_abort_pure me c PresumeAbort why (none_of us) us rs m f owes acks refl
-  aborts_reads PresumeCommit why us m f owes acks = collecting_abort_pure me c PresumeCommit why (none_of us) us rs m f owes acks refl
+  aborts_reads PresumeAbort why us m f owes acks =
+      collecting_abort_pure me c PresumeAbort why (none_of us) us rs m f owes acks refl
+  aborts_reads PresumeCommit why us m f owes acks =
+      collecting_abort_pure me c PresumeCommit why (none_of us) us rs m f owes acks refl
 
   -- votes
 
@@ -116,42 +124,54 @@ module _ (me p : ProcessId) (c : Case) (rs : List Record) where
   full_reads true m e f no_record = read_only_pure me c c.txn.presumption rs m f no_record
   full_reads false m e f no_record = promises_reads c.txn.presumption (yes_of m.accepted m.votes) m f
 
-  module _ (m : Memory) (stands : standing_with c.txn.presumption rs c m ≡ Collecting) (asked : m.phase ≡ Asked) (f : Collects)
-      (no_record : c.txn.presumption ≡ PresumeAbort → has (is_collecting c) rs ≡ false) (owes : owing_by c rs ≡ []) (acks : m.acks ≡ []) where
+  module _ (m : Memory) (stands : standing_with c.txn.presumption rs c m ≡ Collecting) (asked : m.phase ≡ Asked)
+      (f : Collects)
+      (no_record : c.txn.presumption ≡ PresumeAbort → has (is_collecting c) rs ≡ false) (owes : owing_by c rs ≡ [])
+      (acks : m.acks ≡ []) where
     abbrev with_one : Ticket → Vote → Memory
     with_one t w = record m { votes = m.votes ++ (t, w) ∷ [] }
 
     consent_reads : (t : Ticket) (w : Vote) (all : Bool)
         → let v = view_at Collecting rs c (with_one t w) in let row = if all then collecting_full seat v else quiet v in
-        reads c.txn.presumption (rs ++ entries_written row.written) (record (with_one t w) { phase = if all then Over else Asked }) ≡ row.view
-    consent_reads t w true = full_reads (none_of (yes_of m.accepted (m.votes ++ (t, w) ∷ []))) (with_one t w) refl f no_record
-    consent_reads t w false = same_pure c c.txn.presumption Collecting rs m (record (with_one t w) { phase = Asked }) stands (sym asked)
+        reads c.txn.presumption (rs ++ entries_written row.written)
+        (record (with_one t w) { phase = if all then Over else Asked }) ≡ row.view
+    consent_reads t w true =
+        full_reads (none_of (yes_of m.accepted (m.votes ++ (t, w) ∷ []))) (with_one t w) refl f no_record
+    consent_reads t w false =
+        same_pure c c.txn.presumption Collecting rs m (record (with_one t w) { phase = Asked }) stands (sym asked)
 
-    after_reads : (t : Ticket) (w : Vote) → let row = collecting_after seat (view_at Collecting rs c (with_one t w)) w in
+    after_reads : (t : Ticket) (w : Vote) → let row =
+        collecting_after seat (view_at Collecting rs c (with_one t w)) w in
         reads c.txn.presumption (rs ++ entries_written row.written) (with_vote m t w) ≡ row.view
     after_reads t No =
-        aborts_reads c.txn.presumption ByVote (undecided_of m.accepted (m.votes ++ (t, No) ∷ [])) (with_one t No) f owes acks
+        aborts_reads c.txn.presumption ByVote (undecided_of m.accepted (m.votes ++ (t, No) ∷ [])) (with_one t No) f owes
+        acks
     after_reads t Yes = consent_reads t Yes (all_voted m.accepted (m.votes ++ (t, Yes) ∷ []))
     after_reads t Read = consent_reads t Read (all_voted m.accepted (m.votes ++ (t, Read) ∷ []))
 
     counted_reads : (t : Ticket) (w : Vote) (b : Bool)
-        → let row = if b then record (collecting_after seat (view_at Collecting rs c (with_one t w)) w) { counts = (t, w) ∷ [] } else quiet (view_at Collecting rs c m) in
+        → let row = if b then record
+        (collecting_after seat (view_at Collecting rs c (with_one t w)) w) { counts = (t, w) ∷ [] } else quiet
+        (view_at Collecting rs c m) in
         reads c.txn.presumption (rs ++ entries_written row.written) (if b then with_vote m t w else m) ≡ row.view
     counted_reads t w true = after_reads t w
     counted_reads t w false = same_pure c c.txn.presumption Collecting rs m m stands refl
 
     -- a vote at a case that collects them
     pub vote_reads : (t : Ticket) (w : Vote) → let row = collecting_vote seat t w (view_at Collecting rs c m) in
-        reads c.txn.presumption (rs ++ entries_written row.written) (if is_counted m.accepted m.votes t then with_vote m t w else m) ≡ row.view
+        reads c.txn.presumption (rs ++ entries_written row.written)
+        (if is_counted m.accepted m.votes t then with_vote m t w else m) ≡ row.view
     vote_reads t w = counted_reads t w (is_counted m.accepted m.votes t)
 
   -- the parent's decision of a Prepared case
 
-  module _ (m k : Memory) (f : Promised) (owes : owing_by c rs ≡ []) (accepted : k.accepted ≡ m.accepted) (votes : k.votes ≡ m.votes)
+  module _ (m k : Memory) (f : Promised) (owes : owing_by c rs ≡ []) (accepted : k.accepted ≡ m.accepted)
+      (votes : k.votes ≡ m.votes)
       (works : k.works ≡ m.works) (acks : k.acks ≡ m.acks) where
     pub commits_reads : (q : Presumption) (none : Bool) → none_of (promised_by c rs) ≡ none
         → still_owed m.acks CommittedOutcome (promised_by c rs) ≡ promised_by c rs
-        → let row = prepared_commit_by seat (view_at Prepared rs c m) q in reads q (rs ++ entries_written row.written) k ≡ row.view
+        → let row =
+        prepared_commit_by seat (view_at Prepared rs c m) q in reads q (rs ++ entries_written row.written) k ≡ row.view
     commits_reads PresumeAbort true u still = simp (pushed, f.no_end, f.no_commit, f.no_abort, f.prepared, owes, u) refl
     commits_reads PresumeAbort false u still =
         simp (pushed, f.no_end, f.no_commit, f.no_abort, f.prepared, owes, u, accepted, votes, works, acks, still) refl
@@ -159,8 +179,10 @@ module _ (me p : ProcessId) (c : Case) (rs : List Record) where
 
     pub aborted_reads : (q : Presumption) (none : Bool) → none_of (promised_by c rs) ≡ none
         → still_owed m.acks AbortedOutcome (promised_by c rs) ≡ promised_by c rs
-        → let row = prepared_abort_by seat (view_at Prepared rs c m) q in reads q (rs ++ entries_written row.written) k ≡ row.view
+        → let row =
+        prepared_abort_by seat (view_at Prepared rs c m) q in reads q (rs ++ entries_written row.written) k ≡ row.view
     aborted_reads PresumeAbort none u still = simp (pushed, f.no_end, f.no_commit, f.no_abort, f.prepared, owes) refl
-    aborted_reads PresumeCommit true u still = simp (pushed, f.no_end, f.no_commit, f.no_abort, f.prepared, owes, u) refl
+    aborted_reads PresumeCommit true u still =
+        simp (pushed, f.no_end, f.no_commit, f.no_abort, f.prepared, owes, u) refl
     aborted_reads PresumeCommit false u still =
         simp (pushed, f.no_end, f.no_commit, f.no_abort, f.prepared, owes, u, accepted, votes, works, acks, still) refl

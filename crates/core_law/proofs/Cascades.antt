@@ -72,7 +72,8 @@ asks_nothing k Asked h = refl
 asks_nothing k Over h = refl
 
 -- an abort ends no case that takes neither children nor votes
-closes_nothing : (rs : List Record) (d : Case) (m : Memory) (ph : Phase) → m.phase ≡ ph → (ph ≡ Open → ⊥) → (ph ≡ Asked → ⊥)
+closes_nothing : (rs : List Record) (d : Case) (m : Memory) (ph : Phase) → m.phase ≡ ph → (ph ≡ Open → ⊥)
+    → (ph ≡ Asked → ⊥)
     → read rs d (closes m ph) ≡ read rs d m
 closes_nothing rs d m Idle is a b = refl
 closes_nothing rs d m Open is a b = absurd (a refl)
@@ -86,17 +87,20 @@ closes_keeps m Open = (refl, refl, refl, refl)
 closes_keeps m Asked = (refl, refl, refl, refl)
 closes_keeps m Over = (refl, refl, refl, refl)
 
-noted : (m : Memory) (t : Ticket) (o : Outcome) (ph : Phase) → (ph ≡ Open → ⊥) → (ph ≡ Asked → ⊥) → takes_ack m t o ph ≡ acked m t o
+noted : (m : Memory) (t : Ticket) (o : Outcome) (ph : Phase) → (ph ≡ Open → ⊥) → (ph ≡ Asked → ⊥)
+    → takes_ack m t o ph ≡ acked m t o
 noted m t o Open a b = absurd (a refl)
 noted m t o Asked a b = absurd (b refl)
 noted m t o Idle a b = refl
 noted m t o Over a b = refl
 
-quiet_commit : (s : Seat) (v : CoordinatorView) (q : Presumption) → ((unknown_commit_by s v q).written ≡ []) × ((unknown_commit_by s v q).view ≡ v)
+quiet_commit : (s : Seat) (v : CoordinatorView) (q : Presumption)
+    → ((unknown_commit_by s v q).written ≡ []) × ((unknown_commit_by s v q).view ≡ v)
 quiet_commit s v PresumeAbort = (refl, refl)
 quiet_commit s v PresumeCommit = (refl, refl)
 
-module _ (n : Node) (s s' : CoreState) (me p : ProcessId) (tree : List TreeEntry) (a : DataAnswer) (fits : CascadeFits (cascaded_place me p tree) n)
+module _ (n : Node) (s s' : CoreState) (me p : ProcessId) (tree : List TreeEntry) (a : DataAnswer)
+    (fits : CascadeFits (cascaded_place me p tree) n)
     (runs : n.failed ≡ false) where
   abbrev pub place : Place
   place = cascaded_place me p tree
@@ -137,19 +141,23 @@ module _ (n : Node) (s s' : CoreState) (me p : ProcessId) (tree : List TreeEntry
 
   -- What each input leaves of the process itself.
 
-  kept_tickets : (i : Input) → ((d : Case) (t : Ticket) → retires_ticket i d t ≡ false) → (d : Case) (o : Option Ticket) → retired_by i d o ≡ o
+  kept_tickets : (i : Input) → ((d : Case) (t : Ticket) → retires_ticket i d t ≡ false) → (d : Case) (o : Option Ticket)
+      → retired_by i d o ≡ o
   kept_tickets i none d None = refl
   kept_tickets i none d (Some t) = ap (λ b. if b then None else Some t) (none d t)
 
-  same : (i : Input) → ((g : Self) → issuer_self me boot true g i ≡ g) → ((d : Case) (t : Ticket) → retires_ticket i d t ≡ false) → Same i
+  same : (i : Input) → ((g : Self) → issuer_self me boot true g i ≡ g)
+      → ((d : Case) (t : Ticket) → retires_ticket i d t ≡ false) → Same i
   same i h none =
       record {
         begun = λ c. ap (λ (g : Self). g.begun) (h (self_of (memory c)));
         given = λ c. ap (λ (g : Self). g.given) (h (self_of (memory c)));
-        tickets = λ d. ap (λ (g : Self). active_ticket g.active d) (h (self_of (memory d))) ∙ sym (kept_tickets i none d (active_ticket (memory d).active d));
+        tickets = λ d. ap (λ (g : Self). active_ticket g.active d) (h (self_of (memory d)))
+            ∙ sym (kept_tickets i none d (active_ticket (memory d).active d));
       }
 
-  unless_asked : (k j : ℕ) (c d : Case) (o : Option Ticket) → unless_of c d o ≡ retired_by (MessageInput k (Prepare c j)) d o
+  unless_asked : (k j : ℕ) (c d : Case) (o : Option Ticket)
+      → unless_of c d o ≡ retired_by (MessageInput k (Prepare c j)) d o
   unless_asked k j c d None = refl
   unless_asked k j c d (Some t) = refl
 
@@ -158,10 +166,12 @@ module _ (n : Node) (s s' : CoreState) (me p : ProcessId) (tree : List TreeEntry
       record {
         begun = λ d. refl;
         given = λ d. refl;
-        tickets = λ d. found_without c d (memory d).active (cascaded_once me p tree n d) ∙ unless_asked k j c d (active_ticket (memory d).active d);
+        tickets = λ d. found_without c d (memory d).active (cascaded_once me p tree n d)
+            ∙ unless_asked k j c d (active_ticket (memory d).active d);
       }
 
-  unless_aborted : (k : ℕ) (c d : Case) (o : Option Ticket) → unless_of c d o ≡ retired_by (MessageInput k (Abort c)) d o
+  unless_aborted : (k : ℕ) (c d : Case) (o : Option Ticket)
+      → unless_of c d o ≡ retired_by (MessageInput k (Abort c)) d o
   unless_aborted k c d None = refl
   unless_aborted k c d (Some t) = refl
 
@@ -170,7 +180,8 @@ module _ (n : Node) (s s' : CoreState) (me p : ProcessId) (tree : List TreeEntry
       record {
         begun = λ d. refl;
         given = λ d. refl;
-        tickets = λ d. found_without c d (memory d).active (cascaded_once me p tree n d) ∙ unless_aborted k c d (active_ticket (memory d).active d);
+        tickets = λ d. found_without c d (memory d).active (cascaded_once me p tree n d)
+            ∙ unless_aborted k c d (active_ticket (memory d).active d);
       }
 
   -- How a case stands, by its lists.
@@ -185,14 +196,18 @@ module _ (n : Node) (s s' : CoreState) (me p : ProcessId) (tree : List TreeEntry
 
   -- the row over the view, by the row over the lists
   own_by : (c : Case) (st : Standing) → (view c).standing ≡ st → (f : CoordinatorView → Row) (k : Memory)
-      → read (rs ++ entries_written (f (view_by st rs c (memory c))).written) c k ≡ (f (view_by st rs c (memory c))).view
+      → read (rs ++ entries_written (f (view_by st rs c (memory c))).written) c k
+      ≡ (f (view_by st rs c (memory c))).view
       → read (rs ++ entries_written (f (view c)).written) c k ≡ (f (view c)).view
-  own_by c st is f k reads = subst (λ v. read (rs ++ entries_written (f v).written) c k ≡ (f v).view) (sym (seen_as c st is)) reads
+  own_by c st is f k reads =
+      subst (λ v. read (rs ++ entries_written (f v).written) c k ≡ (f v).view) (sym (seen_as c st is)) reads
 
-  not_open : (c : Case) (st : Standing) → (view c).standing ≡ st → (st ≡ standing.Active → ⊥) → (ph : Phase) → (memory c).phase ≡ ph → ph ≡ Open → ⊥
+  not_open : (c : Case) (st : Standing) → (view c).standing ≡ st → (st ≡ standing.Active → ⊥) → (ph : Phase)
+      → (memory c).phase ≡ ph → ph ≡ Open → ⊥
   not_open c st is apart ph was e = apart (sym is ∙ (fits.alike c).open_is_active (was ∙ e))
 
-  not_asked : (c : Case) (st : Standing) → (view c).standing ≡ st → (st ≡ standing.Collecting → ⊥) → (ph : Phase) → (memory c).phase ≡ ph → ph ≡ Asked → ⊥
+  not_asked : (c : Case) (st : Standing) → (view c).standing ≡ st → (st ≡ standing.Collecting → ⊥) → (ph : Phase)
+      → (memory c).phase ≡ ph → ph ≡ Asked → ⊥
   not_asked c st is apart ph was e = apart (sym is ∙ (fits.alike c).asked_is_collecting (was ∙ e))
 
   module _ (stands : Stands n old) where
@@ -204,40 +219,51 @@ module _ (n : Node) (s s' : CoreState) (me p : ProcessId) (tree : List TreeEntry
 
     -- a row is taken whose view the extended lists read as
     takes : (i : Input) (c : Case) (row row' : Row) → SameRow row row' → IsOf c row' → Same i → (k : Memory)
-        → remembers me (Below p) boot c (memory c) (heard i) ≡ k → read (rs ++ entries_written row'.written) c k ≡ row'.view
+        → remembers me (Below p) boot c (memory c) (heard i) ≡ k
+        → read (rs ++ entries_written row'.written) c k ≡ row'.view
         → ((d : Case) → same_case c d ≡ false → Still i d) → Leads i (Takes c row)
     takes i c row row' alike own remains k is reads keeps =
         taken n s s' place a (λ m c. refl) (λ m c. refl) runs stands i c row row' alike own remains
-        (own_moved n s s' place a (λ m c. refl) (λ m c. refl) i c row' own (ap (read (rs ++ entries_written row'.written) c) is ∙ reads)) keeps
+        (own_moved n s s' place a (λ m c. refl) (λ m c. refl) i c row' own
+        (ap (read (rs ++ entries_written row'.written) c) is ∙ reads)) keeps
 
     rests : (i : Input) (c : Case) (row row' : Row) → SameRow row row' → row'.written ≡ [] → row'.view ≡ view c → Same i
         → ((d : Case) → Still i d) → Leads i (Takes c row)
     rests = rested n s s' place a (λ m c. refl) (λ m c. refl) runs stands
 
-    says : (i : Input) (ls : List Envelope) → ((g : Self) → issuer_self me boot true g i ≡ g) → ((d : Case) (t : Ticket) → retires_ticket i d t ≡ false)
+    says : (i : Input) (ls : List Envelope) → ((g : Self) → issuer_self me boot true g i ≡ g)
+        → ((d : Case) (t : Ticket) → retires_ticket i d t ≡ false)
         → ((d : Case) → Still i d) → Leads i (Says ls)
     says i ls h none keeps =
-        said n s s' place a (λ m c. refl) (λ m c. refl) runs stands i ls (same i h none) (λ d. kept_tickets i none d (active_ticket (memory d).active d)) keeps
+        said n s s' place a (λ m c. refl) (λ m c. refl) runs stands i ls (same i h none)
+        (λ d. kept_tickets i none d (active_ticket (memory d).active d)) keeps
 
     refuses : (i : Input) (x : StepError) → Leads i (Refuses x)
     refuses i x e is made = absurd made
 
     -- Acts.
 
-    join_row : (v : CoordinatorView) (c : Case) (q : ProcessId) → let row = active_join (seat c) q v in (row.written ≡ []) × (row.view ≡ v)
+    join_row : (v : CoordinatorView) (c : Case) (q : ProcessId) → let row =
+        active_join (seat c) q v in (row.written ≡ []) × (row.view ≡ v)
     join_row v c q = by_test (has_child v.accepted q)
       where
-        by_test : (b : Bool) → let row = if b then quiet v else sends (post me q (Join c) ∷ []) v in (row.written ≡ []) × (row.view ≡ v)
+        by_test : (b : Bool) → let row =
+            if b then quiet v else sends (post me q (Join c) ∷ []) v in (row.written ≡ []) × (row.view ≡ v)
         by_test true = (refl, refl)
         by_test false = (refl, refl)
 
-    join_act : (c : Case) (q : ProcessId) (st : Standing) → Leads (ActInput (JoinAct c q)) (join_turn (seat c) tree q (s.view_of c) st)
+    join_act : (c : Case) (q : ProcessId) (st : Standing)
+        → Leads (ActInput (JoinAct c q)) (join_turn (seat c) tree q (s.view_of c) st)
     join_act c q standing.Active = by_child (is_child tree q me)
       where
-        by_child : (b : Bool) → Leads (ActInput (JoinAct c q)) (if b then Takes c (active_join (seat c) q (s.view_of c)) else Refuses NotAChild)
+        by_child : (b : Bool)
+            → Leads (ActInput (JoinAct c q))
+            (if b then Takes c (active_join (seat c) q (s.view_of c)) else Refuses NotAChild)
         by_child true =
-            rests (ActInput (JoinAct c q)) c _ (active_join (seat c) q (view c)) (active_join-same (s.view_of c) (view c) (shows c) (seat c) q)
-            (join_row (view c) c q).0 (join_row (view c) c q).1 (same (ActInput (JoinAct c q)) (λ g. refl) (λ d t. refl)) (λ d. refl)
+            rests (ActInput (JoinAct c q)) c _ (active_join (seat c) q (view c))
+            (active_join-same (s.view_of c) (view c) (shows c) (seat c) q)
+            (join_row (view c) c q).0 (join_row (view c) c q).1
+            (same (ActInput (JoinAct c q)) (λ g. refl) (λ d t. refl)) (λ d. refl)
         by_child false = refuses (ActInput (JoinAct c q)) NotAChild
     join_act c q standing.Unknown = refuses (ActInput (JoinAct c q)) _
     join_act c q standing.Collecting = refuses (ActInput (JoinAct c q)) _
@@ -247,25 +273,33 @@ module _ (n : Node) (s s' : CoreState) (me p : ProcessId) (tree : List TreeEntry
     join_act c q standing.Heuristic = refuses (ActInput (JoinAct c q)) _
 
     work_active : (c : Case) (q : ProcessId) (t : Ticket) (op : Op) → (view c).standing ≡ standing.Active
-        → ticket_of_child (view c).accepted q ≡ Some t → Leads (ActInput (WorkAct c q op)) (Takes c (active_work (seat c) t op (s.view_of c)))
+        → ticket_of_child (view c).accepted q ≡ Some t
+        → Leads (ActInput (WorkAct c q op)) (Takes c (active_work (seat c) t op (s.view_of c)))
     work_active c q t op active found =
         let m = memory c in
         let k : Memory = record m { works = m.works ++ t ∷ [] } in
         let stood = stands_as c standing.Active active in
         let opened : m.phase ≡ Open = phase_active c.txn.presumption m.phase (active_facts _ _ _ _ _ _ _ stood).heard in
-        let here_found : ticket_of_child m.accepted q ≡ Some t = ap (λ (v : CoordinatorView). ticket_of_child v.accepted q) (sym (seen_as c standing.Active active)) ∙ found in
-        takes (ActInput (WorkAct c q op)) c _ (active_work (seat c) t op (view c)) (active_work-same (s.view_of c) (view c) (shows c) (seat c) t op)
+        let here_found : ticket_of_child m.accepted q ≡ Some t = ap (λ (v : CoordinatorView). ticket_of_child v.accepted
+        q) (sym (seen_as c standing.Active active)) ∙ found in
+        takes (ActInput (WorkAct c q op)) c _ (active_work (seat c) t op (view c))
+        (active_work-same (s.view_of c) (view c) (shows c) (seat c) t op)
         (work_of (seat c) (view c) t op) (same (ActInput (WorkAct c q op)) (λ g. refl) (λ d t. refl)) k
-        (here c m (sends_work m (ticket_of_child m.accepted q) m.phase) ∙ ap (λ u. sends_work m u m.phase) here_found ∙ ap (λ ph. sends_work m (Some t) ph) opened)
-        (own_by c standing.Active active (active_work (seat c) t op) k (same_pure c c.txn.presumption standing.Active rs m k stood refl))
-        (λ d apart. ap (λ b. read rs d (if b then sends_work (memory d) (ticket_of_child (memory d).accepted q) (memory d).phase else memory d)) apart)
+        (here c m (sends_work m (ticket_of_child m.accepted q) m.phase) ∙ ap (λ u. sends_work m u m.phase) here_found
+        ∙ ap (λ ph. sends_work m (Some t) ph) opened)
+        (own_by c standing.Active active (active_work (seat c) t op) k
+        (same_pure c c.txn.presumption standing.Active rs m k stood refl))
+        (λ d apart. ap (λ b. read rs d
+        (if b then sends_work (memory d) (ticket_of_child (memory d).accepted q) (memory d).phase else memory d))
+        apart)
 
     work_at : (c : Case) (q : ProcessId) (op : Op) (st : Standing) → (view c).standing ≡ st
         → Leads (ActInput (WorkAct c q op)) (work_turn (seat c) tree q op (s.view_of c) st)
     work_at c q op standing.Active active = by_ticket (ticket_of_child (s.view_of c).accepted q) refl
       where
         by_leaf : (t : Ticket) → ticket_of_child (view c).accepted q ≡ Some t → (b : Bool)
-            → Leads (ActInput (WorkAct c q op)) (if b then Takes c (active_work (seat c) t op (s.view_of c)) else Refuses NotAChild)
+            → Leads (ActInput (WorkAct c q op))
+            (if b then Takes c (active_work (seat c) t op (s.view_of c)) else Refuses NotAChild)
         by_leaf t found true =
             work_active c q t op active found
         by_leaf t found false = refuses (ActInput (WorkAct c q op)) NotAChild
@@ -273,7 +307,8 @@ module _ (n : Node) (s s' : CoreState) (me p : ProcessId) (tree : List TreeEntry
         by_ticket : (o : Option Ticket) → ticket_of_child (s.view_of c).accepted q ≡ o
             → Leads (ActInput (WorkAct c q op)) (work_for_turn (seat c) tree op (s.view_of c) o)
         by_ticket None found = refuses (ActInput (WorkAct c q op)) NotAChild
-        by_ticket (Some t) found = by_leaf t (ap (λ ts. ticket_of_child ts q) (sym (shows c).accepted) ∙ found) (is_leaf (role_of tree t.child))
+        by_ticket (Some t) found = by_leaf t (ap (λ ts. ticket_of_child ts q) (sym (shows c).accepted) ∙ found)
+            (is_leaf (role_of tree t.child))
     work_at c q op standing.Unknown is = refuses (ActInput (WorkAct c q op)) _
     work_at c q op standing.Collecting is = refuses (ActInput (WorkAct c q op)) _
     work_at c q op standing.Prepared is = refuses (ActInput (WorkAct c q op)) _
@@ -281,15 +316,20 @@ module _ (n : Node) (s s' : CoreState) (me p : ProcessId) (tree : List TreeEntry
     work_at c q op standing.Aborting is = refuses (ActInput (WorkAct c q op)) _
     work_at c q op standing.Heuristic is = refuses (ActInput (WorkAct c q op)) _
 
-    commit_act : (x : Txn) (st : Standing) → st ≡ standing.Unknown → Leads (ActInput (CommitAct x)) (commit_turn (seat (root_case x)) (s.view_of (root_case x)) st)
-    commit_act x st is = subst (λ st. Leads (ActInput (CommitAct x)) (commit_turn (seat (root_case x)) (s.view_of (root_case x)) st)) (sym is) (refuses (ActInput (CommitAct x)) _)
+    commit_act : (x : Txn) (st : Standing) → st ≡ standing.Unknown
+        → Leads (ActInput (CommitAct x)) (commit_turn (seat (root_case x)) (s.view_of (root_case x)) st)
+    commit_act x st is = subst (λ st. Leads (ActInput (CommitAct x))
+        (commit_turn (seat (root_case x)) (s.view_of (root_case x)) st)) (sym is) (refuses (ActInput (CommitAct x)) _)
 
-    abort_act : (x : Txn) (st : Standing) → st ≡ standing.Unknown → Leads (ActInput (AbortAct x)) (abort_turn (seat (root_case x)) (s.view_of (root_case x)) st)
-    abort_act x st is = subst (λ st. Leads (ActInput (AbortAct x)) (abort_turn (seat (root_case x)) (s.view_of (root_case x)) st)) (sym is) (refuses (ActInput (AbortAct x)) _)
+    abort_act : (x : Txn) (st : Standing) → st ≡ standing.Unknown
+        → Leads (ActInput (AbortAct x)) (abort_turn (seat (root_case x)) (s.view_of (root_case x)) st)
+    abort_act x st is = subst (λ st. Leads (ActInput (AbortAct x))
+        (abort_turn (seat (root_case x)) (s.view_of (root_case x)) st)) (sym is) (refuses (ActInput (AbortAct x)) _)
 
     ask_at : (c : Case) (st : Standing) → Leads (ActInput (Ask c)) (ask_turn (seat c) (s.view_of c) st)
     ask_at c standing.Prepared =
-        rests (ActInput (Ask c)) c _ (prepared_ask (seat c) (view c)) (sends-same _ (s.view_of c) (view c) (shows c)) refl refl
+        rests (ActInput (Ask c)) c _ (prepared_ask (seat c) (view c)) (sends-same _ (s.view_of c) (view c) (shows c))
+        refl refl
         (same (ActInput (Ask c)) (λ g. refl) (λ d t. refl)) (λ d. refl)
     ask_at c standing.Unknown = refuses (ActInput (Ask c)) _
     ask_at c standing.Active = refuses (ActInput (Ask c)) _
@@ -311,35 +351,45 @@ module _ (n : Node) (s s' : CoreState) (me p : ProcessId) (tree : List TreeEntry
     acted (Begin q) = refuses (ActInput (Begin q)) _
     acted (JoinAct c q) = join_act c q (s.view_of c).standing
     acted (WorkAct c q op) = work_at c q op (s.view_of c).standing (sym (shows c).standing)
-    acted (CommitAct x) = commit_act x (s.view_of (root_case x)).standing ((shows (root_case x)).standing ∙ fits.ticketed x)
-    acted (AbortAct x) = abort_act x (s.view_of (root_case x)).standing ((shows (root_case x)).standing ∙ fits.ticketed x)
+    acted (CommitAct x) =
+        commit_act x (s.view_of (root_case x)).standing ((shows (root_case x)).standing ∙ fits.ticketed x)
+    acted (AbortAct x) =
+        abort_act x (s.view_of (root_case x)).standing ((shows (root_case x)).standing ∙ fits.ticketed x)
     acted (Ask c) = ask_at c (s.view_of c).standing
     acted (Decide c o) = live_at (ActInput (Decide c o)) _ (s.view_of c).standing
     acted (Forget c) = live_at (ActInput (Forget c)) _ (s.view_of c).standing
 
     -- Messages of the parent.
 
-    joined_keeps : (k : ℕ) (c : Case) (t : Ticket) (d : Case) → same_case c d ≡ false → Still (MessageInput k (Joined c t)) d
-    joined_keeps k c t d apart = ap (λ b. read rs d (if b then accepts_ticket (memory d) t (memory d).phase else memory d)) apart
+    joined_keeps : (k : ℕ) (c : Case) (t : Ticket) (d : Case) → same_case c d ≡ false
+        → Still (MessageInput k (Joined c t)) d
+    joined_keeps k c t d apart =
+        ap (λ b. read rs d (if b then accepts_ticket (memory d) t (memory d).phase else memory d)) apart
 
     prepare_keeps : (k j : ℕ) (c d : Case) → same_case c d ≡ false → Still (MessageInput k (Prepare c j)) d
     prepare_keeps k j c d apart =
-        ap (λ b. read rs d (if b then asks_votes (retires (memory d) c) (memory d).phase else retires (memory d) c)) apart
+        ap (λ b. read rs d (if b then asks_votes (retires (memory d) c) (memory d).phase else retires (memory d) c))
+        apart
 
-    prepare_leaves : (k j : ℕ) (c : Case) → ((memory c).phase ≡ Open → ⊥) → (d : Case) → Still (MessageInput k (Prepare c j)) d
+    prepare_leaves : (k j : ℕ) (c : Case) → ((memory c).phase ≡ Open → ⊥) → (d : Case)
+        → Still (MessageInput k (Prepare c j)) d
     prepare_leaves k j c shut d = by_same (same_case c d) refl
       where
         by_same : (b : Bool) → same_case c d ≡ b
-            → read rs d (if b then asks_votes (retires (memory d) c) (memory d).phase else retires (memory d) c) ≡ read rs d (memory d)
+            → read rs d (if b then asks_votes (retires (memory d) c) (memory d).phase else retires (memory d) c)
+            ≡ read rs d (memory d)
         by_same false is = refl
         by_same true is =
-            ap (read rs d) (asks_nothing (retires (memory d) c) (memory d).phase (λ e. shut (ap (λ x. (memory x).phase) (one_case c d is) ∙ e)))
+            ap (read rs d)
+            (asks_nothing (retires (memory d) c) (memory d).phase
+            (λ e. shut (ap (λ x. (memory x).phase) (one_case c d is) ∙ e)))
 
     prepare_rests : (k j : ℕ) (c : Case) (st : Standing) → (view c).standing ≡ st → (st ≡ standing.Active → ⊥)
         → (on_prepare (seat c) (view c) st).written ≡ [] → (on_prepare (seat c) (view c) st).view ≡ view c
         → Leads (MessageInput k (Prepare c j)) (Takes c (on_prepare (seat c) (s.view_of c) st))
     prepare_rests k j c st is apart none shown =
-        rests (MessageInput k (Prepare c j)) c _ (on_prepare (seat c) (view c) st) (on_prepare-same (s.view_of c) (view c) (shows c) (seat c) st) none shown
+        rests (MessageInput k (Prepare c j)) c _ (on_prepare (seat c) (view c) st)
+        (on_prepare-same (s.view_of c) (view c) (shows c) (seat c) st) none shown
         (same_prepare k j c) (prepare_leaves k j c (not_open c st is apart (memory c).phase refl))
 
     prepare_at : (k j : ℕ) (c : Case) (st : Standing) → (view c).standing ≡ st
@@ -353,7 +403,8 @@ module _ (n : Node) (s s' : CoreState) (me p : ProcessId) (tree : List TreeEntry
         let next : Memory = record (retires m c) { phase = if none_of m.accepted then Over else Asked } in
         takes i c _ (active_commit (seat c) (view c)) (active_commit-same (s.view_of c) (view c) (shows c) (seat c))
         (active_commit_of (seat c) (view c)) (same_prepare k j c) next
-        (ap (λ b. if b then asks_votes (retires m c) m.phase else retires m c) (same_case-refl c) ∙ ap (λ ph. asks_votes (retires m c) ph) opened)
+        (ap (λ b. if b then asks_votes (retires m c) m.phase else retires m c) (same_case-refl c)
+        ∙ ap (λ ph. asks_votes (retires m c) ph) opened)
         (own_by c standing.Active active (active_commit (seat c)) next
         (asks_reads me p c rs c.txn.presumption (none_of m.accepted) m (record {
           no_end = f.no_end;
@@ -371,11 +422,13 @@ module _ (n : Node) (s s' : CoreState) (me p : ProcessId) (tree : List TreeEntry
     prepare_at k j c standing.Committing is = prepare_rests k j c standing.Committing is (λ e. cc) refl refl
     prepare_at k j c standing.Heuristic is = prepare_rests k j c standing.Heuristic is (λ e. cc) refl refl
 
-    commit_rests : (k : ℕ) (c : Case) (st : Standing) → (on_commit (seat c) (view c) st).written ≡ [] → (on_commit (seat c) (view c) st).view ≡ view c
+    commit_rests : (k : ℕ) (c : Case) (st : Standing) → (on_commit (seat c) (view c) st).written ≡ []
+        → (on_commit (seat c) (view c) st).view ≡ view c
         → Leads (MessageInput k (Commit c)) (Takes c (on_commit (seat c) (s.view_of c) st))
     commit_rests k c st none shown =
         let i = MessageInput k (Commit c) in
-        rests i c _ (on_commit (seat c) (view c) st) (on_commit-same (s.view_of c) (view c) (shows c) (seat c) st) none shown
+        rests i c _ (on_commit (seat c) (view c) st) (on_commit-same (s.view_of c) (view c) (shows c) (seat c) st) none
+        shown
         (same i (λ g. refl) (λ d t. refl)) (λ d. refl)
 
     commit_at : (k : ℕ) (c : Case) (st : Standing) → (view c).standing ≡ st
@@ -383,11 +436,14 @@ module _ (n : Node) (s s' : CoreState) (me p : ProcessId) (tree : List TreeEntry
     commit_at k c standing.Prepared is =
         let i = MessageInput k (Commit c) in
         let m = memory c in
-        let f = prepared_facts _ _ _ _ _ _ _ (phase_unprepared c.txn.presumption m.phase) (stands_as c standing.Prepared is) in
-        takes i c _ (on_commit (seat c) (view c) standing.Prepared) (on_commit-same (s.view_of c) (view c) (shows c) (seat c) standing.Prepared)
+        let f = prepared_facts _ _ _ _ _ _ _ (phase_unprepared c.txn.presumption m.phase)
+        (stands_as c standing.Prepared is) in
+        takes i c _ (on_commit (seat c) (view c) standing.Prepared)
+        (on_commit-same (s.view_of c) (view c) (shows c) (seat c) standing.Prepared)
         (on_commit_of (seat c) (view c) standing.Prepared) (same i (λ g. refl) (λ d t. refl)) m refl
         (own_by c standing.Prepared is (λ v. on_commit (seat c) v standing.Prepared) m
-        (commits_reads me p c rs m m f (undecided_owes c rs f.no_commit f.no_abort) refl refl refl refl c.txn.presumption (none_of (promised_by c rs)) refl
+        (commits_reads me p c rs m m f (undecided_owes c rs f.no_commit f.no_abort) refl refl refl refl
+        c.txn.presumption (none_of (promised_by c rs)) refl
         (all_still m.acks Committed (promised_by c rs) (λ t e. fits.none_early c t Committed is e))))
         (λ d apart. refl)
     commit_at k c standing.Unknown is =
@@ -403,28 +459,37 @@ module _ (n : Node) (s s' : CoreState) (me p : ProcessId) (tree : List TreeEntry
     abort_keeps k c d apart =
         ap (λ b. read rs d (if b then closes (retires (memory d) c) (memory d).phase else retires (memory d) c)) apart
 
-    abort_leaves : (k : ℕ) (c : Case) → ((memory c).phase ≡ Open → ⊥) → ((memory c).phase ≡ Asked → ⊥) → (d : Case) → Still (MessageInput k (Abort c)) d
+    abort_leaves : (k : ℕ) (c : Case) → ((memory c).phase ≡ Open → ⊥) → ((memory c).phase ≡ Asked → ⊥) → (d : Case)
+        → Still (MessageInput k (Abort c)) d
     abort_leaves k c shut silent d = by_same (same_case c d) refl
       where
         by_same : (b : Bool) → same_case c d ≡ b
-            → read rs d (if b then closes (retires (memory d) c) (memory d).phase else retires (memory d) c) ≡ read rs d (memory d)
+            → read rs d (if b then closes (retires (memory d) c) (memory d).phase else retires (memory d) c)
+            ≡ read rs d (memory d)
         by_same false is = refl
         by_same true is =
             let one : (memory c).phase ≡ (memory d).phase = ap (λ x. (memory x).phase) (one_case c d is) in
-            closes_nothing rs d (retires (memory d) c) (memory d).phase refl (λ e. shut (one ∙ e)) (λ e. silent (one ∙ e))
+            closes_nothing rs d (retires (memory d) c) (memory d).phase refl (λ e. shut (one ∙ e))
+            (λ e. silent (one ∙ e))
 
     -- what is remembered of the case behind ABORT
     closed_is : (c : Case) (ph : Phase) → (memory c).phase ≡ ph
-        → (if same_case c c then closes (retires (memory c) c) (memory c).phase else retires (memory c) c) ≡ closes (retires (memory c) c) ph
+        → (if same_case c c then closes (retires (memory c) c) (memory c).phase else retires (memory c) c)
+        ≡ closes (retires (memory c) c) ph
     closed_is c ph is =
-        ap (λ b. if b then closes (retires (memory c) c) (memory c).phase else retires (memory c) c) (same_case-refl c) ∙ ap (closes (retires (memory c) c)) is
+        ap (λ b. if b then closes (retires (memory c) c) (memory c).phase else retires (memory c) c) (same_case-refl c)
+        ∙ ap (closes (retires (memory c) c)) is
 
-    abort_rests : (k : ℕ) (c : Case) (st : Standing) → (view c).standing ≡ st → (st ≡ standing.Active → ⊥) → (st ≡ standing.Collecting → ⊥)
+    abort_rests : (k : ℕ) (c : Case) (st : Standing) → (view c).standing ≡ st → (st ≡ standing.Active → ⊥)
+        → (st ≡ standing.Collecting → ⊥)
         → (on_abort (seat c) (view c) st).written ≡ [] → (on_abort (seat c) (view c) st).view ≡ view c
         → Leads (MessageInput k (Abort c)) (Takes c (on_abort (seat c) (s.view_of c) st))
     abort_rests k c st is shut silent none shown =
-        rests (MessageInput k (Abort c)) c _ (on_abort (seat c) (view c) st) (on_abort-same (s.view_of c) (view c) (shows c) (seat c) st) none shown
-        (same_abort k c) (abort_leaves k c (not_open c st is shut (memory c).phase refl) (not_asked c st is silent (memory c).phase refl))
+        rests (MessageInput k (Abort c)) c _ (on_abort (seat c) (view c) st)
+        (on_abort-same (s.view_of c) (view c) (shows c) (seat c) st) none shown
+        (same_abort k c)
+        (abort_leaves k c (not_open c st is shut (memory c).phase refl)
+        (not_asked c st is silent (memory c).phase refl))
 
     abort_to : (k : ℕ) (c : Case) (st : Standing) → (view c).standing ≡ st
         → Leads (MessageInput k (Abort c)) (Takes c (on_abort (seat c) (s.view_of c) st))
@@ -434,7 +499,8 @@ module _ (n : Node) (s s' : CoreState) (me p : ProcessId) (tree : List TreeEntry
         let f = active_facts _ _ _ _ _ _ _ (stands_as c standing.Active active) in
         let opened : m.phase ≡ Open = phase_active c.txn.presumption m.phase f.heard in
         takes i c _ (active_abort (seat c) (view c)) (active_abort-same (s.view_of c) (view c) (shows c) (seat c))
-        (active_abort_of (seat c) (view c)) (same_abort k c) (record (retires m c) { phase = Over }) (closed_is c Open opened)
+        (active_abort_of (seat c) (view c)) (same_abort k c) (record (retires m c) { phase = Over })
+        (closed_is c Open opened)
         (abort_pure me c c.txn.presumption rs m (record {
           no_end = f.no_end;
           no_commit = f.no_commit;
@@ -450,23 +516,29 @@ module _ (n : Node) (s s' : CoreState) (me p : ProcessId) (tree : List TreeEntry
         let f = collecting_facts _ _ _ _ _ _ _ (stands_as c standing.Collecting is) in
         let asked : m.phase ≡ Asked = (fits.alike c).collecting_is_asked is in
         let next : Memory = record (retires m c) { phase = Over } in
-        takes i c _ (collecting_abort (seat c) ByAbort (view c)) (collecting_abort-same (s.view_of c) (view c) (shows c) (seat c) ByAbort)
+        takes i c _ (collecting_abort (seat c) ByAbort (view c))
+        (collecting_abort-same (s.view_of c) (view c) (shows c) (seat c) ByAbort)
         (collecting_abort_of (seat c) (view c) ByAbort) (same_abort k c) next (closed_is c Asked asked)
         (own_by c standing.Collecting is (collecting_abort (seat c) ByAbort) next
-        (aborts_reads me p c rs c.txn.presumption ByAbort (undecided_of m.accepted m.votes) m f (undecided_owes c rs f.no_commit f.no_abort)
+        (aborts_reads me p c rs c.txn.presumption ByAbort (undecided_of m.accepted m.votes) m f
+        (undecided_owes c rs f.no_commit f.no_abort)
         (asked_quiet m (cascaded_quiet me p tree n c) asked)))
         (λ d apart. abort_keeps k c d apart)
     abort_to k c standing.Prepared is =
         let i = MessageInput k (Abort c) in
         let m = memory c in
-        let f = prepared_facts _ _ _ _ _ _ _ (phase_unprepared c.txn.presumption m.phase) (stands_as c standing.Prepared is) in
+        let f = prepared_facts _ _ _ _ _ _ _ (phase_unprepared c.txn.presumption m.phase)
+        (stands_as c standing.Prepared is) in
         let next : Memory = closes (retires m c) m.phase in
         let keeps = closes_keeps (retires m c) m.phase in
-        takes i c _ (on_abort (seat c) (view c) standing.Prepared) (on_abort-same (s.view_of c) (view c) (shows c) (seat c) standing.Prepared)
+        takes i c _ (on_abort (seat c) (view c) standing.Prepared)
+        (on_abort-same (s.view_of c) (view c) (shows c) (seat c) standing.Prepared)
         (on_abort_of (seat c) (view c) standing.Prepared) (same_abort k c) next (closed_is c m.phase refl)
         (own_by c standing.Prepared is (λ v. on_abort (seat c) v standing.Prepared) next
-        (aborted_reads me p c rs m next f (undecided_owes c rs f.no_commit f.no_abort) keeps.0 keeps.1 keeps.2 keeps.3 c.txn.presumption
-        (none_of (promised_by c rs)) refl (all_still m.acks Aborted (promised_by c rs) (λ t e. fits.none_early c t Aborted is e))))
+        (aborted_reads me p c rs m next f (undecided_owes c rs f.no_commit f.no_abort) keeps.0 keeps.1 keeps.2 keeps.3
+        c.txn.presumption
+        (none_of (promised_by c rs)) refl
+        (all_still m.acks Aborted (promised_by c rs) (λ t e. fits.none_early c t Aborted is e))))
         (λ d apart. abort_keeps k c d apart)
     abort_to k c standing.Unknown is = abort_rests k c standing.Unknown is (λ e. cc) (λ e. cc) refl refl
     abort_to k c standing.Committing is = abort_rests k c standing.Committing is (λ e. cc) (λ e. cc) refl refl
@@ -475,13 +547,15 @@ module _ (n : Node) (s s' : CoreState) (me p : ProcessId) (tree : List TreeEntry
 
     -- Messages of children.
 
-    joined_leaves : (k : ℕ) (c : Case) (t : Ticket) → ((memory c).phase ≡ Open → ⊥) → (d : Case) → Still (MessageInput k (Joined c t)) d
+    joined_leaves : (k : ℕ) (c : Case) (t : Ticket) → ((memory c).phase ≡ Open → ⊥) → (d : Case)
+        → Still (MessageInput k (Joined c t)) d
     joined_leaves k c t shut d = by_same (same_case c d) refl
       where
         by_same : (b : Bool) → same_case c d ≡ b
             → read rs d (if b then accepts_ticket (memory d) t (memory d).phase else memory d) ≡ read rs d (memory d)
         by_same false is = refl
-        by_same true is = ap (read rs d) (not_accepted (memory d) t (memory d).phase (λ e. shut (ap (λ x. (memory x).phase) (one_case c d is) ∙ e)))
+        by_same true is = ap (read rs d)
+            (not_accepted (memory d) t (memory d).phase (λ e. shut (ap (λ x. (memory x).phase) (one_case c d is) ∙ e)))
 
     joined_rests : (k : ℕ) (c : Case) (t : Ticket) (st : Standing) → (view c).standing ≡ st → (st ≡ standing.Active → ⊥)
         → (on_joined t (view c) st).written ≡ [] → (on_joined t (view c) st).view ≡ view c
@@ -492,7 +566,8 @@ module _ (n : Node) (s s' : CoreState) (me p : ProcessId) (tree : List TreeEntry
         (same i (λ g. refl) (λ d u. refl)) (joined_leaves k c t (not_open c st is apart (memory c).phase refl))
 
     -- the row of an Active case
-    accepted_reads : (c : Case) (t : Ticket) (b : Bool) → standing_with c.txn.presumption rs c (memory c) ≡ standing.Active
+    accepted_reads : (c : Case) (t : Ticket) (b : Bool)
+        → standing_with c.txn.presumption rs c (memory c) ≡ standing.Active
         → let v = view_by standing.Active rs c (memory c) in
         let row = if b then quiet v else record {
           written = [];
@@ -502,12 +577,15 @@ module _ (n : Node) (s s' : CoreState) (me p : ProcessId) (tree : List TreeEntry
           counts = [];
           view = record v { accepted = v.accepted ++ t ∷ [] };
         } in
-        read (rs ++ entries_written row.written) c (if b then memory c else record (memory c) { accepted = (memory c).accepted ++ t ∷ [] }) ≡ row.view
+        read (rs ++ entries_written row.written) c
+        (if b then memory c else record (memory c) { accepted = (memory c).accepted ++ t ∷ [] }) ≡ row.view
     accepted_reads c t true stood = same_pure c c.txn.presumption standing.Active rs (memory c) (memory c) stood refl
     accepted_reads c t false stood =
-        same_pure c c.txn.presumption standing.Active rs (memory c) (record (memory c) { accepted = (memory c).accepted ++ t ∷ [] }) stood refl
+        same_pure c c.txn.presumption standing.Active rs (memory c)
+        (record (memory c) { accepted = (memory c).accepted ++ t ∷ [] }) stood refl
 
-    joined_at : (k : ℕ) (c : Case) (t : Ticket) (st : Standing) → (view c).standing ≡ st → Leads (MessageInput k (Joined c t)) (Takes c (on_joined t (s.view_of c) st))
+    joined_at : (k : ℕ) (c : Case) (t : Ticket) (st : Standing) → (view c).standing ≡ st
+        → Leads (MessageInput k (Joined c t)) (Takes c (on_joined t (s.view_of c) st))
     joined_at k c t standing.Active active =
         let i = MessageInput k (Joined c t) in
         let m = memory c in
@@ -516,7 +594,8 @@ module _ (n : Node) (s s' : CoreState) (me p : ProcessId) (tree : List TreeEntry
         takes i c _ (active_joined t (view c)) (active_joined-same (s.view_of c) (view c) (shows c) t)
         (on_joined_of (seat c) (view c) t standing.Active) (same i (λ g. refl) (λ d u. refl)) (accepts_ticket m t Open)
         (here c m (accepts_ticket m t m.phase) ∙ ap (λ ph. accepts_ticket m t ph) opened)
-        (own_by c standing.Active active (active_joined t) (accepts_ticket m t Open) (accepted_reads c t (has_child m.accepted t.child) stood))
+        (own_by c standing.Active active (active_joined t) (accepts_ticket m t Open)
+        (accepted_reads c t (has_child m.accepted t.child) stood))
         (λ d apart. joined_keeps k c t d apart)
     joined_at k c t standing.Unknown is = joined_rests k c t standing.Unknown is (λ e. cc) refl refl
     joined_at k c t standing.Collecting is = joined_rests k c t standing.Collecting is (λ e. cc) refl refl
@@ -525,17 +604,20 @@ module _ (n : Node) (s s' : CoreState) (me p : ProcessId) (tree : List TreeEntry
     joined_at k c t standing.Aborting is = joined_rests k c t standing.Aborting is (λ e. cc) refl refl
     joined_at k c t standing.Heuristic is = joined_rests k c t standing.Heuristic is (λ e. cc) refl refl
 
-    strangers : (x : Txn) (t : Ticket) (found : Option Case) → Finds old (Some (x, t)) found → (d : Case) → IsOther found d → IsStranger place n d (fits.alike d) x t
+    strangers : (x : Txn) (t : Ticket) (found : Option Case) → Finds old (Some (x, t)) found → (d : Case)
+        → IsOther found d → IsStranger place n d (fits.alike d) x t
     strangers x t found finds d other = belongs_not place n fits.children old shows x t found finds d other
 
     -- Votes.
 
-    unretired : (k : ℕ) (w : Vote) (e d : Case) (t : Ticket) → retires_ticket (MessageInput k (vote_message w e)) d t ≡ false
+    unretired : (k : ℕ) (w : Vote) (e d : Case) (t : Ticket)
+        → retires_ticket (MessageInput k (vote_message w e)) d t ≡ false
     unretired k VoteYes e d t = refl
     unretired k VoteNo e d t = refl
     unretired k VoteRead e d t = refl
 
-    ungiven : (k : ℕ) (w : Vote) (e : Case) (g : Self) → issuer_self me boot true g (MessageInput k (vote_message w e)) ≡ g
+    ungiven : (k : ℕ) (w : Vote) (e : Case) (g : Self)
+        → issuer_self me boot true g (MessageInput k (vote_message w e)) ≡ g
     ungiven k VoteYes e g = refl
     ungiven k VoteNo e g = refl
     ungiven k VoteRead e g = refl
@@ -544,28 +626,35 @@ module _ (n : Node) (s s' : CoreState) (me p : ProcessId) (tree : List TreeEntry
     same_vote k w e = same (MessageInput k (vote_message w e)) (ungiven k w e) (unretired k w e)
 
     -- a vote is remembered as a child's
-    vote_is : (k : ℕ) (w : Vote) (e d : Case) → remembers me (Below p) boot d (memory d) (heard (MessageInput k (vote_message w e))) ≡ hears_child d (memory d) (vote_message w e)
+    vote_is : (k : ℕ) (w : Vote) (e d : Case)
+        → remembers me (Below p) boot d (memory d) (heard (MessageInput k (vote_message w e)))
+        ≡ hears_child d (memory d) (vote_message w e)
     vote_is k VoteYes e d = refl
     vote_is k VoteNo e d = refl
     vote_is k VoteRead e d = refl
 
     vote_still : (k : ℕ) (w : Vote) (x : Txn) (t : Ticket) (d : Case) → IsStranger place n d (fits.alike d) x t
         → Still (MessageInput k (vote_message w (child_case x t))) d
-    vote_still k w x t d stranger = ap (read rs d) (vote_is k w (child_case x t) d) ∙ vote_keeps place n d (fits.alike d) x t w stranger
+    vote_still k w x t d stranger =
+        ap (read rs d) (vote_is k w (child_case x t) d) ∙ vote_keeps place n d (fits.alike d) x t w stranger
 
     -- of the case that was found
     vote_own : (k : ℕ) (w : Vote) (t : Ticket) (c : Case)
-        → remembers me (Below p) boot c (memory c) (heard (MessageInput k (vote_message w (child_case c.txn t)))) ≡ takes_vote (memory c) t w (memory c).phase
+        → remembers me (Below p) boot c (memory c) (heard (MessageInput k (vote_message w (child_case c.txn t))))
+        ≡ takes_vote (memory c) t w (memory c).phase
     vote_own k w t c =
         vote_is k w (child_case c.txn t) c ∙ vote_hears place n c (fits.alike c) c.txn t w
         ∙ ap (λ b. if b then takes_vote (memory c) t w (memory c).phase else memory c) (same_txn-refl c.txn)
 
-    vote_rests : (k : ℕ) (w : Vote) (t : Ticket) (c : Case) → Finds old (Some (c.txn, t)) (Some c) → (st : Standing) → (view c).standing ≡ st
-        → (st ≡ standing.Collecting → ⊥) → (on_vote (seat c) t w (view c) st).written ≡ [] → (on_vote (seat c) t w (view c) st).view ≡ view c
+    vote_rests : (k : ℕ) (w : Vote) (t : Ticket) (c : Case) → Finds old (Some (c.txn, t)) (Some c) → (st : Standing)
+        → (view c).standing ≡ st
+        → (st ≡ standing.Collecting → ⊥) → (on_vote (seat c) t w (view c) st).written ≡ []
+        → (on_vote (seat c) t w (view c) st).view ≡ view c
         → Leads (MessageInput k (vote_message w (child_case c.txn t))) (Takes c (on_vote (seat c) t w (s.view_of c) st))
     vote_rests k w t c finds st is apart none shown =
         rests (MessageInput k (vote_message w (child_case c.txn t))) c _ (on_vote (seat c) t w (view c) st)
-        (on_vote-same (s.view_of c) (view c) (shows c) (seat c) t w st) none shown (same_vote k w (child_case c.txn t)) keeps
+        (on_vote-same (s.view_of c) (view c) (shows c) (seat c) t w st) none shown (same_vote k w (child_case c.txn t))
+        keeps
       where
         keeps : (d : Case) → Still (MessageInput k (vote_message w (child_case c.txn t))) d
         keeps d = by_same (same_case c d) refl
@@ -574,9 +663,12 @@ module _ (n : Node) (s s' : CoreState) (me p : ProcessId) (tree : List TreeEntry
             by_same false other = vote_still k w c.txn t d (strangers c.txn t (Some c) finds d other)
             by_same true one =
                 subst (λ e. Still (MessageInput k (vote_message w (child_case c.txn t))) e) (one_case c d one)
-                (ap (read rs c) (vote_own k w t c ∙ not_taken (memory c) t w (memory c).phase (not_asked c st is apart (memory c).phase refl)))
+                (ap (read rs c)
+                (vote_own k w t c
+                ∙ not_taken (memory c) t w (memory c).phase (not_asked c st is apart (memory c).phase refl)))
 
-    vote_to : (k : ℕ) (w : Vote) (t : Ticket) (c : Case) → Finds old (Some (c.txn, t)) (Some c) → (st : Standing) → (view c).standing ≡ st
+    vote_to : (k : ℕ) (w : Vote) (t : Ticket) (c : Case) → Finds old (Some (c.txn, t)) (Some c) → (st : Standing)
+        → (view c).standing ≡ st
         → Leads (MessageInput k (vote_message w (child_case c.txn t))) (Takes c (on_vote (seat c) t w (s.view_of c) st))
     vote_to k w t c finds standing.Collecting is =
         let i = MessageInput k (vote_message w (child_case c.txn t)) in
@@ -585,11 +677,13 @@ module _ (n : Node) (s s' : CoreState) (me p : ProcessId) (tree : List TreeEntry
         let f = collecting_facts _ _ _ _ _ _ _ stood in
         let asked : m.phase ≡ Asked = (fits.alike c).collecting_is_asked is in
         let next : Memory = if is_counted m.accepted m.votes t then with_vote m t w else m in
-        takes i c _ (collecting_vote (seat c) t w (view c)) (on_vote-same (s.view_of c) (view c) (shows c) (seat c) t w standing.Collecting)
+        takes i c _ (collecting_vote (seat c) t w (view c))
+        (on_vote-same (s.view_of c) (view c) (shows c) (seat c) t w standing.Collecting)
         (on_vote_of (seat c) (view c) t w standing.Collecting) (same_vote k w (child_case c.txn t)) next
         (vote_own k w t c ∙ ap (λ ph. takes_vote m t w ph) asked)
         (own_by c standing.Collecting is (collecting_vote (seat c) t w) next
-        (vote_reads me p c rs m stood asked f (fits.alike c).no_record_collects (undecided_owes c rs f.no_commit f.no_abort)
+        (vote_reads me p c rs m stood asked f (fits.alike c).no_record_collects
+        (undecided_owes c rs f.no_commit f.no_abort)
         (asked_quiet m (cascaded_quiet me p tree n c) asked) t w))
         (λ d apart. vote_still k w c.txn t d (strangers c.txn t (Some c) finds d apart))
     vote_to k w t c finds standing.Unknown is = vote_rests k w t c finds standing.Unknown is (λ e. cc) refl refl
@@ -602,10 +696,12 @@ module _ (n : Node) (s s' : CoreState) (me p : ProcessId) (tree : List TreeEntry
     vote_at : (k : ℕ) (w : Vote) (x : Txn) (t : Ticket) (found : Option Case) → Finds old (Some (x, t)) found
         → Leads (MessageInput k (vote_message w (child_case x t))) (vote_turn old w t found)
     vote_at k w x t None finds =
-        says (MessageInput k (vote_message w (child_case x t))) [] (ungiven k w (child_case x t)) (unretired k w (child_case x t))
+        says (MessageInput k (vote_message w (child_case x t))) [] (ungiven k w (child_case x t))
+        (unretired k w (child_case x t))
         (λ d. vote_still k w x t d (strangers x t None finds d tt))
     vote_at k w x t (Some c) finds =
-        subst (λ y. Finds old (Some (y, t)) (Some c) → Leads (MessageInput k (vote_message w (child_case y t))) (vote_turn old w t (Some c)))
+        subst (λ y. Finds old (Some (y, t)) (Some c)
+        → Leads (MessageInput k (vote_message w (child_case y t))) (vote_turn old w t (Some c)))
         (found_known place n fits.children old shows x t c finds).0
         (λ f. vote_to k w t c f (s.view_of c).standing (sym (shows c).standing)) finds
 
@@ -616,10 +712,12 @@ module _ (n : Node) (s s' : CoreState) (me p : ProcessId) (tree : List TreeEntry
     ack_still k o x t d stranger = ack_keeps place n d (fits.alike d) x t o stranger
 
     ack_own : (k : ℕ) (o : Outcome) (t : Ticket) (c : Case)
-        → remembers me (Below p) boot c (memory c) (heard (MessageInput k (Ack (child_case c.txn t) o))) ≡ takes_ack (memory c) t o (memory c).phase
+        → remembers me (Below p) boot c (memory c) (heard (MessageInput k (Ack (child_case c.txn t) o)))
+        ≡ takes_ack (memory c) t o (memory c).phase
     ack_own k o t c = ap (λ b. if b then takes_ack (memory c) t o (memory c).phase else memory c) (same_txn-refl c.txn)
 
-    ack_others : (k : ℕ) (o : Outcome) (t : Ticket) (c : Case) → Finds old (Some (c.txn, t)) (Some c) → (d : Case) → same_case c d ≡ false
+    ack_others : (k : ℕ) (o : Outcome) (t : Ticket) (c : Case) → Finds old (Some (c.txn, t)) (Some c) → (d : Case)
+        → same_case c d ≡ false
         → Still (MessageInput k (Ack (child_case c.txn t) o)) d
     ack_others k o t c finds d apart = ack_still k o c.txn t d (strangers c.txn t (Some c) finds d apart)
 
@@ -627,26 +725,33 @@ module _ (n : Node) (s s' : CoreState) (me p : ProcessId) (tree : List TreeEntry
     same_ack k o e = same (MessageInput k (Ack e o)) (λ g. refl) (λ d t. refl)
 
     -- an acknowledgement that is noted
-    ack_noted : (k : ℕ) (o : Outcome) (t : Ticket) (c : Case) → Finds old (Some (c.txn, t)) (Some c) → (st : Standing) → (view c).standing ≡ st
+    ack_noted : (k : ℕ) (o : Outcome) (t : Ticket) (c : Case) → Finds old (Some (c.txn, t)) (Some c) → (st : Standing)
+        → (view c).standing ≡ st
         → (st ≡ standing.Active → ⊥) → (st ≡ standing.Collecting → ⊥)
         → (f : CoordinatorView → Row) → ((v : CoordinatorView) → on_ack (seat c) t o v st ≡ f v)
-        → read (rs ++ entries_written (f (view_by st rs c (memory c))).written) c (acked (memory c) t o) ≡ (f (view_by st rs c (memory c))).view
+        → read (rs ++ entries_written (f (view_by st rs c (memory c))).written) c (acked (memory c) t o)
+        ≡ (f (view_by st rs c (memory c))).view
         → Leads (MessageInput k (Ack (child_case c.txn t) o)) (Takes c (on_ack (seat c) t o (s.view_of c) st))
     ack_noted k o t c finds st is shut silent f so reads =
         let m = memory c in
         takes (MessageInput k (Ack (child_case c.txn t) o)) c _ (on_ack (seat c) t o (view c) st)
-        (on_ack-same (s.view_of c) (view c) (shows c) (seat c) t o st) (on_ack_of (seat c) (view c) t o st) (same_ack k o (child_case c.txn t)) (acked m t o)
-        (ack_own k o t c ∙ noted m t o m.phase (not_open c st is shut m.phase refl) (not_asked c st is silent m.phase refl))
-        (subst (λ (r : Row). read (rs ++ entries_written r.written) c (acked m t o) ≡ r.view) (sym (so (view c))) (own_by c st is f (acked m t o) reads))
+        (on_ack-same (s.view_of c) (view c) (shows c) (seat c) t o st) (on_ack_of (seat c) (view c) t o st)
+        (same_ack k o (child_case c.txn t)) (acked m t o)
+        (ack_own k o t c
+        ∙ noted m t o m.phase (not_open c st is shut m.phase refl) (not_asked c st is silent m.phase refl))
+        (subst (λ (r : Row). read (rs ++ entries_written r.written) c (acked m t o) ≡ r.view) (sym (so (view c)))
+        (own_by c st is f (acked m t o) reads))
         (ack_others k o t c finds)
 
     -- one that comes while children or votes can come
     ack_rests : (k : ℕ) (o : Outcome) (t : Ticket) (c : Case) → Finds old (Some (c.txn, t)) (Some c) → (st : Standing)
-        → takes_ack (memory c) t o (memory c).phase ≡ memory c → (on_ack (seat c) t o (view c) st).written ≡ [] → (on_ack (seat c) t o (view c) st).view ≡ view c
+        → takes_ack (memory c) t o (memory c).phase ≡ memory c → (on_ack (seat c) t o (view c) st).written ≡ []
+        → (on_ack (seat c) t o (view c) st).view ≡ view c
         → Leads (MessageInput k (Ack (child_case c.txn t) o)) (Takes c (on_ack (seat c) t o (s.view_of c) st))
     ack_rests k o t c finds st unheard none shown =
         rests (MessageInput k (Ack (child_case c.txn t) o)) c _ (on_ack (seat c) t o (view c) st)
-        (on_ack-same (s.view_of c) (view c) (shows c) (seat c) t o st) none shown (same_ack k o (child_case c.txn t)) keeps
+        (on_ack-same (s.view_of c) (view c) (shows c) (seat c) t o st) none shown (same_ack k o (child_case c.txn t))
+        keeps
       where
         keeps : (d : Case) → Still (MessageInput k (Ack (child_case c.txn t) o)) d
         keeps d = by_same (same_case c d) refl
@@ -654,28 +759,34 @@ module _ (n : Node) (s s' : CoreState) (me p : ProcessId) (tree : List TreeEntry
             by_same : (b : Bool) → same_case c d ≡ b → Still (MessageInput k (Ack (child_case c.txn t) o)) d
             by_same false other = ack_others k o t c finds d other
             by_same true one =
-                subst (λ e. Still (MessageInput k (Ack (child_case c.txn t) o)) e) (one_case c d one) (ap (read rs c) (ack_own k o t c ∙ unheard))
+                subst (λ e. Still (MessageInput k (Ack (child_case c.txn t) o)) e) (one_case c d one)
+                (ap (read rs c) (ack_own k o t c ∙ unheard))
 
     -- one that comes while its case is Prepared is passed over
-    passed : (k : ℕ) (o : Outcome) (t : Ticket) (c : Case) → Finds old (Some (c.txn, t)) (Some c) → (view c).standing ≡ standing.Prepared
+    passed : (k : ℕ) (o : Outcome) (t : Ticket) (c : Case) → Finds old (Some (c.txn, t)) (Some c)
+        → (view c).standing ≡ standing.Prepared
         → is_passed_over place n (MessageInput k (Ack (child_case c.txn t) o)) ≡ true
     passed k o t c finds is =
         let found : case_of_child place n c.txn t ≡ Some c =
-        found_case place n fits.children c.txn t c (fits.children.listed c (ap is_known is)) (found_belongs place n fits.children old shows c.txn t c finds) in
+        found_case place n fits.children c.txn t c (fits.children.listed c (ap is_known is))
+        (found_belongs place n fits.children old shows c.txn t c finds) in
         rw (found, is, runs) refl
 
-    ack_quiet : (o : Outcome) (t : Ticket) (c : Case) (v : CoordinatorView) → (on_ack (seat c) t o v standing.Active ≡ quiet v) × (on_ack (seat c) t o v standing.Collecting ≡ quiet v)
+    ack_quiet : (o : Outcome) (t : Ticket) (c : Case) (v : CoordinatorView)
+        → (on_ack (seat c) t o v standing.Active ≡ quiet v) × (on_ack (seat c) t o v standing.Collecting ≡ quiet v)
     ack_quiet Committed t c v = (refl, refl)
     ack_quiet Aborted t c v = (refl, refl)
 
     ack_to : (k : ℕ) (o : Outcome) (t : Ticket) (c : Case) → Finds old (Some (c.txn, t)) (Some c)
-        → is_passed_over place n (MessageInput k (Ack (child_case c.txn t) o)) ≡ false → (st : Standing) → (view c).standing ≡ st
+        → is_passed_over place n (MessageInput k (Ack (child_case c.txn t) o)) ≡ false → (st : Standing)
+        → (view c).standing ≡ st
         → Leads (MessageInput k (Ack (child_case c.txn t) o)) (Takes c (on_ack (seat c) t o (s.view_of c) st))
     ack_to k Committed t c finds late standing.Committing is =
         let m = memory c in
         ack_noted k Committed t c finds standing.Committing is (λ e. cc) (λ e. cc) (decided_ack (seat c) t) (λ v. refl)
         (acked_commit me c c.txn.presumption t rs m (in_list (still_owed m.acks Committed (owing_by c rs)) t)
-        (none_of (other_tickets t (still_owed m.acks Committed (owing_by c rs)))) (stands_as c standing.Committing is) refl refl)
+        (none_of (other_tickets t (still_owed m.acks Committed (owing_by c rs)))) (stands_as c standing.Committing is)
+        refl refl)
     ack_to k Aborted t c finds late standing.Committing is =
         ack_noted k Aborted t c finds standing.Committing is (λ e. cc) (λ e. cc) quiet (λ v. refl)
         (refused_commit c c.txn.presumption t rs (memory c) (stands_as c standing.Committing is))
@@ -683,33 +794,42 @@ module _ (n : Node) (s s' : CoreState) (me p : ProcessId) (tree : List TreeEntry
         let m = memory c in
         ack_noted k Aborted t c finds standing.Aborting is (λ e. cc) (λ e. cc) (decided_ack (seat c) t) (λ v. refl)
         (acked_abort me c c.txn.presumption t rs m (in_list (still_owed m.acks Aborted (owing_by c rs)) t)
-        (none_of (other_tickets t (still_owed m.acks Aborted (owing_by c rs)))) (stands_as c standing.Aborting is) refl refl)
+        (none_of (other_tickets t (still_owed m.acks Aborted (owing_by c rs)))) (stands_as c standing.Aborting is) refl
+        refl)
     ack_to k Committed t c finds late standing.Aborting is =
         ack_noted k Committed t c finds standing.Aborting is (λ e. cc) (λ e. cc) quiet (λ v. refl)
         (refused_abort c c.txn.presumption t rs (memory c) (stands_as c standing.Aborting is))
     ack_to k o t c finds late standing.Active is =
         let m = memory c in
-        let opened : m.phase ≡ Open = phase_active c.txn.presumption m.phase (active_facts _ _ _ _ _ _ _ (stands_as c standing.Active is)).heard in
+        let opened : m.phase ≡ Open = phase_active c.txn.presumption m.phase
+        (active_facts _ _ _ _ _ _ _ (stands_as c standing.Active is)).heard in
         let row = (ack_quiet o t c (view c)).0 in
-        ack_rests k o t c finds standing.Active (ap (λ ph. takes_ack m t o ph) opened) (ap (λ (r : Row). r.written) row) (ap (λ (r : Row). r.view) row)
+        ack_rests k o t c finds standing.Active (ap (λ ph. takes_ack m t o ph) opened) (ap (λ (r : Row). r.written) row)
+        (ap (λ (r : Row). r.view) row)
     ack_to k o t c finds late standing.Collecting is =
         let m = memory c in
         let row = (ack_quiet o t c (view c)).1 in
-        ack_rests k o t c finds standing.Collecting (ap (λ ph. takes_ack m t o ph) ((fits.alike c).collecting_is_asked is))
+        ack_rests k o t c finds standing.Collecting
+        (ap (λ ph. takes_ack m t o ph) ((fits.alike c).collecting_is_asked is))
         (ap (λ (r : Row). r.written) row) (ap (λ (r : Row). r.view) row)
-    ack_to k o t c finds late standing.Prepared is = let over = passed k o t c finds is in absurd (let clash : true ≡ false = sym over ∙ late in cc)
+    ack_to k o t c finds late standing.Prepared is =
+        let over = passed k o t c finds is in absurd (let clash : true ≡ false = sym over ∙ late in cc)
     ack_to k o t c finds late standing.Unknown is =
         let known = (found_known place n fits.children old shows c.txn t c finds).1 in
         absurd (let clash : false ≡ true = ap is_known (sym is) ∙ known in cc)
     ack_to k o t c finds late standing.Heuristic is =
-        absurd (never_heuristic _ _ _ _ _ _ _ (phase_standing_known c.txn.presumption (memory c).phase) (stands_as c standing.Heuristic is))
+        absurd (never_heuristic _ _ _ _ _ _ _ (phase_standing_known c.txn.presumption (memory c).phase)
+        (stands_as c standing.Heuristic is))
 
     ack_at : (k : ℕ) (o : Outcome) (x : Txn) (t : Ticket) (found : Option Case) → Finds old (Some (x, t)) found
-        → is_passed_over place n (MessageInput k (Ack (child_case x t) o)) ≡ false → Leads (MessageInput k (Ack (child_case x t) o)) (ack_turn old o t found)
+        → is_passed_over place n (MessageInput k (Ack (child_case x t) o)) ≡ false
+        → Leads (MessageInput k (Ack (child_case x t) o)) (ack_turn old o t found)
     ack_at k o x t None finds late =
-        says (MessageInput k (Ack (child_case x t) o)) [] (λ g. refl) (λ d u. refl) (λ d. ack_still k o x t d (strangers x t None finds d tt))
+        says (MessageInput k (Ack (child_case x t) o)) [] (λ g. refl) (λ d u. refl)
+        (λ d. ack_still k o x t d (strangers x t None finds d tt))
     ack_at k o x t (Some c) finds late =
-        subst (λ y. Finds old (Some (y, t)) (Some c) → is_passed_over place n (MessageInput k (Ack (child_case y t) o)) ≡ false
+        subst (λ y. Finds old (Some (y, t)) (Some c)
+        → is_passed_over place n (MessageInput k (Ack (child_case y t) o)) ≡ false
         → Leads (MessageInput k (Ack (child_case y t) o)) (ack_turn old o t (Some c)))
         (found_known place n fits.children old shows x t c finds).0
         (λ f l. ack_to k o t c f l (s.view_of c).standing (sym (shows c).standing)) finds late
@@ -726,13 +846,16 @@ module _ (n : Node) (s s' : CoreState) (me p : ProcessId) (tree : List TreeEntry
     inquiry_row c t v standing.Aborting = (refl, refl)
     inquiry_row c t v standing.Heuristic = (refl, refl)
 
-    inquiry_at : (k : ℕ) (x : Txn) (t : Ticket) (found : Option Case) → Leads (MessageInput k (Inquire (child_case x t))) (inquiry_turn old x t found)
-    inquiry_at k x t None = let i = MessageInput k (Inquire (child_case x t)) in says i _ (λ g. refl) (λ d t. refl) (λ d. refl)
+    inquiry_at : (k : ℕ) (x : Txn) (t : Ticket) (found : Option Case)
+        → Leads (MessageInput k (Inquire (child_case x t))) (inquiry_turn old x t found)
+    inquiry_at k x t None =
+        let i = MessageInput k (Inquire (child_case x t)) in says i _ (λ g. refl) (λ d t. refl) (λ d. refl)
     inquiry_at k x t (Some c) =
         let i = MessageInput k (Inquire (child_case x t)) in
         let row = inquiry_row c t (view c) (view c).standing in
         rests i c _ (on_inquiry (seat c) t (view c) (view c).standing)
-        (at_standing (s.view_of c) (view c) (on_inquiry (seat c) t (s.view_of c)) (on_inquiry (seat c) t (view c)) (shows c)
+        (at_standing (s.view_of c) (view c) (on_inquiry (seat c) t (s.view_of c)) (on_inquiry (seat c) t (view c))
+        (shows c)
         (on_inquiry-same (s.view_of c) (view c) (shows c) (seat c) t))
         row.0 row.1 (same i (λ g. refl) (λ d t. refl)) (λ d. refl)
 
@@ -746,19 +869,25 @@ module _ (n : Node) (s s' : CoreState) (me p : ProcessId) (tree : List TreeEntry
     vote_nameless k VoteNo x d = nameless (same_txn x d.txn) d
     vote_nameless k VoteRead x d = nameless (same_txn x d.txn) d
 
-    vote_by : (k : ℕ) (found : Option Case) (w : Vote) (x : Txn) (o : Option Ticket) → let d : Case = record { txn = x; ticket = o } in
-        Finds old (asked_of d) found → Leads (MessageInput k (vote_message w d)) (child_turn d (λ t. vote_turn old w t found))
+    vote_by : (k : ℕ) (found : Option Case) (w : Vote) (x : Txn) (o : Option Ticket) → let d : Case =
+        record { txn = x; ticket = o } in
+        Finds old (asked_of d) found
+        → Leads (MessageInput k (vote_message w d)) (child_turn d (λ t. vote_turn old w t found))
     vote_by k found w x (Some t) finds = vote_at k w x t found finds
     vote_by k found w x None finds =
-        says (MessageInput k (vote_message w (root_case x))) [] (ungiven k w (root_case x)) (unretired k w (root_case x)) (vote_nameless k w x)
+        says (MessageInput k (vote_message w (root_case x))) [] (ungiven k w (root_case x))
+        (unretired k w (root_case x)) (vote_nameless k w x)
 
-    ack_by : (k : ℕ) (found : Option Case) (o : Outcome) (x : Txn) (t : Option Ticket) → let d : Case = record { txn = x; ticket = t } in
+    ack_by : (k : ℕ) (found : Option Case) (o : Outcome) (x : Txn) (t : Option Ticket) → let d : Case =
+        record { txn = x; ticket = t } in
         Finds old (asked_of d) found → is_passed_over place n (MessageInput k (Ack d o)) ≡ false
         → Leads (MessageInput k (Ack d o)) (child_turn d (λ t. ack_turn old o t found))
     ack_by k found o x (Some t) finds late = ack_at k o x t found finds late
-    ack_by k found o x None finds late = says (MessageInput k (Ack (root_case x) o)) [] (λ g. refl) (λ d t. refl) (λ d. nameless (same_txn x d.txn) d)
+    ack_by k found o x None finds late =
+        says (MessageInput k (Ack (root_case x) o)) [] (λ g. refl) (λ d t. refl) (λ d. nameless (same_txn x d.txn) d)
 
-    inquiry_by : (k : ℕ) (found : Option Case) (x : Txn) (t : Option Ticket) → let d : Case = record { txn = x; ticket = t } in
+    inquiry_by : (k : ℕ) (found : Option Case) (x : Txn) (t : Option Ticket) → let d : Case =
+        record { txn = x; ticket = t } in
         Leads (MessageInput k (Inquire d)) (child_turn d (λ t. inquiry_turn old x t found))
     inquiry_by k found x (Some t) = inquiry_at k x t found
     inquiry_by k found x None = says (MessageInput k (Inquire (root_case x))) [] (λ g. refl) (λ d t. refl) (λ d. refl)
@@ -775,11 +904,13 @@ module _ (n : Node) (s s' : CoreState) (me p : ProcessId) (tree : List TreeEntry
     one_next : (c d : Case) → next_ticket me boot (memory c) ≡ next_ticket me boot (memory d)
     one_next c d = ap (λ (g : Self). record { child = me; boot = boot; number = g.given + 1 }) (self_same place n c d)
 
-    again_self : (d : Case) (t : Ticket) → active_ticket (memory d).active d ≡ Some t → (c : Case) → issuer_self me boot true (self_of (memory c)) (join 0 d) ≡ self_of (memory c)
+    again_self : (d : Case) (t : Ticket) → active_ticket (memory d).active d ≡ Some t → (c : Case)
+        → issuer_self me boot true (self_of (memory c)) (join 0 d) ≡ self_of (memory c)
     again_self d t has c =
         ap (λ o. joins_self me boot (self_of (memory c)) d o) (ap (λ as'. active_ticket as' d) (one_active c d) ∙ has)
 
-    again : (k : ℕ) (d : Case) (t : Ticket) → active_ticket (memory d).active d ≡ Some t → Leads (join k d) (Says (post me p (Joined d t) ∷ []))
+    again : (k : ℕ) (d : Case) (t : Ticket) → active_ticket (memory d).active d ≡ Some t
+        → Leads (join k d) (Says (post me p (Joined d t) ∷ []))
     again k d t has =
         said n s s' place a (λ m c. refl) (λ m c. refl) runs stands (join k d) (post me p (Joined d t) ∷ []) (record {
           begun = λ c. ap (λ (g : Self). g.begun) (again_self d t has c);
@@ -787,7 +918,8 @@ module _ (n : Node) (s s' : CoreState) (me p : ProcessId) (tree : List TreeEntry
           tickets = λ c. ap (λ (g : Self). active_ticket g.active c) (again_self d t has c)
               ∙ sym (kept_tickets (join k d) (λ e u. refl) c (active_ticket (memory c).active c));
         }) (λ c. kept_tickets (join k d) (λ e u. refl) c (active_ticket (memory c).active c))
-        (λ c. ap (λ o. read rs c (joins me boot c d (memory c) o)) (ap (λ as'. active_ticket as' d) (one_active c d) ∙ has))
+        (λ c. ap (λ o. read rs c (joins me boot c d (memory c) o))
+        (ap (λ as'. active_ticket as' d) (one_active c d) ∙ has))
 
     -- the ticket that is given next
     abbrev next : Case → Ticket
@@ -799,7 +931,8 @@ module _ (n : Node) (s s' : CoreState) (me p : ProcessId) (tree : List TreeEntry
     none_there : (c d : Case) → active_ticket (memory d).active d ≡ None → active_ticket (memory c).active d ≡ None
     none_there c d none = ap (λ as'. active_ticket as' d) (one_active c d) ∙ none
 
-    given_self : (k : ℕ) (d : Case) → active_ticket (memory d).active d ≡ None → (c : Case) → issuer_self me boot true (self_of (memory c)) (join k d)
+    given_self : (k : ℕ) (d : Case) → active_ticket (memory d).active d ≡ None → (c : Case)
+        → issuer_self me boot true (self_of (memory c)) (join k d)
         ≡ record (self_of (memory c)) {
           given = (memory c).given + 1;
           issued = (memory c).issued ++ child_case d.txn (next c) ∷ [];
@@ -808,74 +941,93 @@ module _ (n : Node) (s s' : CoreState) (me p : ProcessId) (tree : List TreeEntry
     given_self k d none c = ap (λ o. joins_self me boot (self_of (memory c)) d o) (none_there c d none)
 
     -- what is remembered of a case behind the fresh ticket
-    fresh_then : (k : ℕ) (d : Case) → active_ticket (memory d).active d ≡ None → (c : Case) → remembers me (Below p) boot c (memory c) (heard (join k d))
-        ≡ (if same_case c (child_case d.txn (next c)) then opens_case (gives (memory c) d (next c)) else gives (memory c) d (next c))
+    fresh_then : (k : ℕ) (d : Case) → active_ticket (memory d).active d ≡ None → (c : Case)
+        → remembers me (Below p) boot c (memory c) (heard (join k d))
+        ≡ (if same_case c (child_case d.txn (next c)) then opens_case (gives (memory c) d (next c)) else gives
+        (memory c) d (next c))
     fresh_then k d none c = ap (λ o. joins me boot c d (memory c) o) (none_there c d none)
 
     flipped : (c e : Case) → same_case c e ≡ false → same_case e c ≡ false
     flipped c e z = grind (arith, same_case_tells)
 
-    fresh_keeps : (k : ℕ) (d : Case) → active_ticket (memory d).active d ≡ None → (c : Case) → same_case (child_case d.txn (next d)) c ≡ false → Still (join k d) c
+    fresh_keeps : (k : ℕ) (d : Case) → active_ticket (memory d).active d ≡ None → (c : Case)
+        → same_case (child_case d.txn (next d)) c ≡ false → Still (join k d) c
     fresh_keeps k d none c apart =
         ap (read rs c) (fresh_then k d none c
         ∙ ap (λ b. if b then opens_case (gives (memory c) d (next c)) else gives (memory c) d (next c))
         (ap (λ t. same_case c (child_case d.txn t)) (one_next c d) ∙ flipped (child_case d.txn (next d)) c apart))
 
-    fresh_opens : (k : ℕ) (d : Case) → active_ticket (memory d).active d ≡ None → let c = child_case d.txn (next d) in let f = sends_only (post me p (Joined d (next d)) ∷ []) in
+    fresh_opens : (k : ℕ) (d : Case) → active_ticket (memory d).active d ≡ None → let c =
+        child_case d.txn (next d) in let f = sends_only (post me p (Joined d (next d)) ∷ []) in
         coordinator_view place (after n (heard (join k d)) f) c ≡ open_view
     unfolding coordinator_view
     fresh_opens k d none =
         let c = child_case d.txn (next d) in
         let f = sends_only (post me p (Joined d (next d)) ∷ []) in
-        let here_is : same_case c (child_case d.txn (next c)) ≡ true = ap (λ t. same_case c (child_case d.txn t)) (one_next c d) ∙ same_case-refl c in
+        let here_is : same_case c (child_case d.txn (next c)) ≡ true =
+        ap (λ t. same_case c (child_case d.txn t)) (one_next c d) ∙ same_case-refl c in
         view-after place n (heard (join k d)) f c (λ b. refl)
         ∙ ap (read (rs ++ []) c) (fresh_then k d none c
         ∙ ap (λ b. if b then opens_case (gives (memory c) d (next c)) else gives (memory c) d (next c)) here_is)
         ∙ begun_pure rs c (gives (memory c) d (next c)) (fits.fresh d)
 
-    fresh : (k : ℕ) (d : Case) → active_ticket (memory d).active d ≡ None → Leads (join k d) (Issues d (next d) (post me p (Joined d (next d))))
+    fresh : (k : ℕ) (d : Case) → active_ticket (memory d).active d ≡ None
+        → Leads (join k d) (Issues d (next d) (post me p (Joined d (next d))))
     fresh k d none e is made =
         let i = join k d in
         let f = sends_only (post me p (Joined d (next d)) ∷ []) in
         let held : Holds (Some p) (after n (heard i) f) (wrote s.log [] []) =
-        held_after (Some p) n (heard i) f s.log (record { forced = stands.forced; unforced = stands.unforced; failed = stands.failed }) in
+        held_after (Some p) n (heard i) f s.log
+        (record { forced = stands.forced; unforced = stands.unforced; failed = stands.failed }) in
         let quiet : NoBoot [] = λ b. refl in
-        let count : (c : Case) → self_of (memory_of place (after n (heard i) f) c) ≡ issuer_self me boot true (self_of (memory c)) i =
+        let count : (c : Case)
+        → self_of (memory_of place (after n (heard i) f) c) ≡ issuer_self me boot true (self_of (memory c)) i =
         counted n s s' place a (λ m c. refl) (λ m c. refl) i f quiet in
         subst (λ g. Stands (after n (heard i) g) new) (done_is f e is)
         (stand n s s' place a (λ m c. refl) (λ m c. refl) runs stands i f (record {
           forced = ap (λ (l : LogSight). l.kept.forced) made.log ∙ held.forced;
-          unforced = ap (λ (l : LogSight). l.kept.unforced) made.log ∙ sym (append-nil s.log.kept.unforced) ∙ held.unforced;
+          unforced =
+              ap (λ (l : LogSight). l.kept.unforced) made.log ∙ sym (append-nil s.log.kept.unforced) ∙ held.unforced;
           failed = ap (λ (l : LogSight). l.failed) made.log ∙ held.failed;
           boots = made.boot ∙ is_up.boot ∙ sym (boot-after n (heard i) f quiet);
           begins = λ c. made.begun ∙ is_up.begun c ∙ sym (ap (λ (g : Self). g.begun) (count c ∙ given_self k d none c));
-          gives = λ c. made.given ∙ ap (λ g. g + 1) (is_up.given c) ∙ sym (ap (λ (g : Self). g.given) (count c ∙ given_self k d none c));
-          tickets = λ c. ticket_of c (same_case d c) refl ∙ sym (ap (λ (g : Self). active_ticket g.active c) (count c ∙ given_self k d none c));
+          gives = λ c. made.given ∙ ap (λ g. g + 1) (is_up.given c)
+              ∙ sym (ap (λ (g : Self). g.given) (count c ∙ given_self k d none c));
+          tickets = λ c. ticket_of c (same_case d c) refl
+              ∙ sym (ap (λ (g : Self). active_ticket g.active c) (count c ∙ given_self k d none c));
           branches = made.cases.2;
         }) (λ c. elim (same_case_tells (child_case d.txn (next d)) c) [
           | inl one ↦ subst (λ q. SameView (s'.view_of q) (coordinator_view place (after n (heard i) f) q)) one.1
-              (subst (λ v. SameView (s'.view_of (child_case d.txn (next d))) v) (sym (fresh_opens k d none)) made.cases.0)
+              (subst (λ v. SameView (s'.view_of (child_case d.txn (next d))) v) (sym (fresh_opens k d none))
+              made.cases.0)
           | inr apart ↦ subst (λ v. SameView (s'.view_of c) v)
-              (sym (nothing_written n s s' place a (λ m c. refl) (λ m c. refl) i f refl c (fresh_keeps k d none c apart.0)))
+              (sym (nothing_written n s s' place a (λ m c. refl) (λ m c. refl) i f refl c
+              (fresh_keeps k d none c apart.0)))
               (same_view-trans (s'.view_of c) (s.view_of c) (view c) (made.cases.1 c apart.0) (shows c))
         ]))
       where
-        ticket_of : (c : Case) (b : Bool) → same_case d c ≡ b → s'.ticket_for c ≡ active_ticket ((memory c).active ++ (d, next c) ∷ []) c
+        ticket_of : (c : Case) (b : Bool) → same_case d c ≡ b
+            → s'.ticket_for c ≡ active_ticket ((memory c).active ++ (d, next c) ∷ []) c
         ticket_of c true one =
             subst (λ q. s'.ticket_for q ≡ active_ticket ((memory q).active ++ (d, next q) ∷ []) q) (one_case d c one)
             (made.ticket ∙ sym (found_fresh d (next d) (memory d).active none))
-        ticket_of c false apart = made.tickets c apart ∙ is_up.tickets c ∙ sym (found_more d c (next c) (memory c).active (none_there c d none) apart)
+        ticket_of c false apart = made.tickets c apart ∙ is_up.tickets c
+            ∙ sym (found_more d c (next c) (memory c).active (none_there c d none) apart)
 
-    join_at : (k : ℕ) (d : Case) (o : Option Ticket) → active_ticket (memory d).active d ≡ o → Leads (join k d) (joined_turn old p d o)
+    join_at : (k : ℕ) (d : Case) (o : Option Ticket) → active_ticket (memory d).active d ≡ o
+        → Leads (join k d) (joined_turn old p d o)
     join_at k d (Some t) has = again k d t has
-    join_at k d None none = subst (λ t. Leads (join k d) (Issues d t (post me p (Joined d t)))) (sym (next_is d)) (fresh k d none)
+    join_at k d None none =
+        subst (λ t. Leads (join k d) (Issues d t (post me p (Joined d t)))) (sym (next_is d)) (fresh k d none)
 
     -- Any message.
 
-    pub heard_so : (k : ℕ) (found : Option Case) (m : Message) → Finds old (asked_in m) found → is_passed_over place n (MessageInput k m) ≡ false
+    pub heard_so : (k : ℕ) (found : Option Case) (m : Message) → Finds old (asked_in m) found
+        → is_passed_over place n (MessageInput k m) ≡ false
         → Leads (MessageInput k m) (cascaded_turn old p found m)
     heard_so k found (Join d) finds late =
-        subst (λ o. Leads (join k d) (joined_turn old p d o)) (sym (is_up.tickets d)) (join_at k d (active_ticket (memory d).active d) refl)
+        subst (λ o. Leads (join k d) (joined_turn old p d o)) (sym (is_up.tickets d))
+        (join_at k d (active_ticket (memory d).active d) refl)
     heard_so k found (Prepare d j) finds late = prepare_at k j d (s.view_of d).standing (sym (shows d).standing)
     heard_so k found (Commit d) finds late = commit_at k d (s.view_of d).standing (sym (shows d).standing)
     heard_so k found (Abort d) finds late = abort_to k d (s.view_of d).standing (sym (shows d).standing)
@@ -885,4 +1037,5 @@ module _ (n : Node) (s s' : CoreState) (me p : ProcessId) (tree : List TreeEntry
     heard_so k found (Read d) finds late = vote_by k found VoteRead d.txn d.ticket finds
     heard_so k found (Ack d o) finds late = ack_by k found o d.txn d.ticket finds late
     heard_so k found (Inquire d) finds late = inquiry_by k found d.txn d.ticket
-    heard_so k found (Work d j op) finds late = says (MessageInput k (Work d j op)) [] (λ g. refl) (λ d t. refl) (λ d. refl)
+    heard_so k found (Work d j op) finds late =
+        says (MessageInput k (Work d j op)) [] (λ g. refl) (λ d t. refl) (λ d. refl)

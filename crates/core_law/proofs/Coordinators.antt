@@ -36,7 +36,8 @@ abbrev pub read : List Record → Case → Memory → CoordinatorView
 read rs c m = view_by (coordinator_standing rs c m) rs c m
 
 -- two views that say the same give rows that do
-pub at_standing : (v w : CoordinatorView) (f g : Standing → Row) → SameView v w → ((st : Standing) → SameRow (f st) (g st))
+pub at_standing : (v w : CoordinatorView) (f g : Standing → Row) → SameView v w
+    → ((st : Standing) → SameRow (f st) (g st))
     → SameRow (f v.standing) (g w.standing)
 at_standing v w f g same rows = subst (λ st. SameRow (f st) (g w.standing)) (sym same.standing) (rows w.standing)
 
@@ -77,7 +78,8 @@ module _ (n : Node) (s s' : CoreState) (place : Place) (a : DataAnswer)
   pub record Remains (i : Input) : Type 0 where
     pub begun : (c : Case) → (self_next i c).begun ≡ (memory c).begun
     pub given : (c : Case) → (self_next i c).given ≡ (memory c).given
-    pub tickets : (d : Case) → active_ticket (self_next i d).active d ≡ retired_by i d (active_ticket (memory d).active d)
+    pub tickets : (d : Case)
+        → active_ticket (self_next i d).active d ≡ retired_by i d (active_ticket (memory d).active d)
 
   pub counted : (i : Input) (e : Effect) → NoBoot (entries_written e.written) → (c : Case)
       → self_of (memory_of place (after n (heard i) e) c) ≡ self_next i c
@@ -93,13 +95,16 @@ module _ (n : Node) (s s' : CoreState) (place : Place) (a : DataAnswer)
       view-after place n (heard i) (row_effect c row) d own.boot ∙ own.others d (kept n) (next i d) apart ∙ keeps
 
   -- any view behind what writes nothing
-  pub nothing_written : (i : Input) (e : Effect) → e.written ≡ [] → (d : Case) → Keeps i d → coordinator_view place (after n (heard i) e) d ≡ view d
+  pub nothing_written : (i : Input) (e : Effect) → e.written ≡ [] → (d : Case) → Keeps i d
+      → coordinator_view place (after n (heard i) e) d ≡ view d
   unfolding coordinator_view
   nothing_written i e none d keeps =
-      view-after place n (heard i) e d (λ b. rw none refl) ∙ rw none (ap (λ rs. read rs d (next i d)) (append-nil (kept n)) ∙ keeps)
+      view-after place n (heard i) e d (λ b. rw none refl)
+      ∙ rw none (ap (λ rs. read rs d (next i d)) (append-nil (kept n)) ∙ keeps)
 
   -- the case's own view behind a row, by how the extended lists read
-  pub own_moved : (i : Input) (c : Case) (row : Row) → IsOf c row → read (kept n ++ entries_written row.written) c (next i c) ≡ row.view
+  pub own_moved : (i : Input) (c : Case) (row : Row) → IsOf c row
+      → read (kept n ++ entries_written row.written) c (next i c) ≡ row.view
       → coordinator_view place (after n (heard i) (row_effect c row)) c ≡ row.view
   unfolding coordinator_view
   own_moved i c row own reads = view-after place n (heard i) (row_effect c row) c own.boot ∙ reads
@@ -126,7 +131,8 @@ module _ (n : Node) (s s' : CoreState) (place : Place) (a : DataAnswer)
       pub branches : (c : Case) → s'.branch_of c ≡ s.branch_of c
 
     pub stand : (i : Input) (e : Effect) → Behind i e
-        → ((c : Case) → SameView (s'.view_of c) (coordinator_view place (after n (heard i) e) c)) → Stands (after n (heard i) e) new
+        → ((c : Case) → SameView (s'.view_of c) (coordinator_view place (after n (heard i) e) c))
+        → Stands (after n (heard i) e) new
     stand i e behind views =
         record {
           forced = behind.forced;
@@ -144,29 +150,35 @@ module _ (n : Node) (s s' : CoreState) (place : Place) (a : DataAnswer)
 
     -- A row is taken.
 
-    row_behind : (i : Input) (c : Case) (row : Row) → NoBoot (entries_written row.written) → Remains i → TakesRow old new i c row
+    row_behind : (i : Input) (c : Case) (row : Row) → NoBoot (entries_written row.written) → Remains i
+        → TakesRow old new i c row
         → Behind i (row_effect c row)
     row_behind i c row quiet remains made =
         let e = row_effect c row in
         let q = parent_of place.role in
-        let held : Holds q (after n (heard i) e) (wrote s.log row.written (map (in_log q) (entries_written row.written))) =
+        let held : Holds q (after n (heard i) e)
+        (wrote s.log row.written (map (in_log q) (entries_written row.written))) =
         held_after q n (heard i) e s.log holds in
         record {
           forced = ap (λ (l : LogSight). l.kept.forced) made.log ∙ held.forced;
           unforced = ap (λ (l : LogSight). l.kept.unforced) made.log ∙ held.unforced;
           failed = ap (λ (l : LogSight). l.failed) made.log ∙ held.failed;
           boots = made.stays.boot ∙ up.boot ∙ sym (boot-after n (heard i) e quiet);
-          begins = λ d. made.begun ∙ up.begun d ∙ sym (remains.begun d) ∙ sym (ap (λ (g : Self). g.begun) (counted i e quiet d));
-          gives = λ d. made.given ∙ up.given d ∙ sym (remains.given d) ∙ sym (ap (λ (g : Self). g.given) (counted i e quiet d));
+          begins = λ d. made.begun ∙ up.begun d ∙ sym (remains.begun d)
+              ∙ sym (ap (λ (g : Self). g.begun) (counted i e quiet d));
+          gives = λ d. made.given ∙ up.given d ∙ sym (remains.given d)
+              ∙ sym (ap (λ (g : Self). g.given) (counted i e quiet d));
           tickets = λ d. made.stays.tickets d ∙ ap (retired_by i d) (up.tickets d) ∙ sym (remains.tickets d)
               ∙ sym (ap (λ (g : Self). active_ticket g.active d) (counted i e quiet d));
           branches = made.branches;
         }
 
-    same_taken : (i : Input) (c : Case) (row row' : Row) → SameRow row row' → TakesRow old new i c row → TakesRow old new i c row'
+    same_taken : (i : Input) (c : Case) (row row' : Row) → SameRow row row' → TakesRow old new i c row
+        → TakesRow old new i c row'
     same_taken i c row row' same made =
         record {
-          log = made.log ∙ ap (λ ws. wrote s.log ws (map (in_log (parent_of place.role)) (entries_written ws))) same.written;
+          log = made.log
+              ∙ ap (λ ws. wrote s.log ws (map (in_log (parent_of place.role)) (entries_written ws))) same.written;
           own = same_view-trans (s'.view_of c) row.view row'.view made.own same.view;
           others = made.others;
           branches = made.branches;
@@ -181,16 +193,21 @@ module _ (n : Node) (s s' : CoreState) (place : Place) (a : DataAnswer)
         → ((d : Case) → same_case c d ≡ false → Keeps i d) → Follows n (heard i) old new i (Takes c row)
     taken i c row row' same own remains moved keeps e is made =
         let m = same_taken i c row row' same made in
-        subst (λ f. Stands (after n (heard i) f) new) (sym (row_effect-same c row row' same) ∙ done_is (row_effect c row) e is)
+        subst (λ f. Stands (after n (heard i) f) new)
+        (sym (row_effect-same c row row' same) ∙ done_is (row_effect c row) e is)
         (stand i (row_effect c row') (row_behind i c row' own.boot remains m) (λ d. elim (same_case_tells c d) [
-          | inl one ↦ subst (λ q. SameView (s'.view_of q) (coordinator_view place (after n (heard i) (row_effect c row')) q)) one.1
+          | inl one ↦
+              subst (λ q. SameView (s'.view_of q) (coordinator_view place (after n (heard i) (row_effect c row')) q))
+              one.1
               (subst (λ v. SameView (s'.view_of c) v) (sym moved) m.own)
-          | inr apart ↦ subst (λ v. SameView (s'.view_of d) v) (sym (row_others i c d row' own apart.0 (keeps d apart.0)))
+          | inr apart ↦
+              subst (λ v. SameView (s'.view_of d) v) (sym (row_others i c d row' own apart.0 (keeps d apart.0)))
               (same_view-trans (s'.view_of d) (s.view_of d) (view d) (m.others d apart.0) (sees d))
         ]))
 
     -- a row that writes nothing and leaves the view as it is
-    pub rested : (i : Input) (c : Case) (row row' : Row) → SameRow row row' → row'.written ≡ [] → row'.view ≡ view c → Remains i
+    pub rested : (i : Input) (c : Case) (row row' : Row) → SameRow row row' → row'.written ≡ [] → row'.view ≡ view c
+        → Remains i
         → ((d : Case) → Keeps i d) → Follows n (heard i) old new i (Takes c row)
     rested i c row row' same none shown remains keeps =
         taken i c row row' same (quiet_of c row' none) remains
@@ -209,11 +226,14 @@ module _ (n : Node) (s s' : CoreState) (place : Place) (a : DataAnswer)
         subst (λ g. Stands (after n (heard i) g) new) (done_is f e is)
         (stand i f (record {
           forced = ap (λ (l : LogSight). l.kept.forced) made.log ∙ held.forced;
-          unforced = ap (λ (l : LogSight). l.kept.unforced) made.log ∙ sym (append-nil s.log.kept.unforced) ∙ held.unforced;
+          unforced =
+              ap (λ (l : LogSight). l.kept.unforced) made.log ∙ sym (append-nil s.log.kept.unforced) ∙ held.unforced;
           failed = ap (λ (l : LogSight). l.failed) made.log ∙ held.failed;
           boots = made.rest.boot ∙ up.boot ∙ sym (boot-after n (heard i) f quiet);
-          begins = λ d. made.rest.begun ∙ up.begun d ∙ sym (remains.begun d) ∙ sym (ap (λ (g : Self). g.begun) (counted i f quiet d));
-          gives = λ d. made.rest.given ∙ up.given d ∙ sym (remains.given d) ∙ sym (ap (λ (g : Self). g.given) (counted i f quiet d));
+          begins = λ d. made.rest.begun ∙ up.begun d ∙ sym (remains.begun d)
+              ∙ sym (ap (λ (g : Self). g.begun) (counted i f quiet d));
+          gives = λ d. made.rest.given ∙ up.given d ∙ sym (remains.given d)
+              ∙ sym (ap (λ (g : Self). g.given) (counted i f quiet d));
           tickets = λ d. made.rest.tickets d ∙ up.tickets d ∙ sym (untouched d) ∙ sym (remains.tickets d)
               ∙ sym (ap (λ (g : Self). active_ticket g.active d) (counted i f quiet d));
           branches = made.rest.branches;
@@ -223,6 +243,7 @@ module _ (n : Node) (s s' : CoreState) (place : Place) (a : DataAnswer)
     pub refused : (i : Input) (x : StepError) → Follows n (heard i) old new i (Refuses x)
     refused i x e is made = absurd made
 
-    pub kept_by : (i : Input) → ((d : Case) (t : Ticket) → retires_ticket i d t ≡ false) → (d : Case) (o : Option Ticket) → retired_by i d o ≡ o
+    pub kept_by : (i : Input) → ((d : Case) (t : Ticket) → retires_ticket i d t ≡ false)
+        → (d : Case) (o : Option Ticket) → retired_by i d o ≡ o
     kept_by i none d None = refl
     kept_by i none d (Some t) = ap (λ b. if b then None else Some t) (none d t)

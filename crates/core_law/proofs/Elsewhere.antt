@@ -35,13 +35,15 @@ abbrev pub IsOther : Option Case → Case → Type 0
 IsOther None d = ⊤
 IsOther (Some c) d = same_case c d ≡ false
 
-module _ (place : Place) (n : Node) (fit : ChildrenFit place n) (s : CoreState) (sees : (c : Case) → SameView (s.view_of c) (coordinator_view place n c)) where
+module _ (place : Place) (n : Node) (fit : ChildrenFit place n) (s : CoreState)
+    (sees : (c : Case) → SameView (s.view_of c) (coordinator_view place n c)) where
   abbrev view : Case → CoordinatorView
   view c = coordinator_view place n c
 
   is_case-at : (x : Txn) (t : Ticket) (c : Case) → is_case_of s x t c
       ≡ (same_txn c.txn x && (is_known (view c).standing && (in_list (view c).accepted t || in_list (view c).named t)))
-  is_case-at x t c = let same = sees c in (λ i. same_txn c.txn x && (is_known (same.standing i) && (in_list (same.accepted i) t || same.named t i)))
+  is_case-at x t c = let same = sees c in
+      (λ i. same_txn c.txn x && (is_known (same.standing i) && (in_list (same.accepted i) t || same.named t i)))
 
   its_parts : (x : Txn) (t : Ticket) (c : Case) → is_case_of s x t c ≡ true
       → (c.txn ≡ x) × (is_known (view c).standing ≡ true) × (belongs (memory_of place n c) (kept n) c t ≡ true)
@@ -54,14 +56,17 @@ module _ (place : Place) (n : Node) (fit : ChildrenFit place n) (s : CoreState) 
   is_its x t c of known its = is_case-at x t c ∙ rw (of, known, lists place n fit c t known, its) refl
 
   -- what was found is live, and of the transaction
-  pub found_known : (x : Txn) (t : Ticket) (c : Case) → Finds s (Some (x, t)) (Some c) → (c.txn ≡ x) × (is_known (view c).standing ≡ true)
+  pub found_known : (x : Txn) (t : Ticket) (c : Case) → Finds s (Some (x, t)) (Some c)
+      → (c.txn ≡ x) × (is_known (view c).standing ≡ true)
   found_known x t c is = let parts = its_parts x t c is in (parts.0, parts.1)
 
-  pub found_belongs : (x : Txn) (t : Ticket) (c : Case) → Finds s (Some (x, t)) (Some c) → belongs (memory_of place n c) (kept n) c t ≡ true
+  pub found_belongs : (x : Txn) (t : Ticket) (c : Case) → Finds s (Some (x, t)) (Some c)
+      → belongs (memory_of place n c) (kept n) c t ≡ true
   found_belongs x t c is = (its_parts x t c is).2
 
   -- the child belongs to no live case but to the one that was found
-  pub belongs_not : (x : Txn) (t : Ticket) (found : Option Case) → Finds s (Some (x, t)) found → (d : Case) → IsOther found d
+  pub belongs_not : (x : Txn) (t : Ticket) (found : Option Case) → Finds s (Some (x, t)) found → (d : Case)
+      → IsOther found d
       → same_txn x d.txn ≡ true → is_known (view d).standing ≡ true → belongs (memory_of place n d) (kept n) d t ≡ false
   belongs_not x t found finds d other of known = by_test (belongs (memory_of place n d) (kept n) d t) refl
     where
@@ -69,10 +74,14 @@ module _ (place : Place) (n : Node) (fit : ChildrenFit place n) (s : CoreState) 
       flipped = let one : x ≡ d.txn = (txn_tells x d.txn).0 of in (txn_tells d.txn x).1 (sym one)
 
       there : has_case (own_cases place.role place n x) d ≡ true
-      there = let one : x ≡ d.txn = (txn_tells x d.txn).0 of in ap (λ y. has_case (own_cases place.role place n y) d) one ∙ fit.listed d known
+      there = let one : x
+          ≡ d.txn =
+          (txn_tells x d.txn).0 of in ap (λ y. has_case (own_cases place.role place n y) d) one ∙ fit.listed d known
 
-      none_other : {A : Type 0} (o : Option Case) → Finds s (Some (x, t)) o → IsOther o d → belongs (memory_of place n d) (kept n) d t ≡ true → A
-      none_other None none other its = let yes : is_case_of s x t d ≡ true = is_its x t d flipped known its in let no : is_case_of s x t d ≡ false = none d in absurd (cc)
+      none_other : {A : Type 0} (o : Option Case) → Finds s (Some (x, t)) o → IsOther o d
+          → belongs (memory_of place n d) (kept n) d t ≡ true → A
+      none_other None none other its = let yes : is_case_of s x t d
+          ≡ true = is_its x t d flipped known its in let no : is_case_of s x t d ≡ false = none d in absurd (cc)
       none_other (Some c) is other its =
           let parts = its_parts x t c is in
           let listed : has_case (own_cases place.role place n x) c ≡ true =
@@ -81,7 +90,8 @@ module _ (place : Place) (n : Node) (fit : ChildrenFit place n) (s : CoreState) 
           let same : same_case c d ≡ true = (case_tells c d).1 one in
           absurd (cc)
 
-      by_test : (b : Bool) → belongs (memory_of place n d) (kept n) d t ≡ b → belongs (memory_of place n d) (kept n) d t ≡ false
+      by_test : (b : Bool) → belongs (memory_of place n d) (kept n) d t ≡ b
+          → belongs (memory_of place n d) (kept n) d t ≡ false
       by_test false is = is
       by_test true is = none_other found finds other is
 
@@ -92,17 +102,20 @@ other_false : (a b : Bool) → (a || b) ≡ false → b ≡ false
 other_false a b h = grind arith
 
 -- who owes is named
-in_append-false : (ts us : List Ticket) (t : Ticket) → in_list (ts ++ us) t ≡ false → (in_list ts t ≡ false) × (in_list us t ≡ false)
+in_append-false : (ts us : List Ticket) (t : Ticket) → in_list (ts ++ us) t ≡ false
+    → (in_list ts t ≡ false) × (in_list us t ≡ false)
 unfolding in_list
 in_append-false [] us t h = (refl, h)
 in_append-false (u ∷ ts) us t h =
     let rest = in_append-false ts us t (other_false (same_ticket u t) _ h) in
     (rw (either_false (same_ticket u t) _ h, rest.0) refl, rest.1)
 
-both_not : (ts us : List Ticket) (t : Ticket) → in_list ts t ≡ false → in_list us t ≡ false → in_list (ts ++ us) t ≡ false
+both_not : (ts us : List Ticket) (t : Ticket) → in_list ts t ≡ false → in_list us t ≡ false
+    → in_list (ts ++ us) t ≡ false
 unfolding in_list
 both_not [] us t h k = k
-both_not (u ∷ ts) us t h k = rw (either_false (same_ticket u t) _ h) (both_not ts us t (other_false (same_ticket u t) _ h) k)
+both_not (u ∷ ts) us t h k =
+    rw (either_false (same_ticket u t) _ h) (both_not ts us t (other_false (same_ticket u t) _ h) k)
 
 none_in : (t : Ticket) → in_list [] t ≡ false
 unfolding in_list
@@ -113,7 +126,8 @@ owing_one c t (CommitRecord d ts) h = h
 owing_one c t (AbortRecord d ts) h = h
 owing_one c t r h = none_in t
 
-pub unnamed_unowing : (c : Case) (t : Ticket) (rs : List Record) → in_list (named_by c rs) t ≡ false → in_list (owing_by c rs) t ≡ false
+pub unnamed_unowing : (c : Case) (t : Ticket) (rs : List Record) → in_list (named_by c rs) t ≡ false
+    → in_list (owing_by c rs) t ≡ false
 unfolding named_by owing_by
 unnamed_unowing c t [] h = none_in t
 unnamed_unowing c t (r ∷ rs) h =
@@ -126,7 +140,8 @@ pub others_owe : (acks : List (Ticket × Outcome)) (t : Ticket) (a o : Outcome) 
 unfolding in_list still_owed
 others_owe acks t a o [] h = refl
 others_owe acks t a o (u ∷ ts) h =
-    by_tests (not (has_acked (acks ++ (t, a) ∷ []) o u)) (not (has_acked acks o u)) (same_not u (either_false (same_ticket u t) _ h))
+    by_tests (not (has_acked (acks ++ (t, a) ∷ []) o u)) (not (has_acked acks o u))
+    (same_not u (either_false (same_ticket u t) _ h))
     (others_owe acks t a o ts (other_false (same_ticket u t) _ h))
   where
     no_more : (x y : Bool) → (x || (y && false)) ≡ x
@@ -135,8 +150,10 @@ others_owe acks t a o (u ∷ ts) h =
     flipped : (u : Ticket) → same_ticket u t ≡ false → same_ticket t u ≡ false
     flipped u e = grind (arith, same_ticket_tells)
 
-    same_not : (u : Ticket) → same_ticket u t ≡ false → not (has_acked (acks ++ (t, a) ∷ []) o u) ≡ not (has_acked acks o u)
-    same_not u e = ap not (has_acked-push acks t u a o ∙ rw (flipped u e) (no_more (has_acked acks o u) (same_outcome a o)))
+    same_not : (u : Ticket) → same_ticket u t ≡ false
+        → not (has_acked (acks ++ (t, a) ∷ []) o u) ≡ not (has_acked acks o u)
+    same_not u e =
+        ap not (has_acked-push acks t u a o ∙ rw (flipped u e) (no_more (has_acked acks o u) (same_outcome a o)))
 
     by_tests : (x y : Bool) → x ≡ y → still_owed (acks ++ (t, a) ∷ []) o ts ≡ still_owed acks o ts
         → (if x then u ∷ still_owed (acks ++ (t, a) ∷ []) o ts else still_owed (acks ++ (t, a) ∷ []) o ts)
@@ -148,12 +165,18 @@ acked_view : (rs : List Record) (d : Case) (m : Memory) (t : Ticket) (o : Outcom
     → (is_known st ≡ true → in_list (owing_by d rs) t ≡ false)
     → view_by st rs d (record m { acks = m.acks ++ (t, o) ∷ [] }) ≡ view_by st rs d m
 acked_view rs d m t o Unknown h = refl
-acked_view rs d m t o Active h = ap (λ ts. record (view_by Active rs d m) { owed = ts }) (others_owe m.acks t o (decided_outcome Active) (owing_by d rs) (h refl))
-acked_view rs d m t o Collecting h = ap (λ ts. record (view_by Collecting rs d m) { owed = ts }) (others_owe m.acks t o (decided_outcome Collecting) (owing_by d rs) (h refl))
-acked_view rs d m t o Prepared h = ap (λ ts. record (view_by Prepared rs d m) { owed = ts }) (others_owe m.acks t o (decided_outcome Prepared) (owing_by d rs) (h refl))
-acked_view rs d m t o Committing h = ap (λ ts. record (view_by Committing rs d m) { owed = ts }) (others_owe m.acks t o (decided_outcome Committing) (owing_by d rs) (h refl))
-acked_view rs d m t o Aborting h = ap (λ ts. record (view_by Aborting rs d m) { owed = ts }) (others_owe m.acks t o (decided_outcome Aborting) (owing_by d rs) (h refl))
-acked_view rs d m t o Heuristic h = ap (λ ts. record (view_by Heuristic rs d m) { owed = ts }) (others_owe m.acks t o (decided_outcome Heuristic) (owing_by d rs) (h refl))
+acked_view rs d m t o Active h = ap (λ ts. record (view_by Active rs d m) { owed = ts })
+    (others_owe m.acks t o (decided_outcome Active) (owing_by d rs) (h refl))
+acked_view rs d m t o Collecting h = ap (λ ts. record (view_by Collecting rs d m) { owed = ts })
+    (others_owe m.acks t o (decided_outcome Collecting) (owing_by d rs) (h refl))
+acked_view rs d m t o Prepared h = ap (λ ts. record (view_by Prepared rs d m) { owed = ts })
+    (others_owe m.acks t o (decided_outcome Prepared) (owing_by d rs) (h refl))
+acked_view rs d m t o Committing h = ap (λ ts. record (view_by Committing rs d m) { owed = ts })
+    (others_owe m.acks t o (decided_outcome Committing) (owing_by d rs) (h refl))
+acked_view rs d m t o Aborting h = ap (λ ts. record (view_by Aborting rs d m) { owed = ts })
+    (others_owe m.acks t o (decided_outcome Aborting) (owing_by d rs) (h refl))
+acked_view rs d m t o Heuristic h = ap (λ ts. record (view_by Heuristic rs d m) { owed = ts })
+    (others_owe m.acks t o (decided_outcome Heuristic) (owing_by d rs) (h refl))
 
 module _ (place : Place) (n : Node) (d : Case) (alike : IsOpenAlike place n d) where
   abbrev m : Memory
@@ -168,36 +191,45 @@ module _ (place : Place) (n : Node) (d : Case) (alike : IsOpenAlike place n d) w
 
   -- the ticket belongs to a case of the transaction only where that is not live
   abbrev pub IsStranger : Txn → Ticket → Type 0
-  IsStranger x t = same_txn x d.txn ≡ true → is_known (coordinator_view place n d).standing ≡ true → belongs m rs d t ≡ false
+  IsStranger x t =
+      same_txn x d.txn ≡ true → is_known (coordinator_view place n d).standing ≡ true → belongs m rs d t ≡ false
 
   pub vote_hears : (x : Txn) (t : Ticket) (w : Vote)
-      → hears_child d m (vote_message w (child_case x t)) ≡ of_child d (child_case x t) m (λ u. takes_vote m u w m.phase)
+      → hears_child d m (vote_message w (child_case x t))
+      ≡ of_child d (child_case x t) m (λ u. takes_vote m u w m.phase)
   vote_hears x t Yes = refl
   vote_hears x t No = refl
   vote_hears x t Read = refl
 
-  not_taken : (t : Ticket) (w : Vote) → (is_known (coordinator_view place n d).standing ≡ true → belongs m rs d t ≡ false)
+  not_taken : (t : Ticket) (w : Vote)
+      → (is_known (coordinator_view place n d).standing ≡ true → belongs m rs d t ≡ false)
       → (ph : Phase) → m.phase ≡ ph → takes_vote m t w ph ≡ m
   not_taken t w stranger Idle is = refl
   not_taken t w stranger Open is = refl
   not_taken t w stranger Over is = refl
   not_taken t w stranger Asked is =
-      let none : in_list m.accepted t ≡ false = either_false _ _ (stranger (ap is_known (alike.asked_is_collecting is))) in
+      let none : in_list m.accepted t ≡ false =
+      either_false _ _ (stranger (ap is_known (alike.asked_is_collecting is))) in
       ap (λ b. if b && not (has_voted m.votes t) then with_vote m t w else m) none
 
-  pub vote_keeps : (x : Txn) (t : Ticket) (w : Vote) → IsStranger x t → read rs d (hears_child d m (vote_message w (child_case x t))) ≡ read rs d m
+  pub vote_keeps : (x : Txn) (t : Ticket) (w : Vote) → IsStranger x t
+      → read rs d (hears_child d m (vote_message w (child_case x t))) ≡ read rs d m
   vote_keeps x t w stranger = ap (read rs d) (vote_hears x t w ∙ by_txn (same_txn x d.txn) refl)
     where
       by_txn : (b : Bool) → same_txn x d.txn ≡ b → (if b then takes_vote m t w m.phase else m) ≡ m
       by_txn false of = refl
       by_txn true of = not_taken t w (stranger of) m.phase refl
 
-  pub ack_keeps : (x : Txn) (t : Ticket) (o : Outcome) → IsStranger x t → read rs d (hears_child d m (Ack (child_case x t) o)) ≡ read rs d m
+  pub ack_keeps : (x : Txn) (t : Ticket) (o : Outcome) → IsStranger x t
+      → read rs d (hears_child d m (Ack (child_case x t) o)) ≡ read rs d m
   ack_keeps x t o stranger = by_txn (same_txn x d.txn) refl
     where
-      unnamed : same_txn x d.txn ≡ true → is_known (coordinator_standing rs d m) ≡ true → in_list (owing_by d rs) t ≡ false
+      unnamed : same_txn x d.txn ≡ true → is_known (coordinator_standing rs d m) ≡ true
+          → in_list (owing_by d rs) t ≡ false
       unnamed of known =
-          unnamed_unowing d t rs (other_false (in_list m.accepted t) (in_list (named_by d rs) t) (stranger of (ap is_known stands_as ∙ known)))
+          unnamed_unowing d t rs
+          (other_false (in_list m.accepted t) (in_list (named_by d rs) t)
+          (stranger of (ap is_known stands_as ∙ known)))
 
       noted : same_txn x d.txn ≡ true → (ph : Phase) → read rs d (takes_ack m t o ph) ≡ read rs d m
       noted of Open = refl

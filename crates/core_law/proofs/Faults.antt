@@ -20,14 +20,16 @@ use Rattle.core_law.proofs.Turns.{meets_as}
 
 -- Nothing is otherwise.
 
-up_same : (n : Node) (old new : CoreState) → SameCore old new → StandsUp n old → StandsUp n (record new { place = old.place })
+up_same : (n : Node) (old new : CoreState) → SameCore old new → StandsUp n old
+    → StandsUp n (record new { place = old.place })
 up_same n old new same up =
     record {
       boot = same.rest.boot ∙ up.boot;
       begun = λ c. same.rest.begun ∙ up.begun c;
       given = λ c. same.rest.given ∙ up.given c;
       tickets = λ d. same.rest.tickets d ∙ up.tickets d;
-      views = λ c. same_view-trans (new.view_of c) (old.view_of c) (view_at old.place.role old.place n c) (same.rest.views c) (up.views c);
+      views = λ c. same_view-trans (new.view_of c) (old.view_of c) (view_at old.place.role old.place n c)
+          (same.rest.views c) (up.views c);
       branches = λ c. same.rest.branches c ∙ up.branches c;
     }
 
@@ -43,10 +45,14 @@ same_stands n old new same stands =
 
 -- A refusal.
 
-pub refuses_so : (n : Node) (old new : CoreState) (a : DataAnswer) (i : Input) (e : StepError) → Stands n old → (n.failed ≡ false → ChildrenFit old.place n)
+pub refuses_so : (n : Node) (old new : CoreState) (a : DataAnswer) (i : Input) (e : StepError) → Stands n old
+    → (n.failed ≡ false → ChildrenFit old.place n)
     → IsRefused old new a i e → (reacts old.place n (record { input = i; data_answer = a }) ≡ Refused e) × Stands n new
-refuses_so n old new a i e stands fit refused =
-    (meets_as n old a refused.found i fit refused.finds stands ∙ ap reacted refused.refuses, same_stands n old new refused.same stands)
+refuses_so n old new a i e stands fit refused = (
+  meets_as n old a refused.found i fit refused.finds stands
+      ∙ ap reacted refused.refuses,
+  same_stands n old new refused.same stands,
+)
 
 -- A fault.
 
@@ -86,18 +92,22 @@ record Split {X : Type 0} (old_forced behind forced unforced : List X) : Type 0 
   forced_is : forced ≡ old_forced ++ take more behind
   unforced_is : unforced ≡ drop more behind
 
-split : {X : Type 0} (old_forced behind forced unforced : List X) → forced ++ unforced ≡ old_forced ++ behind → length old_forced ≤ length forced
+split : {X : Type 0} (old_forced behind forced unforced : List X) → forced ++ unforced ≡ old_forced ++ behind
+    → length old_forced ≤ length forced
     → Split old_forced behind forced unforced
 split old_forced behind forced unforced same less =
     let k = length forced - length old_forced in
     let whole : length forced ≡ length old_forced + k = omega (arith, less) in
     record {
       more = k;
-      forced_is = sym (take_front forced unforced) ∙ ap (take (length forced)) same ∙ take_more old_forced behind k (length forced) whole;
-      unforced_is = sym (drop_front forced unforced) ∙ ap (drop (length forced)) same ∙ drop_more old_forced behind k (length forced) whole;
+      forced_is = sym (take_front forced unforced) ∙ ap (take (length forced)) same
+          ∙ take_more old_forced behind k (length forced) whole;
+      unforced_is = sym (drop_front forced unforced) ∙ ap (drop (length forced)) same
+          ∙ drop_more old_forced behind k (length forced) whole;
     }
 
-module _ (n : Node) (old new : CoreState) (a : DataAnswer) (i : Input) (stands : Stands n old) (broken : IsBroken old new a i) where
+module _ (n : Node) (old new : CoreState) (a : DataAnswer) (i : Input) (stands : Stands n old)
+    (broken : IsBroken old new a i) where
   abbrev effect : Effect
   effect = broken.breaks.0
 
@@ -118,12 +128,14 @@ module _ (n : Node) (old new : CoreState) (a : DataAnswer) (i : Input) (stands :
       broken.breaks.2.log.stand
       ∙ append_assoc old.log.kept.forced old.log.kept.unforced (take appended (logged old rs))
       ∙ ap (λ ls. old.log.kept.forced ++ ls)
-      ((λ j. stands.unforced j ++ sym (map_take (in_log q) appended rs) j) ∙ sym (map_append (in_log q) n.unforced (take appended rs)))
+      ((λ j. stands.unforced j ++ sym (map_take (in_log q) appended rs) j)
+      ∙ sym (map_append (in_log q) n.unforced (take appended rs)))
 
   parts : Split old.log.kept.forced (map (in_log q) behind) new.log.kept.forced new.log.kept.unforced
   parts = split _ _ _ _ records broken.breaks.2.log.no_less
 
-  left_so : Stands (fails_in n (record { input = i; data_answer = a }) effect appended parts.more) (record new { place = old.place })
+  left_so : Stands (fails_in n (record { input = i; data_answer = a }) effect appended parts.more)
+      (record new { place = old.place })
   left_so =
       record {
         forced = parts.forced_is
@@ -134,13 +146,15 @@ module _ (n : Node) (old new : CoreState) (a : DataAnswer) (i : Input) (stands :
         up = λ runs. absurd (cc);
       }
 
-  pub breaks_so : (n.failed ≡ false → ChildrenFit old.place n) → BrokenAs n (record { input = i; data_answer = a }) old new
+  pub breaks_so : (n.failed ≡ false → ChildrenFit old.place n)
+      → BrokenAs n (record { input = i; data_answer = a }) old new
   breaks_so fit =
       record {
         effect = effect;
         does = meets_as n old a broken.found i fit broken.finds stands ∙ broken.breaks.1;
         appended = appended;
         forced = parts.more;
-        stands = subst (λ p. Stands (fails_in n (record { input = i; data_answer = a }) effect appended parts.more) (record new { place = p }))
+        stands = subst (λ p. Stands (fails_in n (record { input = i; data_answer = a }) effect appended parts.more)
+            (record new { place = p }))
             (sym broken.breaks.2.place) left_so;
       }

@@ -10,6 +10,7 @@ pub mod Elsewhere
 pub mod Faults
 pub mod ManagerSteps
 pub mod Managers
+pub mod Opened
 pub mod OwnRows
 pub mod PassedOver
 pub mod Records

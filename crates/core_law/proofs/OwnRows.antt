@@ -20,7 +20,8 @@ use Rattle.tree_model.specs.CoordinatorRows.{Reason, Row, Seat, ByVote, ByAbort,
 use Rattle.tree_model.proofs.TicketLaws.{pushed}
 use Rattle.tree_model.proofs.RootViewLaws.{IsOf, abort_of, collecting_of, commit_of, end_of, quiet_of}
 
-prepare_of : (c : Case) (ts : List Ticket) (row : Row) (b : Bool) → row.written ≡ record { entry = PrepareRecord c ts; is_forced = b } ∷ [] → IsOf c row
+prepare_of : (c : Case) (ts : List Ticket) (row : Row) (b : Bool)
+    → row.written ≡ record { entry = PrepareRecord c ts; is_forced = b } ∷ [] → IsOf c row
 prepare_of c ts row b h = record { boot = λ b. rw h refl; others = λ d rs m o. rw h (simp (pushed, o) refl) }
 
 either_of : (c : Case) (b : Bool) (r q : Row) → IsOf c r → IsOf c q → IsOf c (if b then r else q)
@@ -127,7 +128,8 @@ module _ (s : Seat) (v : CoordinatorView) where
   on_inquiry_of t Heuristic = quiet_of s.own _ refl
 
   pub on_joined_of : (t : Ticket) (st : Standing) → IsOf s.own (on_joined t v st)
-  on_joined_of t Active = either_of s.own (has_child v.accepted t.child) _ _ (quiet_of s.own _ refl) (quiet_of s.own _ refl)
+  on_joined_of t Active =
+      either_of s.own (has_child v.accepted t.child) _ _ (quiet_of s.own _ refl) (quiet_of s.own _ refl)
   on_joined_of t Unknown = quiet_of s.own _ refl
   on_joined_of t Collecting = quiet_of s.own _ refl
   on_joined_of t Prepared = quiet_of s.own _ refl

@@ -1,4 +1,5 @@
--- An acknowledgement that comes while its case is Prepared: the model passes it over, and a coordinator does nothing with it.
+-- An acknowledgement that comes while its case is Prepared: the model passes it over, and a coordinator does nothing
+-- with it.
 use Rattle.std.proofs.Common.{◌≡◌, ◌&&◌, not, ℕ, Bool, true, false, if◌then◌else◌, Option, Some, None, List, inl, inr, refl, sym, ap, subst, ◌∙◌}
 use Rattle.std.proofs.lemmas.List.{append-nil}
 use Rattle.tree_model.specs.declared.names.Case.{Case}
@@ -51,18 +52,22 @@ prepared_is standing.Heuristic e = absurd (cc)
 
 -- nothing is done of this turn, and nothing is otherwise
 abbrev pub IsNothing : CoreState → CoreState → Input → Turn → Type 0
-IsNothing old new i turn = (e : Effect) → reacted turn ≡ Does e → Moves old new i turn → (e ≡ no_effect) × SameCore old new
+IsNothing old new i turn =
+    (e : Effect) → reacted turn ≡ Does e → Moves old new i turn → (e ≡ no_effect) × SameCore old new
 
 unretired : (k : ℕ) (d e : Case) (o : Outcome) (t : Option Ticket) → retired_by (MessageInput k (Ack d o)) e t ≡ t
 unretired k d e o None = refl
 unretired k d e o (Some t) = refl
 
 -- a quiet row leaves all as it is
-quiet_is_nothing : (old new : CoreState) (k : ℕ) (d c : Case) (o : Outcome) → IsNothing old new (MessageInput k (Ack d o)) (Takes c (quiet (old.view_of c)))
+quiet_is_nothing : (old new : CoreState) (k : ℕ) (d c : Case) (o : Outcome)
+    → IsNothing old new (MessageInput k (Ack d o)) (Takes c (quiet (old.view_of c)))
 quiet_is_nothing old new k d c o e is made = (
   sym (done_is no_effect e is),
   record {
-    log = made.log ∙ ap (λ us. record old.log { kept = record { forced = old.log.kept.forced; unforced = us } }) (append-nil old.log.kept.unforced);
+    log = made.log
+        ∙ ap (λ us. record old.log { kept = record { forced = old.log.kept.forced; unforced = us } })
+        (append-nil old.log.kept.unforced);
     rest = record {
       place = made.stays.place;
       boot = made.stays.boot;
@@ -78,7 +83,8 @@ quiet_is_nothing old new k d c o e is made = (
   },
 )
 
-module _ (n : Node) (s s' : CoreState) (me p : ProcessId) (tree : List TreeEntry) (a : DataAnswer) (found : Option Case) (runs : n.failed ≡ false)
+module _ (n : Node) (s s' : CoreState) (me p : ProcessId) (tree : List TreeEntry) (a : DataAnswer) (found : Option Case)
+    (runs : n.failed ≡ false)
     (fit : ChildrenFit (cascaded_place me p tree) n) where
   abbrev place : Place
   place = cascaded_place me p tree
@@ -96,7 +102,8 @@ module _ (n : Node) (s s' : CoreState) (me p : ProcessId) (tree : List TreeEntry
     shows : (c : Case) → SameView (s.view_of c) (view c)
     shows c = (stands.up runs).views c
 
-    is_quiet : (c : Case) (t : Ticket) (o : Outcome) (st : Standing) → st ≡ standing.Prepared → on_ack (seat_in old c) t o (s.view_of c) st ≡ quiet (s.view_of c)
+    is_quiet : (c : Case) (t : Ticket) (o : Outcome) (st : Standing) → st ≡ standing.Prepared
+        → on_ack (seat_in old c) t o (s.view_of c) st ≡ quiet (s.view_of c)
     is_quiet c t o st is = ap (on_ack (seat_in old c) t o (s.view_of c)) is ∙ by_outcome o
       where
         by_outcome : (o : Outcome) → on_ack (seat_in old c) t o (s.view_of c) standing.Prepared ≡ quiet (s.view_of c)
@@ -104,38 +111,48 @@ module _ (n : Node) (s s' : CoreState) (me p : ProcessId) (tree : List TreeEntry
         by_outcome Aborted = refl
 
     -- the case that the lists find, and that is Prepared, is what was found
-    ack_found : (k : ℕ) (d : Case) (x : Txn) (t : Ticket) (o : Outcome) (c : Case) → case_of_child place n x t ≡ Some c → (view c).standing ≡ standing.Prepared
-        → (found : Option Case) → Finds old (Some (x, t)) found → IsNothing old new (MessageInput k (Ack d o)) (ack_turn old o t found)
+    ack_found : (k : ℕ) (d : Case) (x : Txn) (t : Ticket) (o : Outcome) (c : Case) → case_of_child place n x t ≡ Some c
+        → (view c).standing ≡ standing.Prepared
+        → (found : Option Case) → Finds old (Some (x, t)) found
+        → IsNothing old new (MessageInput k (Ack d o)) (ack_turn old o t found)
     ack_found k d x t o c there prepared None finds =
         let of : c.txn ≡ x = child_txn me (Some p) tree n x t c there in
         let same : same_txn x c.txn ≡ true = subst (λ y. same_txn y c.txn ≡ true) of (same_txn-refl c.txn) in
-        let none : belongs (memory_of place n c) (kept n) c t ≡ false = belongs_not place n fit old shows x t None finds c tt same (ap is_known prepared) in
+        let none : belongs (memory_of place n c) (kept n) c t ≡ false =
+        belongs_not place n fit old shows x t None finds c tt same (ap is_known prepared) in
         let its : belongs (memory_of place n c) (kept n) c t ≡ true = child_belongs me (Some p) tree n x t c there in
         absurd (let clash : true ≡ false = sym its ∙ none in cc)
     ack_found k d x t o c there prepared (Some e) finds =
         let known = found_known place n fit old shows x t e finds in
         let listed = ap (λ y. has_case (own_cases place.role place n y) e) (sym known.0) ∙ fit.listed e known.1 in
-        let one : Some e ≡ Some c = sym (found_case place n fit x t e listed (found_belongs place n fit old shows x t e finds)) ∙ there in
+        let one : Some e ≡ Some c =
+        sym (found_case place n fit x t e listed (found_belongs place n fit old shows x t e finds)) ∙ there in
         let same : e ≡ c = the_one e c one in
-        let stood : (s.view_of e).standing ≡ standing.Prepared = (shows e).standing ∙ ap (λ y. (view y).standing) same ∙ prepared in
-        subst (λ r. IsNothing old new (MessageInput k (Ack d o)) (Takes e r)) (sym (is_quiet e t o (s.view_of e).standing stood)) (quiet_is_nothing old new k d e o)
+        let stood : (s.view_of e).standing ≡ standing.Prepared =
+        (shows e).standing ∙ ap (λ y. (view y).standing) same ∙ prepared in
+        subst (λ r. IsNothing old new (MessageInput k (Ack d o)) (Takes e r))
+        (sym (is_quiet e t o (s.view_of e).standing stood)) (quiet_is_nothing old new k d e o)
       where
         the_one : (e c : Case) → Some e ≡ Some c → e ≡ c
         the_one e c one = cc
 
-    by_case : (k : ℕ) (d : Case) (x : Txn) (t : Ticket) (o : Outcome) (f : Option Case) → case_of_child place n x t ≡ f → is_prepared_case place n f ≡ true
+    by_case : (k : ℕ) (d : Case) (x : Txn) (t : Ticket) (o : Outcome) (f : Option Case) → case_of_child place n x t ≡ f
+        → is_prepared_case place n f ≡ true
         → Finds old (Some (x, t)) found → IsNothing old new (MessageInput k (Ack d o)) (ack_turn old o t found)
     by_case k d x t o None there prepared finds = absurd (cc)
-    by_case k d x t o (Some c) there prepared finds = ack_found k d x t o c there (prepared_is (view c).standing prepared) found finds
+    by_case k d x t o (Some c) there prepared finds =
+        ack_found k d x t o c there (prepared_is (view c).standing prepared) found finds
 
     by_ticket : (k : ℕ) (x : Txn) (t : Option Ticket) (o : Outcome) → let d : Case = record { txn = x; ticket = t } in
-        of_ticket t false (λ t. is_prepared_case place n (case_of_child place n x t)) ≡ true → Finds old (asked_of d) found
+        of_ticket t false (λ t. is_prepared_case place n (case_of_child place n x t)) ≡ true
+        → Finds old (asked_of d) found
         → IsNothing old new (MessageInput k (Ack d o)) (child_turn d (λ t. ack_turn old o t found))
     by_ticket k x None o early finds = absurd (cc)
     by_ticket k x (Some t) o early finds =
         by_case k (record { txn = x; ticket = Some t }) x t o (case_of_child place n x t) refl early finds
 
-    passed_message : (k : ℕ) (m : Message) → is_early_ack place n m ≡ true → Finds old (asked_by (MessageInput k m)) found
+    passed_message : (k : ℕ) (m : Message) → is_early_ack place n m ≡ true
+        → Finds old (asked_by (MessageInput k m)) found
         → IsNothing old new (MessageInput k m) (up_turn old a found (MessageInput k m))
     passed_message k (Ack d o) early finds = by_ticket k d.txn d.ticket o early finds
     passed_message k (Join d) early finds = absurd (cc)
@@ -149,9 +166,11 @@ module _ (n : Node) (s s' : CoreState) (me p : ProcessId) (tree : List TreeEntry
     passed_message k (Abort d) early finds = absurd (cc)
     passed_message k (Inquire d) early finds = absurd (cc)
 
-    pub passed_is_nothing : (i : Input) → is_passed_over (cascaded_place me p tree) n i ≡ true → Finds old (asked_by i) found → IsNothing old new i (turn_of old a found i)
+    pub passed_is_nothing : (i : Input) → is_passed_over (cascaded_place me p tree) n i ≡ true
+        → Finds old (asked_by i) found → IsNothing old new i (turn_of old a found i)
     unfolding turn_of
     passed_is_nothing (ActInput x) passes finds = absurd (cc)
     passed_is_nothing (MessageInput k m) passes finds =
-        subst (λ z. IsNothing old new (MessageInput k m) (if z then Refuses Failed else up_turn old a found (MessageInput k m))) (sym (stands.failed ∙ runs))
+        subst (λ z. IsNothing old new (MessageInput k m)
+        (if z then Refuses Failed else up_turn old a found (MessageInput k m))) (sym (stands.failed ∙ runs))
         (passed_message k m (both (is_early_ack place n m) (not n.failed) passes).0 finds)

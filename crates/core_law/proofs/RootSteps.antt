@@ -22,16 +22,21 @@ use Rattle.core_law.proofs.Roots.{acted, heard_so}
 use Rattle.core_law.proofs.Turns.{meets_as}
 
 -- a process whose device failed makes nothing
-pub failed_makes : {A : Type 0} (old new : CoreState) (a : DataAnswer) (found : Option Case) (i : Input) → old.log.failed ≡ true
+pub failed_makes : {A : Type 0} (old new : CoreState) (a : DataAnswer) (found : Option Case) (i : Input)
+    → old.log.failed ≡ true
     → Moves old new i (turn_of old a found i) → A
 unfolding turn_of
 failed_makes old new a found i failed = by_test (act_is_listed old.place.tree i)
   where
-    by_test : {A : Type 0} (b : Bool) → Moves old new i (if b then (if old.log.failed then Refuses Failed else up_turn old a found i) else Refuses NoSuch) → A
+    by_test : {A : Type 0} (b : Bool)
+        → Moves old new i
+        (if b then (if old.log.failed then Refuses Failed else up_turn old a found i) else Refuses NoSuch) → A
     by_test false made = absurd made
-    by_test true made = absurd (subst (λ b. Moves old new i (if b then Refuses Failed else up_turn old a found i)) failed made)
+    by_test true made =
+        absurd (subst (λ b. Moves old new i (if b then Refuses Failed else up_turn old a found i)) failed made)
 
-module _ (n : Node) (s s' : CoreState) (me : ProcessId) (tree : List TreeEntry) (a : DataAnswer) (i : Input) (found : Option Case) where
+module _ (n : Node) (s s' : CoreState) (me : ProcessId) (tree : List TreeEntry) (a : DataAnswer) (i : Input)
+    (found : Option Case) where
   abbrev old : CoreState
   old = record s { place = root_place me tree }
 
@@ -41,30 +46,37 @@ module _ (n : Node) (s s' : CoreState) (me : ProcessId) (tree : List TreeEntry) 
   abbrev Leads : Input → Turn → Type 0
   Leads i turn = Follows n (record { input = i; data_answer = a }) old new i turn
 
-  up_follows : n.failed ≡ false → Stands n old → RootFits (root_place me tree) n → (i : Input) → Finds old (asked_by i) found
+  up_follows : n.failed ≡ false → Stands n old → RootFits (root_place me tree) n → (i : Input)
+      → Finds old (asked_by i) found
       → Leads i (up_turn old a found i)
   up_follows runs stands fits (ActInput x) finds = acted n s s' me tree a fits runs stands x
   up_follows runs stands fits (MessageInput k m) finds = heard_so n s s' me tree a fits runs stands k found m finds
 
-  follows : n.failed ≡ false → Stands n old → RootFits (root_place me tree) n → Finds old (asked_by i) found → Leads i (turn_of old a found i)
+  follows : n.failed ≡ false → Stands n old → RootFits (root_place me tree) n → Finds old (asked_by i) found
+      → Leads i (turn_of old a found i)
   unfolding turn_of
   follows runs stands fits finds = by_test (act_is_listed tree i)
     where
-      by_test : (b : Bool) → Leads i (if b then (if s.log.failed then Refuses Failed else up_turn old a found i) else Refuses NoSuch)
+      by_test : (b : Bool)
+          → Leads i (if b then (if s.log.failed then Refuses Failed else up_turn old a found i) else Refuses NoSuch)
       by_test false = λ e is made. absurd made
       by_test true =
-          subst (λ z. Leads i (if z then Refuses Failed else up_turn old a found i)) (sym (stands.failed ∙ runs)) (up_follows runs stands fits i finds)
+          subst (λ z. Leads i (if z then Refuses Failed else up_turn old a found i)) (sym (stands.failed ∙ runs))
+          (up_follows runs stands fits i finds)
 
 -- the place of a process is that of a root
 is_root_place : (q : Place) → q.role ≡ AtRoot → q ≡ root_place q.me q.tree
 is_root_place q is = λ i. record { me = q.me; role = is i; tree = q.tree }
 
-module _ (n : Node) (old new : CoreState) (a : DataAnswer) (i : Input) (reaction : Reaction) (role : old.place.role ≡ AtRoot) (stands : Stands n old)
+module _ (n : Node) (old new : CoreState) (a : DataAnswer) (i : Input) (reaction : Reaction)
+    (role : old.place.role ≡ AtRoot) (stands : Stands n old)
     (made : Makes old new a i reaction) where
   abbrev at_place : Place → Place → Type 0
-  at_place q r = Stands n (record old { place = q }) → RootFits q n → Finds (record old { place = q }) (asked_by i) made.found
+  at_place q r =
+      Stands n (record old { place = q }) → RootFits q n → Finds (record old { place = q }) (asked_by i) made.found
       → reacted (turn_of (record old { place = q }) a made.found i) ≡ Does made.effect
-      → Moves (record old { place = q }) (record new { place = r }) i (turn_of (record old { place = q }) a made.found i)
+      → Moves (record old { place = q }) (record new { place = r }) i
+      (turn_of (record old { place = q }) a made.found i)
       → Stands (after n (record { input = i; data_answer = a }) made.effect) (record new { place = r })
 
   placed : n.failed ≡ false → (q r : Place) → q ≡ root_place old.place.me old.place.tree → r ≡ q → at_place q r
@@ -79,11 +91,13 @@ module _ (n : Node) (old new : CoreState) (a : DataAnswer) (i : Input) (reaction
         effect = made.effect;
         does = meets_as n old a made.found i (λ _. fits.children) made.finds stands ∙ made.does;
         shown = made.shown;
-        stands = placed runs old.place new.place (is_root_place old.place role) (place_stays old new i (turn_of old a made.found i) made.moves)
+        stands = placed runs old.place new.place (is_root_place old.place role)
+            (place_stays old new i (turn_of old a made.found i) made.moves)
             stands fits made.finds made.does made.moves;
       }
 
-  pub root_makes : (n.failed ≡ false → RootFits old.place n) → MadeAs n (record { input = i; data_answer = a }) old new reaction
+  pub root_makes : (n.failed ≡ false → RootFits old.place n)
+      → MadeAs n (record { input = i; data_answer = a }) old new reaction
   root_makes fits = by_failed n.failed refl
     where
       by_failed : (f : Bool) → n.failed ≡ f → MadeAs n (record { input = i; data_answer = a }) old new reaction

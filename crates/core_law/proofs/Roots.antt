@@ -64,7 +64,8 @@ none_given me boot g (ActInput (Decide c o)) = refl
 none_given me boot g (ActInput (Forget c)) = refl
 none_given me boot g (MessageInput k m) = refl
 
-none_active : (me : ProcessId) (boot : ℕ) (g : Self) (hs : List Heard) → (fold (self_after me AtRoot boot) g hs).active ≡ g.active
+none_active : (me : ProcessId) (boot : ℕ) (g : Self) (hs : List Heard)
+    → (fold (self_after me AtRoot boot) g hs).active ≡ g.active
 none_active me boot g [] = refl
 none_active me boot g (h ∷ hs) = none_active me boot (root_self g h.input) hs ∙ none_given me boot g h.input
 
@@ -86,7 +87,8 @@ one_of c d there = by_same (same_case c d) refl there
     by_same true same there = sym ((case_tells c d).0 same)
     by_same false same there = absurd (cc)
 
-module _ (n : Node) (s s' : CoreState) (me : ProcessId) (tree : List TreeEntry) (a : DataAnswer) (fits : RootFits (root_place me tree) n)
+module _ (n : Node) (s s' : CoreState) (me : ProcessId) (tree : List TreeEntry) (a : DataAnswer)
+    (fits : RootFits (root_place me tree) n)
     (runs : n.failed ≡ false) where
   abbrev pub place : Place
   place = root_place me tree
@@ -125,10 +127,12 @@ module _ (n : Node) (s s' : CoreState) (me : ProcessId) (tree : List TreeEntry) 
   no_ticket : (d : Case) → active_ticket (memory d).active d ≡ None
   unfolding active_ticket
   no_ticket d =
-      let none : (memory d).active ≡ [] = ap (λ (g : Self). g.active) (self_is place n d) ∙ none_active me boot (self_of fresh_memory) n.heard in
+      let none : (memory d).active ≡ [] =
+      ap (λ (g : Self). g.active) (self_is place n d) ∙ none_active me boot (self_of fresh_memory) n.heard in
       rw none refl
 
-  untouched : (i : Input) (d : Case) → retired_by i d (active_ticket (memory d).active d) ≡ active_ticket (memory d).active d
+  untouched : (i : Input) (d : Case)
+      → retired_by i d (active_ticket (memory d).active d) ≡ active_ticket (memory d).active d
   untouched i d = ap (retired_by i d) (no_ticket d) ∙ sym (no_ticket d)
 
   same : (i : Input) → ((g : Self) → root_self g i ≡ g) → Same i
@@ -160,26 +164,33 @@ module _ (n : Node) (s s' : CoreState) (me : ProcessId) (tree : List TreeEntry) 
     rests = rested n s s' place a (λ m c. refl) (λ m c. refl) runs stands
 
     says : (i : Input) (ls : List Envelope) → Same i → ((d : Case) → Still i d) → Leads i (Says ls)
-    says i ls remains keeps = said n s s' place a (λ m c. refl) (λ m c. refl) runs stands i ls remains (untouched i) keeps
+    says i ls remains keeps =
+        said n s s' place a (λ m c. refl) (λ m c. refl) runs stands i ls remains (untouched i) keeps
 
     refuses : (i : Input) (x : StepError) → Leads i (Refuses x)
     refuses i x e is made = absurd made
 
     -- Acts.
 
-    join_row : (v : CoordinatorView) (c : Case) (q : ProcessId) → let row = active_join (seat c) q v in (row.written ≡ []) × (row.view ≡ v)
+    join_row : (v : CoordinatorView) (c : Case) (q : ProcessId) → let row =
+        active_join (seat c) q v in (row.written ≡ []) × (row.view ≡ v)
     join_row v c q = by_test (has_child v.accepted q)
       where
-        by_test : (b : Bool) → let row = if b then quiet v else sends (post me q (Join c) ∷ []) v in (row.written ≡ []) × (row.view ≡ v)
+        by_test : (b : Bool) → let row =
+            if b then quiet v else sends (post me q (Join c) ∷ []) v in (row.written ≡ []) × (row.view ≡ v)
         by_test true = (refl, refl)
         by_test false = (refl, refl)
 
-    join_at : (c : Case) (q : ProcessId) (st : Standing) → Leads (ActInput (JoinAct c q)) (join_turn (seat c) tree q (s.view_of c) st)
+    join_at : (c : Case) (q : ProcessId) (st : Standing)
+        → Leads (ActInput (JoinAct c q)) (join_turn (seat c) tree q (s.view_of c) st)
     join_at c q standing.Active = by_child (is_child tree q me)
       where
-        by_child : (b : Bool) → Leads (ActInput (JoinAct c q)) (if b then Takes c (active_join (seat c) q (s.view_of c)) else Refuses NotAChild)
+        by_child : (b : Bool)
+            → Leads (ActInput (JoinAct c q))
+            (if b then Takes c (active_join (seat c) q (s.view_of c)) else Refuses NotAChild)
         by_child true =
-            rests (ActInput (JoinAct c q)) c _ (active_join (seat c) q (view c)) (active_join-same (s.view_of c) (view c) (shows c) (seat c) q)
+            rests (ActInput (JoinAct c q)) c _ (active_join (seat c) q (view c))
+            (active_join-same (s.view_of c) (view c) (shows c) (seat c) q)
             (join_row (view c) c q).0 (join_row (view c) c q).1 (same (ActInput (JoinAct c q)) (λ g. refl)) (λ d. refl)
         by_child false = refuses (ActInput (JoinAct c q)) NotAChild
     join_at c q standing.Unknown = refuses (ActInput (JoinAct c q)) _
@@ -189,30 +200,39 @@ module _ (n : Node) (s s' : CoreState) (me : ProcessId) (tree : List TreeEntry) 
     join_at c q standing.Aborting = refuses (ActInput (JoinAct c q)) _
     join_at c q standing.Heuristic = refuses (ActInput (JoinAct c q)) _
 
-    work_root : (x : Txn) (q : ProcessId) (t : Ticket) (op : Op) → let c = root_case x in (view c).standing ≡ standing.Active
-        → ticket_of_child (view c).accepted q ≡ Some t → Leads (ActInput (WorkAct c q op)) (Takes c (active_work (seat c) t op (s.view_of c)))
+    work_root : (x : Txn) (q : ProcessId) (t : Ticket) (op : Op) → let c =
+        root_case x in (view c).standing ≡ standing.Active
+        → ticket_of_child (view c).accepted q ≡ Some t
+        → Leads (ActInput (WorkAct c q op)) (Takes c (active_work (seat c) t op (s.view_of c)))
     work_root x q t op active found =
         let c = root_case x in
-        takes (ActInput (WorkAct c q op)) c _ (active_work (seat c) t op (view c)) (active_work-same (s.view_of c) (view c) (shows c) (seat c) t op)
-        (work_of (seat c) (view c) t op) (same (ActInput (WorkAct c q op)) (λ g. refl)) ((root_views me tree n x).work a q t op active found).moved
-        (λ d apart. ap (λ b. read (kept n) d (if b then sends_work (memory d) (ticket_of_child (memory d).accepted q) (memory d).phase else memory d)) apart)
+        takes (ActInput (WorkAct c q op)) c _ (active_work (seat c) t op (view c))
+        (active_work-same (s.view_of c) (view c) (shows c) (seat c) t op)
+        (work_of (seat c) (view c) t op) (same (ActInput (WorkAct c q op)) (λ g. refl))
+        ((root_views me tree n x).work a q t op active found).moved
+        (λ d apart. ap (λ b. read (kept n) d
+        (if b then sends_work (memory d) (ticket_of_child (memory d).accepted q) (memory d).phase else memory d))
+        apart)
 
     work_at : (c : Case) (q : ProcessId) (op : Op) (st : Standing) → (view c).standing ≡ st
         → Leads (ActInput (WorkAct c q op)) (work_turn (seat c) tree q op (s.view_of c) st)
     work_at c q op standing.Active active = by_ticket (ticket_of_child (s.view_of c).accepted q) refl
       where
         by_leaf : (t : Ticket) → ticket_of_child (view c).accepted q ≡ Some t → (b : Bool)
-            → Leads (ActInput (WorkAct c q op)) (if b then Takes c (active_work (seat c) t op (s.view_of c)) else Refuses NotAChild)
+            → Leads (ActInput (WorkAct c q op))
+            (if b then Takes c (active_work (seat c) t op (s.view_of c)) else Refuses NotAChild)
         by_leaf t found true =
             at_root (λ c. (view c).standing ≡ standing.Active → ticket_of_child (view c).accepted q ≡ Some t
-            → Leads (ActInput (WorkAct c q op)) (Takes c (active_work (seat c) t op (s.view_of c)))) c (ap is_known active)
+            → Leads (ActInput (WorkAct c q op)) (Takes c (active_work (seat c) t op (s.view_of c)))) c
+            (ap is_known active)
             (λ x. work_root x q t op) active found
         by_leaf t found false = refuses (ActInput (WorkAct c q op)) NotAChild
 
         by_ticket : (o : Option Ticket) → ticket_of_child (s.view_of c).accepted q ≡ o
             → Leads (ActInput (WorkAct c q op)) (work_for_turn (seat c) tree op (s.view_of c) o)
         by_ticket None found = refuses (ActInput (WorkAct c q op)) NotAChild
-        by_ticket (Some t) found = by_leaf t (ap (λ ts. ticket_of_child ts q) (sym (shows c).accepted) ∙ found) (is_leaf (role_of tree t.child))
+        by_ticket (Some t) found = by_leaf t (ap (λ ts. ticket_of_child ts q) (sym (shows c).accepted) ∙ found)
+            (is_leaf (role_of tree t.child))
     work_at c q op standing.Unknown is = refuses (ActInput (WorkAct c q op)) _
     work_at c q op standing.Collecting is = refuses (ActInput (WorkAct c q op)) _
     work_at c q op standing.Prepared is = refuses (ActInput (WorkAct c q op)) _
@@ -224,8 +244,10 @@ module _ (n : Node) (s s' : CoreState) (me : ProcessId) (tree : List TreeEntry) 
         → Leads (ActInput (CommitAct x)) (commit_turn (seat (root_case x)) (s.view_of (root_case x)) st)
     commit_at x standing.Active active =
         let c = root_case x in
-        takes (ActInput (CommitAct x)) c _ (active_commit (seat c) (view c)) (active_commit-same (s.view_of c) (view c) (shows c) (seat c))
-        (active_commit_of (seat c) (view c)) (same (ActInput (CommitAct x)) (λ g. refl)) ((root_views me tree n x).commit a active).moved
+        takes (ActInput (CommitAct x)) c _ (active_commit (seat c) (view c))
+        (active_commit-same (s.view_of c) (view c) (shows c) (seat c))
+        (active_commit_of (seat c) (view c)) (same (ActInput (CommitAct x)) (λ g. refl))
+        ((root_views me tree n x).commit a active).moved
         (λ d apart. ap (λ b. read (kept n) d (if b then asks_votes (memory d) (memory d).phase else memory d)) apart)
     commit_at x standing.Unknown is = refuses (ActInput (CommitAct x)) _
     commit_at x standing.Collecting is = refuses (ActInput (CommitAct x)) _
@@ -241,12 +263,15 @@ module _ (n : Node) (s s' : CoreState) (me : ProcessId) (tree : List TreeEntry) 
         → Leads (ActInput (AbortAct x)) (abort_turn (seat (root_case x)) (s.view_of (root_case x)) st)
     abort_at x standing.Active active =
         let c = root_case x in
-        takes (ActInput (AbortAct x)) c _ (active_abort (seat c) (view c)) (active_abort-same (s.view_of c) (view c) (shows c) (seat c))
-        (active_abort_of (seat c) (view c)) (same (ActInput (AbortAct x)) (λ g. refl)) ((root_views me tree n x).abort_active a active).moved
+        takes (ActInput (AbortAct x)) c _ (active_abort (seat c) (view c))
+        (active_abort-same (s.view_of c) (view c) (shows c) (seat c))
+        (active_abort_of (seat c) (view c)) (same (ActInput (AbortAct x)) (λ g. refl))
+        ((root_views me tree n x).abort_active a active).moved
         (abort_keeps x)
     abort_at x standing.Collecting collects =
         let c = root_case x in
-        takes (ActInput (AbortAct x)) c _ (collecting_abort (seat c) ByAct (view c)) (collecting_abort-same (s.view_of c) (view c) (shows c) (seat c) ByAct)
+        takes (ActInput (AbortAct x)) c _ (collecting_abort (seat c) ByAct (view c))
+        (collecting_abort-same (s.view_of c) (view c) (shows c) (seat c) ByAct)
         (collecting_abort_of (seat c) (view c) ByAct) (same (ActInput (AbortAct x)) (λ g. refl))
         ((root_views me tree n x).abort_collecting a (fits.alike c) collects).moved (abort_keeps x)
     abort_at x standing.Unknown is = refuses (ActInput (AbortAct x)) _
@@ -257,7 +282,8 @@ module _ (n : Node) (s s' : CoreState) (me : ProcessId) (tree : List TreeEntry) 
 
     ask_at : (c : Case) (st : Standing) → Leads (ActInput (Ask c)) (ask_turn (seat c) (s.view_of c) st)
     ask_at c standing.Prepared =
-        rests (ActInput (Ask c)) c _ (prepared_ask (seat c) (view c)) (sends-same _ (s.view_of c) (view c) (shows c)) refl refl
+        rests (ActInput (Ask c)) c _ (prepared_ask (seat c) (view c)) (sends-same _ (s.view_of c) (view c) (shows c))
+        refl refl
         (same (ActInput (Ask c)) (λ g. refl)) (λ d. refl)
     ask_at c standing.Unknown = refuses (ActInput (Ask c)) _
     ask_at c standing.Active = refuses (ActInput (Ask c)) _
@@ -278,10 +304,16 @@ module _ (n : Node) (s s' : CoreState) (me : ProcessId) (tree : List TreeEntry) 
     -- A transaction begins.
 
     named : (p : Presumption) (d : Case) → next_txn me boot (memory d) p ≡ next_begun place n p
-    named p d = ap (λ (k : ℕ). record { root = me; boot = boot; sequence = k + 1; presumption = p }) (same_begun me tree n d (some_case place))
+    named p d = ap (λ (k : ℕ). record { root = me; boot = boot; sequence = k + 1; presumption = p })
+        (same_begun me tree n d (some_case place))
 
     next_is : (p : Presumption) → begun_next old p ≡ next_begun place n p
-    next_is p = (λ i. record { root = me; boot = is_up.boot i; sequence = is_up.begun (some_case place) i + 1; presumption = p })
+    next_is p = (λ i. record {
+      root = me;
+      boot = is_up.boot i;
+      sequence = is_up.begun (some_case place) i + 1;
+      presumption = p;
+    })
 
     begins : (p : Presumption) → Leads (ActInput (Begin p)) (Begins (next_begun place n p))
     begins p e is made =
@@ -289,22 +321,26 @@ module _ (n : Node) (s s' : CoreState) (me : ProcessId) (tree : List TreeEntry) 
         let i = ActInput (Begin p) in
         let f = begin_effect x in
         let held : Holds None (after n (heard i) f) (wrote s.log [] []) =
-        held_after None n (heard i) f s.log (record { forced = stands.forced; unforced = stands.unforced; failed = stands.failed }) in
+        held_after None n (heard i) f s.log
+        (record { forced = stands.forced; unforced = stands.unforced; failed = stands.failed }) in
         let quiet : NoBoot [] = λ b. refl in
         subst (λ g. Stands (after n (heard i) g) new) (done_is f e is)
         (stand n s s' place a (λ m c. refl) (λ m c. refl) runs stands i f (record {
           forced = ap (λ (l : LogSight). l.kept.forced) made.log ∙ held.forced;
-          unforced = ap (λ (l : LogSight). l.kept.unforced) made.log ∙ sym (append-nil s.log.kept.unforced) ∙ held.unforced;
+          unforced =
+              ap (λ (l : LogSight). l.kept.unforced) made.log ∙ sym (append-nil s.log.kept.unforced) ∙ held.unforced;
           failed = ap (λ (l : LogSight). l.failed) made.log ∙ held.failed;
           boots = made.stays.boot ∙ is_up.boot ∙ sym (boot-after n (heard i) f quiet);
-          begins = λ d. made.begun ∙ ap (λ k. k + 1) (is_up.begun d) ∙ sym (ap (λ (g : Self). g.begun) (count i f quiet d));
+          begins =
+              λ d. made.begun ∙ ap (λ k. k + 1) (is_up.begun d) ∙ sym (ap (λ (g : Self). g.begun) (count i f quiet d));
           gives = λ d. made.given ∙ is_up.given d ∙ sym (ap (λ (g : Self). g.given) (count i f quiet d));
           tickets = λ d. made.stays.tickets d ∙ ap (retired_by i d) (is_up.tickets d) ∙ untouched i d
               ∙ sym (ap (λ (g : Self). active_ticket g.active d) (count i f quiet d));
           branches = made.branches;
         }) (λ c. elim (same_case_tells (root_case x) c) [
           | inl one ↦ subst (λ q. SameView (s'.view_of q) (coordinator_view place (after n (heard i) f) q)) one.1
-              (subst (λ v. SameView (s'.view_of (root_case x)) v) (sym ((root_begins me tree n p a).begun (fits.fresh p))) made.own)
+              (subst (λ v. SameView (s'.view_of (root_case x)) v)
+              (sym ((root_begins me tree n p a).begun (fits.fresh p))) made.own)
           | inr apart ↦ subst (λ v. SameView (s'.view_of c) v)
               (sym (nothing_written n s s' place a (λ m c. refl) (λ m c. refl) i f refl c (keeps c apart.0)))
               (same_view-trans (s'.view_of c) (s.view_of c) (view c) (made.others c apart.0) (shows c))
@@ -316,7 +352,9 @@ module _ (n : Node) (s s' : CoreState) (me : ProcessId) (tree : List TreeEntry) 
 
         keeps : (d : Case) → same_case (root_case (next_begun place n p)) d ≡ false → Still (ActInput (Begin p)) d
         keeps d apart =
-            ap (λ b. read (kept n) d (if b then opens_case (record (memory d) { begun = (memory d).begun + 1 }) else record (memory d) { begun = (memory d).begun + 1 }))
+            ap (λ b. read (kept n) d
+            (if b then opens_case (record (memory d) { begun = (memory d).begun + 1 }) else record
+            (memory d) { begun = (memory d).begun + 1 }))
             (ap (λ x. same_case (root_case x) d) (named p d) ∙ apart)
 
     begin_at : (p : Presumption) → Leads (ActInput (Begin p)) (Begins (begun_next old p))
@@ -340,16 +378,20 @@ module _ (n : Node) (s s' : CoreState) (me : ProcessId) (tree : List TreeEntry) 
         let c = root_case x in
         let i = MessageInput k (Joined c t) in
         takes i c _ (on_joined t (view c) (view c).standing)
-        (at_standing (s.view_of c) (view c) (on_joined t (s.view_of c)) (on_joined t (view c)) (shows c) (on_joined-same (s.view_of c) (view c) (shows c) t))
-        (on_joined_of (seat c) (view c) t (view c).standing) (same i (λ g. refl)) ((root_views me tree n x).joined k a t (fits.alike c)).moved
-        (λ d apart. ap (λ b. read (kept n) d (if b then accepts_ticket (memory d) t (memory d).phase else memory d)) apart)
+        (at_standing (s.view_of c) (view c) (on_joined t (s.view_of c)) (on_joined t (view c)) (shows c)
+        (on_joined-same (s.view_of c) (view c) (shows c) t))
+        (on_joined_of (seat c) (view c) t (view c).standing) (same i (λ g. refl))
+        ((root_views me tree n x).joined k a t (fits.alike c)).moved
+        (λ d apart. ap (λ b. read (kept n) d (if b then accepts_ticket (memory d) t (memory d).phase else memory d))
+        apart)
 
     joined_nowhere : (k : ℕ) (c : Case) (t : Ticket) → (view c).standing ≡ standing.Unknown
         → Leads (MessageInput k (Joined c t)) (Takes c (on_joined t (s.view_of c) (s.view_of c).standing))
     joined_nowhere k c t unknown =
         let i = MessageInput k (Joined c t) in
         rests i c _ (on_joined t (view c) (view c).standing)
-        (at_standing (s.view_of c) (view c) (on_joined t (s.view_of c)) (on_joined t (view c)) (shows c) (on_joined-same (s.view_of c) (view c) (shows c) t))
+        (at_standing (s.view_of c) (view c) (on_joined t (s.view_of c)) (on_joined t (view c)) (shows c)
+        (on_joined-same (s.view_of c) (view c) (shows c) t))
         (ap (λ st. (on_joined t (view c) st).written) unknown) (ap (λ st. (on_joined t (view c) st).view) unknown)
         (same i (λ g. refl)) keeps
       where
@@ -366,16 +408,20 @@ module _ (n : Node) (s s' : CoreState) (me : ProcessId) (tree : List TreeEntry) 
         keeps d = by_same (same_case c d) refl
           where
             by_same : (b : Bool) → same_case c d ≡ b
-                → read (kept n) d (if b then accepts_ticket (memory d) t (memory d).phase else memory d) ≡ read (kept n) d (memory d)
+                → read (kept n) d (if b then accepts_ticket (memory d) t (memory d).phase else memory d)
+                ≡ read (kept n) d (memory d)
             by_same false is = refl
             by_same true is = ap (read (kept n) d) (not_open d ((case_tells c d).0 is) (memory d).phase refl)
 
-    joined_at : (k : ℕ) (c : Case) (t : Ticket) → Leads (MessageInput k (Joined c t)) (Takes c (on_joined t (s.view_of c) (s.view_of c).standing))
+    joined_at : (k : ℕ) (c : Case) (t : Ticket)
+        → Leads (MessageInput k (Joined c t)) (Takes c (on_joined t (s.view_of c) (s.view_of c).standing))
     joined_at k c t = by_known (is_known (view c).standing) refl
       where
-        by_known : (b : Bool) → is_known (view c).standing ≡ b → Leads (MessageInput k (Joined c t)) (Takes c (on_joined t (s.view_of c) (s.view_of c).standing))
+        by_known : (b : Bool) → is_known (view c).standing ≡ b
+            → Leads (MessageInput k (Joined c t)) (Takes c (on_joined t (s.view_of c) (s.view_of c).standing))
         by_known true known =
-            at_root (λ c. Leads (MessageInput k (Joined c t)) (Takes c (on_joined t (s.view_of c) (s.view_of c).standing))) c known (λ x. joined_root k x t)
+            at_root (λ c. Leads (MessageInput k (Joined c t))
+            (Takes c (on_joined t (s.view_of c) (s.view_of c).standing))) c known (λ x. joined_root k x t)
         by_known false gone = joined_nowhere k c t (unknown_if (view c).standing gone)
 
     -- the case that was found for a child is the root's own case of the transaction
@@ -384,7 +430,8 @@ module _ (n : Node) (s s' : CoreState) (me : ProcessId) (tree : List TreeEntry) 
         let is = found_known place n fits.children old shows x t c finds in
         ap root_case (sym is.0) ∙ sym (one_of (root_case c.txn) c (fits.children.listed c is.1))
 
-    strangers : (x : Txn) (t : Ticket) (found : Option Case) → Finds old (Some (x, t)) found → (d : Case) → IsOther found d → IsStranger place n d (fits.alike d) x t
+    strangers : (x : Txn) (t : Ticket) (found : Option Case) → Finds old (Some (x, t)) found → (d : Case)
+        → IsOther found d → IsStranger place n d (fits.alike d) x t
     strangers x t found finds d other = belongs_not place n fits.children old shows x t found finds d other
 
     vote_at : (k : ℕ) (w : Vote) (x : Txn) (t : Ticket) (found : Option Case) → Finds old (Some (x, t)) found
@@ -393,17 +440,21 @@ module _ (n : Node) (s s' : CoreState) (me : ProcessId) (tree : List TreeEntry) 
         let i = MessageInput k (vote_message w (child_case x t)) in
         says i [] (same i (λ g. refl)) (λ d. vote_keeps place n d (fits.alike d) x t w (strangers x t None finds d tt))
     vote_at k w x t (Some c) finds =
-        subst (λ c. Finds old (Some (x, t)) (Some c) → Leads (MessageInput k (vote_message w (child_case x t))) (vote_turn old w t (Some c)))
+        subst (λ c. Finds old (Some (x, t)) (Some c)
+        → Leads (MessageInput k (vote_message w (child_case x t))) (vote_turn old w t (Some c)))
         (found_root x t c finds) in_root finds
       where
-        in_root : let c = root_case x in Finds old (Some (x, t)) (Some c) → Leads (MessageInput k (vote_message w (child_case x t))) (vote_turn old w t (Some c))
+        in_root : let c = root_case x in Finds old (Some (x, t)) (Some c)
+            → Leads (MessageInput k (vote_message w (child_case x t))) (vote_turn old w t (Some c))
         in_root finds =
             let c = root_case x in
             let i = MessageInput k (vote_message w (child_case x t)) in
             takes i c _ (on_vote (seat c) t w (view c) (view c).standing)
-            (at_standing (s.view_of c) (view c) (on_vote (seat c) t w (s.view_of c)) (on_vote (seat c) t w (view c)) (shows c)
+            (at_standing (s.view_of c) (view c) (on_vote (seat c) t w (s.view_of c)) (on_vote (seat c) t w (view c))
+            (shows c)
             (on_vote-same (s.view_of c) (view c) (shows c) (seat c) t w))
-            (on_vote_of (seat c) (view c) t w (view c).standing) (same i (λ g. refl)) ((root_views me tree n x).vote k a t w (fits.alike c)).moved
+            (on_vote_of (seat c) (view c) t w (view c).standing) (same i (λ g. refl))
+            ((root_views me tree n x).vote k a t w (fits.alike c)).moved
             (λ d apart. vote_keeps place n d (fits.alike d) x t w (strangers x t (Some c) finds d apart))
 
     ack_at : (k : ℕ) (o : Outcome) (x : Txn) (t : Ticket) (found : Option Case) → Finds old (Some (x, t)) found
@@ -412,17 +463,21 @@ module _ (n : Node) (s s' : CoreState) (me : ProcessId) (tree : List TreeEntry) 
         let i = MessageInput k (Ack (child_case x t) o) in
         says i [] (same i (λ g. refl)) (λ d. ack_keeps place n d (fits.alike d) x t o (strangers x t None finds d tt))
     ack_at k o x t (Some c) finds =
-        subst (λ c. Finds old (Some (x, t)) (Some c) → Leads (MessageInput k (Ack (child_case x t) o)) (ack_turn old o t (Some c)))
+        subst (λ c. Finds old (Some (x, t)) (Some c)
+        → Leads (MessageInput k (Ack (child_case x t) o)) (ack_turn old o t (Some c)))
         (found_root x t c finds) in_root finds
       where
-        in_root : let c = root_case x in Finds old (Some (x, t)) (Some c) → Leads (MessageInput k (Ack (child_case x t) o)) (ack_turn old o t (Some c))
+        in_root : let c = root_case x in Finds old (Some (x, t)) (Some c)
+            → Leads (MessageInput k (Ack (child_case x t) o)) (ack_turn old o t (Some c))
         in_root finds =
             let c = root_case x in
             let i = MessageInput k (Ack (child_case x t) o) in
             takes i c _ (on_ack (seat c) t o (view c) (view c).standing)
-            (at_standing (s.view_of c) (view c) (on_ack (seat c) t o (s.view_of c)) (on_ack (seat c) t o (view c)) (shows c)
+            (at_standing (s.view_of c) (view c) (on_ack (seat c) t o (s.view_of c)) (on_ack (seat c) t o (view c))
+            (shows c)
             (on_ack-same (s.view_of c) (view c) (shows c) (seat c) t o))
-            (on_ack_of (seat c) (view c) t o (view c).standing) (same i (λ g. refl)) ((root_views me tree n x).acknowledgement k a t o (fits.alike c)).moved
+            (on_ack_of (seat c) (view c) t o (view c).standing) (same i (λ g. refl))
+            ((root_views me tree n x).acknowledgement k a t o (fits.alike c)).moved
             (λ d apart. ack_keeps place n d (fits.alike d) x t o (strangers x t (Some c) finds d apart))
 
     inquiry_row : (c : Case) (t : Ticket) (v : CoordinatorView) (st : Standing)
@@ -435,13 +490,16 @@ module _ (n : Node) (s s' : CoreState) (me : ProcessId) (tree : List TreeEntry) 
     inquiry_row c t v standing.Aborting = (refl, refl)
     inquiry_row c t v standing.Heuristic = (refl, refl)
 
-    inquiry_at : (k : ℕ) (x : Txn) (t : Ticket) (found : Option Case) → Leads (MessageInput k (Inquire (child_case x t))) (inquiry_turn old x t found)
-    inquiry_at k x t None = let i = MessageInput k (Inquire (child_case x t)) in says i _ (same i (λ g. refl)) (λ d. refl)
+    inquiry_at : (k : ℕ) (x : Txn) (t : Ticket) (found : Option Case)
+        → Leads (MessageInput k (Inquire (child_case x t))) (inquiry_turn old x t found)
+    inquiry_at k x t None =
+        let i = MessageInput k (Inquire (child_case x t)) in says i _ (same i (λ g. refl)) (λ d. refl)
     inquiry_at k x t (Some c) =
         let i = MessageInput k (Inquire (child_case x t)) in
         let row = inquiry_row c t (view c) (view c).standing in
         rests i c _ (on_inquiry (seat c) t (view c) (view c).standing)
-        (at_standing (s.view_of c) (view c) (on_inquiry (seat c) t (s.view_of c)) (on_inquiry (seat c) t (view c)) (shows c)
+        (at_standing (s.view_of c) (view c) (on_inquiry (seat c) t (s.view_of c)) (on_inquiry (seat c) t (view c))
+        (shows c)
         (on_inquiry-same (s.view_of c) (view c) (shows c) (seat c) t))
         row.0 row.1 (same i (λ g. refl)) (λ d. refl)
 
@@ -450,27 +508,36 @@ module _ (n : Node) (s s' : CoreState) (me : ProcessId) (tree : List TreeEntry) 
     nameless true d = refl
     nameless false d = refl
 
-    vote_nameless : (w : Vote) (x : Txn) (d : Case) → read (kept n) d (hears_child d (memory d) (vote_message w (root_case x))) ≡ read (kept n) d (memory d)
+    vote_nameless : (w : Vote) (x : Txn) (d : Case)
+        → read (kept n) d (hears_child d (memory d) (vote_message w (root_case x))) ≡ read (kept n) d (memory d)
     vote_nameless VoteYes x d = nameless (same_txn x d.txn) d
     vote_nameless VoteNo x d = nameless (same_txn x d.txn) d
     vote_nameless VoteRead x d = nameless (same_txn x d.txn) d
 
-    vote_by : (k : ℕ) (found : Option Case) (w : Vote) (x : Txn) (o : Option Ticket) → let d : Case = record { txn = x; ticket = o } in
-        Finds old (asked_of d) found → Leads (MessageInput k (vote_message w d)) (child_turn d (λ t. vote_turn old w t found))
+    vote_by : (k : ℕ) (found : Option Case) (w : Vote) (x : Txn) (o : Option Ticket) → let d : Case =
+        record { txn = x; ticket = o } in
+        Finds old (asked_of d) found
+        → Leads (MessageInput k (vote_message w d)) (child_turn d (λ t. vote_turn old w t found))
     vote_by k found w x (Some t) finds = vote_at k w x t found finds
-    vote_by k found w x None finds = let i = MessageInput k (vote_message w (root_case x)) in says i [] (same i (λ g. refl)) (vote_nameless w x)
+    vote_by k found w x None finds =
+        let i = MessageInput k (vote_message w (root_case x)) in says i [] (same i (λ g. refl)) (vote_nameless w x)
 
-    ack_by : (k : ℕ) (found : Option Case) (o : Outcome) (x : Txn) (t : Option Ticket) → let d : Case = record { txn = x; ticket = t } in
+    ack_by : (k : ℕ) (found : Option Case) (o : Outcome) (x : Txn) (t : Option Ticket) → let d : Case =
+        record { txn = x; ticket = t } in
         Finds old (asked_of d) found → Leads (MessageInput k (Ack d o)) (child_turn d (λ t. ack_turn old o t found))
     ack_by k found o x (Some t) finds = ack_at k o x t found finds
-    ack_by k found o x None finds = let i = MessageInput k (Ack (root_case x) o) in says i [] (same i (λ g. refl)) (λ d. nameless (same_txn x d.txn) d)
+    ack_by k found o x None finds = let i = MessageInput k (Ack (root_case x) o) in says i [] (same i (λ g. refl))
+        (λ d. nameless (same_txn x d.txn) d)
 
-    inquiry_by : (k : ℕ) (found : Option Case) (x : Txn) (t : Option Ticket) → let d : Case = record { txn = x; ticket = t } in
+    inquiry_by : (k : ℕ) (found : Option Case) (x : Txn) (t : Option Ticket) → let d : Case =
+        record { txn = x; ticket = t } in
         Leads (MessageInput k (Inquire d)) (child_turn d (λ t. inquiry_turn old x t found))
     inquiry_by k found x (Some t) = inquiry_at k x t found
-    inquiry_by k found x None = let i = MessageInput k (Inquire (root_case x)) in says i [] (same i (λ g. refl)) (λ d. refl)
+    inquiry_by k found x None =
+        let i = MessageInput k (Inquire (root_case x)) in says i [] (same i (λ g. refl)) (λ d. refl)
 
-    pub heard_so : (k : ℕ) (found : Option Case) (m : Message) → Finds old (asked_in m) found → Leads (MessageInput k m) (child_says old found m)
+    pub heard_so : (k : ℕ) (found : Option Case) (m : Message) → Finds old (asked_in m) found
+        → Leads (MessageInput k m) (child_says old found m)
     heard_so k found (Joined d t) finds = joined_at k d t
     heard_so k found (Yes d) finds = vote_by k found VoteYes d.txn d.ticket finds
     heard_so k found (No d) finds = vote_by k found VoteNo d.txn d.ticket finds
@@ -478,7 +545,9 @@ module _ (n : Node) (s s' : CoreState) (me : ProcessId) (tree : List TreeEntry) 
     heard_so k found (Ack d o) finds = ack_by k found o d.txn d.ticket finds
     heard_so k found (Inquire d) finds = inquiry_by k found d.txn d.ticket
     heard_so k found (Join d) finds = let i = MessageInput k (Join d) in says i [] (same i (λ g. refl)) (λ d. refl)
-    heard_so k found (Work d j op) finds = let i = MessageInput k (Work d j op) in says i [] (same i (λ g. refl)) (λ d. refl)
-    heard_so k found (Prepare d j) finds = let i = MessageInput k (Prepare d j) in says i [] (same i (λ g. refl)) (λ d. refl)
+    heard_so k found (Work d j op) finds =
+        let i = MessageInput k (Work d j op) in says i [] (same i (λ g. refl)) (λ d. refl)
+    heard_so k found (Prepare d j) finds =
+        let i = MessageInput k (Prepare d j) in says i [] (same i (λ g. refl)) (λ d. refl)
     heard_so k found (Commit d) finds = let i = MessageInput k (Commit d) in says i [] (same i (λ g. refl)) (λ d. refl)
     heard_so k found (Abort d) finds = let i = MessageInput k (Abort d) in says i [] (same i (λ g. refl)) (λ d. refl)

@@ -11,7 +11,8 @@ use Rattle.tree_model.specs.declared.events.StepError.{StepError}
 use Rattle.tree_model.specs.declared.events.StepError.TheVariants.{Failed}
 use Rattle.tree_model.specs.Nodes.{AtLeaf, AtRoot, Below, DataAnswer, Node, Place, Role, after, fails_in, no_effect, reaction_of}
 use Rattle.tree_model.specs.Reactions.{Does, Reacts, Refused, hears, is_passed_over, passes_at, reacts}
-use Rattle.tree_model.specs.World.{Makes as Leaves, Refuses as StepRefuses, fault_effect, input_makes, node_makes, passes_over}
+use Rattle.tree_model.specs.World.{Refuses as StepRefuses, fault_effect, input_makes, node_makes, passes_over}
+use Rattle.rec_log.specs.Sights.{Kept}
 use Rattle.core_model.specs.States.{CoreState}
 use Rattle.core_model.specs.Makes.{IsBroken, IsRefused, Makes, Moves}
 use Rattle.core_model.specs.Turns.{Finds, asked_by, turn_of}
@@ -27,20 +28,24 @@ use Rattle.core_law.proofs.PassedOver.{IsNothing, passed_is_nothing}
 use Rattle.core_law.proofs.RootSteps.{failed_makes, root_makes}
 
 -- an input that is not passed over is handled
-handled_so : (place : Place) (n : Node) (i : Input) (fault : Option Fault) (a : DataAnswer) (r : Reacts) → is_passed_over place n i ≡ false
+handled_so : (place : Place) (n : Node) (i : Input) (fault : Option Fault) (a : DataAnswer) (r : Reacts)
+    → is_passed_over place n i ≡ false
     → reacts place n (record { input = i; data_answer = a }) ≡ r
     → node_makes place n (input_move place.me i fault a) ≡ input_makes n (record { input = i; data_answer = a }) fault r
 unfolding node_makes
 handled_so place n i fault a r late does =
-    ap (λ b. if b then passes_over n fault else input_makes n (record { input = i; data_answer = a }) fault (reacts place n (record { input = i; data_answer = a }))) late
+    ap (λ b. if b then passes_over n fault else input_makes n (record { input = i; data_answer = a }) fault
+    (reacts place n (record { input = i; data_answer = a }))) late
     ∙ ap (input_makes n (record { input = i; data_answer = a }) fault) does
 
--- one that is passed over leaves the process as it was
-passed_so : (place : Place) (n : Node) (i : Input) (a : DataAnswer) → is_passed_over place n i ≡ true
-    → node_makes place n (input_move place.me i None a) ≡ Leaves no_effect n
+-- one that is passed over leaves the process as it was, but for its device
+passed_by : (place : Place) (n : Node) (i : Input) (fault : Option Fault) (a : DataAnswer)
+    → is_passed_over place n i ≡ true
+    → node_makes place n (input_move place.me i fault a) ≡ passes_over n fault
 unfolding node_makes
-passed_so place n i a over =
-    ap (λ b. if b then passes_over n None else input_makes n (record { input = i; data_answer = a }) None (reacts place n (record { input = i; data_answer = a }))) over
+passed_by place n i fault a over =
+    ap (λ b. if b then passes_over n fault else input_makes n (record { input = i; data_answer = a }) fault
+    (reacts place n (record { input = i; data_answer = a }))) over
 
 -- a process that is up refuses no message
 message_done : (place : Place) (n : Node) (k : ℕ) (m : Message) (a : DataAnswer) → n.failed ≡ false
@@ -48,7 +53,8 @@ message_done : (place : Place) (n : Node) (k : ℕ) (m : Message) (a : DataAnswe
 unfolding reacts
 message_done place n k m a runs = ap (λ b. if b then Refused Failed else Does (hears place.role place n a m)) runs
 
-module _ (n : Node) (old new : CoreState) (a : DataAnswer) (i : Input) (stands : Stands n old) (fits : n.failed ≡ false → NodeFits old.place.role old.place n) where
+module _ (n : Node) (old new : CoreState) (a : DataAnswer) (i : Input) (stands : Stands n old)
+    (fits : n.failed ≡ false → NodeFits old.place.role old.place n) where
   fits_as : (role : Role) → old.place.role ≡ role → n.failed ≡ false → NodeFits role old.place n
   fits_as role is runs = subst (λ r. NodeFits r old.place n) is (fits runs)
 
@@ -65,11 +71,14 @@ module _ (n : Node) (old new : CoreState) (a : DataAnswer) (i : Input) (stands :
   passes_as role is = ap (λ r. passes_at r old.place n i) is
 
   -- an input that is passed over does nothing at a coordinator below the root
-  module _ (p : ProcessId) (role : old.place.role ≡ Below p) (found : Option Case) (finds : Finds old (asked_by i) found) (over : is_passed_over old.place n i ≡ true)
+  module _ (p : ProcessId) (role : old.place.role ≡ Below p) (found : Option Case)
+      (finds : Finds old (asked_by i) found) (over : is_passed_over old.place n i ≡ true)
       (runs : n.failed ≡ false) where
     abbrev at_place : Place → Place → Type 0
-    at_place q r = ChildrenFit q n → Stands n (record old { place = q }) → is_passed_over q n i ≡ true → Finds (record old { place = q }) (asked_by i) found
-        → IsNothing (record old { place = q }) (record new { place = r }) i (turn_of (record old { place = q }) a found i)
+    at_place q r = ChildrenFit q n → Stands n (record old { place = q }) → is_passed_over q n i ≡ true
+        → Finds (record old { place = q }) (asked_by i) found
+        → IsNothing (record old { place = q }) (record new { place = r }) i
+        (turn_of (record old { place = q }) a found i)
 
     placed : (q r : Place) → q ≡ cascaded_place old.place.me p old.place.tree → r ≡ q → at_place q r
     placed q r is_q is_r =
@@ -78,7 +87,8 @@ module _ (n : Node) (old new : CoreState) (a : DataAnswer) (i : Input) (stands :
         (λ fit s o f. passed_is_nothing n old new old.place.me p old.place.tree a found runs fit s i o f))
 
     nothing : Moves old new i (turn_of old a found i) → IsNothing old new i (turn_of old a found i)
-    nothing moves = placed old.place new.place (is_cascaded_place old.place p role) (place_stays old new i (turn_of old a found i) moves) (children runs) stands over finds
+    nothing moves = placed old.place new.place (is_cascaded_place old.place p role)
+        (place_stays old new i (turn_of old a found i) moves) (children runs) stands over finds
 
   module _ (reaction : Reaction) (made : Makes old new a i reaction) where
     made_step : is_passed_over old.place n i ≡ false → MadeAs n (record { input = i; data_answer = a }) old new reaction
@@ -99,20 +109,25 @@ module _ (n : Node) (old new : CoreState) (a : DataAnswer) (i : Input) (stands :
         record {
           effect = no_effect;
           left = n;
-          makes = passed_so old.place n i a over;
+          makes = passed_by old.place n i None a over;
           shown = made.shown ∙ ap reaction_of same.0;
           stands = same_stands n old new same.1 stands;
         }
 
-    by_role : n.failed ≡ false → (role : Role) → old.place.role ≡ role → StepsAs n old new (input_move old.place.me i None a) reaction
-    by_role runs AtRoot role = made_step (passes_as AtRoot role) (root_makes n old new a i reaction role stands made (fits_as AtRoot role))
+    by_role : n.failed ≡ false → (role : Role) → old.place.role ≡ role
+        → StepsAs n old new (input_move old.place.me i None a) reaction
+    by_role runs AtRoot role =
+        made_step (passes_as AtRoot role) (root_makes n old new a i reaction role stands made (fits_as AtRoot role))
     by_role runs (AtLeaf p) role =
         let f : LeafFits old.place n = fits_as (AtLeaf p) role runs in
-        made_step (passes_as (AtLeaf p) role) (managers_make n old new p a i reaction role stands f.children f.fresh made)
+        made_step (passes_as (AtLeaf p) role)
+        (managers_make n old new p a i reaction role stands f.children f.fresh made)
     by_role runs (Below p) role = by_over (is_passed_over old.place n i) refl
       where
-        by_over : (b : Bool) → is_passed_over old.place n i ≡ b → StepsAs n old new (input_move old.place.me i None a) reaction
-        by_over false late = made_step late (cascade_makes n old new p a i reaction role stands made (fits_as (Below p) role) late)
+        by_over : (b : Bool) → is_passed_over old.place n i ≡ b
+            → StepsAs n old new (input_move old.place.me i None a) reaction
+        by_over false late =
+            made_step late (cascade_makes n old new p a i reaction role stands made (fits_as (Below p) role) late)
         by_over true over = passed_step p role runs over
 
     pub steps_so : StepsAs n old new (input_move old.place.me i None a) reaction
@@ -135,27 +150,62 @@ module _ (n : Node) (old new : CoreState) (a : DataAnswer) (i : Input) (stands :
   not_refused (AtLeaf p) j e over refused = absurd (cc)
   not_refused (Below p) (ActInput x) e over refused = absurd (cc)
   not_refused (Below p) (MessageInput k m) e over refused =
-      absurd (let clash : Does (hears old.place.role old.place n a m) ≡ Refused e = sym (message_done old.place n k m a (second _ n.failed over)) ∙ refused in cc)
+      absurd (let clash : Does (hears old.place.role old.place n a m)
+      ≡ Refused e = sym (message_done old.place n k m a (second _ n.failed over)) ∙ refused in cc)
 
-  pub refusals_so : (e : StepError) → IsRefused old new a i e → (node_makes old.place n (input_move old.place.me i None a) ≡ StepRefuses e) × Stands n new
+  pub refusals_so : (e : StepError) → IsRefused old new a i e
+      → (node_makes old.place n (input_move old.place.me i None a) ≡ StepRefuses e) × Stands n new
   refusals_so e refused = by_over (is_passed_over old.place n i) refl
     where
       so : (reacts old.place n (record { input = i; data_answer = a }) ≡ Refused e) × Stands n new
       so = refuses_so n old new a i e stands children refused
 
-      by_over : (b : Bool) → is_passed_over old.place n i ≡ b → (node_makes old.place n (input_move old.place.me i None a) ≡ StepRefuses e) × Stands n new
+      by_over : (b : Bool) → is_passed_over old.place n i ≡ b
+          → (node_makes old.place n (input_move old.place.me i None a) ≡ StepRefuses e) × Stands n new
       by_over false late = (handled_so old.place n i None a (Refused e) late so.0, so.1)
       by_over true over = not_refused old.place.role i e over so.0
 
   -- A fault.
 
-  pub faults_so : is_passed_over old.place n i ≡ false → IsBroken old new a i → FaultsAs n old new old.place.me i a
-  faults_so late broken =
+  handled_fault : is_passed_over old.place n i ≡ false → IsBroken old new a i → FaultsAs n old new old.place.me i a
+  handled_fault late broken =
       let so = breaks_so n old new a i stands broken children in
       record {
         fault = record { appended = so.appended; forced = so.forced };
         effect = fault_effect so.effect so.appended;
         left = fails_in n (record { input = i; data_answer = a }) so.effect so.appended so.forced;
-        makes = handled_so old.place n i (Some (record { appended = so.appended; forced = so.forced })) a (Does so.effect) late so.does;
+        makes = handled_so old.place n i (Some (record { appended = so.appended; forced = so.forced })) a
+            (Does so.effect) late so.does;
         stands = so.stands;
       }
+
+  -- the records of a process that passed an input over are as they were
+  passed_left : new.log.kept ≡ old.log.kept → IsBroken old new a i
+      → Stands (record n { failed = true }) (record new { place = old.place })
+  passed_left same broken =
+      record {
+        forced = ap (λ (k : Kept). k.forced) same ∙ stands.forced;
+        unforced = ap (λ (k : Kept). k.unforced) same ∙ stands.unforced;
+        failed = broken.breaks.2.log.failed;
+        up = λ runs. absurd (cc);
+      }
+
+  passed_fault : is_passed_over old.place n i ≡ true → new.log.kept ≡ old.log.kept → IsBroken old new a i
+      → FaultsAs n old new old.place.me i a
+  passed_fault over same broken =
+      record {
+        fault = record { appended = 0; forced = 0 };
+        effect = no_effect;
+        left = record n { failed = true };
+        makes = passed_by old.place n i (Some (record { appended = 0; forced = 0 })) a over;
+        stands = subst (λ (p : Place). Stands (record n { failed = true }) (record new { place = p }))
+            (sym broken.breaks.2.place) (passed_left same broken);
+      }
+
+  pub faults_so : (is_passed_over old.place n i ≡ true → new.log.kept ≡ old.log.kept) → IsBroken old new a i
+      → FaultsAs n old new old.place.me i a
+  faults_so same broken = by_over (is_passed_over old.place n i) refl
+    where
+      by_over : (b : Bool) → is_passed_over old.place n i ≡ b → FaultsAs n old new old.place.me i a
+      by_over false late = handled_fault late broken
+      by_over true over = passed_fault over (same over) broken

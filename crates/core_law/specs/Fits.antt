@@ -1,5 +1,5 @@
--- What the model's process keeps of its cases in every run, while its device has not failed. That an input leaves what
--- the reaction table says rests on it.
+-- What the model's process keeps of its cases in every run, while its device has not failed. That an input
+-- leaves what the reaction table says rests on it.
 use Rattle.std.specs.Prelude.{◌≡◌, false, true}
 use Rattle.tree_model.specs.declared.names.Case.{Case}
 use Rattle.tree_model.specs.declared.names.Outcome.{Outcome}
@@ -16,15 +16,15 @@ use Rattle.tree_model.specs.Standings.{Unmarked, coordinator_view, mark_of}
 use Rattle.tree_model.specs.Views.{IsOpenAlike, IsUnrecorded, fresh_case, next_begun}
 use Rattle.core_law.specs.Ties.{ChildrenFit}
 
--- At the root: a child belongs to one case; an open case has on its lists what it should; and no record is of the
--- transaction that is begun next.
+-- At the root: a child belongs to one case; an open case has on its lists what it should; and no record is of
+-- the transaction that is begun next.
 pub record RootFits (place : Place) (n : Node) : Type 0 where
   pub children : ChildrenFit place n
   pub alike : (c : Case) → IsOpenAlike place n c
   pub fresh : (p : Presumption) → IsUnrecorded (kept n) (root_case (next_begun place n p))
 
--- Below the root: the same, of the case that is joined next; no case without a ticket is known; and no acknowledgement of
--- a promised child was noted before the parent decided.
+-- Below the root: the same, of the case that is joined next; no case without a ticket is known; and no
+-- acknowledgement of a promised child was noted before the parent decided.
 pub record CascadeFits (place : Place) (n : Node) : Type 0 where
   pub children : ChildrenFit place n
   pub alike : (c : Case) → IsOpenAlike place n c

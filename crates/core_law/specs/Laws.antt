@@ -5,8 +5,9 @@ use Rattle.tree_model.specs.declared.events.Input.{Input}
 use Rattle.tree_model.specs.declared.events.Reaction.{Reaction}
 use Rattle.tree_model.specs.declared.events.StepError.{StepError}
 use Rattle.tree_model.specs.declared.names.ProcessId.{ProcessId}
-use Rattle.tree_model.specs.Nodes.{AtLeaf, AtRoot, Below, DataAnswer, Effect, Heard, Node, after, fails_in, reaction_of}
+use Rattle.tree_model.specs.Nodes.{AtLeaf, AtRoot, Below, DataAnswer, Effect, Heard, Node, Place, after, fails_in, opened_node, reaction_of}
 use Rattle.tree_model.specs.Reactions.{Does, Refused, is_passed_over, reacts}
+use Rattle.core_model.specs.Laws.{opened_core}
 use Rattle.core_model.specs.States.{CoreState, SameCore}
 use Rattle.core_model.specs.Makes.{IsBroken, IsRefused, Makes}
 use Rattle.core_model.specs.Turns.{Finds, asked_by, reacted, turn_of}
@@ -28,7 +29,8 @@ pub record MadeAs (n : Node) (h : Heard) (old new : CoreState) (reaction : React
 
 -- what a manager makes of an input is what the model's manager makes of it
 abbrev pub ManagersMakeAsTheModel : Type 0
-ManagersMakeAsTheModel = (n : Node) (old new : CoreState) (p : ProcessId) (a : DataAnswer) (i : Input) (reaction : Reaction)
+ManagersMakeAsTheModel =
+    (n : Node) (old new : CoreState) (p : ProcessId) (a : DataAnswer) (i : Input) (reaction : Reaction)
     → old.place.role ≡ AtLeaf p → Stands n old → ChildrenFit old.place n → FreshIsUnmarked old.place n
     → Makes old new a i reaction → MadeAs n (record { input = i; data_answer = a }) old new reaction
 
@@ -40,8 +42,10 @@ RootsMakeAsTheModel = (n : Node) (old new : CoreState) (a : DataAnswer) (i : Inp
 
 -- what a coordinator below the root makes of an input that is not passed over is what the model's makes of it
 abbrev pub CascadesMakeAsTheModel : Type 0
-CascadesMakeAsTheModel = (n : Node) (old new : CoreState) (p : ProcessId) (a : DataAnswer) (i : Input) (reaction : Reaction)
-    → old.place.role ≡ Below p → Stands n old → (n.failed ≡ false → CascadeFits old.place n) → is_passed_over old.place n i ≡ false
+CascadesMakeAsTheModel =
+    (n : Node) (old new : CoreState) (p : ProcessId) (a : DataAnswer) (i : Input) (reaction : Reaction)
+    → old.place.role ≡ Below p → Stands n old → (n.failed ≡ false → CascadeFits old.place n)
+    → is_passed_over old.place n i ≡ false
     → Makes old new a i reaction → MadeAs n (record { input = i; data_answer = a }) old new reaction
 
 -- between processes between which nothing is otherwise, both stand for the model's process or neither does
@@ -54,8 +58,8 @@ RefusesAsTheModel = (n : Node) (old new : CoreState) (a : DataAnswer) (i : Input
     → Stands n old → (n.failed ≡ false → ChildrenFit old.place n) → IsRefused old new a i e
     → (reacts old.place n (record { input = i; data_answer = a }) ≡ Refused e) × Stands n new
 
--- The model's process makes the input too, its device fails in it with some front of the records appended and some of
--- those behind the forced front forced, and the process stands for what that leaves.
+-- The model's process makes the input too, its device fails in it with some front of the records appended and
+-- some of those behind the forced front forced, and the process stands for what that leaves.
 pub record BrokenAs (n : Node) (h : Heard) (old new : CoreState) : Type 0 where
   pub effect : Effect
   pub does : reacts old.place n h ≡ Does effect
@@ -68,3 +72,7 @@ abbrev pub BreaksAsTheModel : Type 0
 BreaksAsTheModel = (n : Node) (old new : CoreState) (a : DataAnswer) (i : Input)
     → Stands n old → (n.failed ≡ false → ChildrenFit old.place n) → IsBroken old new a i
     → BrokenAs n (record { input = i; data_answer = a }) old new
+
+-- a process that opens an empty log stands for the model's process as it opens
+abbrev pub OpenedStands : Type 0
+OpenedStands = (place : Place) → Stands opened_node (opened_core place)

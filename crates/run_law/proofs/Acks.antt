@@ -18,7 +18,8 @@ use Rattle.tree_model.specs.Memory.{Asked, Idle, Memory, Open, Over, Phase, acce
 pub data AcksMove (c : Case) (m : Memory) (i : Input) (k : Memory) : Type 0 where
   keeps : k.acks ≡ m.acks → AcksMove c m i k
   starts : k.acks ≡ [] → AcksMove c m i k
-  notes : (j : ℕ) (x : Txn) (t : Ticket) (o : Outcome) → i ≡ MessageInput j (Ack (child_case x t) o) → same_txn x c.txn ≡ true
+  notes : (j : ℕ) (x : Txn) (t : Ticket) (o : Outcome) → i ≡ MessageInput j (Ack (child_case x t) o)
+      → same_txn x c.txn ≡ true
       → (m.phase ≡ Asked → ⊥) → k.acks ≡ m.acks ++ (t, o) ∷ [] → AcksMove c m i k
 
 kept_if : (b : Bool) (m k l : Memory) → k.acks ≡ m.acks → l.acks ≡ m.acks → (if b then k else l).acks ≡ m.acks
@@ -26,7 +27,8 @@ kept_if true m k l e f = e
 kept_if false m k l e f = f
 
 kept_accepts : (m : Memory) (t : Ticket) (ph : Phase) → (accepts_ticket m t ph).acks ≡ m.acks
-kept_accepts m t Open = kept_if (has_child m.accepted t.child) m m (record m { accepted = m.accepted ++ t ∷ [] }) refl refl
+kept_accepts m t Open =
+    kept_if (has_child m.accepted t.child) m m (record m { accepted = m.accepted ++ t ∷ [] }) refl refl
 kept_accepts m t Idle = refl
 kept_accepts m t Asked = refl
 kept_accepts m t Over = refl
@@ -59,7 +61,8 @@ kept_closes m Open = refl
 kept_closes m Asked = refl
 kept_closes m Over = refl
 
-kept_ticket : (o : Option Ticket) (m : Memory) (f : Ticket → Memory) → ((t : Ticket) → (f t).acks ≡ m.acks) → (of_ticket o m f).acks ≡ m.acks
+kept_ticket : (o : Option Ticket) (m : Memory) (f : Ticket → Memory) → ((t : Ticket) → (f t).acks ≡ m.acks)
+    → (of_ticket o m f).acks ≡ m.acks
 kept_ticket None m f h = refl
 kept_ticket (Some t) m f h = h t
 
@@ -71,25 +74,32 @@ module _ (me : ProcessId) (boot : ℕ) (c : Case) (m : Memory) where
   joined i d (Some t) = keeps refl
   joined i d None = by_case (same_case c (child_case d.txn (next_ticket me boot m)))
     where
-      by_case : (b : Bool) → AcksMove c m i (if b then opens_case (gives m d (next_ticket me boot m)) else gives m d (next_ticket me boot m))
+      by_case : (b : Bool)
+          → AcksMove c m i
+          (if b then opens_case (gives m d (next_ticket me boot m)) else gives m d (next_ticket me boot m))
       by_case true = starts refl
       by_case false = keeps refl
 
-  voted : (d : Case) (w : Vote) → (if same_txn d.txn c.txn then of_ticket d.ticket m (λ t. takes_vote m t w m.phase) else m).acks ≡ m.acks
-  voted d w = kept_if (same_txn d.txn c.txn) m _ m (kept_ticket d.ticket m (λ t. takes_vote m t w m.phase) (λ t. kept_takes m t w m.phase)) refl
+  voted : (d : Case) (w : Vote)
+      → (if same_txn d.txn c.txn then of_ticket d.ticket m (λ t. takes_vote m t w m.phase) else m).acks ≡ m.acks
+  voted d w = kept_if (same_txn d.txn c.txn) m _ m
+      (kept_ticket d.ticket m (λ t. takes_vote m t w m.phase) (λ t. kept_takes m t w m.phase)) refl
 
   acked : (j : ℕ) (x : Txn) (u : Option Ticket) (o : Outcome) → let d : Case = record { txn = x; ticket = u } in
-      AcksMove c m (MessageInput j (Ack d o)) (if same_txn x c.txn then of_ticket u m (λ t. takes_ack m t o m.phase) else m)
+      AcksMove c m (MessageInput j (Ack d o))
+      (if same_txn x c.txn then of_ticket u m (λ t. takes_ack m t o m.phase) else m)
   acked j x None o = keeps (kept_if (same_txn x c.txn) m m m refl refl)
   acked j x (Some t) o = by_txn (same_txn x c.txn) refl
     where
-      by_phase : same_txn x c.txn ≡ true → (ph : Phase) → m.phase ≡ ph → AcksMove c m (MessageInput j (Ack (child_case x t) o)) (takes_ack m t o ph)
+      by_phase : same_txn x c.txn ≡ true → (ph : Phase) → m.phase ≡ ph
+          → AcksMove c m (MessageInput j (Ack (child_case x t) o)) (takes_ack m t o ph)
       by_phase of Open is = keeps refl
       by_phase of Asked is = keeps refl
       by_phase of Idle is = notes j x t o refl of (λ e. (let g : Idle ≡ Asked = sym is ∙ e in cc)) refl
       by_phase of Over is = notes j x t o refl of (λ e. (let g : Over ≡ Asked = sym is ∙ e in cc)) refl
 
-      by_txn : (b : Bool) → same_txn x c.txn ≡ b → AcksMove c m (MessageInput j (Ack (child_case x t) o)) (if b then takes_ack m t o m.phase else m)
+      by_txn : (b : Bool) → same_txn x c.txn ≡ b
+          → AcksMove c m (MessageInput j (Ack (child_case x t) o)) (if b then takes_ack m t o m.phase else m)
       by_txn false of = keeps refl
       by_txn true of = by_phase of m.phase refl
 
@@ -108,7 +118,8 @@ module _ (me : ProcessId) (boot : ℕ) (c : Case) (m : Memory) where
 
   pub acks_move : (i : Input) → AcksMove c m i (cascaded_remembers me boot c m i)
   acks_move (MessageInput j x) = hears j x
-  acks_move (ActInput (WorkAct d q op)) = keeps (kept_if (same_case d c) m _ m (kept_works m (ticket_of_child m.accepted q) m.phase) refl)
+  acks_move (ActInput (WorkAct d q op)) =
+      keeps (kept_if (same_case d c) m _ m (kept_works m (ticket_of_child m.accepted q) m.phase) refl)
   acks_move (ActInput (Begin p)) = keeps refl
   acks_move (ActInput (CommitAct x)) = keeps refl
   acks_move (ActInput (AbortAct x)) = keeps refl

@@ -92,17 +92,20 @@ still_with cs (Some d) c e = by_test (has_case cs d)
 
 now_with : (cs : List Case) (o : Option Case) (c : Case) → is_of c o ≡ true → has_case (with_case cs o) c ≡ true
 now_with cs None c e = absurd (cc)
-now_with cs (Some d) c e = subst (λ (x : Case). has_case (with_case cs (Some d)) x ≡ true) (case_is d c e) (by_test (has_case cs d) refl)
+now_with cs (Some d) c e =
+    subst (λ (x : Case). has_case (with_case cs (Some d)) x ≡ true) (case_is d c e) (by_test (has_case cs d) refl)
   where
     by_test : (b : Bool) → has_case cs d ≡ b → has_case (if b then cs else cs ++ d ∷ []) d ≡ true
     by_test true there = there
     by_test false there = in_last cs (d ∷ []) d (alone d)
 
-still_listed : (cs : List Case) (rs : List Record) (c : Case) → has_case cs c ≡ true → has_case (fold with_record cs rs) c ≡ true
+still_listed : (cs : List Case) (rs : List Record) (c : Case) → has_case cs c ≡ true
+    → has_case (fold with_record cs rs) c ≡ true
 still_listed cs [] c e = e
 still_listed cs (r ∷ rs) c e = still_listed (with_record cs r) rs c (still_with cs (record_case r) c e)
 
-listed_from : (cs : List Case) (rs : List Record) (c : Case) → has (is_record_of c) rs ≡ true → has_case (fold with_record cs rs) c ≡ true
+listed_from : (cs : List Case) (rs : List Record) (c : Case) → has (is_record_of c) rs ≡ true
+    → has_case (fold with_record cs rs) c ≡ true
 unfolding has
 listed_from cs [] c e = absurd (cc)
 listed_from cs (r ∷ rs) c e = elim (either (is_record_of c r) (has (is_record_of c) rs) e) [
@@ -114,7 +117,8 @@ pub recorded_listed : (rs : List Record) (c : Case) → has (is_record_of c) rs 
 unfolding cases_in
 recorded_listed rs c e = listed_from [] rs c e
 
-filtered : (f : Case → Bool) (cs : List Case) (c : Case) → has_case cs c ≡ true → f c ≡ true → has_case (filter f cs) c ≡ true
+filtered : (f : Case → Bool) (cs : List Case) (c : Case) → has_case cs c ≡ true → f c ≡ true
+    → has_case (filter f cs) c ≡ true
 unfolding has_case
 filtered f [] c e g = absurd (cc)
 filtered f (d ∷ cs) c e g = by_test (f d) refl (filtered f cs c)
@@ -133,11 +137,13 @@ filtered f (d ∷ cs) c e g = by_test (f d) refl (filtered f cs c)
 -- a case that is recorded or was issued is among those in which a child of its transaction is looked for
 pub own_recorded : (rs : List Record) (issued : List Case) (c : Case) → has (is_record_of c) rs ≡ true
     → has_case (filter (λ d. same_txn d.txn c.txn) (cases_in rs ++ issued)) c ≡ true
-own_recorded rs issued c e = filtered (λ d. same_txn d.txn c.txn) _ c (in_more (cases_in rs) issued c (recorded_listed rs c e)) (same_txn-refl c.txn)
+own_recorded rs issued c e = filtered (λ d. same_txn d.txn c.txn) _ c
+    (in_more (cases_in rs) issued c (recorded_listed rs c e)) (same_txn-refl c.txn)
 
 pub own_issued : (rs : List Record) (issued : List Case) (c : Case) → has_case issued c ≡ true
     → has_case (filter (λ d. same_txn d.txn c.txn) (cases_in rs ++ issued)) c ≡ true
-own_issued rs issued c e = filtered (λ d. same_txn d.txn c.txn) _ c (in_last (cases_in rs) issued c e) (same_txn-refl c.txn)
+own_issued rs issued c e =
+    filtered (λ d. same_txn d.txn c.txn) _ c (in_last (cases_in rs) issued c e) (same_txn-refl c.txn)
 
 -- what is given out next was not given out
 pub not_given : {A : Type 0} (boot given number : ℕ) → number ≡ given + 1 → IsGivenOut boot number boot given → A
@@ -149,4 +155,5 @@ either_is b e f = absurd (cc)
 
 pub one_of : (c d : Case) → has_case (c ∷ []) d ≡ true → d ≡ c
 unfolding has_case
-one_of c d there = elim (either (same_case c d) false there) [ inl now ↦ sym (case_is c d now) | inr rest ↦ absurd (cc) ]
+one_of c d there =
+    elim (either (same_case c d) false there) [ inl now ↦ sym (case_is c d now) | inr rest ↦ absurd (cc) ]

@@ -1,6 +1,7 @@
 pub mod Acks
 pub mod Cases
 pub mod Given
+pub mod Moves
 pub mod Roots
 pub mod Early
 pub mod Leaves

@@ -19,7 +19,8 @@ use Rattle.core_law.specs.Fits.{RootFits}
 use Rattle.core_law.specs.Ties.{ChildrenFit}
 use Rattle.run_law.proofs.Cases.{known_not, not_given, one_of, unrecorded}
 
-module _ (me : ProcessId) (tree : List TreeEntry) (net : List Envelope) (n : Node) (holds : NodeHolds (root_place me tree) net n) (up : n.failed ≡ false) where
+module _ (me : ProcessId) (tree : List TreeEntry) (net : List Envelope) (n : Node)
+    (holds : NodeHolds (root_place me tree) net n) (up : n.failed ≡ false) where
   abbrev place : Place
   place = root_place me tree
 
@@ -44,7 +45,8 @@ module _ (me : ProcessId) (tree : List TreeEntry) (net : List Envelope) (n : Nod
       subst (λ (d : Case). has_case (root_case c.txn ∷ []) d ≡ true) (sym own) (root_is_own me tree n c.txn)
 
   pub root_children : ChildrenFit place n
-  root_children = record { listed = listed; one = λ x t c d e f g h. one_of (root_case x) c e ∙ sym (one_of (root_case x) d g) }
+  root_children =
+      record { listed = listed; one = λ x t c d e f g h. one_of (root_case x) c e ∙ sym (one_of (root_case x) d g) }
 
   fresh : (p : Presumption) → has (is_record_of (root_case (next_begun place n p))) (kept n) ≡ false
   fresh p = by_test (has (is_record_of (root_case (next_begun place n p))) (kept n)) refl
@@ -55,7 +57,8 @@ module _ (me : ProcessId) (tree : List TreeEntry) (net : List Envelope) (n : Nod
       by_test true e =
           let x = next_begun place n p in
           let own = begins.own_records (root_case x) (written (root_case x) e) in
-          not_given (boot_of (kept n)) (memory_of place n (some_case place)).begun x.sequence refl (begins.begun_once up x own.1.1).1
+          not_given (boot_of (kept n)) (memory_of place n (some_case place)).begun x.sequence refl
+          (begins.begun_once up x own.1.1).1
 
   pub root_fits : RootFits place n
   root_fits =

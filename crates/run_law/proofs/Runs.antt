@@ -42,15 +42,18 @@ module _ (tree : List TreeEntry) where
   abbrev at : ProcessId → Role → Place
   at q role = record { me = q; role = role; tree = tree }
 
-  holds_at : (es : List Made) (w : World) → IsRun tree es w → (q : ProcessId) (role : Role) → role_of tree q ≡ role → NodeHolds (at q role) w.net (w.at q)
+  holds_at : (es : List Made) (w : World) → IsRun tree es w → (q : ProcessId) (role : Role) → role_of tree q ≡ role
+      → NodeHolds (at q role) w.net (w.at q)
   holds_at es w run q role e = subst (λ (r : Role). NodeHolds (at q r) w.net (w.at q)) e (nodes_hold tree es w run q)
 
   -- what an acknowledgement may have left, at a coordinator below the root that is up
   abbrev Early : ProcessId → Node → Type 0
   Early q n = (p : ProcessId) → role_of tree q ≡ Below p → n.failed ≡ false → NoneEarly q p tree n
 
-  step_early : (net : List Envelope) (q p : ProcessId) (n : Node) → NodeHolds (cascaded_place q p tree) net n → JoinedOnce net
-      → (n.failed ≡ false → NoneEarly q p tree n) → (m : Move) (e : Effect) (k : Node) → StepOf (cascaded_place q p tree) n m e k → k.failed ≡ false → NoneEarly q p tree k
+  step_early : (net : List Envelope) (q p : ProcessId) (n : Node) → NodeHolds (cascaded_place q p tree) net n
+      → JoinedOnce net
+      → (n.failed ≡ false → NoneEarly q p tree n) → (m : Move) (e : Effect) (k : Node)
+      → StepOf (cascaded_place q p tree) n m e k → k.failed ≡ false → NoneEarly q p tree k
   step_early net q p n holds once old m _ _ (handled i g happens heard does) up = by_failed n.failed refl
     where
       by_failed : (b : Bool) → n.failed ≡ b → NoneEarly q p tree (after n (heard_in m i) g)
@@ -75,23 +78,30 @@ module _ (tree : List TreeEntry) where
       let x = m.step.process in
       subst (λ (z : World). Early q (z.at q)) (sym now.world)
       (put Early x q now.node w.at
-      (λ p role up. step_early w.net x p (w.at x) (holds_at es w run x (Below p) role) (tickets_have_one_case tree es w run)
+      (λ p role up. step_early w.net x p (w.at x) (holds_at es w run x (Below p) role)
+      (tickets_have_one_case tree es w run)
       (λ was. all_early es w run x p role was) m e now.node
-      (subst (λ (r : Role). StepOf (at x r) (w.at x) m e now.node) role (step_of (at x (role_of tree x)) (w.at x) m e now.node now.made)) up)
+      (subst (λ (r : Role). StepOf (at x r) (w.at x) m e now.node) role
+      (step_of (at x (role_of tree x)) (w.at x) m e now.node now.made)) up)
       (all_early es w run q))
 
   none_early : (q p : ProcessId) (n : Node) → NoneEarly q p tree n → (c : Case) (t : Ticket) (o : Outcome)
-      → (coordinator_view (cascaded_place q p tree) n c).standing ≡ standing.Prepared → in_list (promised_by c (kept n)) t ≡ true
+      → (coordinator_view (cascaded_place q p tree) n c).standing ≡ standing.Prepared
+      → in_list (promised_by c (kept n)) t ≡ true
       → has_acked (memory_of (cascaded_place q p tree) n c).acks o t ≡ false
   none_early q p n early c t o prepared named =
       let place = cascaded_place q p tree in
       let rs = kept n in
-      let open_so = prepared_undecided (has (is_end c) rs) (has (is_commit c) rs) (has (is_abort c) rs) (has (is_prepare c) rs) (has (is_collecting c) rs)
-      (none_of (owing_by c rs)) (phase_standing c.txn.presumption (memory_of place n c).phase) (phase_unprepared c.txn.presumption (memory_of place n c).phase)
+      let open_so = prepared_undecided (has (is_end c) rs) (has (is_commit c) rs) (has (is_abort c) rs)
+      (has (is_prepare c) rs) (has (is_collecting c) rs)
+      (none_of (owing_by c rs)) (phase_standing c.txn.presumption (memory_of place n c).phase)
+      (phase_unprepared c.txn.presumption (memory_of place n c).phase)
       (sym (viewed place n c) ∙ prepared) in
-      early c t o (sym (promised_so c t rs) ∙ named) (record { no_end = open_so.0; no_commit = open_so.1; no_abort = open_so.2 })
+      early c t o (sym (promised_so c t rs) ∙ named)
+      (record { no_end = open_so.0; no_commit = open_so.1; no_abort = open_so.2 })
 
-  cascade_fits : (net : List Envelope) (q p : ProcessId) (n : Node) → NodeHolds (cascaded_place q p tree) net n → JoinedOnce net → n.failed ≡ false
+  cascade_fits : (net : List Envelope) (q p : ProcessId) (n : Node) → NodeHolds (cascaded_place q p tree) net n
+      → JoinedOnce net → n.failed ≡ false
       → NoneEarly q p tree n → CascadeFits (cascaded_place q p tree) n
   cascade_fits net q p n holds once up early =
       record {
@@ -103,12 +113,16 @@ module _ (tree : List TreeEntry) where
         none_early = none_early q p n early;
       }
 
-  pub runs_fit : (es : List Made) (w : World) → IsRun tree es w → (q : ProcessId) → (w.at q).failed ≡ false → NodeFits (role_of tree q) (place_of tree q) (w.at q)
+  pub runs_fit : (es : List Made) (w : World) → IsRun tree es w → (q : ProcessId) → (w.at q).failed ≡ false
+      → NodeFits (role_of tree q) (place_of tree q) (w.at q)
   runs_fit es w run q up = by_role (role_of tree q) refl
     where
       by_role : (role : Role) → role_of tree q ≡ role → NodeFits (role_of tree q) (at q (role_of tree q)) (w.at q)
-      by_role AtRoot e = subst (λ (r : Role). NodeFits r (at q r) (w.at q)) (sym e) (root_fits q tree w.net (w.at q) (holds_at es w run q AtRoot e) up)
+      by_role AtRoot e = subst (λ (r : Role). NodeFits r (at q r) (w.at q)) (sym e)
+          (root_fits q tree w.net (w.at q) (holds_at es w run q AtRoot e) up)
       by_role (Below p) e =
           subst (λ (r : Role). NodeFits r (at q r) (w.at q)) (sym e)
-          (cascade_fits w.net q p (w.at q) (holds_at es w run q (Below p) e) (tickets_have_one_case tree es w run) up (all_early es w run q p e up))
-      by_role (AtLeaf p) e = subst (λ (r : Role). NodeFits r (at q r) (w.at q)) (sym e) (leaf_fits q p tree w.net (w.at q) (holds_at es w run q (AtLeaf p) e) up)
+          (cascade_fits w.net q p (w.at q) (holds_at es w run q (Below p) e) (tickets_have_one_case tree es w run) up
+          (all_early es w run q p e up))
+      by_role (AtLeaf p) e = subst (λ (r : Role). NodeFits r (at q r) (w.at q)) (sym e)
+          (leaf_fits q p tree w.net (w.at q) (holds_at es w run q (AtLeaf p) e) up)
