@@ -31,7 +31,7 @@ use std::alloc::{AllocError, Global};
 use std::marker::Model;
 use std::{mem, slice};
 use thiserror::Error;
-use tree_model::{Bytes, Kind};
+use tree_model::{Bytes, Kind, LogRecord};
 use xa_codes::{Code, Flags};
 use xa_manager::WorkError;
 use xa_tables::{BranchState, Call, Verb};
@@ -106,6 +106,13 @@ impl<L: LogStore> KvManager<L> {
         ensures { result ≡ self.now.boot }
     {
         self.boot
+    }
+
+    /// The records of its log, as a list made anew.
+    pub fn records(&self) -> Result<Vec<LogRecord>, AllocError>
+        ensures { IfOk result (λ records. records.items ≡ records_of self.now.log.sight.kept) }
+    {
+        self.log.records(self.alloc)
     }
 
     /// Whether its device has failed: it answers nothing until a restart.

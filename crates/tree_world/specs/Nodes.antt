@@ -15,17 +15,21 @@ use Rattle.rec_log.specs.Sights.{records_of}
 use Rattle.core_model.specs.States.{CoreState}
 use Rattle.core_model.specs.Makes.{IsBroken, NotMade}
 use Rattle.coord_core.specs.States as coordinators
+use Rattle.kv_manager.specs.Resources.{sight_of}
+use Rattle.sub_core.specs.Steps as managers
 use Rattle.world_law.specs.Worlds.{HandlesInput, RefusesAt, SameNode}
 use Rattle.tree_world.specs.declared.node.Node.{Node}
-use Rattle.tree_world.specs.declared.node.Node.TheVariants.{Coordinator}
+use Rattle.tree_world.specs.declared.node.Node.TheVariants.{Coordinator, Manager}
 
 -- what a process keeps
 abbrev pub core_of : {L : Type 0} → Node L → CoreState
 core_of (Coordinator c) = coordinators.state c
+core_of (Manager m) = managers.state sight_of m
 
 -- how many cases are live at a process
 abbrev pub live_at : {L : Type 0} → Node L → ℕ
 live_at (Coordinator c) = live_count c.slots
+live_at (Manager m) = live_count m.table.branches
 
 -- the process with this name
 abbrev pub node_in : {L : Type 0} → List (ProcessId × Node L) → ProcessId → Option (Node L)

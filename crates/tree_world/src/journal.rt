@@ -1,9 +1,10 @@
 //! The messages that were sent, and the steps that were made.
 
-ghost use Rattle.std.specs.Prelude.{◌≡◌, ◌+◌, ◌<◌, ◌≤◌, ◌^◌, ◌++◌, ◌∷◌, [], ℕ, true, Err, Ok, IfErr, IfNone, IfOk, IfSome, OnOk, ◌⊎◌, option_map};
+ghost use Rattle.std.specs.Prelude.{◌≡◌, ◌+◌, ◌<◌, ◌≤◌, ◌^◌, ◌++◌, ◌∷◌, [], ℕ, false, true, Err, Ok, IfErr, IfNone, IfOk, IfSome, OnOk, ◌⊎◌, option_map};
 ghost use Rattle.std.specs.Option.{option_copied};
 ghost use Rattle.std.specs.Vec.{vec_capacity, vec_len};
 ghost use Rattle.tree_model.specs.declared.events.Reaction.{Reaction as AnyReaction};
+ghost use Rattle.sub_core.specs.Steps.{is_decision};
 ghost use Rattle.tree_model.specs.Plays.{sent_as};
 ghost use Rattle.world_law.specs.Worlds.{entry_at, least_open as least_open_in, undelivered};
 ghost use Rattle.tree_world.specs.Journals.{AreNamed, Enters, IsReady, Keeps, last_messages as last_messages_of, marked_by, messages_of, names, taken_up};
@@ -104,6 +105,7 @@ impl Journal {
     pub(crate) fn take_message(&mut self, number: u64) -> Result<Option<(ProcessId, Input)>, AllocError>
         ensures keeps { Keeps self.old self.new }
         ensures ready { OnOk result (IsReady self.new) }
+        ensures message { IfOk result (λ found. IfSome found (λ f. is_decision f.1 ≡ false)) }
         ensures taken { IfOk result (λ found. found ≡ option_map (taken_up number) (sent_as self.old.net number)) }
     {
         self.make_room()?;

@@ -1,15 +1,19 @@
 //! One process of a tree, of either kind.
 
-ghost use Rattle.std.specs.Prelude.{◌≡◌, IfErr, IfOk, IsTrue};
+ghost use Rattle.std.specs.Prelude.{◌≡◌, false, IfErr, IfOk, IsTrue};
 ghost use Rattle.rec_log.specs.Sights.{records_of};
 ghost use Rattle.core_model.specs.States.{HasNumbers};
 ghost use Rattle.coord_core.specs.States.{state as coordinator_state};
+ghost use Rattle.kv_manager.specs.Resources.{sight_of};
+ghost use Rattle.sub_core.specs.Steps.{is_decision, state as manager_state};
 ghost use Rattle.world_law.specs.Worlds.{HandlesInput};
 ghost use Rattle.tree_world.specs.Nodes.{NotHandled, core_of, live_at};
 
 use coord_core::Coordinator;
+use kv_manager::KvManager;
 use log_store::LogStore;
 use std::alloc::AllocError;
+use sub_core::Subordinate;
 use tree_model::{Input, LogRecord, Reaction, StepError};
 
 /// One process of a tree, over its log in a store.
@@ -17,6 +21,8 @@ use tree_model::{Input, LogRecord, Reaction, StepError};
 pub enum Node<L: LogStore> {
     /// The root, or a coordinator below it.
     Coordinator(Coordinator<L>),
+    /// A process below a parent, with a key store.
+    Manager(Subordinate<KvManager<L>>),
 }
 
 impl<L: LogStore> Node<L> {
@@ -27,6 +33,7 @@ impl<L: LogStore> Node<L> {
     {
         match self {
             Node::Coordinator(coordinator) => coordinator.has_numbers(),
+            Node::Manager(manager) => manager.has_numbers(),
         }
     }
 
@@ -36,6 +43,7 @@ impl<L: LogStore> Node<L> {
     {
         match self {
             Node::Coordinator(coordinator) => coordinator.live(),
+            Node::Manager(manager) => manager.live(),
         }
     }
 
@@ -45,6 +53,7 @@ impl<L: LogStore> Node<L> {
     {
         match self {
             Node::Coordinator(coordinator) => coordinator.failed(),
+            Node::Manager(manager) => manager.failed(),
         }
     }
 
@@ -54,24 +63,29 @@ impl<L: LogStore> Node<L> {
     {
         match self {
             Node::Coordinator(coordinator) => coordinator.records(),
+            Node::Manager(manager) => manager.manager().records(),
         }
     }
 
-    /// Handles an input. The refusals of the reaction table, as `StepError` says them, change nothing, nor does Memory.
+    /// Handles an input, which is no operator's decision. The refusals of the reaction table, as `StepError` says them,
+    /// change nothing, nor does Memory.
     /// Device: the device failed under the record of the input, which stands or not, and the process answers Failed until
     /// its restart.
     pub fn step(&mut self, input: &Input) -> Result<Reaction, StepError>
-        requires { HasNumbers (core_of self.old) }
+        requires numbers { HasNumbers (core_of self.old) }
+        requires undecided { is_decision input.now ≡ false }
         ensures ok { IfOk result (HandlesInput (core_of self.old) (core_of self.new) input.now) }
         ensures err { IfErr result (NotHandled (core_of self.old) (core_of self.new) input.now) }
     {
         match self {
             Node::Coordinator(coordinator) => step_coordinator(coordinator, input),
+            Node::Manager(manager) => step_manager(manager, input),
         }
     }
 
     /// The same, and Memory where no numbers are left, by which nothing changed.
     pub(crate) fn handle(&mut self, input: &Input) -> Result<Reaction, StepError>
+        requires { is_decision input.now ≡ false }
         ensures ok { IfOk result (HandlesInput (core_of self.old) (core_of self.new) input.now) }
         ensures err { IfErr result (NotHandled (core_of self.old) (core_of self.new) input.now) }
     {
@@ -92,4 +106,17 @@ fn step_coordinator<L: LogStore>(
     ensures err { IfErr result (NotHandled (coordinator_state coordinator.old) (coordinator_state coordinator.new) input.now) }
 {
     coordinator.step(input)
+}
+
+/// A manager handles an input; its data answer.
+fn step_manager<L: LogStore>(
+    manager: &mut Subordinate<KvManager<L>>,
+    input: &Input,
+) -> Result<Reaction, StepError>
+    requires numbers { HasNumbers (manager_state sight_of manager.old) }
+    requires undecided { is_decision input.now ≡ false }
+    ensures ok { IfOk result (HandlesInput (manager_state sight_of manager.old) (manager_state sight_of manager.new) input.now) }
+    ensures err { IfErr result (NotHandled (manager_state sight_of manager.old) (manager_state sight_of manager.new) input.now) }
+{
+    manager.step(input)
 }

@@ -1,6 +1,7 @@
 //! The processes of a tree.
 
-ghost use Rattle.std.specs.Prelude.{◌≡◌, IfErr, IfOk, option_map};
+ghost use Rattle.std.specs.Prelude.{◌≡◌, false, IfErr, IfOk, option_map};
+ghost use Rattle.sub_core.specs.Steps.{is_decision};
 ghost use Rattle.tree_world.specs.Nodes.{NoStepAt, StepsAt, live_at, log_by, node_in, nodes_at};
 
 use crate::node::Node;
@@ -18,6 +19,7 @@ pub(crate) struct Nodes<L: LogStore> {
 impl<L: LogStore> Nodes<L> {
     /// A process handles an input. NoSuch: there is no such process. Memory also comes where its numbers are used up.
     pub(crate) fn step(&mut self, process: ProcessId, input: &Input) -> Result<Reaction, StepError>
+        requires { is_decision input.now ≡ false }
         ensures ok { IfOk result (StepsAt (nodes_at self.old.nodes.entries) (nodes_at self.new.nodes.entries) process input.now) }
         ensures err { IfErr result (NoStepAt (nodes_at self.old.nodes.entries) (nodes_at self.new.nodes.entries) process input.now) }
     {

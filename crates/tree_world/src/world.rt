@@ -1,6 +1,7 @@
 //! The tree that runs.
 
-ghost use Rattle.std.specs.Prelude.{◌≡◌, ◌<◌, [], true, All, IfErr, IfOk, OnOk, length, map, option_map};
+ghost use Rattle.std.specs.Prelude.{◌≡◌, ◌<◌, [], false, true, All, IfErr, IfOk, OnOk, length, map, option_map};
+ghost use Rattle.sub_core.specs.Steps.{is_decision};
 ghost use Rattle.tree_model.specs.Plays.{process_of_act};
 ghost use Rattle.world_law.specs.Worlds.{Applies, Stops, Steps, is_run_event as is_run_event_of};
 ghost use Rattle.world_law.specs.Runs.{Leads, LeadsUntil};
@@ -164,7 +165,9 @@ impl<L: LogStore> World<L> {
     }
 
     /// What an application asks.
+    #[tactic(auto, using(crate::proofs::Handling::undecided))]
     fn act(&mut self, act: &Act) -> Result<(), StepError>
+        requires { is_run_event_of (Event.Act act.now) ≡ true }
         ensures ok { OnOk result (Applies (state self.old) (Event.Act act.now) (state self.new)) }
         ensures err { IfErr result (λ e. Stops (state self.old) (Event.Act act.now) e (state self.new)) }
     {
@@ -200,7 +203,8 @@ impl<L: LogStore> World<L> {
 
     /// A process handles an input, for whose step there is room.
     fn handle(&mut self, process: ProcessId, input: Input) -> Result<(), StepError>
-        requires { IsReady self.old.journal }
+        requires ready { IsReady self.old.journal }
+        requires undecided { is_decision input ≡ false }
         ensures ok { OnOk result (Steps (state self.old) (state self.new) process input (marked_by input (state self.old).delivered)) }
         ensures err { IfErr result (NotTaken (state self.old) (state self.new) process input) }
     {
