@@ -1,1 +1,2 @@
+pub mod FlatTrees
 pub mod TreeReports

@@ -1,27 +1,23 @@
 //! The engine of tree scripts.
 
-ghost use Rattle.std.specs.Prelude.{◌≡◌, ◌++◌, ℕ, List, All, IfOk, IfErr, OnOk, string_bytes, true};
-ghost use Rattle.tree_model.specs.Trees.{IsTree};
+ghost use Rattle.std.specs.Prelude.{◌≡◌, ◌++◌, ℕ, List, IfOk, IfErr, OnOk, string_bytes};
+ghost use Rattle.tree_model.specs.Trees.{root_of};
 ghost use Rattle.std.specs.Io.KnownBytes.{Appends, Keeps};
 ghost use Rattle.trace_lines.specs.Trace.{entries_text};
-ghost use Rattle.world_law.specs.Worlds.{is_run_event};
-ghost use Rattle.world_law.specs.Runs.{IsOpened};
-ghost use Rattle.tree_world.specs.Worlds.{state};
+ghost use Rattle.flat_law.specs.FlatWorlds.{IsOpened};
+ghost use Rattle.flat_law.specs.Ties.{IsFlatTree, IsModelled};
+ghost use Rattle.flat_world.specs.Worlds.{state};
 ghost use Rattle.report_io.specs.declared.status.Status.{Status as AnyStatus};
 ghost use Rattle.report_io.specs.Streams.{IsInput, WritesFront};
-ghost use Rattle.tree_engine.specs.Trees.{Agrees, Consents, IsNumbered, IsOne, IsTreeReport, KeepsHeadline, Plays, ending, fault_text, last_line, opened_text, opening_text, refused_text, trace_of};
+ghost use Rattle.tree_engine.specs.Trees.{Agrees, AgreesAndConsents, Consents, IsNumbered, IsOne, IsTreeReport, Plays, ending, fault_text, last_line, opened_text, opening_text, refused_text, trace_of};
 
+use flat_world::FlatWorld;
 use link_script::{ScriptError, ScriptFault, Stage, read};
-use log_store::MemoryStore;
 use report_io::{Failure, Status, read_all, write_all};
 use std::alloc::{AllocError, Global};
 use std::io::{Read, Write};
 use trace_lines::push_entry;
 use tree_model::{Entry, Event, StepError, Tree, TreeEntry};
-use tree_world::World;
-
-/// A tree whose logs are in memory.
-type Played = World<MemoryStore>;
 
 /// How many events were made, and why the next was refused; or none was.
 type Refusal = Option<(usize, StepError)>;
@@ -30,9 +26,9 @@ type Refusal = Option<(usize, StepError)>;
 /// event ends the trace by its number and why it was refused.
 ///
 /// The trace is that of the run of just the script's events in the model; a refused event is one that the model refuses by
-/// that number. Of this run the headline holds: no two processes end one transaction differently, commit is decided only where
-/// every participant voted yes or read-only, and each answer that finds its asker in doubt tells the root's outcome (R*).
-/// After a failed read, or where memory is refused, nothing was written; after a failed write, a beginning of the text.
+/// that number. In this run no two processes end one transaction differently, and commit is decided only where every
+/// participant voted yes or read-only (R*). After a failed read, or where memory is refused,
+/// nothing was written; after a failed write, a beginning of the text.
 pub fn run_tree<R: Read, W: Write>(
     alloc: Global,
     reader: &mut R,
@@ -47,11 +43,8 @@ pub fn run_tree<R: Read, W: Write>(
     ensures commit_rule { IfOk result (λ status. (input : List ℕ) × (text : List ℕ)
         × IsInput (R.remaining reader.old) input × IsTreeReport Consents status input text
         × Appends (W.contents writer.old) (W.contents writer.new) text) }
-    ensures headline { IfOk result (λ status. (input : List ℕ) × (text : List ℕ)
-        × IsInput (R.remaining reader.old) input × IsTreeReport KeepsHeadline status input text
-        × Appends (W.contents writer.old) (W.contents writer.new) text) }
     ensures cut { IfErr result (λ e. e ≡ Failure.Write → (input : List ℕ) × (text : List ℕ) × (status : AnyStatus)
-        × IsInput (R.remaining reader.old) input × IsTreeReport KeepsHeadline status input text
+        × IsInput (R.remaining reader.old) input × IsTreeReport AgreesAndConsents status input text
         × WritesFront (W.contents writer.old) (W.contents writer.new) text) }
     ensures unread { IfErr result (λ e. e ≡ Failure.Read → Keeps (W.contents writer.old) (W.contents writer.new)) }
     ensures memory { IfErr result (λ e. e ≡ Failure.Memory → Keeps (W.contents writer.old) (W.contents writer.new)) }
@@ -66,7 +59,7 @@ pub fn run_tree<R: Read, W: Write>(
 
 /// The answer to an input.
 fn report(alloc: Global, input: &[u8]) -> Result<(Vec<u8>, Status), Failure>
-    ensures report { IfOk result (λ r. IsTreeReport KeepsHeadline r.1 input.now r.0.items) }
+    ensures report { IfOk result (λ r. IsTreeReport AgreesAndConsents r.1 input.now r.0.items) }
     ensures memory { IfErr result (λ e. e ≡ Failure.Memory) }
 {
     match read(alloc, Stage::Flat, input) {
@@ -110,38 +103,37 @@ fn refusal_line(alloc: Global, fault: ScriptFault) -> Result<String, AllocError>
 }
 
 /// Opens the tree.
-fn opened(alloc: Global, tree: Tree) -> Result<Played, Failure>
-    requires { IsTree tree }
-    ensures opened { IfOk result (λ world. IsOpened (state world) tree) }
-    ensures memory { IfErr result (λ e. e ≡ Failure.Memory) }
+fn opened(alloc: Global, tree: Tree) -> Result<FlatWorld, AllocError>
+    ensures opened { IfOk result (λ world. IsOpened (state world) (root_of tree) tree) }
+    ensures modelled { IfOk result (λ world. IsFlatTree (root_of tree) tree → IsModelled (root_of tree) tree (state world)) }
 {
-    match World::new(alloc, tree) {
-        Ok(world) => Ok(world),
-        Err(_) => Err(Failure::Memory),
-    }
+    FlatWorld::new(alloc, tree.root(), tree)
 }
 
-/// Runs these events on the tree: what it comes to, and how many events were made and why the next was refused. A store in
-/// memory has no device that could fail: where one did, it would be taken for want of memory.
-fn play(alloc: Global, tree: Tree, events: &[Event]) -> Result<(Played, Refusal), Failure>
-    requires tree { IsTree tree }
-    requires run { All (λ e. is_run_event e ≡ true) events.now }
+/// Runs these events on the tree: what it comes to, and how many events were made and why the next was refused.
+fn play(alloc: Global, tree: Tree, events: &[Event]) -> Result<(FlatWorld, Refusal), Failure>
+    requires { IsFlatTree (root_of tree) tree }
     ensures plays { IfOk result (λ r. Plays tree events.now r.1 (state r.0)) }
+    ensures modelled { IfOk result (λ r. IsModelled (root_of tree) tree (state r.0)) }
     ensures numbered { IfOk result (λ r. IsNumbered r.1) }
     ensures memory { IfErr result (λ e. e ≡ Failure.Memory) }
 {
     let mut world = opened(alloc, tree)?;
     match world.run(events) {
         Ok(()) => Ok((world, None)),
-        Err((_, StepError::Memory | StepError::Device)) => Err(Failure::Memory),
-        Err(refused) => Ok((world, Some(refused))),
+        Err(refused) => {
+            if refused.1 == StepError::Memory {
+                return Err(Failure::Memory);
+            }
+            Ok((world, Some(refused)))
+        }
     }
 }
 
 /// The trace of what the tree has come to, and how its run ended.
-fn trace(alloc: Global, world: &Played, refusal: Refusal) -> Result<(Vec<u8>, Status), Failure>
+fn trace(alloc: Global, world: &FlatWorld, refusal: Refusal) -> Result<(Vec<u8>, Status), Failure>
     requires { IsNumbered refusal }
-    ensures text { IfOk result (λ r. r.0.items ≡ trace_of (state world.now) ++ last_line refusal) }
+    ensures text { IfOk result (λ r. r.0.items ≡ (let w = state world.now in trace_of w.root.tree w ++ last_line refusal)) }
     ensures status { IfOk result (λ r. r.1 ≡ ending refusal) }
     ensures memory { IfErr result (λ e. e ≡ Failure.Memory) }
 {
