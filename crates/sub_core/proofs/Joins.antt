@@ -69,7 +69,7 @@ pub issued : (s new : SubState) (d : Case) → ticket_in s.table d ≡ None → 
 issued s new d ungiven j =
     let ls : List Envelope = post s.me s.parent (Joined d (next_ticket (core_of s))) ∷ [] in
     let is : turn_by s d (starts s.manager (xid_of s (next_case s d))) (ticket_in s.table d)
-        ≡ Issues d (next_ticket (core_of s)) (post s.me s.parent (Joined d (next_ticket (core_of s)))) =
+    ≡ Issues d (next_ticket (core_of s)) (post s.me s.parent (Joined d (next_ticket (core_of s)))) =
     ap (turn_by s d (starts s.manager (xid_of s (next_case s d)))) ungiven ∙ ap (λ b. turn_by s d b None) j.0 in
     record {
       turns = λ k.

@@ -77,7 +77,12 @@ impl<M: ResourceManager> Subordinate<M> {
         ensures err { IfErr result (NotHeard (seen M.sight self.old) (seen M.sight self.new) (message.Join case)) }
     {
         let ticket = self.next_ticket();
-        let joined = reply(self.me, self.parent, Message::Joined(case, ticket), self.alloc)?;
+        let joined = reply(
+            self.me,
+            self.parent,
+            Message::Joined(case, ticket),
+            self.alloc,
+        )?;
         if self.start(case, ticket)? {
             Ok(joined)
         } else {

@@ -66,9 +66,10 @@ stepped es fs q i before behind (Err e) stood stands others handles = tt
 -- the process refused it
 refused_at : (old new : ProcessId → Option CoreState) (q : ProcessId) (i : Input) (e : StepError) (s t : CoreState) (a : DataAnswer)
     → MovesAt old new q s t → IsRefused s t a i e → SameNodes old new × RefusesAt (old q) i e
-refused_at old new q i e s t a moves refused =
-    (same_nodes old new q s t moves refused.same,
-     subst (λ o. RefusesAt o i e) (sym moves.stood) (a, refused.found, refused.finds, refused.refuses))
+refused_at old new q i e s t a moves refused = (
+  same_nodes old new q s t moves refused.same,
+  subst (λ o. RefusesAt o i e) (sym moves.stood) (a, refused.found, refused.finds, refused.refuses),
+)
 
 -- why it handled none
 stopped_by : (old new : ProcessId → Option CoreState) (q : ProcessId) (i : Input) (e : StepError) (s t : CoreState)

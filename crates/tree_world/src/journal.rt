@@ -102,7 +102,10 @@ impl Journal {
     }
 
     /// The message with this number once more, with its receiver and room for its step; None where no message has it.
-    pub(crate) fn take_message(&mut self, number: u64) -> Result<Option<(ProcessId, Input)>, AllocError>
+    pub(crate) fn take_message(
+        &mut self,
+        number: u64,
+    ) -> Result<Option<(ProcessId, Input)>, AllocError>
         ensures keeps { Keeps self.old self.new }
         ensures ready { OnOk result (IsReady self.new) }
         ensures message { IfOk result (λ found. IfSome found (λ f. is_decision f.1 ≡ false)) }
@@ -207,7 +210,11 @@ impl Journal {
         let count = last_messages(&self.entries).len();
         self.posted.reserve(count)?;
         self.delivered.extend(count)?;
-        name_all(&mut self.posted, self.entries.len().saturating_sub(1), count);
+        name_all(
+            &mut self.posted,
+            self.entries.len().saturating_sub(1),
+            count,
+        );
         self.is_posted = true;
         Ok(())
     }

@@ -40,7 +40,11 @@ impl<L: LogStore> Nodes<L> {
     }
 
     /// The records of a process's log; none, where there is no such process.
-    pub(crate) fn records(&self, alloc: Global, process: ProcessId) -> Result<Vec<LogRecord>, AllocError>
+    pub(crate) fn records(
+        &self,
+        alloc: Global,
+        process: ProcessId,
+    ) -> Result<Vec<LogRecord>, AllocError>
         ensures { IfOk result (λ records. records.items ≡ log_by (nodes_at self.now.nodes.entries process)) }
     {
         match self.nodes.get(&process) {

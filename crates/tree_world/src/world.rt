@@ -13,9 +13,7 @@ use crate::journal::Journal;
 use crate::nodes::Nodes;
 use log_store::LogStore;
 use std::alloc::{AllocError, Global};
-use tree_model::{
-    Act, Entry, Envelope, Event, Input, LogRecord, ProcessId, StepError, Tree,
-};
+use tree_model::{Act, Entry, Envelope, Event, Input, LogRecord, ProcessId, StepError, Tree};
 
 /// At most so many messages are delivered by one settle.
 const SETTLE_LIMIT: u32 = 10_000;

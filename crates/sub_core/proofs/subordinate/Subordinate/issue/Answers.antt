@@ -18,7 +18,7 @@ returns-clause-ok g c =
     ∙ ap (λ (t : Ticket). shown [] (post c.self.inside.me c.self.inside.parent (Joined c.args.case t) ∷ [])) c.next_ticket-ticket.ensures
     ∙ ap (λ v. shown [] (post v.me v.parent (Joined c.args.case (next_ticket (core_of old))) ∷ [])) c.self.view_is in
     elim c.if-branch.branch [
-      then-branch w ↦
+      | then-branch w ↦
           subst (λ r. IfOk r (Hears old new (Join c.args.case))) (sym w.result-is)
           (subst (λ (r : Reaction). Hears old new (Join c.args.case) r) (sym said)
           (issued old new c.args.case c.requires.ungiven (subst (λ b. Joins old new c.args.case b) w.if-branch.true c.in_ok-start.ensures.ok)))
