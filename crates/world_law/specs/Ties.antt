@@ -28,10 +28,6 @@ pub record GoesOn (es : List Made) (w : World) (s : WorldState) : Type 0 where
   pub leads : Continues s.tree w later world
   pub follows : Follows (later ++ es) world s
 
--- where the old state stands for a run, the new one stands for one that goes on from it
-abbrev pub RunsOn : WorldState → WorldState → Type 0
-RunsOn old new = (es : List Made) (w : World) → Follows es w old → GoesOn es w new
-
 -- the state stands for a run of the model, and the headline holds of it
 pub record IsModelled (s : WorldState) : Type 0 where
   pub moves : List Made
