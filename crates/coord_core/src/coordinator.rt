@@ -5,7 +5,8 @@ ghost use Rattle.live_table.specs.Tables.{AreApart, live_count};
 ghost use Rattle.tree_model.specs.Memory.{ticket_of_child};
 ghost use Rattle.coord_table.specs.Cases.{FitsGiven, ticket_in, view_in};
 ghost use Rattle.coord_turns.specs.Takes.{IsAt};
-ghost use Rattle.rec_log.specs.Sights.{records_of};
+ghost use Rattle.tree_model.specs.declared.names.Kind.TheVariants as kind;
+ghost use Rattle.rec_log.specs.Sights.{ReadsAs, records_of};
 ghost use Rattle.core_model.specs.States.{HasNumbers};
 ghost use Rattle.coord_core.specs.States.{state};
 ghost use Rattle.coord_core.specs.Meets.{FindsAt, FindsLive};
@@ -91,6 +92,13 @@ impl<L: LogStore> Coordinator<L> {
         ensures { result ≡ (state self.now).log.failed }
     {
         self.log.failed()
+    }
+
+    /// The bytes of its log, as a list made anew. Behind a failure of the device a torn frame may stand at the end.
+    pub fn log_text(&self) -> Result<Vec<u8>, AllocError>
+        ensures { IfOk result (λ text. ReadsAs kind.Coordinator text.items (records_of (state self.now).log.kept) (state self.now).log.failed) }
+    {
+        self.log.text(self.alloc)
     }
 
     /// The records of its log, as a list made anew.

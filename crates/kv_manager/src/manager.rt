@@ -13,7 +13,7 @@ ghost use Rattle.kv_manager.specs.Sights.{IsLogged, SameManager};
 ghost use Rattle.manager_model.specs.Opening.{IsNew};
 ghost use Rattle.log_text.specs.Made.{frame_record};
 ghost use Rattle.log_text.specs.Payloads.{record_text};
-ghost use Rattle.rec_log.specs.Sights.{IsRecord, Restarts, left_by, records_of};
+ghost use Rattle.rec_log.specs.Sights.{IsRecord, ReadsAs, Restarts, left_by, records_of};
 ghost use Rattle.tree_model.specs.declared.names.Kind.TheVariants as kind;
 ghost use Rattle.kv_writes.specs.Writes.{writes_of};
 ghost use Rattle.kv_turns.specs.Turns.{applies, entry_record};
@@ -106,6 +106,13 @@ impl<L: LogStore> KvManager<L> {
         ensures { result ≡ self.now.boot }
     {
         self.boot
+    }
+
+    /// The bytes of its log, as a list made anew. Behind a failure of the device a torn frame may stand at the end.
+    pub fn log_text(&self) -> Result<Vec<u8>, AllocError>
+        ensures { IfOk result (λ text. ReadsAs kind.Manager text.items (records_of self.now.log.sight.kept) self.now.log.sight.failed) }
+    {
+        self.log.text(self.alloc)
     }
 
     /// The records of its log, as a list made anew.

@@ -15,28 +15,27 @@ use Rattle.toml.specs.declared.value.Value.{Value}
 use Rattle.toml.specs.Data.{Data, Members, no_members, member, get_member, array}
 use Rattle.toml.specs.View.{view, items_view, members_view}
 use Rattle.tree_model.specs.declared.trees.TreeEntry.{TreeEntry}
-use Rattle.link_script.specs.declared.stage.Stage.{Stage}
 use Rattle.link_script.specs.Documents.{IsProcess, AreProcesses, IsTable}
 
-are_push : {stage : Stage} (vs : List Value) (es : List TreeEntry) (v : Value) (e : TreeEntry)
-    → AreProcesses stage (items_view vs) es → IsProcess stage (view v) e
-    → AreProcesses stage (items_view (vs ++ v ∷ [])) (es ++ e ∷ [])
+are_push : (vs : List Value) (es : List TreeEntry) (v : Value) (e : TreeEntry)
+    → AreProcesses (items_view vs) es → IsProcess (view v) e
+    → AreProcesses (items_view (vs ++ v ∷ [])) (es ++ e ∷ [])
 are_push [] [] v e h p = (p, tt)
 are_push [] (x ∷ es) v e h p = absurd h
 are_push (w ∷ vs) [] v e h p = absurd h
 are_push (w ∷ vs) (x ∷ es) v e h p = (h.0, are_push vs es v e h.1 p)
 
 -- one more value is one more process
-pub are_more : {stage : Stage} (vs : List Value) (ps qs : List TreeEntry) (i : ℕ) (v : Value) (p : TreeEntry)
-    → i < length vs → v ≡ get_or vs i v → qs ≡ ps ++ p ∷ [] → AreProcesses stage (items_view (take i vs)) ps
-    → IsProcess stage (view v) p → AreProcesses stage (items_view (take (i + 1) vs)) qs
+pub are_more : (vs : List Value) (ps qs : List TreeEntry) (i : ℕ) (v : Value) (p : TreeEntry)
+    → i < length vs → v ≡ get_or vs i v → qs ≡ ps ++ p ∷ [] → AreProcesses (items_view (take i vs)) ps
+    → IsProcess (view v) p → AreProcesses (items_view (take (i + 1) vs)) qs
 are_more vs ps qs i v p lt is made h here =
     rw (made, take_more vs i v lt, ← is) (are_push (take i vs) ps v p h here)
 
 -- a value that is no process spoils the list
-pub none_at : {stage : Stage} (vs : List Value) (i : ℕ) (v : Value) → i < length vs → v ≡ get_or vs i v
-    → ((p : TreeEntry) → IsProcess stage (view v) p → ⊥) → (es : List TreeEntry)
-    → AreProcesses stage (items_view vs) es → ⊥
+pub none_at : (vs : List Value) (i : ℕ) (v : Value) → i < length vs → v ≡ get_or vs i v
+    → ((p : TreeEntry) → IsProcess (view v) p → ⊥) → (es : List TreeEntry)
+    → AreProcesses (items_view vs) es → ⊥
 none_at [] i v lt is none es h = absurd (omega arith)
 none_at (w ∷ vs) i v lt is none [] h = h
 none_at (w ∷ vs) zero v lt is none (e ∷ es) h = none e (rw is h.0)
@@ -92,8 +91,8 @@ pub only_none : (k : List ℕ) (r : Option (Bor Value)) (es : List (String Globa
 only_none k None es e self = λ d is. absurd (let found : None ≡ Some d = e ∙ found_again k es d self is in cc)
 only_none k (Some v) es e self = tt
 
-pub spoiled : (stage : Stage) (es : List (String Global × Value)) → (length es ≡ 0 → ⊥)
+pub spoiled : (es : List (String Global × Value)) → (length es ≡ 0 → ⊥)
     → ((d : Data) → members_view es ≡ single (codes "process") d → ⊥) → (xs : List TreeEntry)
-    → IsTable stage (members_view es) xs → ⊥
-spoiled stage [] some none xs h = some refl
-spoiled stage (m ∷ es) some none xs h = none (array h.0) h.1
+    → IsTable (members_view es) xs → ⊥
+spoiled [] some none xs h = some refl
+spoiled (m ∷ es) some none xs h = none (array h.0) h.1

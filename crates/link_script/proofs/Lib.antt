@@ -6,5 +6,5 @@ pub mod Asked
 pub mod Misses
 pub mod NameLaws
 pub mod LineLaws
-pub mod Placed
+pub mod Faults
 pub mod Admitted

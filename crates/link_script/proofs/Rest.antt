@@ -19,7 +19,6 @@ use Rattle.xa_xid.specs.Words.{cut_at}
 use Rattle.xa_xid.proofs.Cuts.{cut_takes, some_is, drop_past}
 use Rattle.link_script.specs.Rules.{pieces, is_rule, last_rule, rule_or, around_rule}
 use Rattle.tree_model.specs.declared.trees.TreeEntry.{TreeEntry}
-use Rattle.link_script.specs.declared.stage.Stage.{Stage}
 use Rattle.link_script.specs.Documents.{IsTreeText}
 use Rattle.link_script.specs.Inputs.{HasTreeText}
 use Rattle.trace_lines.specs.Trace.{line_text, lines_text}
@@ -254,14 +253,14 @@ lines_few text = omega (
 )
 
 -- there is one tree text
-pub no_tree : {stage : Stage} (bytes document : List ℕ) (fronts behind : List (List ℕ))
+pub no_tree : (bytes document : List ℕ) (fronts behind : List (List ℕ))
     → around_rule (pieces bytes) ≡ Some (both fronts behind)
-    → document ≡ lines_text fronts → ((es : List TreeEntry) → IsTreeText stage document es → ⊥)
-    → (fs bs : List (List ℕ)) (tree : List TreeEntry) → HasTreeText stage bytes fs bs tree → ⊥
-no_tree {stage = stage} bytes document fronts behind rule is none fs bs tree h =
+    → document ≡ lines_text fronts → ((es : List TreeEntry) → IsTreeText document es → ⊥)
+    → (fs bs : List (List ℕ)) (tree : List TreeEntry) → HasTreeText bytes fs bs tree → ⊥
+no_tree bytes document fronts behind rule is none fs bs tree h =
     let same : both fronts behind ≡ both fs bs =
     some_is (both fronts behind) (both fs bs) (sym rule ∙ h.rule) in
-    let text : IsTreeText stage (lines_text fs) tree = h.tree_text in
+    let text : IsTreeText (lines_text fs) tree = h.tree_text in
     let one : lines_text fs ≡ document = ap (λ (p : List (List ℕ) × List (List ℕ)). lines_text p.0) (sym same)
     ∙ sym is in
     none tree (rw one at text)

@@ -7,8 +7,6 @@ use Rattle.tree_model.specs.declared.names.ProcessId.{ProcessId}
 use Rattle.tree_model.specs.declared.names.Kind.{Kind}
 use Rattle.tree_model.specs.declared.names.Kind.TheVariants.{Coordinator, Manager}
 use Rattle.tree_model.specs.declared.trees.TreeEntry.{TreeEntry}
-use Rattle.link_script.specs.declared.stage.Stage.{Stage}
-use Rattle.link_script.specs.Stages.{places}
 
 -- how a kind of process is written
 abbrev pub kind_text : Kind → List ℕ
@@ -55,28 +53,27 @@ May Is (Some d) None = ⊥
 May Is (Some d) (Some x) = Is d x
 
 -- the value is a table that describes this process
-pub record IsProcess (stage : Stage) (d : Data) (e : TreeEntry) : Type 0 where
+pub record IsProcess (d : Data) (e : TreeEntry) : Type 0 where
   pub known : HasKnownKeys d
   pub id : At IsId (get (codes "id") d) e.id
   pub kind : get (codes "kind") d ≡ Some (string (kind_text e.kind))
   pub parent : May IsId (get (codes "parent") d) e.parent
   pub info : May IsInfo (get (codes "info") d) e.info
   pub info_kind : MayHaveInfo e.kind e.info
-  pub placed : places stage e.kind e.parent ≡ true
 
 -- the tables of a list are these processes, one for one, in order
-abbrev pub AreProcesses : Stage → Items → List TreeEntry → Type 0
-AreProcesses stage no_items [] = Unit {0}
-AreProcesses stage no_items (e ∷ es) = ⊥
-AreProcesses stage (item d ds) [] = ⊥
-AreProcesses stage (item d ds) (e ∷ es) = IsProcess stage d e × AreProcesses stage ds es
+abbrev pub AreProcesses : Items → List TreeEntry → Type 0
+AreProcesses no_items [] = Unit {0}
+AreProcesses no_items (e ∷ es) = ⊥
+AreProcesses (item d ds) [] = ⊥
+AreProcesses (item d ds) (e ∷ es) = IsProcess d e × AreProcesses ds es
 
 -- a table with one key, the processes; without a process the key may be absent
-abbrev pub IsTable : Stage → Members → List TreeEntry → Type 0
-IsTable stage no_members es = es ≡ []
-IsTable stage (member k d ms) es = (ds : Items)
-    × (member k d ms ≡ member (codes "process") (array ds) no_members) × AreProcesses stage ds es
+abbrev pub IsTable : Members → List TreeEntry → Type 0
+IsTable no_members es = es ≡ []
+IsTable (member k d ms) es = (ds : Items)
+    × (member k d ms ≡ member (codes "process") (array ds) no_members) × AreProcesses ds es
 
 -- the text is a document of such a table
-abbrev pub IsTreeText : Stage → List ℕ → List TreeEntry → Type 0
-IsTreeText stage text es = (ms : Members) × (parse_document text ≡ Some ms) × IsTable stage ms es
+abbrev pub IsTreeText : List ℕ → List TreeEntry → Type 0
+IsTreeText text es = (ms : Members) × (parse_document text ≡ Some ms) × IsTable ms es

@@ -18,18 +18,18 @@ use Rattle.link_script.specs.Script.{events_at}
 use Rattle.trace_lines.specs.Trace.{lines_text}
 
 -- bytes that are text, with a tree text before the first line of three dashes
-pub record HasTreeText (stage : Stage) (bytes : List ℕ) (fronts behind : List (List ℕ))
+pub record HasTreeText (bytes : List ℕ) (fronts behind : List (List ℕ))
     (tree : List TreeEntry) : Type 0 where
   pub text : IsUtf8 bytes
   pub rule : around_rule (pieces bytes) ≡ Some (fronts, behind)
-  pub tree_text : IsTreeText stage (lines_text fronts) tree
+  pub tree_text : IsTreeText (lines_text fronts) tree
 
 -- bytes with this tree before the line of three dashes, the number of that line, and the lines behind it
-pub record IsFront (stage : Stage) (bytes : List ℕ) (tree : List TreeEntry) (rule : ℕ)
+pub record IsFront (bytes : List ℕ) (tree : List TreeEntry) (rule : ℕ)
     (lines : List (List ℕ)) : Type 0 where
   pub fronts : List (List ℕ)
   pub behind : List (List ℕ)
-  pub has_text : HasTreeText stage bytes fronts behind tree
+  pub has_text : HasTreeText bytes fronts behind tree
   pub is_tree : IsTree tree
   pub rule_is : rule ≡ length fronts + 1
   pub lines_are : lines ≡ lines_of_parts behind
@@ -42,42 +42,42 @@ script_events stage fronts behind tree =
 -- bytes that are a script of this tree and these events
 abbrev pub IsScript : Stage → List ℕ → List TreeEntry → List Event → Type 0
 IsScript stage bytes tree events =
-    (fronts : List (List ℕ)) × (behind : List (List ℕ)) × HasTreeText stage bytes fronts behind tree
+    (fronts : List (List ℕ)) × (behind : List (List ℕ)) × HasTreeText bytes fronts behind tree
     × IsTree tree
     × (asked_in (lines_of_parts behind) ≤ 100000) × (script_events stage fronts behind tree ≡ Ok events)
 
+-- what is wrong with bytes before the lines, each fault where none of those above it is there
+abbrev pub IsFrontFault : List ℕ → ScriptFault → Type 0
+IsFrontFault bytes Utf8 = IsUtf8 bytes → ⊥
+IsFrontFault bytes TreeText =
+    IsUtf8 bytes × ((fronts behind : List (List ℕ)) (tree : List TreeEntry)
+    → HasTreeText bytes fronts behind tree → ⊥)
+IsFrontFault bytes (Tree cause) =
+    (fronts : List (List ℕ)) × (behind : List (List ℕ)) × (tree : List TreeEntry)
+    × HasTreeText bytes fronts behind tree × IsFirstFault tree cause
+IsFrontFault bytes TooLong = ⊥
+IsFrontFault bytes (Line number) = ⊥
+
 -- what is wrong with bytes, each fault where none of those above it is there
 abbrev pub IsScriptFault : Stage → List ℕ → ScriptFault → Type 0
-IsScriptFault stage bytes Utf8 = IsUtf8 bytes → ⊥
-IsScriptFault stage bytes TreeText =
-    IsUtf8 bytes × ((fronts behind : List (List ℕ)) (tree : List TreeEntry)
-    → HasTreeText stage bytes fronts behind tree → ⊥)
-IsScriptFault stage bytes (Tree cause) =
-    (fronts : List (List ℕ)) × (behind : List (List ℕ)) × (tree : List TreeEntry)
-    × HasTreeText stage bytes fronts behind tree × IsFirstFault tree cause
 IsScriptFault stage bytes TooLong =
     (fronts : List (List ℕ)) × (behind : List (List ℕ)) × (tree : List TreeEntry)
-    × HasTreeText stage bytes fronts behind tree × IsTree tree × (100000 < asked_in (lines_of_parts behind))
+    × HasTreeText bytes fronts behind tree × IsTree tree × (100000 < asked_in (lines_of_parts behind))
 IsScriptFault stage bytes (Line number) =
     (fronts : List (List ℕ)) × (behind : List (List ℕ)) × (tree : List TreeEntry)
-    × HasTreeText stage bytes fronts behind tree × IsTree tree × (asked_in (lines_of_parts behind) ≤ 100000)
+    × HasTreeText bytes fronts behind tree × IsTree tree × (asked_in (lines_of_parts behind) ≤ 100000)
     × (script_events stage fronts behind tree ≡ Err number)
+IsScriptFault stage bytes fault = IsFrontFault bytes fault
 
 -- memory was refused, or there is this fault
 abbrev pub IsScriptError : Stage → List ℕ → ScriptError → Type 0
 IsScriptError stage bytes Memory = Unit {0}
 IsScriptError stage bytes (Fault fault) = IsScriptFault stage bytes fault
 
--- a fault of the tree's text or of the tree
-abbrev pub IsTreeFault : ScriptFault → Type 0
-IsTreeFault TooLong = ⊥
-IsTreeFault (Line number) = ⊥
-IsTreeFault fault = Unit {0}
-
 -- memory was refused, or there is this fault before the lines
-abbrev pub IsFrontError : Stage → List ℕ → ScriptError → Type 0
-IsFrontError stage bytes Memory = Unit {0}
-IsFrontError stage bytes (Fault fault) = IsTreeFault fault × IsScriptFault stage bytes fault
+abbrev pub IsFrontError : List ℕ → ScriptError → Type 0
+IsFrontError bytes Memory = Unit {0}
+IsFrontError bytes (Fault fault) = IsFrontFault bytes fault
 
 -- the number of a fault
 abbrev pub script_fault_number : ScriptFault → ℕ

@@ -21,7 +21,6 @@ ghost use Rattle.link_script.specs.Documents.{
   IsTreeText,
 };
 
-use crate::stage::Stage;
 use std::alloc::{AllocError, AllocFailed, Global};
 use toml::{Table, Value};
 use tree_model::{Bytes, Kind, ProcessId, Tree, TreeEntry};
@@ -158,9 +157,9 @@ fn info_of(alloc: Global, value: Option<&Value>) -> Result<Option<Bytes>, Docume
 }
 
 /// The process that a value describes.
-fn process_of(alloc: Global, stage: Stage, value: &Value) -> Result<TreeEntry, DocumentError>
-    ensures found { IfOk result (λ p. IsProcess stage (view value.now) p) }
-    ensures none { IfErr result (λ e. e ≡ DocumentError.TreeText → (p : AnyEntry) → IsProcess stage (view value.now) p → ⊥) }
+fn process_of(alloc: Global, value: &Value) -> Result<TreeEntry, DocumentError>
+    ensures found { IfOk result (λ p. IsProcess (view value.now) p) }
+    ensures none { IfErr result (λ e. e ≡ DocumentError.TreeText → (p : AnyEntry) → IsProcess (view value.now) p → ⊥) }
 {
     if !has_known_keys(value) {
         return Err(DocumentError::TreeText);
@@ -174,9 +173,6 @@ fn process_of(alloc: Global, stage: Stage, value: &Value) -> Result<TreeEntry, D
     let Some(parent) = parent_of(value.get("parent")) else {
         return Err(DocumentError::TreeText);
     };
-    if !stage.places(kind, parent) {
-        return Err(DocumentError::TreeText);
-    }
     match info_of(alloc, value.get("info")) {
         Ok(Some(_)) if kind == Kind::Coordinator => Err(DocumentError::TreeText),
         Ok(info) => Ok(TreeEntry {
@@ -190,17 +186,13 @@ fn process_of(alloc: Global, stage: Stage, value: &Value) -> Result<TreeEntry, D
 }
 
 /// The processes that these values describe.
-fn processes_of(
-    alloc: Global,
-    stage: Stage,
-    values: &[Value],
-) -> Result<Vec<TreeEntry>, DocumentError>
-    ensures found { IfOk result (λ ps. AreProcesses stage (items_view values.now) ps.items) }
-    ensures none { IfErr result (λ e. e ≡ DocumentError.TreeText → (es : List AnyEntry) → AreProcesses stage (items_view values.now) es → ⊥) }
+fn processes_of(alloc: Global, values: &[Value]) -> Result<Vec<TreeEntry>, DocumentError>
+    ensures found { IfOk result (λ ps. AreProcesses (items_view values.now) ps.items) }
+    ensures none { IfErr result (λ e. e ≡ DocumentError.TreeText → (es : List AnyEntry) → AreProcesses (items_view values.now) es → ⊥) }
 {
     let mut processes = Vec::new(alloc);
     for value in values {
-        match process_of(alloc, stage, value) {
+        match process_of(alloc, value) {
             Ok(process) => processes.push(process)?,
             Err(e) => return Err(e),
         }
@@ -221,9 +213,9 @@ fn only_value(table: &Table) -> Option<&Value>
 }
 
 /// The processes of a table.
-fn tree_of(alloc: Global, stage: Stage, table: &Table) -> Result<Vec<TreeEntry>, DocumentError>
-    ensures found { IfOk result (λ ps. IsTable stage (table_view table.now) ps.items) }
-    ensures none { IfErr result (λ e. e ≡ DocumentError.TreeText → (es : List AnyEntry) → IsTable stage (table_view table.now) es → ⊥) }
+fn tree_of(alloc: Global, table: &Table) -> Result<Vec<TreeEntry>, DocumentError>
+    ensures found { IfOk result (λ ps. IsTable (table_view table.now) ps.items) }
+    ensures none { IfErr result (λ e. e ≡ DocumentError.TreeText → (es : List AnyEntry) → IsTable (table_view table.now) es → ⊥) }
 {
     if table.is_empty() {
         return Ok(Vec::new(alloc));
@@ -232,18 +224,18 @@ fn tree_of(alloc: Global, stage: Stage, table: &Table) -> Result<Vec<TreeEntry>,
         return Err(DocumentError::TreeText);
     };
     match value.as_array() {
-        Some(values) => processes_of(alloc, stage, values),
+        Some(values) => processes_of(alloc, values),
         None => Err(DocumentError::TreeText),
     }
 }
 
 /// The processes of a text.
-pub fn read_tree(alloc: Global, stage: Stage, text: &str) -> Result<Tree, DocumentError>
-    ensures found { IfOk result (λ tree. IsTreeText stage text.now tree) }
-    ensures none { IfErr result (λ e. e ≡ DocumentError.TreeText → (es : List AnyEntry) → IsTreeText stage text.now es → ⊥) }
+pub fn read_tree(alloc: Global, text: &str) -> Result<Tree, DocumentError>
+    ensures found { IfOk result (λ tree. IsTreeText text.now tree) }
+    ensures none { IfErr result (λ e. e ≡ DocumentError.TreeText → (es : List AnyEntry) → IsTreeText text.now es → ⊥) }
 {
     match toml::table_from_str(alloc, text) {
-        Ok(table) => match tree_of(alloc, stage, &table) {
+        Ok(table) => match tree_of(alloc, &table) {
             Ok(entries) => Ok(Tree::from_vec(entries)),
             Err(e) => Err(e),
         },

@@ -6,7 +6,6 @@ ghost use Rattle.link_script.specs.Inputs.{IsFront, IsFrontError};
 use crate::document::{DocumentError, read_tree};
 use crate::lines::around;
 use crate::script::{ScriptError, ScriptFault};
-use crate::stage::Stage;
 use script_words::lines_of;
 use std::alloc::Global;
 use std::str;
@@ -25,14 +24,10 @@ pub struct Front<'a> {
 
 /// Reads the tree's text and cuts the lines behind it. The faults are Utf8, TreeText and Tree, each judged over the
 /// whole input before the next.
-pub fn read_front<'a>(
-    alloc: Global,
-    stage: Stage,
-    bytes: &'a [u8],
-) -> Result<Front<'a>, ScriptError>
-    ensures ok { IfOk result (λ front. IsFront stage bytes.now front.tree front.rule (map (λ s. s.now) front.lines.items)) }
+pub fn read_front<'a>(alloc: Global, bytes: &'a [u8]) -> Result<Front<'a>, ScriptError>
+    ensures ok { IfOk result (λ front. IsFront bytes.now front.tree front.rule (map (λ s. s.now) front.lines.items)) }
     ensures few { IfOk result (λ front. front.rule + length front.lines.items < 2 ^ 64) }
-    ensures err { IfErr result (λ error. IsFrontError stage bytes.now error) }
+    ensures err { IfErr result (λ error. IsFrontError bytes.now error) }
 {
     let Ok(text) = str::from_utf8(bytes) else {
         return Err(ScriptError::Fault(ScriptFault::Utf8));
@@ -40,7 +35,7 @@ pub fn read_front<'a>(
     let Some((document, before, behind)) = around(text) else {
         return Err(ScriptError::Fault(ScriptFault::TreeText));
     };
-    let tree = match read_tree(alloc, stage, document) {
+    let tree = match read_tree(alloc, document) {
         Ok(tree) => tree,
         Err(DocumentError::Memory) => return Err(ScriptError::Memory),
         Err(DocumentError::TreeText) => return Err(ScriptError::Fault(ScriptFault::TreeText)),

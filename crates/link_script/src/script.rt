@@ -70,12 +70,12 @@ impl From<AllocError> for ScriptError {
 }
 
 /// The tree and the events of a script: the tree's text, a line `---`, and a line for each event. Empty lines and lines
-/// that begin with `#` are skipped. What the stage does not read is a fault of the tree's text, or of its line.
+/// that begin with `#` are skipped. What the stage does not read is a fault of its line.
 pub fn read(alloc: Global, stage: Stage, bytes: &[u8]) -> Result<(Tree, Vec<Event>), ScriptError>
     ensures ok { IfOk result (λ (tree, events). IsScript stage bytes.now tree events.items) }
     ensures err { IfErr result (λ error. IsScriptError stage bytes.now error) }
 {
-    let front = match read_front(alloc, stage, bytes) {
+    let front = match read_front(alloc, bytes) {
         Ok(front) => front,
         Err(error) => return Err(error),
     };

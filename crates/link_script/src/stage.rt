@@ -1,43 +1,30 @@
 //! What of the grammar a program runs.
 
 ghost use Rattle.std.specs.Prelude.{◌≡◌};
-ghost use Rattle.link_script.specs.Stages.{admits, places, staged};
+ghost use Rattle.link_script.specs.Stages.{admits, staged};
 
-use tree_model::{Act, Event, Kind, ProcessId};
+use tree_model::{Act, Event};
 
-/// How much of the grammar is read; what is not read is a fault of its line, or of the tree text.
+/// Which events are read; the line of one that is not read is a fault.
 #[derive(Clone, Copy, PartialEq, Eq)]
 pub enum Stage {
-    /// All of it.
+    /// All of them.
     Whole,
-    /// A root with managers alone, none of which restarts: `begin`, `join`, `work`, `commit`, `abort`, `deliver` and
-    /// `settle`, under either presumption.
-    Flat,
+    /// Those that a tree runs so far: what applications ask, questions to the parent, and deliveries; no restart, no trim
+    /// and no operator's decision.
+    Run,
 }
 
 impl Stage {
-    /// Whether a process may stand so in the tree.
-    pub(crate) fn places(self, kind: Kind, parent: Option<ProcessId>) -> bool
-        ensures { result ≡ places self kind parent }
-    {
-        match (self, kind, parent) {
-            (Stage::Flat, Kind::Coordinator, Some(_)) => false,
-            _ => true,
-        }
-    }
-
     /// Whether an event is read.
     fn admits(self, event: &Event) -> bool
         ensures { result ≡ admits self event.now }
     {
         match (self, event) {
             (Stage::Whole, _) => true,
-            (Stage::Flat, Event::Act(act)) => matches!(
-                act,
-                Act::Begin(_) | Act::Join(..) | Act::Work(..) | Act::Commit(_) | Act::Abort(_)
-            ),
-            (Stage::Flat, Event::Deliver(_) | Event::Settle) => true,
-            (Stage::Flat, Event::Restart(..) | Event::Trim(_)) => false,
+            (Stage::Run, Event::Act(act)) => !matches!(act, Act::Decide(..) | Act::Forget(_)),
+            (Stage::Run, Event::Deliver(_) | Event::Settle) => true,
+            (Stage::Run, Event::Restart(..) | Event::Trim(_)) => false,
         }
     }
 

@@ -9,8 +9,7 @@ use Rattle.link_script.specs.declared.script.ScriptError.{ScriptError}
 use Rattle.link_script.specs.declared.script.ScriptError.TheVariants.{Memory, Fault}
 use Rattle.link_script.specs.declared.script.ScriptFault.{ScriptFault}
 use Rattle.link_script.specs.declared.script.ScriptFault.TheVariants.{Line}
-use Rattle.link_script.specs.declared.stage.Stage.TheVariants.{Whole}
-use Rattle.link_script.specs.Inputs.{IsFront, IsTreeFault, IsScriptFault}
+use Rattle.link_script.specs.Inputs.{IsFront, IsFrontFault}
 use Rattle.script_words.specs.Lines.{is_skipped}
 use Rattle.logs_script.specs.declared.line.ProcessLog.{ProcessLog}
 use Rattle.logs_script.specs.Lines.{log_at}
@@ -59,15 +58,15 @@ logs_of es rule lines = complete es (rule + length lines) (logs_behind es [] (ru
 -- the input is the text of this tree and, behind the line of three dashes, the lines of these logs
 abbrev pub IsLogsText : List ℕ → List TreeEntry → List ProcessLog → Type 0
 IsLogsText input tree logs =
-    (rule : ℕ) × (lines : List (List ℕ)) × IsFront Whole input tree rule lines
+    (rule : ℕ) × (lines : List (List ℕ)) × IsFront input tree rule lines
     × (logs_of tree rule lines ≡ Ok logs)
 
 -- what is wrong with an input
 abbrev pub IsLogsFault : List ℕ → ScriptFault → Type 0
 IsLogsFault input (Line n) =
-    (tree : List TreeEntry) × (rule : ℕ) × (lines : List (List ℕ)) × IsFront Whole input tree rule lines
+    (tree : List TreeEntry) × (rule : ℕ) × (lines : List (List ℕ)) × IsFront input tree rule lines
     × (logs_of tree rule lines ≡ Err n)
-IsLogsFault input fault = IsTreeFault fault × IsScriptFault Whole input fault
+IsLogsFault input fault = IsFrontFault input fault
 
 -- memory was refused, or there is this fault
 abbrev pub IsLogsError : List ℕ → ScriptError → Type 0

@@ -5,7 +5,7 @@ ghost use Rattle.logs_script.specs.Logs.{IsLogsError, IsLogsText, IsNumbered, ea
 ghost use Rattle.logs_script.specs.Logs.{bytes_of as bytes_in};
 
 use crate::line::{ProcessLog, ProcessLogs, log_of};
-use link_script::{ScriptError, ScriptFault, Stage, read_front};
+use link_script::{ScriptError, ScriptFault, read_front};
 use script_words::says_nothing;
 use std::alloc::Global;
 use tree_model::{ProcessId, Sequence, Tree, TreeEntry};
@@ -88,7 +88,7 @@ pub fn read_logs(alloc: Global, bytes: &[u8]) -> Result<(Tree, ProcessLogs), Scr
     ensures ok { IfOk result (λ (tree, logs). IsLogsText bytes.now tree logs) }
     ensures err { IfErr result (λ error. IsLogsError bytes.now error) }
 {
-    let front = match read_front(alloc, Stage::Whole, bytes) {
+    let front = match read_front(alloc, bytes) {
         Ok(front) => front,
         Err(error) => return Err(error),
     };

@@ -10,7 +10,6 @@ use Rattle.tree_model.specs.declared.trees.TreeError.{TreeError}
 use Rattle.tree_model.specs.declared.trees.TreeError.TheVariants.{Empty, TooMany, TooDeep, TwoParents, Cycle, ManagerWithChildren, Unknown, Roots}
 use Rattle.tree_model.specs.Trees.{IsTree, has_fault}
 use Rattle.link_script.specs.declared.script.ScriptFault.TheVariants.{Utf8, TreeText, Tree, TooLong, Line}
-use Rattle.link_script.specs.declared.stage.Stage.TheVariants.{Whole}
 use Rattle.link_script.specs.Documents.{At, May, IsId, IsInfo, IsProcess, AreProcesses, IsTable, IsTreeText, kind_text}
 use Rattle.link_script.specs.Inputs.{HasTreeText, IsFront}
 use Rattle.trace_lines.specs.Trace.{lines_text}
@@ -63,7 +62,7 @@ one_kind o k l a b =
     let same : Some (string (kind_text k)) ≡ Some (string (kind_text l)) = sym a ∙ b in
     kinds_differ k l (let word : kind_text k ≡ kind_text l = cc in word)
 
-one_process : (d : Data) (e f : TreeEntry) → IsProcess Whole d e → IsProcess Whole d f → e ≡ f
+one_process : (d : Data) (e f : TreeEntry) → IsProcess d e → IsProcess d f → e ≡ f
 one_process d e f a b =
     rw (
       one_id (get (codes "id") d) e.id f.id a.id b.id,
@@ -72,7 +71,7 @@ one_process d e f a b =
       one_info (get (codes "info") d) e.info f.info a.info b.info,
     ) refl
 
-one_list : (ds : Items) (es fs : List TreeEntry) → AreProcesses Whole ds es → AreProcesses Whole ds fs
+one_list : (ds : Items) (es fs : List TreeEntry) → AreProcesses ds es → AreProcesses ds fs
     → es ≡ fs
 one_list no_items [] [] a b = refl
 one_list no_items [] (f ∷ fs) a b = absurd b
@@ -81,17 +80,17 @@ one_list (item d ds) [] fs a b = absurd a
 one_list (item d ds) (e ∷ es) [] a b = absurd b
 one_list (item d ds) (e ∷ es) (f ∷ fs) a b = rw (one_process d e f a.0 b.0, one_list ds es fs a.1 b.1) refl
 
-one_table : (ms : Members) (es fs : List TreeEntry) → IsTable Whole ms es → IsTable Whole ms fs → es ≡ fs
+one_table : (ms : Members) (es fs : List TreeEntry) → IsTable ms es → IsTable ms fs → es ≡ fs
 one_table no_members es fs a b = a ∙ sym b
 one_table (member k d ms) es fs (ds, is, are) (ds', also, are') =
     let same : ds ≡ ds' = cc in
-    one_list ds' es fs (subst (λ (x : Items). AreProcesses Whole x es) same are) are'
+    one_list ds' es fs (subst (λ (x : Items). AreProcesses x es) same are) are'
 
-one_tree : (text : List ℕ) (es fs : List TreeEntry) → IsTreeText Whole text es → IsTreeText Whole text fs
+one_tree : (text : List ℕ) (es fs : List TreeEntry) → IsTreeText text es → IsTreeText text fs
     → es ≡ fs
 one_tree text es fs (ms, parsed, is) (ms', parsed', also) =
     let same : ms ≡ ms' = some_is ms ms' (sym parsed ∙ parsed') in
-    one_table ms' es fs (subst (λ (x : Members). IsTable Whole x es) same is) also
+    one_table ms' es fs (subst (λ (x : Members). IsTable x es) same is) also
 
 -- An input has one front.
 
@@ -105,8 +104,8 @@ record SameFront (es fs : List TreeEntry) (m n : ℕ) (ls ks : List (List ℕ)) 
   lines : ls ≡ ks
 
 text_is_one : (bytes : List ℕ) (fronts behind fronts' behind' : List (List ℕ)) (es fs : List TreeEntry)
-    → HasTreeText Whole bytes fronts behind es
-    → HasTreeText Whole bytes fronts' behind' fs → (fronts ≡ fronts') × (behind ≡ behind') × (es ≡ fs)
+    → HasTreeText bytes fronts behind es
+    → HasTreeText bytes fronts' behind' fs → (fronts ≡ fronts') × (behind ≡ behind') × (es ≡ fs)
 text_is_one bytes fronts behind fronts' behind' es fs a b =
     let same : (fronts, behind) ≡ (fronts', behind') =
     some_is (fronts, behind) (fronts', behind') (sym a.rule ∙ b.rule) in
@@ -114,11 +113,11 @@ text_is_one bytes fronts behind fronts' behind' es fs a b =
       first,
       ap (λ (p : cut). p.1) same,
       one_tree (lines_text fronts') es fs (subst
-          (λ (x : List (List ℕ)). IsTreeText Whole (lines_text x) es) first a.tree_text) b.tree_text,
+          (λ (x : List (List ℕ)). IsTreeText (lines_text x) es) first a.tree_text) b.tree_text,
     )
 
 front_is_one : (input : List ℕ) (es fs : List TreeEntry) (m n : ℕ) (ls ks : List (List ℕ))
-    → IsFront Whole input es m ls → IsFront Whole input fs n ks
+    → IsFront input es m ls → IsFront input fs n ks
     → SameFront es fs m n ls ks
 front_is_one input es fs m n ls ks a b =
     let (fronts, behind, tree) = text_is_one input a.fronts a.behind b.fronts b.behind es fs a.has_text
@@ -151,11 +150,11 @@ no_tree_fault es ManagerWithChildren h = h.managers_are_leaves
 no_tree_fault es TooDeep h = h.not_too_deep
 
 pub read_has_no_fault : ReadHasNoFault
-read_has_no_fault input es ls Utf8 (m, lines, front, read) fault = fault.1 front.has_text.text
-read_has_no_fault input es ls TreeText (m, lines, front, read) (_, (text, none)) =
+read_has_no_fault input es ls Utf8 (m, lines, front, read) fault = fault front.has_text.text
+read_has_no_fault input es ls TreeText (m, lines, front, read) (text, none) =
     none front.fronts front.behind es front.has_text
 read_has_no_fault input es ls (Tree cause) (m, lines, front, read)
-    (_, (fronts, behind, fs, has_text, first)) =
+    (fronts, behind, fs, has_text, first) =
     let (_, _, same) = text_is_one input front.fronts front.behind fronts behind es fs front.has_text has_text
     in
     absurd (
@@ -164,7 +163,7 @@ read_has_no_fault input es ls (Tree cause) (m, lines, front, read)
     (sym same) first.is_there in
     let both : false ≡ true = sym no ∙ yes in
     cc)
-read_has_no_fault input es ls TooLong (m, lines, front, read) fault = fault.0
+read_has_no_fault input es ls TooLong (m, lines, front, read) fault = fault
 read_has_no_fault input es ls (Line k) (m, lines, front, read) (fs, n, lines', front', wrong) =
     let same = front_is_one input es fs m n lines lines' front front' in
     absurd (let both : Ok ls ≡ Err k = sym read ∙ read_alike es fs m n lines lines' same ∙ wrong in cc)

@@ -5,7 +5,6 @@ use Rattle.std.specs.List.{AllByRecursion}
 use Rattle.toml.specs.Data.{Data, Items, no_items, item, Members, no_members, member, get}
 use Rattle.tree_model.specs.declared.names.ProcessId.{ProcessId}
 use Rattle.tree_model.specs.declared.trees.TreeEntry.{TreeEntry}
-use Rattle.link_script.specs.declared.stage.Stage.TheVariants.{Whole}
 use Rattle.link_script.specs.Documents.{At, May, IsId, IsInfo, IsProcess, AreProcesses, IsTable}
 use Rattle.script_words.specs.Lines.{is_skipped}
 use Rattle.logs_script.specs.declared.line.ProcessLog.{ProcessLog}
@@ -33,7 +32,7 @@ info_fits o None h = tt
 info_fits None (Some info) h = absurd h
 info_fits (Some d) (Some info) (is, short, letters) = (short, letters)
 
-process_fits : (d : Data) (e : TreeEntry) → IsProcess Whole d e → FitsEntry e
+process_fits : (d : Data) (e : TreeEntry) → IsProcess d e → FitsEntry e
 process_fits d e h =
     record {
       id_fits = id_fits (get (codes "id") d) e.id h.id;
@@ -42,13 +41,13 @@ process_fits d e h =
       info_kind = h.info_kind;
     }
 
-processes_fit : (ds : Items) (es : List TreeEntry) → AreProcesses Whole ds es → AllByRecursion FitsEntry es
+processes_fit : (ds : Items) (es : List TreeEntry) → AreProcesses ds es → AllByRecursion FitsEntry es
 processes_fit no_items [] h = tt
 processes_fit no_items (e ∷ es) h = absurd h
 processes_fit (item d ds) [] h = absurd h
 processes_fit (item d ds) (e ∷ es) h = (process_fits d e h.0, processes_fit ds es h.1)
 
-table_fits : (ms : Members) (es : List TreeEntry) → IsTable Whole ms es → AllByRecursion FitsEntry es
+table_fits : (ms : Members) (es : List TreeEntry) → IsTable ms es → AllByRecursion FitsEntry es
 table_fits no_members es h = subst (AllByRecursion FitsEntry) (sym h) tt
 table_fits (member k d ms) es (ds, is, are) = processes_fit ds es are
 

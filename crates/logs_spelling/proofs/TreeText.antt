@@ -13,7 +13,6 @@ use Rattle.tree_model.specs.declared.names.ProcessId.{ProcessId}
 use Rattle.tree_model.specs.declared.names.Kind.{Kind}
 use Rattle.tree_model.specs.declared.names.Kind.TheVariants.{Coordinator, Manager}
 use Rattle.tree_model.specs.declared.trees.TreeEntry.{TreeEntry}
-use Rattle.link_script.specs.declared.stage.Stage.TheVariants.{Whole}
 use Rattle.link_script.specs.Documents.{kind_text, AreProcesses, IsProcess, IsTable, IsTreeText}
 use Rattle.logs_script.specs.Trees.{head_lines, info_line, parent_line, process_table, tree_text}
 use Rattle.logs_spelling.specs.Fits.{FitsEntry, FitsInfo, FitsParent}
@@ -289,7 +288,7 @@ parsed es fits =
 
 is_process : (p : ProcessId) (kind : Kind) (parent : Option ProcessId) (info : Option (List ℕ))
     → FitsEntry (record { id = p; kind = kind; parent = parent; info = info })
-    → IsProcess Whole (table (close (nodes_of p kind parent info)))
+    → IsProcess (table (close (nodes_of p kind parent info)))
     (record { id = p; kind = kind; parent = parent; info = info })
 is_process p kind None None fits =
     record {
@@ -299,7 +298,6 @@ is_process p kind None None fits =
       parent = tt;
       info = tt;
       info_kind = fits.info_kind;
-      placed = refl;
     }
 is_process p kind None (Some info) fits =
     record {
@@ -309,7 +307,6 @@ is_process p kind None (Some info) fits =
       parent = tt;
       info = (refl, fits.info_fits.0, fits.info_fits.1);
       info_kind = fits.info_kind;
-      placed = refl;
     }
 is_process p kind (Some q) None fits =
     record {
@@ -319,7 +316,6 @@ is_process p kind (Some q) None fits =
       parent = (refl, fits.parent_fits.0, fits.parent_fits.1);
       info = tt;
       info_kind = fits.info_kind;
-      placed = refl;
     }
 is_process p kind (Some q) (Some info) fits =
     record {
@@ -329,17 +325,16 @@ is_process p kind (Some q) (Some info) fits =
       parent = (refl, fits.parent_fits.0, fits.parent_fits.1);
       info = (refl, fits.info_fits.0, fits.info_fits.1);
       info_kind = fits.info_kind;
-      placed = refl;
     }
 
-are_processes : (es : List TreeEntry) → AllByRecursion FitsEntry es → AreProcesses Whole (tables_of es) es
+are_processes : (es : List TreeEntry) → AllByRecursion FitsEntry es → AreProcesses (tables_of es) es
 are_processes [] fits = tt
 are_processes (e ∷ es) fits = (is_process e.id e.kind e.parent e.info fits.0, are_processes es fits.1)
 
-is_table : (es : List TreeEntry) → AllByRecursion FitsEntry es → IsTable Whole (document_of es) es
+is_table : (es : List TreeEntry) → AllByRecursion FitsEntry es → IsTable (document_of es) es
 is_table [] fits = refl
 is_table (e ∷ es) fits = (tables_of (e ∷ es), refl, are_processes (e ∷ es) fits)
 
 -- the text of a tree reads as its processes
-pub tree_text_reads : (es : List TreeEntry) → AllByRecursion FitsEntry es → IsTreeText Whole (tree_text es) es
+pub tree_text_reads : (es : List TreeEntry) → AllByRecursion FitsEntry es → IsTreeText (tree_text es) es
 tree_text_reads es fits = (document_of es, parsed es fits, is_table es fits)

@@ -11,7 +11,6 @@ use Rattle.tree_model.specs.declared.names.Kind.TheVariants.{Coordinator, Manage
 use Rattle.tree_model.specs.declared.trees.TreeEntry.{TreeEntry}
 use Rattle.trace_lines.specs.Trace.{line_text, lines_text}
 use Rattle.link_script.specs.Documents.{kind_text, IsTreeText}
-use Rattle.link_script.specs.declared.stage.Stage.TheVariants.{Whole}
 use Rattle.link_script.specs.Rules.{pieces, is_rule, around_rule}
 use Rattle.link_script.specs.Spellings.{process_text}
 use Rattle.logs_script.specs.declared.line.ProcessLog.{ProcessLog}
@@ -219,7 +218,7 @@ written_is_read es ls tree logs =
         has_text = record {
           text = subst IsUtf8 (sym text) (text_is_utf8 (all_lines es ls) printed);
           rule = ap around_rule cut ∙ rule_found fronts behind (no_rules fronts front);
-          tree_text = subst (λ (t : List ℕ). IsTreeText Whole t es) (front_text es)
+          tree_text = subst (λ (t : List ℕ). IsTreeText t es) (front_text es)
               (tree_text_reads es tree.entries_fit);
         };
         is_tree = tree.is_tree;

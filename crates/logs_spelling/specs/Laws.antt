@@ -4,7 +4,6 @@ use Rattle.std.specs.List.{AllByRecursion}
 use Rattle.tree_model.specs.declared.trees.TreeEntry.{TreeEntry}
 use Rattle.link_script.specs.Documents.{IsTreeText}
 use Rattle.link_script.specs.declared.script.ScriptFault.{ScriptFault}
-use Rattle.link_script.specs.declared.stage.Stage.TheVariants.{Whole}
 use Rattle.logs_script.specs.declared.line.ProcessLog.{ProcessLog}
 use Rattle.logs_script.specs.Logs.{IsLogsFault, IsLogsText}
 use Rattle.logs_script.specs.Trees.{logs_text, tree_text}
@@ -33,4 +32,4 @@ ReadHasNoFault = (input : List ℕ) (es : List TreeEntry) (ls : List ProcessLog)
 
 -- the text that is written of processes reads as these processes
 abbrev pub TreeTextIsRead : Type 0
-TreeTextIsRead = (es : List TreeEntry) → AllByRecursion FitsEntry es → IsTreeText Whole (tree_text es) es
+TreeTextIsRead = (es : List TreeEntry) → AllByRecursion FitsEntry es → IsTreeText (tree_text es) es

@@ -5,11 +5,11 @@ use Rattle.tree_model.specs.declared.records.LogRecord.{LogRecord}
 use Rattle.log_text.specs.Frames.{header}
 use Rattle.log_text.specs.Payloads.{records_text}
 use Rattle.rec_log.specs.Texts.{is_whole, records_in, whole_size}
-use Rattle.rec_log.specs.Sights.{AreRecords, IsLogText, Kept, LogState, NotRewritten, RewriteBreaks, Rewritten, body, front, kept_of, log_state}
+use Rattle.rec_log.specs.Sights.{AreRecords, IsLogText, Kept, LogState, NotRewritten, ReadsAs, RewriteBreaks, Rewritten, body, front, kept_of, log_state, records_of}
 use Rattle.rec_log.specs.declared.log.LogError.{LogError}
 use Rattle.rec_log.specs.Trimming.{Holds, Spells}
 use Rattle.rec_log.proofs.Frames.{more_records, more_whole}
-use Rattle.rec_log.proofs.Turns.{all_front, drop_all}
+use Rattle.rec_log.proofs.Turns.{all_front, drop_all, records_stand}
 use Rattle.rec_log.proofs.Within.{whole_is_full}
 use Rattle.rec_log.proofs.Written.{whole_text, written}
 
@@ -25,6 +25,15 @@ held p xs ys ls ms h k = record {
 
 pub held_text : (p : Kind) (ls : List LogRecord) → AreRecords p ls → Holds p (records_text ls) ls
 held_text p ls are = record { whole = whole_text p ls are; read = written p ls are }
+
+-- a copy of the text reads as the records that stand
+pub copied : (p : Kind) (text : List ℕ) (forced failures room : ℕ) (failed : Bool) (s : LogState) (copy : List ℕ)
+    → log_state p text forced failures room failed ≡ s → IsLogText p text forced failed → copy ≡ text
+    → ReadsAs s.kind copy (records_of s.sight.kept) s.sight.failed
+copied p text forced failures room failed s copy view is e =
+    subst (λ z. ReadsAs z.kind copy (records_of z.sight.kept) z.sight.failed) view
+    (subst (λ t. ReadsAs p t (records_of (kept_of p text forced)) failed) (sym e)
+    (record { begins = is.begins; read = sym (records_stand p text forced); whole = is.whole }))
 
 pub spelled : (p : Kind) (text frames : List ℕ) (ls : List LogRecord) → text ≡ header ++ frames
     → Holds p frames ls → Spells p text ls

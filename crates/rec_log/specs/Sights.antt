@@ -71,6 +71,12 @@ pub record IsLogText (p : Kind) (text : List ℕ) (forced : ℕ) (failed : Bool)
   pub header_forced : 5 ≤ forced
   pub whole : failed ≡ false → is_whole p 0 (body text) ≡ true
 
+-- the text begins as a log does, and reads as these records; it is whole, where the log has not failed
+pub record ReadsAs (p : Kind) (text : List ℕ) (ls : List LogRecord) (failed : Bool) : Type 0 where
+  pub begins : take 5 text ≡ header
+  pub read : records_in p 0 (body text) ≡ ls
+  pub whole : failed ≡ false → is_whole p 0 (body text) ≡ true
+
 -- a record that can stand in such a log: it fits a frame, and the frame reads as this record
 pub record IsRecord (p : Kind) (l : LogRecord) : Type 0 where
   pub fits : FitsFrame l

@@ -5,7 +5,7 @@ ghost use Rattle.log_text.specs.Reading.{read_record};
 ghost use Rattle.log_text.specs.Frames.{header};
 ghost use Rattle.log_text.specs.Made.{frame_record};
 ghost use Rattle.log_text.specs.Payloads.{record_text, records_text};
-ghost use Rattle.rec_log.specs.Sights.{Appended, Breaks, Forced, AreRecords, IsRecord, LeavesText, NotRestarted, NotRewritten, Restarts, Rewritten, Sounds, body, left_by, log_state, records_of};
+ghost use Rattle.rec_log.specs.Sights.{Appended, AreRecords, Breaks, Forced, IsRecord, LeavesText, NotRestarted, NotRewritten, ReadsAs, Restarts, Rewritten, Sounds, body, left_by, log_state, records_of};
 ghost use Rattle.log_store.specs.Stores.{Replaces};
 ghost use Rattle.rec_log.specs.Openings.{IsRefused, NotOpened, Opens, Settles};
 ghost use Rattle.rec_log.specs.Texts.{records_in};
@@ -255,6 +255,14 @@ impl<L: LogStore> RecLog<L> {
             return Err(LogError::Device);
         }
         Ok(())
+    }
+
+    /// The bytes of the log, its header and its frames, as a list made anew. Behind a failure of the device a torn frame may
+    /// stand at the end.
+    pub fn text(&self, alloc: Global) -> Result<Vec<u8>, AllocError>
+        ensures { IfOk result (λ text. ReadsAs self.now.kind text.items (records_of self.now.sight.kept) self.now.sight.failed) }
+    {
+        Vec::from_slice(alloc, self.store.bytes())
     }
 
     /// The records that stand, as a list made anew.

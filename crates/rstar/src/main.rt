@@ -2,19 +2,19 @@
 #![tactic(auto)]
 
 use clap::error::ErrorKind;
-use clap::{Command, Error};
+use clap::{Arg, ArgAction, ArgMatches, Command, Error};
 use log_engine::run_log;
 use std::alloc::Global;
 use std::io;
 use std::process::ExitCode;
-use tree_engine::{Failure, run_tree};
+use tree_engine::{Failure, Output, run_tree};
 use xa_engine::run_xa;
 
 /// What a command line asks for.
 #[derive(Clone, Copy, PartialEq, Eq)]
 enum Request {
-    /// The events of a tree script.
-    Tree,
+    /// The events of a tree script, and what is written of them.
+    Tree(Output),
     /// The calls of an XA script.
     Xa,
     /// What the logs of a tree hold.
@@ -32,6 +32,7 @@ enum Asked {
 const EXAMPLES: &str = "\
 Examples:
   rstar tree < examples/commit.tree
+  rstar tree --logs < examples/commit.tree
   rstar xa < examples/migrate.xa
   rstar log < examples/commit.logs
 
@@ -41,11 +42,14 @@ Exit status: 0 the script was run to its end, 1 it was refused, 2 an event was r
 /// What `rstar tree --help` says below its usage.
 const TREE_HELP: &str = "\
 In: the processes as TOML, a line ---, and an event a line: begin, join, work, commit,
-abort, deliver, settle. Out: a line for each log record, message and word to the
+abort, ask, deliver, settle. Out: a line for each log record, message and word to the
 application, and 'end'; 'refused N E' where event N is refused, 'error ..' where the
-script is.
+script is. With --logs, where no event is refused: the processes, a line ---, and a line
+'log P HEX' for the log of each process, as 'rstar log' reads them.
 
-Example: rstar tree < examples/commit.tree";
+Examples: rstar tree < examples/commit.tree
+          rstar tree < examples/cascade.tree
+          rstar tree --logs < examples/commit.tree | rstar log";
 
 /// What `rstar xa --help` says below its usage.
 const XA_HELP: &str = "\
@@ -71,7 +75,13 @@ Example: rstar log < examples/commit.logs";
 fn grammar<'a>(alloc: Global) -> Result<Command<'a>, Error> {
     let tree = Command::new(alloc, "tree")
         .about("Runs a transaction script on a tree of processes, and writes the trace")
-        .after_help(TREE_HELP);
+        .after_help(TREE_HELP)
+        .arg(
+            Arg::new(alloc, "logs")
+                .long("logs")
+                .help("Writes the tree and the logs it leaves, as 'rstar log' reads them")
+                .action(ArgAction::SetTrue),
+        )?;
     let xa = Command::new(alloc, "xa")
         .about("Makes the calls of an XA script on a key store with a log, and writes the answers")
         .after_help(XA_HELP);
@@ -90,12 +100,21 @@ fn grammar<'a>(alloc: Global) -> Result<Command<'a>, Error> {
     Ok(command)
 }
 
+/// What is written of a tree script.
+fn output_of(matches: &ArgMatches) -> Output {
+    if matches.get_flag("logs") {
+        Output::Logs
+    } else {
+        Output::Trace
+    }
+}
+
 /// What these words ask for, the program's name first.
 fn read_words<'a>(alloc: Global, words: &'a [String]) -> Result<Asked, Error> {
     let matches = grammar(alloc)?.try_get_matches_from(words)?;
     match matches.subcommand() {
-        Some((name, _)) => Ok(Asked::Request(match name {
-            "tree" => Request::Tree,
+        Some((name, found)) => Ok(Asked::Request(match name {
+            "tree" => Request::Tree(output_of(found)),
             "log" => Request::Log,
             _ => Request::Xa,
         })),
@@ -108,7 +127,7 @@ fn perform(rt: &HostRuntime, request: Request) -> u8 {
     let mut reader = rt.reader();
     let mut writer = io::writer(rt);
     let ended = match request {
-        Request::Tree => run_tree(rt.alloc(), &mut reader, &mut writer),
+        Request::Tree(output) => run_tree(rt.alloc(), output, &mut reader, &mut writer),
         Request::Xa => run_xa(rt.alloc(), &mut reader, &mut writer),
         Request::Log => run_log(rt.alloc(), &mut reader, &mut writer),
     };

@@ -1,7 +1,13 @@
-//! Tests of the flat tree that runs, and of the engine of tree scripts.
+//! Tests of the tree that runs, and of the engine of tree scripts.
 #![tactic(auto)]
 
 #[cfg(test)]
-mod flat_worlds;
+mod cascades;
+#[cfg(test)]
+mod logs;
+#[cfg(test)]
+mod running;
 #[cfg(test)]
 mod trees;
+#[cfg(test)]
+mod worlds;

@@ -1,22 +1,20 @@
 //! Tree scripts, what is written for each, and how it ends.
 
+use crate::running::{Row, is_run};
 use fake_streams::{Fails, Full};
 use std::alloc::{AllocError, Global};
 use std::io::{Read, Write};
 use std::test::Fail;
-use tree_engine::{Failure, Status, run_tree};
-
-/// A script's name, the script, what is written, and how the run ends.
-type Row = (&'static str, &'static str, &'static str, Status);
+use tree_engine::{Failure, Output, Status, run_tree};
 
 /// The script of the first row.
-const FLAT_PA_COMMIT: &str =
+pub(crate) const FLAT_PA_COMMIT: &str =
     "[[process]]\nid = 1\nkind = \"coordinator\"\n[[process]]\nid = 2\nkind = \"manager\"\n\
      parent = 1\n[[process]]\nid = 3\nkind = \"manager\"\nparent = 1\n---\nbegin pa\n\
      join a1.1 2\njoin a1.1 3\nsettle\nwork a1.1 2 put x 1\nwork a1.1 3 put y 2\nsettle\n\
      commit a1.1\nsettle\n";
 
-const ROWS: [Row; 31] = [
+const ROWS: [Row; 34] = [
     (
         "flat_pa_commit",
         FLAT_PA_COMMIT,
@@ -222,13 +220,6 @@ const ROWS: [Row; 31] = [
         Status::Refused,
     ),
     (
-        "coordinator_below_the_root",
-        "[[process]]\nid = 1\nkind = \"coordinator\"\n[[process]]\nid = 2\nkind = \"coordinator\"\n\
-         parent = 1\n---\n",
-        "error 1\n",
-        Status::Refused,
-    ),
-    (
         "restart_is_a_fault_of_its_line",
         "[[process]]\nid = 1\nkind = \"coordinator\"\n---\nrestart 1\n",
         "error 3 5\n",
@@ -336,19 +327,75 @@ const ROWS: [Row; 31] = [
         "log 1 Opened 1 forced\nlog 2 Opened 1 forced\nlog 3 Opened 1 forced\nrefused 1 9\n",
         Status::Stopped,
     ),
+    (
+        "second_writer_of_a_key_votes_no",
+        "[[process]]\nid = 1\nkind = \"coordinator\"\n[[process]]\nid = 2\nkind = \"manager\"\n\
+         parent = 1\n[[process]]\nid = 3\nkind = \"manager\"\nparent = 1\n---\nbegin pa\n\
+         begin pa\njoin a1.1 2\njoin a1.2 2\nsettle\nwork a1.1 2 put x 1\nwork a1.2 2 put x 2\n\
+         settle\ncommit a1.2\nsettle\n",
+        "log 1 Opened 1 forced\nlog 2 Opened 1 forced\nlog 3 Opened 1 forced\nbegin a1.1\n\
+         begin a1.2\n1 1->2 JOIN a1.1\n2 1->2 JOIN a1.2\n3 2->1 JOINED a1.1 2.1.1\n\
+         4 2->1 JOINED a1.2 2.1.2\n5 1->2 WORK a1.1@2.1.1 1 put x 1\n\
+         6 1->2 WORK a1.2@2.1.2 1 put x 2\n7 1->2 PREPARE a1.2@2.1.2 1\n8 2->1 NO a1.2@2.1.2\n\
+         log 1 Abort a1.2 plain\ntold a1.2 aborted\nend\n",
+        Status::Ended,
+    ),
+    (
+        "collecting_in_doubt_pc",
+        "[[process]]\nid = 1\nkind = \"coordinator\"\n[[process]]\nid = 2\nkind = \"manager\"\n\
+         parent = 1\n[[process]]\nid = 3\nkind = \"manager\"\nparent = 1\n---\nbegin pc\n\
+         join c1.1 2\njoin c1.1 3\nsettle\nwork c1.1 2 put x 1\nwork c1.1 3 put y 2\nsettle\n\
+         commit c1.1\ndeliver 7\n",
+        "log 1 Opened 1 forced\nlog 2 Opened 1 forced\nlog 3 Opened 1 forced\nbegin c1.1\n\
+         1 1->2 JOIN c1.1\n2 1->3 JOIN c1.1\n3 2->1 JOINED c1.1 2.1.1\n4 3->1 JOINED c1.1 3.1.1\n\
+         5 1->2 WORK c1.1@2.1.1 1 put x 1\n6 1->3 WORK c1.1@3.1.1 1 put y 2\n\
+         log 1 Collecting c1.1 forced\n7 1->2 PREPARE c1.1@2.1.1 1\n8 1->3 PREPARE c1.1@3.1.1 1\n\
+         log 2 Prepared c1.1@2.1.1 forced\n9 2->1 YES c1.1@2.1.1\nend\n",
+        Status::Ended,
+    ),
+    (
+        "ask_after_commit",
+        "[[process]]\nid = 1\nkind = \"coordinator\"\n[[process]]\nid = 2\nkind = \"manager\"\n\
+         parent = 1\n[[process]]\nid = 3\nkind = \"manager\"\nparent = 1\n---\nbegin pa\n\
+         join a1.1 2\njoin a1.1 3\nsettle\nwork a1.1 2 put x 1\nwork a1.1 3 put y 2\nsettle\n\
+         commit a1.1\nsettle\nask a1.1@2.1.1\n",
+        "log 1 Opened 1 forced\nlog 2 Opened 1 forced\nlog 3 Opened 1 forced\nbegin a1.1\n\
+         1 1->2 JOIN a1.1\n2 1->3 JOIN a1.1\n3 2->1 JOINED a1.1 2.1.1\n4 3->1 JOINED a1.1 3.1.1\n\
+         5 1->2 WORK a1.1@2.1.1 1 put x 1\n6 1->3 WORK a1.1@3.1.1 1 put y 2\n\
+         7 1->2 PREPARE a1.1@2.1.1 1\n8 1->3 PREPARE a1.1@3.1.1 1\n\
+         log 2 Prepared a1.1@2.1.1 forced\n9 2->1 YES a1.1@2.1.1\n\
+         log 3 Prepared a1.1@3.1.1 forced\n10 3->1 YES a1.1@3.1.1\nlog 1 Commit a1.1 forced\n\
+         told a1.1 committed\n11 1->2 COMMIT a1.1@2.1.1\n12 1->3 COMMIT a1.1@3.1.1\n\
+         log 2 Committed a1.1@2.1.1 forced\n13 2->1 ACK a1.1@2.1.1 commit\n\
+         log 3 Committed a1.1@3.1.1 forced\n14 3->1 ACK a1.1@3.1.1 commit\nlog 1 End a1.1 plain\n\
+         refused 10 3\n",
+        Status::Stopped,
+    ),
+    (
+        "ask_before_prepare",
+        "[[process]]\nid = 1\nkind = \"coordinator\"\n[[process]]\nid = 2\nkind = \"manager\"\n\
+         parent = 1\n[[process]]\nid = 3\nkind = \"manager\"\nparent = 1\n---\nbegin pa\n\
+         join a1.1 2\njoin a1.1 3\nsettle\nwork a1.1 2 put x 1\nwork a1.1 3 put y 2\nsettle\n\
+         commit a1.1\nask a1.1@2.1.1\n",
+        "log 1 Opened 1 forced\nlog 2 Opened 1 forced\nlog 3 Opened 1 forced\nbegin a1.1\n\
+         1 1->2 JOIN a1.1\n2 1->3 JOIN a1.1\n3 2->1 JOINED a1.1 2.1.1\n4 3->1 JOINED a1.1 3.1.1\n\
+         5 1->2 WORK a1.1@2.1.1 1 put x 1\n6 1->3 WORK a1.1@3.1.1 1 put y 2\n\
+         7 1->2 PREPARE a1.1@2.1.1 1\n8 1->3 PREPARE a1.1@3.1.1 1\nrefused 9 7\n",
+        Status::Stopped,
+    ),
 ];
-
-/// Whether a script's run ends so, and writes this text.
-fn is_run(alloc: Global, mut script: &[u8], text: &[u8], status: Status) -> bool {
-    let mut out = Vec::new(alloc);
-    run_tree(alloc, &mut script, &mut out) == Ok(status) && out.as_slice() == text
-}
 
 #[test]
 fn rows(rt: HostRuntime) {
     for (name, script, text, status) in ROWS {
         assert!(rt;
-            is_run(rt.alloc(), script.as_bytes(), text.as_bytes(), status),
+            is_run(
+                rt.alloc(),
+                Output::Trace,
+                script.as_bytes(),
+                text.as_bytes(),
+                status
+            ),
             "{name}"
         );
     }
@@ -357,7 +404,7 @@ fn rows(rt: HostRuntime) {
 /// Whether a script is refused, or runs to its end.
 fn is_refused_or_ends(alloc: Global, mut script: &[u8]) -> bool {
     let mut out = Vec::new(alloc);
-    match run_tree(alloc, &mut script, &mut out) {
+    match run_tree(alloc, Output::Trace, &mut script, &mut out) {
         Ok(Status::Ended) => out.ends_with(b"end\n"),
         Ok(Status::Refused) => out.starts_with(b"error "),
         _ => false,
@@ -378,7 +425,15 @@ fn every_front_of_a_script(rt: HostRuntime) {
 fn not_utf8(rt: HostRuntime) -> Result<(), Fail> {
     let mut bytes = Vec::from_slice(rt.alloc(), FLAT_PA_COMMIT.as_bytes())?;
     bytes.push(0xff)?;
-    assert!(rt; is_run(rt.alloc(), &bytes, b"error 4\n", Status::Refused));
+    assert!(rt;
+        is_run(
+            rt.alloc(),
+            Output::Trace,
+            &bytes,
+            b"error 4\n",
+            Status::Refused
+        )
+    );
     Ok(())
 }
 
@@ -396,20 +451,28 @@ fn long_script(alloc: Global, lines: u32) -> Result<Vec<u8>, AllocError> {
 fn as_many_event_lines_as_there_may_be(rt: HostRuntime) -> Result<(), Fail> {
     let script = long_script(rt.alloc(), 100_000)?;
     let text = b"log 1 Opened 1 forced\nend\n";
-    assert!(rt; is_run(rt.alloc(), &script, text, Status::Ended));
+    assert!(rt; is_run(rt.alloc(), Output::Trace, &script, text, Status::Ended));
     Ok(())
 }
 
 #[test]
 fn too_many_event_lines(rt: HostRuntime) -> Result<(), Fail> {
     let script = long_script(rt.alloc(), 100_001)?;
-    assert!(rt; is_run(rt.alloc(), &script, b"error 5\n", Status::Refused));
+    assert!(rt;
+        is_run(
+            rt.alloc(),
+            Output::Trace,
+            &script,
+            b"error 5\n",
+            Status::Refused
+        )
+    );
     Ok(())
 }
 
 /// Why a run fails.
 fn failure_of<R: Read, W: Write>(alloc: Global, reader: &mut R, writer: &mut W) -> Option<Failure> {
-    run_tree(alloc, reader, writer).err()
+    run_tree(alloc, Output::Trace, reader, writer).err()
 }
 
 #[test]

@@ -1,2 +1,2 @@
-pub mod FlatTrees
+pub mod LogsLeft
 pub mod TreeReports

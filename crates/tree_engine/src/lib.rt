@@ -1,7 +1,9 @@
-//! The engine of tree scripts: a script in, its trace out.
+//! The engine of tree scripts: a script in, its trace or its logs out.
 #![tactic(auto)]
 
+mod logs;
+mod trace;
 mod tree;
 
 pub use report_io::{Failure, Status};
-pub use tree::run_tree;
+pub use tree::{Output, run_tree};

@@ -1,56 +1,77 @@
 //! The engine of tree scripts.
 
-ghost use Rattle.std.specs.Prelude.{◌≡◌, ◌++◌, ℕ, List, IfOk, IfErr, OnOk, string_bytes};
-ghost use Rattle.tree_model.specs.Trees.{root_of};
+ghost use Rattle.std.specs.Prelude.{◌≡◌, ℕ, true, All, List, IfErr, IfOk, string_bytes};
 ghost use Rattle.std.specs.Io.KnownBytes.{Appends, Keeps};
-ghost use Rattle.trace_lines.specs.Trace.{entries_text};
-ghost use Rattle.flat_law.specs.FlatWorlds.{IsOpened};
-ghost use Rattle.flat_law.specs.Ties.{IsFlatTree, IsModelled};
-ghost use Rattle.flat_world.specs.Worlds.{state};
+ghost use Rattle.tree_model.specs.Trees.{IsTree};
 ghost use Rattle.report_io.specs.declared.status.Status.{Status as AnyStatus};
 ghost use Rattle.report_io.specs.Streams.{IsInput, WritesFront};
-ghost use Rattle.tree_engine.specs.Trees.{Agrees, AgreesAndConsents, Consents, IsNumbered, IsOne, IsTreeReport, Plays, ending, fault_text, last_line, opened_text, opening_text, refused_text, trace_of};
+ghost use Rattle.world_law.specs.Runs.{IsOpened};
+ghost use Rattle.world_law.specs.Worlds.{is_run_event};
+ghost use Rattle.tree_world.specs.Worlds.{state};
+ghost use Rattle.tree_engine.specs.Trees.{Agrees, AnswersTruly, Consents, IsByOperatorsAlone, IsNumbered, IsOne, IsTreeReport, KeepsHeadline, KeepsMismatches, Plays, Tells, ending, fault_text};
 
-use flat_world::FlatWorld;
+use crate::logs::left_text;
+use crate::trace::trace;
 use link_script::{ScriptError, ScriptFault, Stage, read};
+use log_store::MemoryStore;
 use report_io::{Failure, Status, read_all, write_all};
 use std::alloc::{AllocError, Global};
 use std::io::{Read, Write};
-use trace_lines::push_entry;
-use tree_model::{Entry, Event, StepError, Tree, TreeEntry};
+use tree_model::{Event, StepError, Tree};
+use tree_world::World;
+
+/// What is written of a run.
+#[derive(Clone, Copy, PartialEq, Eq)]
+pub enum Output {
+    /// Its trace: what each step logs, sends and tells.
+    Trace,
+    /// Where every event was made, the tree and the logs that its processes keep; else the trace.
+    Logs,
+}
 
 /// How many events were made, and why the next was refused; or none was.
-type Refusal = Option<(usize, StepError)>;
+pub(crate) type Refusal = Option<(usize, StepError)>;
 
-/// Reads a tree script, makes its events, and writes the trace; or one line that says why the script is refused. A refused
-/// event ends the trace by its number and why it was refused.
+/// Reads a tree script, makes its events, and writes the trace or the logs; or one line that says why the script is refused.
+/// A refused event ends the trace by its number and why it was refused.
 ///
-/// The trace is that of the run of just the script's events in the model; a refused event is one that the model refuses by
-/// that number. In this run no two processes end one transaction differently, and commit is decided only where every
-/// participant voted yes or read-only (R*). After a failed read, or where memory is refused,
-/// nothing was written; after a failed write, a beginning of the text.
+/// What is written is that of the run of just the script's events in the model; a refused event is one that the model
+/// refuses by that number. In this run no two processes end one transaction differently except by an operator's decision;
+/// commit is decided only where every participant voted yes or read-only; every answer that finds its asker in doubt tells
+/// the root's outcome; a mismatch stands until it is forgotten; an operator's record comes from an operator alone (R*).
+/// After a failed read, or where memory is refused, nothing was written; after a failed write, a beginning of the text.
 pub fn run_tree<R: Read, W: Write>(
     alloc: Global,
+    output: Output,
     reader: &mut R,
     writer: &mut W,
 ) -> Result<Status, Failure>
     ensures written { IfOk result (λ status. (input : List ℕ) × (text : List ℕ)
-        × IsInput (R.remaining reader.old) input × IsTreeReport IsOne status input text
+        × IsInput (R.remaining reader.old) input × IsTreeReport IsOne output status input text
         × Appends (W.contents writer.old) (W.contents writer.new) text) }
     ensures agreement { IfOk result (λ status. (input : List ℕ) × (text : List ℕ)
-        × IsInput (R.remaining reader.old) input × IsTreeReport Agrees status input text
+        × IsInput (R.remaining reader.old) input × IsTreeReport Agrees output status input text
         × Appends (W.contents writer.old) (W.contents writer.new) text) }
     ensures commit_rule { IfOk result (λ status. (input : List ℕ) × (text : List ℕ)
-        × IsInput (R.remaining reader.old) input × IsTreeReport Consents status input text
+        × IsInput (R.remaining reader.old) input × IsTreeReport Consents output status input text
+        × Appends (W.contents writer.old) (W.contents writer.new) text) }
+    ensures true_answers { IfOk result (λ status. (input : List ℕ) × (text : List ℕ)
+        × IsInput (R.remaining reader.old) input × IsTreeReport AnswersTruly output status input text
+        × Appends (W.contents writer.old) (W.contents writer.new) text) }
+    ensures standing_mismatches { IfOk result (λ status. (input : List ℕ) × (text : List ℕ)
+        × IsInput (R.remaining reader.old) input × IsTreeReport KeepsMismatches output status input text
+        × Appends (W.contents writer.old) (W.contents writer.new) text) }
+    ensures by_operators_alone { IfOk result (λ status. (input : List ℕ) × (text : List ℕ)
+        × IsInput (R.remaining reader.old) input × IsTreeReport IsByOperatorsAlone output status input text
         × Appends (W.contents writer.old) (W.contents writer.new) text) }
     ensures cut { IfErr result (λ e. e ≡ Failure.Write → (input : List ℕ) × (text : List ℕ) × (status : AnyStatus)
-        × IsInput (R.remaining reader.old) input × IsTreeReport AgreesAndConsents status input text
+        × IsInput (R.remaining reader.old) input × IsTreeReport KeepsHeadline output status input text
         × WritesFront (W.contents writer.old) (W.contents writer.new) text) }
     ensures unread { IfErr result (λ e. e ≡ Failure.Read → Keeps (W.contents writer.old) (W.contents writer.new)) }
     ensures memory { IfErr result (λ e. e ≡ Failure.Memory → Keeps (W.contents writer.old) (W.contents writer.new)) }
 {
     let input = read_all(alloc, reader)?;
-    let (text, status) = report(alloc, &input)?;
+    let (text, status) = report(alloc, output, &input)?;
     match write_all(writer, &text) {
         Ok(()) => Ok(status),
         Err(failure) => Err(failure),
@@ -58,14 +79,14 @@ pub fn run_tree<R: Read, W: Write>(
 }
 
 /// The answer to an input.
-fn report(alloc: Global, input: &[u8]) -> Result<(Vec<u8>, Status), Failure>
-    ensures report { IfOk result (λ r. IsTreeReport AgreesAndConsents r.1 input.now r.0.items) }
+fn report(alloc: Global, output: Output, input: &[u8]) -> Result<(Vec<u8>, Status), Failure>
+    ensures report { IfOk result (λ r. IsTreeReport KeepsHeadline output r.1 input.now r.0.items) }
     ensures memory { IfErr result (λ e. e ≡ Failure.Memory) }
 {
-    match read(alloc, Stage::Flat, input) {
+    match read(alloc, Stage::Run, input) {
         Ok((tree, events)) => {
             let (world, refusal) = play(alloc, tree, &events)?;
-            trace(alloc, &world, refusal)
+            told(alloc, output, &world, refusal)
         }
         Err(ScriptError::Fault(fault)) => Ok((refusal(alloc, fault)?, Status::Refused)),
         Err(ScriptError::Memory) => Err(Failure::Memory),
@@ -103,100 +124,55 @@ fn refusal_line(alloc: Global, fault: ScriptFault) -> Result<String, AllocError>
 }
 
 /// Opens the tree.
-fn opened(alloc: Global, tree: Tree) -> Result<FlatWorld, AllocError>
-    ensures opened { IfOk result (λ world. IsOpened (state world) (root_of tree) tree) }
-    ensures modelled { IfOk result (λ world. IsFlatTree (root_of tree) tree → IsModelled (root_of tree) tree (state world)) }
+fn opened(alloc: Global, tree: Tree) -> Result<World<MemoryStore>, Failure>
+    ensures opened { IfOk result (λ world. IsOpened (state world) tree) }
+    ensures memory { IfErr result (λ e. e ≡ Failure.Memory) }
 {
-    FlatWorld::new(alloc, tree.root(), tree)
+    match World::new(alloc, tree) {
+        Ok(world) => Ok(world),
+        Err(_) => Err(Failure::Memory),
+    }
 }
 
-/// Runs these events on the tree: what it comes to, and how many events were made and why the next was refused.
-fn play(alloc: Global, tree: Tree, events: &[Event]) -> Result<(FlatWorld, Refusal), Failure>
-    requires { IsFlatTree (root_of tree) tree }
+/// Runs these events on the tree: what it comes to, and how many events were made and why the next was refused. A store in
+/// memory has no device that fails.
+fn play(
+    alloc: Global,
+    tree: Tree,
+    events: &[Event],
+) -> Result<(World<MemoryStore>, Refusal), Failure>
+    requires tree { IsTree tree }
+    requires run { All (λ e. is_run_event e ≡ true) events.now }
     ensures plays { IfOk result (λ r. Plays tree events.now r.1 (state r.0)) }
-    ensures modelled { IfOk result (λ r. IsModelled (root_of tree) tree (state r.0)) }
     ensures numbered { IfOk result (λ r. IsNumbered r.1) }
     ensures memory { IfErr result (λ e. e ≡ Failure.Memory) }
 {
     let mut world = opened(alloc, tree)?;
     match world.run(events) {
         Ok(()) => Ok((world, None)),
-        Err(refused) => {
-            if refused.1 == StepError::Memory {
+        Err((made, refusal)) => {
+            if refusal == StepError::Memory || refusal == StepError::Device {
                 return Err(Failure::Memory);
             }
-            Ok((world, Some(refused)))
+            Ok((world, Some((made, refusal))))
         }
     }
 }
 
-/// The trace of what the tree has come to, and how its run ended.
-fn trace(alloc: Global, world: &FlatWorld, refusal: Refusal) -> Result<(Vec<u8>, Status), Failure>
+/// What is written of the tree that has come so far, and how its run ended.
+fn told(
+    alloc: Global,
+    output: Output,
+    world: &World<MemoryStore>,
+    refusal: Refusal,
+) -> Result<(Vec<u8>, Status), Failure>
     requires { IsNumbered refusal }
-    ensures text { IfOk result (λ r. r.0.items ≡ (let w = state world.now in trace_of w.root.tree w ++ last_line refusal)) }
+    ensures text { IfOk result (λ r. Tells output (state world.now) refusal r.0.items) }
     ensures status { IfOk result (λ r. r.1 ≡ ending refusal) }
     ensures memory { IfErr result (λ e. e ≡ Failure.Memory) }
 {
-    let mut out = Vec::new(alloc);
-    push_opened(alloc, &mut out, world.tree().entries())?;
-    push_entries(&mut out, world.trace())?;
-    match refusal {
-        None => {
-            out.extend_from_slice(b"end\n")?;
-            Ok((out, Status::Ended))
-        }
-        Some((made, refusal)) => {
-            push_refused(alloc, &mut out, made as u64 + 1, refusal.number())?;
-            Ok((out, Status::Stopped))
-        }
+    match (output, refusal) {
+        (Output::Logs, None) => Ok((left_text(alloc, world)?, Status::Ended)),
+        _ => trace(alloc, world, refusal),
     }
-}
-
-/// The last line of a run that was refused an event.
-fn push_refused(alloc: Global, out: &mut Vec<u8>, event: u64, refusal: u8) -> Result<(), AllocError>
-    ensures { OnOk result (out.new.items ≡ out.old.items ++ refused_text event refusal) }
-{
-    let line = format!(in alloc; "refused {event} {refusal}\n")?;
-    out.extend_from_slice(line.as_bytes())
-}
-
-/// The lines of the processes' opening.
-fn push_opened(alloc: Global, out: &mut Vec<u8>, entries: &[TreeEntry]) -> Result<(), AllocError>
-    ensures { OnOk result (out.new.items ≡ out.old.items ++ opened_text entries.now) }
-{
-    for entry in entries {
-        push_opening(alloc, out, entry.id.0)?;
-    }
-    Ok(())
-}
-
-fn push_opening(alloc: Global, out: &mut Vec<u8>, process: u32) -> Result<(), AllocError>
-    ensures { OnOk result (out.new.items ≡ out.old.items ++ opening_text process) }
-{
-    let line = opening_line(alloc, u64::from(process))?;
-    out.extend_from_slice(line.as_bytes())
-}
-
-fn opening_line(alloc: Global, process: u64) -> Result<String, AllocError>
-    ensures { IfOk result (λ line. string_bytes line ≡ opening_text process) }
-{
-    let mut line = format!(in alloc; "log {process} ")?;
-    line.push_str("Opened 1 forced\n")?;
-    Ok(line)
-}
-
-/// The lines of a run's steps. A run of 2^64 messages is taken for want of memory.
-fn push_entries(out: &mut Vec<u8>, entries: &[Entry]) -> Result<(), Failure>
-    ensures text { OnOk result (out.new.items ≡ out.old.items ++ entries_text 0 entries.now) }
-    ensures memory { IfErr result (λ e. e ≡ Failure.Memory) }
-{
-    let mut sent: u64 = 0;
-    for entry in entries {
-        let Some(next) = sent.checked_add(entry.reaction.messages.len() as u64) else {
-            return Err(Failure::Memory);
-        };
-        push_entry(out, sent, entry)?;
-        sent = next;
-    }
-    Ok(())
 }

@@ -1,6 +1,8 @@
+pub mod EmptyLogs
 pub mod Handling
 pub mod Journals
 pub mod Logs
+pub mod OpenNodes
 pub mod OpenPlaces
 pub mod Processes
 pub mod Running

@@ -1,3 +1,4 @@
 pub mod Journals
 pub mod Nodes
+pub mod Openings
 pub mod Worlds

@@ -4,14 +4,16 @@ use Rattle.std.specs.Map.{lookup}
 use Rattle.live_table.specs.Tables.{live_count}
 use Rattle.tree_model.specs.declared.names.ProcessId.{ProcessId}
 use Rattle.tree_model.specs.contracts.names.ProcessIdPartialEq.TheImpl as processes
+use Rattle.tree_model.specs.declared.names.Kind.{Kind}
+use Rattle.tree_model.specs.declared.names.Kind.TheVariants.{Coordinator as CoordinatorKind, Manager as ManagerKind}
 use Rattle.tree_model.specs.declared.records.LogRecord.{LogRecord}
 use Rattle.tree_model.specs.declared.events.Input.{Input}
 use Rattle.tree_model.specs.declared.events.Reaction.{Reaction}
 use Rattle.tree_model.specs.declared.events.StepError.{StepError}
 use Rattle.tree_model.specs.declared.events.StepError.TheVariants.{Memory, Device}
 use Rattle.tree_model.specs.Names.{same_process}
-use Rattle.tree_model.specs.Nodes.{DataAnswer}
-use Rattle.rec_log.specs.Sights.{records_of}
+use Rattle.tree_model.specs.Nodes.{DataAnswer, Role, AtLeaf}
+use Rattle.rec_log.specs.Sights.{ReadsAs, records_of}
 use Rattle.core_model.specs.States.{CoreState}
 use Rattle.core_model.specs.Makes.{IsBroken, NotMade}
 use Rattle.coord_core.specs.States as coordinators
@@ -43,6 +45,20 @@ nodes_at ns q = option_map core_of (node_in ns q)
 abbrev pub log_by : Option CoreState → List LogRecord
 log_by None = []
 log_by (Some s) = records_of s.log.kept
+
+-- the kind of the log that a process with this role keeps
+abbrev pub log_kind : Role → Kind
+log_kind (AtLeaf p) = ManagerKind
+log_kind _ = CoordinatorKind
+
+-- the bytes read as the log of this process
+abbrev pub SpellsLog : CoreState → List ℕ → Type 0
+SpellsLog s text = ReadsAs (log_kind s.place.role) text (records_of s.log.kept) s.log.failed
+
+-- likewise; where there is no such process, there are no bytes
+abbrev pub SpellsLogBy : Option CoreState → List ℕ → Type 0
+SpellsLogBy None text = text ≡ []
+SpellsLogBy (Some s) text = SpellsLog s text
 
 -- why a process did not handle an input, and what that leaves
 abbrev pub NotHandled : CoreState → CoreState → Input → StepError → Type 0

@@ -5,7 +5,9 @@ mod journal;
 mod marks;
 mod node;
 mod nodes;
+mod opening;
 mod world;
 
 pub use node::Node;
+pub use opening::OpenError;
 pub use world::{World, is_run_event};

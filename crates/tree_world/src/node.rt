@@ -7,7 +7,7 @@ ghost use Rattle.coord_core.specs.States.{state as coordinator_state};
 ghost use Rattle.kv_manager.specs.Resources.{sight_of};
 ghost use Rattle.sub_core.specs.Steps.{is_decision, state as manager_state};
 ghost use Rattle.world_law.specs.Worlds.{HandlesInput};
-ghost use Rattle.tree_world.specs.Nodes.{NotHandled, core_of, live_at};
+ghost use Rattle.tree_world.specs.Nodes.{NotHandled, SpellsLog, core_of, live_at};
 
 use coord_core::Coordinator;
 use kv_manager::KvManager;
@@ -67,6 +67,16 @@ impl<L: LogStore> Node<L> {
         }
     }
 
+    /// The bytes of its log, as a list made anew.
+    pub fn log_text(&self) -> Result<Vec<u8>, AllocError>
+        ensures { IfOk result (λ text. SpellsLog (core_of self.now) text.items) }
+    {
+        match self {
+            Node::Coordinator(coordinator) => coordinator_text(coordinator),
+            Node::Manager(manager) => manager.manager().log_text(),
+        }
+    }
+
     /// Handles an input, which is no operator's decision. The refusals of the reaction table, as `StepError` says them,
     /// change nothing, nor does Memory.
     /// Device: the device failed under the record of the input, which stands or not, and the process answers Failed until
@@ -94,6 +104,13 @@ impl<L: LogStore> Node<L> {
         }
         self.step(input)
     }
+}
+
+/// The bytes of a coordinator's log.
+fn coordinator_text<L: LogStore>(coordinator: &Coordinator<L>) -> Result<Vec<u8>, AllocError>
+    ensures { IfOk result (λ text. SpellsLog (coordinator_state coordinator.now) text.items) }
+{
+    coordinator.log_text()
 }
 
 /// A coordinator handles an input; it has no data that answer.

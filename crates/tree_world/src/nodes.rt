@@ -2,7 +2,7 @@
 
 ghost use Rattle.std.specs.Prelude.{◌≡◌, false, IfErr, IfOk, option_map};
 ghost use Rattle.sub_core.specs.Steps.{is_decision};
-ghost use Rattle.tree_world.specs.Nodes.{NoStepAt, StepsAt, live_at, log_by, node_in, nodes_at};
+ghost use Rattle.tree_world.specs.Nodes.{NoStepAt, SpellsLogBy, StepsAt, live_at, log_by, node_in, nodes_at};
 
 use crate::node::Node;
 use indexmap::IndexMap;
@@ -13,7 +13,7 @@ use tree_model::{Input, LogRecord, ProcessId, Reaction, StepError};
 /// The processes of a tree, each by its name.
 #[derive(Drop)]
 pub(crate) struct Nodes<L: LogStore> {
-    nodes: IndexMap<ProcessId, Node<L>>,
+    pub(crate) nodes: IndexMap<ProcessId, Node<L>>,
 }
 
 impl<L: LogStore> Nodes<L> {
@@ -50,6 +50,15 @@ impl<L: LogStore> Nodes<L> {
         match self.nodes.get(&process) {
             None => Ok(Vec::new(alloc)),
             Some(node) => node.records(),
+        }
+    }
+    /// The bytes of a process's log; none, where there is no such process.
+    pub(crate) fn log_text(&self, alloc: Global, process: ProcessId) -> Result<Vec<u8>, AllocError>
+        ensures { IfOk result (λ text. SpellsLogBy (nodes_at self.now.nodes.entries process) text.items) }
+    {
+        match self.nodes.get(&process) {
+            None => Ok(Vec::new(alloc)),
+            Some(node) => node.log_text(),
         }
     }
 }

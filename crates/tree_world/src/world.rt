@@ -6,7 +6,7 @@ ghost use Rattle.tree_model.specs.Plays.{process_of_act};
 ghost use Rattle.world_law.specs.Worlds.{Applies, Stops, Steps, is_run_event as is_run_event_of};
 ghost use Rattle.world_law.specs.Runs.{Leads, LeadsUntil};
 ghost use Rattle.tree_world.specs.Journals.{IsReady, marked_by};
-ghost use Rattle.tree_world.specs.Nodes.{live_at, node_in};
+ghost use Rattle.tree_world.specs.Nodes.{SpellsLogBy, live_at, node_in};
 ghost use Rattle.tree_world.specs.Worlds.{NotTaken, logs_at, state};
 
 use crate::journal::Journal;
@@ -87,6 +87,13 @@ impl<L: LogStore> World<L> {
         ensures { result ≡ option_map live_at (node_in self.now.nodes.nodes.entries process) }
     {
         self.nodes.live(process)
+    }
+
+    /// The bytes of a process's log, as a list made anew; none, where there is no such process.
+    pub fn log_text(&self, process: ProcessId) -> Result<Vec<u8>, AllocError>
+        ensures { IfOk result (λ text. SpellsLogBy ((state self.now).node_at process) text.items) }
+    {
+        self.nodes.log_text(self.alloc, process)
     }
 
     /// The records of each process's log, in the order of the tree.

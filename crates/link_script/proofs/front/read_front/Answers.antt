@@ -8,13 +8,10 @@ pub returns-in-Err-TreeText-clause-err : goal.returns-in-Err-TreeText-clause-err
 returns-in-Err-TreeText-clause-err c =
     let h = c.in-Some.ensures in
     let text = c.in-Ok.ensures.cases in (
-      tt,
-      (
-        text.1,
-        no_tree c.args.bytes.now c.in-Some.document.now h.0 h.1
-            (ap (λ t. around_rule (pieces t)) (sym text.0) ∙ h.2) h.3
-            (c.in-Err-TreeText.ensures.none c.in-Err-TreeText.field-0-is),
-      ),
+      text.1,
+      no_tree c.args.bytes.now c.in-Some.document.now h.0 h.1
+          (ap (λ t. around_rule (pieces t)) (sym text.0) ∙ h.2) h.3
+          (c.in-Err-TreeText.ensures.none c.in-Err-TreeText.field-0-is),
     )
 
 pub overflow_add-result : goal.overflow_add-result

@@ -1,3 +1,0 @@
-pub mod Journals
-pub mod LeafSteps
-pub mod Worlds

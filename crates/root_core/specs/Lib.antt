@@ -1,4 +1,0 @@
-pub mod Roots
-pub mod Rows
-pub mod States
-pub mod Asking

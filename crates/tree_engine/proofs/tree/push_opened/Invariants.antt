@@ -1,6 +1,0 @@
-use Rattle.std.proofs.Common.{◌≡◌, ◌++◌, take}
-use Rattle.tree_engine.specs.Trees.{opened_text}
-use Rattle.tree_engine.proofs.tree.push_opened.Given as goal
-
-abbrev pub invariant-loop-entry : goal.invariant-loop-entry
-invariant-loop-entry l = l.out.items ≡ l.initial.out.items ++ opened_text (take l.entry-index l.entries)

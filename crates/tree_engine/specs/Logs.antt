@@ -1,0 +1,20 @@
+-- The logs that a run leaves.
+use Rattle.std.specs.Prelude.{◌≡◌, ℕ, List, [], ◌∷◌}
+use Rattle.tree_model.specs.declared.trees.TreeEntry.{TreeEntry}
+use Rattle.logs_script.specs.declared.line.ProcessLog.{ProcessLog}
+use Rattle.logs_script.specs.Trees.{logs_text}
+use Rattle.world_law.specs.Worlds.{WorldState}
+use Rattle.tree_world.specs.Nodes.{SpellsLogBy}
+
+-- for each of these processes, in order, one log, whose bytes read as what the process keeps
+abbrev pub AreLogs : WorldState → List TreeEntry → List ProcessLog → Type 0
+AreLogs w [] [] = Unit {0}
+AreLogs w [] (l ∷ ls) = ⊥
+AreLogs w (e ∷ es) [] = ⊥
+AreLogs w (e ∷ es) (l ∷ ls) = (l.process ≡ e.id) × SpellsLogBy (w.node_at e.id) l.bytes × AreLogs w es ls
+
+-- the text is that of the tree and of the log of each process
+pub record LeavesLogs (w : WorldState) (text : List ℕ) : Type 0 where
+  pub logs : List ProcessLog
+  pub are : AreLogs w w.tree logs
+  pub is : text ≡ logs_text w.tree logs

@@ -1,0 +1,34 @@
+//! The logs that a run leaves.
+
+ghost use Rattle.std.specs.Prelude.{◌≡◌, IfOk};
+ghost use Rattle.tree_world.specs.Worlds.{state};
+ghost use Rattle.tree_engine.specs.Logs.{AreLogs, LeavesLogs};
+
+use log_store::MemoryStore;
+use logs_script::{ProcessLog, logs_text};
+use std::alloc::{AllocError, Global};
+use tree_model::Bytes;
+use tree_world::World;
+
+/// The log of each process, in the order of the tree.
+fn logs_left(alloc: Global, world: &World<MemoryStore>) -> Result<Vec<ProcessLog>, AllocError>
+    ensures { IfOk result (λ logs. AreLogs (state world.now) (state world.now).tree logs.items) }
+{
+    let mut logs = Vec::new(alloc);
+    for entry in world.tree().entries() {
+        let bytes = Bytes::from_vec(world.log_text(entry.id)?);
+        logs.push(ProcessLog {
+            process: entry.id,
+            bytes,
+        })?;
+    }
+    Ok(logs)
+}
+
+/// The processes and their logs, as `rstar log` reads them.
+pub(crate) fn left_text(alloc: Global, world: &World<MemoryStore>) -> Result<Vec<u8>, AllocError>
+    ensures { IfOk result (λ text. LeavesLogs (state world.now) text.items) }
+{
+    let logs = logs_left(alloc, world)?;
+    logs_text(alloc, world.tree().entries(), &logs)
+}

@@ -1,0 +1,89 @@
+//! The trace of a run.
+
+ghost use Rattle.std.specs.Prelude.{◌≡◌, ◌++◌, IfErr, IfOk, OnOk, string_bytes};
+ghost use Rattle.trace_lines.specs.Trace.{entries_text};
+ghost use Rattle.tree_world.specs.Worlds.{state};
+ghost use Rattle.tree_engine.specs.Trees.{IsNumbered, ending, last_line, opened_text, opening_text, refused_text, trace_of};
+
+use crate::tree::Refusal;
+use log_store::MemoryStore;
+use report_io::{Failure, Status};
+use std::alloc::{AllocError, Global};
+use trace_lines::push_entry;
+use tree_model::{Entry, TreeEntry};
+use tree_world::World;
+
+/// The trace of what the tree has come to, and how its run ended.
+pub(crate) fn trace(
+    alloc: Global,
+    world: &World<MemoryStore>,
+    refusal: Refusal,
+) -> Result<(Vec<u8>, Status), Failure>
+    requires { IsNumbered refusal }
+    ensures text { IfOk result (λ r. r.0.items ≡ trace_of (state world.now) ++ last_line refusal) }
+    ensures status { IfOk result (λ r. r.1 ≡ ending refusal) }
+    ensures memory { IfErr result (λ e. e ≡ Failure.Memory) }
+{
+    let mut out = Vec::new(alloc);
+    push_opened(alloc, &mut out, world.tree().entries())?;
+    push_entries(&mut out, world.trace())?;
+    match refusal {
+        None => {
+            out.extend_from_slice(b"end\n")?;
+            Ok((out, Status::Ended))
+        }
+        Some((made, refusal)) => {
+            push_refused(alloc, &mut out, made as u64 + 1, refusal.number())?;
+            Ok((out, Status::Stopped))
+        }
+    }
+}
+
+/// The last line of a run that was refused an event.
+fn push_refused(alloc: Global, out: &mut Vec<u8>, event: u64, refusal: u8) -> Result<(), AllocError>
+    ensures { OnOk result (out.new.items ≡ out.old.items ++ refused_text event refusal) }
+{
+    let line = format!(in alloc; "refused {event} {refusal}\n")?;
+    out.extend_from_slice(line.as_bytes())
+}
+
+/// The lines of the processes' opening.
+fn push_opened(alloc: Global, out: &mut Vec<u8>, entries: &[TreeEntry]) -> Result<(), AllocError>
+    ensures { OnOk result (out.new.items ≡ out.old.items ++ opened_text entries.now) }
+{
+    for entry in entries {
+        push_opening(alloc, out, entry.id.0)?;
+    }
+    Ok(())
+}
+
+fn push_opening(alloc: Global, out: &mut Vec<u8>, process: u32) -> Result<(), AllocError>
+    ensures { OnOk result (out.new.items ≡ out.old.items ++ opening_text process) }
+{
+    let line = opening_line(alloc, u64::from(process))?;
+    out.extend_from_slice(line.as_bytes())
+}
+
+fn opening_line(alloc: Global, process: u64) -> Result<String, AllocError>
+    ensures { IfOk result (λ line. string_bytes line ≡ opening_text process) }
+{
+    let mut line = format!(in alloc; "log {process} ")?;
+    line.push_str("Opened 1 forced\n")?;
+    Ok(line)
+}
+
+/// The lines of a run's steps. A run of 2^64 messages is taken for want of memory.
+fn push_entries(out: &mut Vec<u8>, entries: &[Entry]) -> Result<(), Failure>
+    ensures text { OnOk result (out.new.items ≡ out.old.items ++ entries_text 0 entries.now) }
+    ensures memory { IfErr result (λ e. e ≡ Failure.Memory) }
+{
+    let mut sent: u64 = 0;
+    for entry in entries {
+        let Some(next) = sent.checked_add(entry.reaction.messages.len() as u64) else {
+            return Err(Failure::Memory);
+        };
+        push_entry(out, sent, entry)?;
+        sent = next;
+    }
+    Ok(())
+}

@@ -1,0 +1,238 @@
+//! Opening a tree over empty stores.
+
+ghost use Rattle.std.specs.Prelude.{◌≡◌, [], false, IfOk, IsSomeAnd, OnOk, Some};
+ghost use Rattle.std.specs.Map.{lookup};
+ghost use Rattle.tree_model.specs.contracts.names.ProcessIdPartialEq.TheImpl as processes;
+ghost use Rattle.rec_log.specs.Sights.{records_of};
+ghost use Rattle.tree_model.specs.declared.names.Kind.TheVariants as kind;
+ghost use Rattle.tree_model.specs.declared.names.ProcessId.{ProcessId as AnyProcess};
+ghost use Rattle.tree_model.specs.Names.{same_process};
+ghost use Rattle.tree_model.specs.Nodes.{Role, role_by};
+ghost use Rattle.world_law.specs.Runs.{IsOpened};
+ghost use Rattle.tree_world.specs.Openings.{AreOpened, OpenedAs, OpenedAt};
+ghost use Rattle.tree_world.specs.Nodes.{core_of, nodes_at};
+ghost use Rattle.tree_world.specs.Worlds.{state};
+
+use crate::journal::Journal;
+use crate::node::Node;
+use crate::nodes::Nodes;
+use crate::world::World;
+use coord_core::Coordinator;
+use indexmap::IndexMap;
+use kv_manager::{KvManager, RestartError, RestoreError};
+use log_store::{LogStore, MemoryStore};
+use rec_log::{OpenError as LogOpenError, RecLog};
+use std::alloc::{AllocError, Global};
+use sub_core::Subordinate;
+use thiserror::Error;
+use tree_model::{Kind, ProcessId, StepError, Tree, TreeEntry};
+
+/// Why a process was not opened.
+#[derive(Clone, Copy, Debug, PartialEq, Eq, Error)]
+pub enum OpenError {
+    /// A growth was refused.
+    #[error("no memory")]
+    Memory,
+    /// The device of a store failed.
+    #[error("a device failed")]
+    Device,
+    /// The bytes in a store are no log of a process that is opened for the first time.
+    #[error("a store is not empty")]
+    Store,
+}
+
+impl From<AllocError> for OpenError {
+    ghost use Rattle.std.specs.Prelude.{◌≡◌};
+    ghost use Rattle.tree_world.specs.declared.opening.OpenError.TheVariants.{Memory};
+
+    ghost from_gives = { λ _ e. e ≡ Memory };
+
+    fn from(_e: AllocError) -> OpenError {
+        OpenError::Memory
+    }
+}
+
+/// Lets go of what a refusal handed back, and tells why.
+fn refused<T: Drop>(_left: T, why: OpenError) -> OpenError
+    ensures { result ≡ why }
+{
+    why
+}
+
+fn of_log(error: LogOpenError) -> OpenError {
+    match error {
+        LogOpenError::Memory => OpenError::Memory,
+        LogOpenError::Device => OpenError::Device,
+        LogOpenError::Damaged(_) => OpenError::Store,
+    }
+}
+
+fn of_step(error: StepError) -> OpenError {
+    match error {
+        StepError::Memory => OpenError::Memory,
+        _ => OpenError::Device,
+    }
+}
+
+fn of_manager(error: RestoreError) -> OpenError {
+    match error {
+        RestoreError::Log(error) => of_log(error),
+        RestoreError::Records(RestartError::Memory) => OpenError::Memory,
+        RestoreError::Records(RestartError::Device) => OpenError::Device,
+        RestoreError::Records(_) => OpenError::Store,
+    }
+}
+
+/// A process's entry once more.
+fn copied_entry(alloc: Global, entry: &TreeEntry) -> Result<TreeEntry, AllocError>
+    ensures { IfOk result (λ copy. copy ≡ entry.now) }
+{
+    Ok(TreeEntry {
+        id: entry.id,
+        kind: entry.kind,
+        parent: entry.parent,
+        info: match &entry.info {
+            None => None,
+            Some(info) => Some(info.copied(alloc)?),
+        },
+    })
+}
+
+/// The tree once more: each process keeps its own.
+fn copied_tree(alloc: Global, tree: &[TreeEntry]) -> Result<Tree, AllocError>
+    ensures { IfOk result (λ copy. copy ≡ tree.now) }
+{
+    let mut copy = Vec::new(alloc);
+    for entry in tree {
+        copy.push(copied_entry(alloc, entry)?)?;
+    }
+    Ok(Tree::from_vec(copy))
+}
+
+/// An empty log of a coordinator over an empty store.
+fn empty_log<L: LogStore + Drop>(alloc: Global, store: L) -> Result<RecLog<L>, OpenError>
+    requires { L.bytes store ≡ [] }
+    ensures kind { IfOk result (λ log. log.kind ≡ kind.Coordinator) }
+    ensures works { IfOk result (λ log. log.sight.failed ≡ false) }
+    ensures empty { IfOk result (λ log. records_of log.sight.kept ≡ []) }
+{
+    match RecLog::open(store, Kind::Coordinator, alloc) {
+        Ok(log) => Ok(log),
+        Err((error, store)) => Err(refused(store, of_log(error))),
+    }
+}
+
+/// Opens a coordinator of the tree over an empty store. Without a parent it is the root.
+fn open_coordinator<L: LogStore + Drop>(
+    alloc: Global,
+    me: ProcessId,
+    parent: Option<ProcessId>,
+    tree: Tree,
+    store: L,
+) -> Result<Node<L>, OpenError>
+    requires { L.bytes store ≡ [] }
+    ensures { IfOk result (λ node. OpenedAt (record { me = me; role = role_by kind.Coordinator parent; tree = tree }) (core_of node)) }
+{
+    let log = empty_log(alloc, store)?;
+    match Coordinator::open(alloc, me, parent, tree, log) {
+        Ok(coordinator) => Ok(Node::Coordinator(coordinator)),
+        Err((error, log)) => Err(refused(log, of_step(error))),
+    }
+}
+
+/// Opens a manager of the tree over an empty store.
+fn open_manager<L: LogStore + Drop>(
+    alloc: Global,
+    me: ProcessId,
+    parent: ProcessId,
+    tree: Tree,
+    store: L,
+) -> Result<Node<L>, OpenError>
+    requires { L.bytes store ≡ [] }
+    ensures { IfOk result (λ node. OpenedAt (record { me = me; role = Role.AtLeaf parent; tree = tree }) (core_of node)) }
+{
+    match KvManager::create(store, alloc) {
+        Ok(manager) => Ok(Node::Manager(Subordinate::open(alloc, me, parent, tree, manager))),
+        Err((error, store)) => Err(refused(store, of_manager(error))),
+    }
+}
+
+/// Opens the process of an entry. A process without a parent is the root, whatever its kind.
+fn open_node<L: LogStore + Drop>(
+    alloc: Global,
+    entry: &TreeEntry,
+    tree: Tree,
+    store: L,
+) -> Result<Node<L>, OpenError>
+    requires { L.bytes store ≡ [] }
+    ensures { IfOk result (λ node. OpenedAs tree entry.now (core_of node)) }
+{
+    match (entry.kind, entry.parent) {
+        (Kind::Manager, Some(parent)) => open_manager(alloc, entry.id, parent, tree, store),
+        (_, parent) => open_coordinator(alloc, entry.id, parent, tree, store),
+    }
+}
+
+/// A value more, by its process's name.
+fn put_by_name<V: Drop>(
+    values: &mut IndexMap<ProcessId, V>,
+    name: ProcessId,
+    value: V,
+) -> Result<(), AllocError>
+    ensures own { OnOk result (lookup (processes.ghosts.eq name) values.new.entries ≡ Some value) }
+    ensures others { OnOk result ((q : AnyProcess) → same_process name q ≡ false
+        → lookup (processes.ghosts.eq q) values.new.entries ≡ lookup (processes.ghosts.eq q) values.old.entries) }
+{
+    values.reserve(1)?;
+    let _ = values.insert(name, value).unwrap();
+    Ok(())
+}
+
+/// Opens the process of an entry, beside those that are open.
+fn open_more<L: LogStore + Drop>(
+    alloc: Global,
+    tree: &[TreeEntry],
+    entry: &TreeEntry,
+    store: L,
+    nodes: &mut IndexMap<ProcessId, Node<L>>,
+) -> Result<(), OpenError>
+    requires { L.bytes store ≡ [] }
+    ensures own { OnOk result (IsSomeAnd (nodes_at nodes.new.entries entry.now.id) (OpenedAs tree.now entry.now)) }
+    ensures others { OnOk result ((q : AnyProcess) → same_process entry.now.id q ≡ false → nodes_at nodes.new.entries q ≡ nodes_at nodes.old.entries q) }
+{
+    let node = open_node(alloc, entry, copied_tree(alloc, tree)?, store)?;
+    put_by_name(nodes, entry.id, node)?;
+    Ok(())
+}
+
+/// Opens every process of the tree over a store in memory. A process that is listed twice is opened as it is listed first.
+fn opened_in_memory(
+    alloc: Global,
+    tree: &[TreeEntry],
+) -> Result<IndexMap<ProcessId, Node<MemoryStore>>, OpenError>
+    ensures { IfOk result (λ nodes. AreOpened tree.now tree.now (nodes_at nodes.entries)) }
+{
+    let mut nodes = IndexMap::new(alloc);
+    for entry in tree {
+        if !nodes.contains_key(&entry.id) {
+            open_more(alloc, tree, entry, MemoryStore::new(alloc), &mut nodes)?;
+        }
+    }
+    Ok(nodes)
+}
+
+impl World<MemoryStore> {
+    /// A tree whose processes have opened empty logs in memory: boot 1, forced. A tree text lists each process once; where a
+    /// list does not, the process is as it is listed first. Memory is the only refusal that comes.
+    pub fn new(alloc: Global, tree: Tree) -> Result<World<MemoryStore>, OpenError>
+        ensures { IfOk result (λ world. IsOpened (state world) tree) }
+    {
+        let nodes = opened_in_memory(alloc, tree.entries())?;
+        Ok(World {
+            alloc,
+            tree,
+            nodes: Nodes { nodes },
+            journal: Journal::new(alloc),
+        })
+    }
+}
