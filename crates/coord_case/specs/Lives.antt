@@ -104,7 +104,8 @@ works_found (Some c) = c.works
 pub record Uncounts (t : Ticket) (old new : CoordinatorView) : Type 0 where
   pub standing : new.standing ≡ old.standing
   pub accepted : new.accepted ≡ old.accepted
-  pub voted : (o : Vote) (u : Ticket) → voted_so o new.votes u ≡ (voted_so o old.votes u && not (same_ticket t u))
+  pub voted : (o : Vote) (u : Ticket)
+      → voted_so o new.votes u ≡ (voted_so o old.votes u && not (same_ticket t u))
   pub works : new.works ≡ old.works
   pub promised : new.promised ≡ old.promised
   pub named : new.named ≡ old.named

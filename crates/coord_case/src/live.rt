@@ -15,7 +15,7 @@ ghost use Rattle.tree_model.specs.CoordinatorRows.{awaits as awaits_view, other_
 ghost use Rattle.tree_model.specs.Standings.{unknown_view};
 ghost use Rattle.core_model.specs.Views.{SameView};
 ghost use Rattle.core_model.specs.Makes.{open_view};
-ghost use Rattle.coord_case.specs.Lives.{Uncounts};
+ghost use Rattle.coord_case.specs.Lives.{Uncounts, meant};
 ghost use Rattle.tree_model.specs.Names.{child_case as case_of, root_case};
 
 use crate::child::Child;
@@ -97,6 +97,26 @@ impl Live {
             named: Vec::new(alloc),
             owed: Vec::new(alloc),
         }
+    }
+
+    /// A case as its records leave it, of which nothing was heard: where it stands, the tickets that its promise names, those
+    /// that any of its records names, and those that owe an acknowledgement.
+    pub fn restored(
+        alloc: Global,
+        standing: Standing,
+        promised: &[Ticket],
+        named: &[Ticket],
+        owed: &[Ticket],
+    ) -> Result<Live, AllocError>
+        ensures { IfOk result (λ live. live ≡ meant standing [] promised.now named.now owed.now) }
+    {
+        Ok(Live {
+            standing,
+            children: SmallVec::new(alloc),
+            promised: Vec::from_slice(alloc, promised)?,
+            named: Vec::from_slice(alloc, named)?,
+            owed: Vec::from_slice(alloc, owed)?,
+        })
     }
 
     /// Where it stands.
@@ -270,6 +290,13 @@ impl Live {
         ensures { result.now ≡ self.now.promised }
     {
         &self.promised
+    }
+
+    /// The tickets that owe an acknowledgement.
+    pub fn owed(&self) -> &[Ticket]
+        ensures { result.now ≡ self.now.owed }
+    {
+        &self.owed
     }
 
     /// Whether the ticket owes an acknowledgement.

@@ -2,3 +2,4 @@ pub mod Entries
 pub mod Heard
 pub mod Made
 pub mod Opened
+pub mod Restarted

@@ -42,12 +42,14 @@ meant v (Issues p d) = IssuesTurn d (next_ticket (state v)) (post v.me p (Joined
 meant v (Takes k c asked) = TakesTurn c (met v c asked)
 meant v (Answers c asked) = TakesTurn c (met v c asked)
 meant v (Repeats p d t) = SaysTurn (post v.me p (Joined d t) ∷ [])
-meant v (Presumes x t) = SaysTurn (post v.me t.child (tells_outcome (presumed x.presumption) (child_case x t)) ∷ [])
+meant v (Presumes x t) =
+    SaysTurn (post v.me t.child (tells_outcome (presumed x.presumption) (child_case x t)) ∷ [])
 meant v Nothing = SaysTurn []
 
 -- the input ends the time of a ticket just where what is asked of the case does
 abbrev pub RetiresAs : Input → Asked → Case → Type 0
-RetiresAs i asked c = (d : Case) (t : Ticket) → retires i d t ≡ (is_retiring asked && same_case (child_case d.txn t) c)
+RetiresAs i asked c = (d : Case) (t : Ticket)
+    → retires i d t ≡ (is_retiring asked && same_case (child_case d.txn t) c)
 
 -- an error by which the reaction table refuses; the device's is none
 abbrev pub is_refusal : StepError → Bool
@@ -88,8 +90,10 @@ pub record MeetsAct (v : CoordinatorValue) (a : Act) (turn : Turn) : Type 0 wher
   pub is : coordinator_act (state v) a ≡ meant v turn
   pub may : May v (ActInput a) turn
 
--- the turn is the one that the message meets, which says this for the case that was found for the child that it is of
-pub record Hears (v : CoordinatorValue) (i : Input) (says : Option Case → CoreTurn) (turn : Turn) : Type 0 where
+-- the turn is the one that the message meets, which says this for the case that was found for the child that
+-- it is of
+pub record Hears (v : CoordinatorValue) (i : Input) (says : Option Case → CoreTurn)
+    (turn : Turn) : Type 0 where
   pub found : Option Case
   pub finds : Finds (state v) (asked_by i) found
   pub is : says found ≡ meant v turn
@@ -108,7 +112,8 @@ met_by_child v asked otherwise None = meant v otherwise
 met_by_child v asked otherwise (Some c) = TakesTurn c (met v c asked)
 
 -- the turn is the one that is met by what a child asks
-pub record HearsOf (v : CoordinatorValue) (x : Txn) (t : Ticket) (asked : Asked) (otherwise : Turn) (turn : Turn) : Type 0 where
+pub record HearsOf (v : CoordinatorValue) (x : Txn) (t : Ticket) (asked : Asked) (otherwise : Turn)
+    (turn : Turn) : Type 0 where
   pub found : Option Case
   pub finds : Finds (state v) (Some (x, t)) found
   pub is : met_by_child v asked otherwise found ≡ meant v turn
@@ -118,7 +123,8 @@ pub record HearsOf (v : CoordinatorValue) (x : Txn) (t : Ticket) (asked : Asked)
 abbrev pub FindsAt : Slots → Txn → Ticket → Option (ℕ × Case) → Type 0
 FindsAt slots x t None = (c : Case) → same_txn c.txn x ≡ true → has_child (view_in slots c) t ≡ false
 FindsAt slots x t (Some found) =
-    IsAt slots found.0 found.1 × (same_txn found.1.txn x ≡ true) × (has_child (view_in slots found.1) t ≡ true)
+    IsAt slots found.0 found.1 × (same_txn found.1.txn x ≡ true)
+    × (has_child (view_in slots found.1) t ≡ true)
 
 -- no live case is Active: the error says why
 abbrev pub IsClosed : Standing → StepError → Type 0

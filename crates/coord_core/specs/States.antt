@@ -1,27 +1,30 @@
 -- What the code of a coordinator keeps, and the process that it stands for.
-use Rattle.std.specs.Prelude.{◌≡◌, ◌≤◌, ℕ, true, Option, Some, None, List, [], ◌∷◌}
+pub use Rattle.inquire_core.specs.Readings.{role_below}
+use Rattle.std.specs.Prelude.{◌≡◌, ◌≤◌, ℕ, true, Option, Some, List, [], ◌∷◌}
 use Rattle.tree_model.specs.declared.names.Kind.TheVariants.{Coordinator}
 use Rattle.tree_model.specs.declared.names.Presumption.{Presumption}
 use Rattle.tree_model.specs.declared.names.ProcessId.{ProcessId}
 use Rattle.tree_model.specs.declared.names.Ticket.{Ticket}
 use Rattle.tree_model.specs.declared.names.Txn.{Txn}
-use Rattle.tree_model.specs.declared.records.LogRecord.{LogRecord}
 use Rattle.tree_model.specs.declared.records.Record.TheVariants.{Opened}
 use Rattle.tree_model.specs.declared.events.StepError.{StepError}
 use Rattle.tree_model.specs.declared.events.StepError.TheVariants.{Memory, Device}
 use Rattle.tree_model.specs.declared.trees.TreeEntry.{TreeEntry}
 use Rattle.tree_model.specs.Names.{child_case, root_case}
-use Rattle.tree_model.specs.Nodes.{Place, Role, AtRoot, Below}
+use Rattle.tree_model.specs.Nodes.{Place}
 use Rattle.tree_model.specs.Standings.{unknown_branch}
 use Rattle.live_table.specs.Tables.{case_of, entry_at}
+use Rattle.rec_log.specs.declared.log.LogError.{LogError}
+use Rattle.rec_log.specs.declared.log.LogError.TheVariants as log_error
 use Rattle.rec_log.specs.Sights.{Breaks, LogState}
 use Rattle.core_model.specs.States.{CoreState, wrote}
 use Rattle.core_model.specs.Opening.{first_opened}
 use Rattle.coord_table.specs.Cases.{Slots, ticket_in, view_in}
 use Rattle.coord_turns.specs.Takes.{GivenAreActive}
+use Rattle.inquire_core.specs.Readings.{place_below}
 
--- who it is and its parent, if it has one; its tree; its log; its boot; how many transactions it began and tickets it gave in
--- this boot; and its live cases
+-- who it is and its parent, if it has one; its tree; its log; its boot; how many transactions it began and
+-- tickets it gave in this boot; and its live cases
 pub record CoordinatorValue : Type 0 where
   pub me : ProcessId
   pub parent : Option ProcessId
@@ -32,14 +35,9 @@ pub record CoordinatorValue : Type 0 where
   pub given : ℕ
   pub slots : Slots
 
--- a coordinator without a parent is the root
-abbrev pub role_below : Option ProcessId → Role
-role_below None = AtRoot
-role_below (Some p) = Below p
-
 -- where the coordinator sits
 abbrev pub place_of : CoordinatorValue → Place
-place_of v = record { me = v.me; role = role_below v.parent; tree = v.tree }
+place_of v = place_below v.me v.parent v.tree
 
 -- the process that the coordinator is
 abbrev pub state : CoordinatorValue → CoreState
@@ -63,18 +61,26 @@ own_txn v p n = record { root = v.me; boot = v.boot; sequence = n; presumption =
 abbrev pub own_ticket : CoordinatorValue → ℕ → Ticket
 own_ticket v n = record { child = v.me; boot = v.boot; number = n }
 
--- what a coordinator keeps: its log is a coordinator's; a case whose ticket is active takes children and work; and no case
--- is live of a transaction or a ticket that it did not number yet
+-- what a coordinator keeps: its log is a coordinator's; a case whose ticket is active takes children and
+-- work; and no case is live of a transaction or a ticket that it did not number yet
 pub record IsCoordinator (v : CoordinatorValue) : Type 0 where
   pub kind : v.log.kind ≡ Coordinator
   pub active : GivenAreActive v.slots
-  pub begun : (k : ℕ) (p : Presumption) (n : ℕ) → case_of (entry_at v.slots k) ≡ Some (root_case (own_txn v p n)) → n ≤ v.begun
-  pub given : (k : ℕ) (x : Txn) (n : ℕ) → case_of (entry_at v.slots k) ≡ Some (child_case x (own_ticket v n)) → n ≤ v.given
+  pub begun : (k : ℕ) (p : Presumption) (n : ℕ)
+      → case_of (entry_at v.slots k) ≡ Some (root_case (own_txn v p n)) → n ≤ v.begun
+  pub given : (k : ℕ) (x : Txn) (n : ℕ) → case_of (entry_at v.slots k) ≡ Some (child_case x (own_ticket v n))
+      → n ≤ v.given
+
+-- the error of a step for that of a log
+abbrev pub error_of : LogError → StepError
+error_of log_error.Memory = Memory
+error_of log_error.Device = Device
 
 -- the first record stands forced in an empty log
 pub record WritesOpened (old new : LogState) : Type 0 where
   pub kind : new.kind ≡ old.kind
-  pub sight : new.sight ≡ wrote old.sight (record { entry = Opened 1; is_forced = true } ∷ []) (first_opened ∷ [])
+  pub sight : new.sight ≡ wrote old.sight (record { entry = Opened 1; is_forced = true } ∷ [])
+      (first_opened ∷ [])
 
 -- why a coordinator was not opened, and what log is handed back
 abbrev pub NotOpened : LogState → LogState → StepError → Type 0

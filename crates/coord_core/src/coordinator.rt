@@ -1,12 +1,14 @@
 //! What a coordinator keeps.
 
-ghost use Rattle.std.specs.Prelude.{◌≡◌, IfOk, IsTrue};
+ghost use Rattle.std.specs.Prelude.{◌≡◌, ◌+◌, IfOk, IsTrue, length};
 ghost use Rattle.live_table.specs.Tables.{AreApart, live_count};
 ghost use Rattle.tree_model.specs.Memory.{ticket_of_child};
 ghost use Rattle.coord_table.specs.Cases.{FitsGiven, ticket_in, view_in};
 ghost use Rattle.coord_turns.specs.Takes.{IsAt};
 ghost use Rattle.tree_model.specs.declared.names.Kind.TheVariants as kind;
-ghost use Rattle.rec_log.specs.Sights.{ReadsAs, records_of};
+ghost use Rattle.std.specs.List.{AllByRecursion};
+ghost use Rattle.log_sound.specs.Sound.{IsSound};
+ghost use Rattle.rec_log.specs.Sights.{ReadsAs, left_by, records_of, whole_within};
 ghost use Rattle.core_model.specs.States.{HasNumbers};
 ghost use Rattle.coord_core.specs.States.{state};
 ghost use Rattle.coord_core.specs.Meets.{FindsAt, FindsLive};
@@ -99,6 +101,27 @@ impl<L: LogStore> Coordinator<L> {
         ensures { IfOk result (λ text. ReadsAs kind.Coordinator text.items (records_of (state self.now).log.kept) (state self.now).log.failed) }
     {
         self.log.text(self.alloc)
+    }
+
+    /// How many bytes its log has. A crash that keeps so many behind the forced front keeps every record.
+    pub fn log_size(&self) -> usize
+        ensures { left_by (state self.now).log result ≡ records_of (state self.now).log.kept }
+    {
+        self.log.size()
+    }
+
+    /// How many of the records behind the forced ones a crash would leave that keeps so many bytes behind the forced front.
+    pub fn left_behind(&self, keep: usize) -> Result<usize, AllocError>
+        ensures { IfOk result (λ count. count ≡ length (whole_within ((state self.now).log.behind + keep) (state self.now).log.kept.unforced)) }
+    {
+        self.log.left_behind(keep, self.alloc)
+    }
+
+    /// Each record of its log can stand in a coordinator's log.
+    pub fn records_are_sound(&self)
+        ensures { AllByRecursion (IsSound kind.Coordinator) (records_of (state self.now).log.kept) }
+    {
+        self.log.records_are_sound();
     }
 
     /// The records of its log, as a list made anew.

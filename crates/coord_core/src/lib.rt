@@ -21,6 +21,7 @@ mod making;
 mod meeting;
 mod opening;
 mod places;
+mod restarting;
 mod saying;
 mod turn;
 mod writing;

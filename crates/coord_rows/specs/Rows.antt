@@ -60,15 +60,26 @@ pub record Frames (parent : Option ProcessId) (framed : Framed) (w : Written) : 
 -- an effect writes nothing, and tells and sends this
 pub record Shows (effect : RowEffect) (told : Option Told) (messages : List Envelope) : Type 0 where
   pub record_is : effect.written ≡ None
-  pub reaction : effect.reaction ≡ record { begun = None; written = []; told = told; messages = messages; kept = None }
+  pub reaction : effect.reaction
+      ≡ record { begun = None; written = []; told = told; messages = messages; kept = None }
 
--- an effect writes this record, as it stands in the log of a coordinator below this parent, and tells and sends this
-pub record ShowsRecord (parent : Option ProcessId) (effect : RowEffect) (w : Written) (told : Option Told) (messages : List Envelope) : Type 0 where
+-- an effect writes this record, as it stands in the log of a coordinator below this parent, and tells and
+-- sends this
+pub record ShowsRecord (parent : Option ProcessId) (effect : RowEffect) (w : Written) (told : Option Told)
+    (messages : List Envelope) : Type 0 where
   pub record_is : written_of effect.written ≡ meant w ∷ []
   pub framed : AreFramed parent effect.written
-  pub reaction : effect.reaction ≡ record { begun = None; written = logged_of (meant w) ∷ []; told = told; messages = messages; kept = None }
+  pub reaction : effect.reaction
+      ≡ record {
+        begun = None;
+        written = logged_of (meant w) ∷ [];
+        told = told;
+        messages = messages;
+        kept = None;
+      }
 
--- an effect does what this row of the case says, and the case is left with a view that says what the row's says
+-- an effect does what this row of the case says, and the case is left with a view that says what the row's
+-- says
 pub record Does (s : Seat) (row : Row) (effect : RowEffect) (view : CoordinatorView) : Type 0 where
   pub written : written_of effect.written ≡ row.written
   pub framed : AreFramed s.parent effect.written

@@ -17,8 +17,9 @@ ghost use Rattle.core_model.specs.Views.{SameView};
 ghost use Rattle.coord_rows.specs.Rows.{Does, seat as seat_meant};
 
 use crate::effect::{RowEffect, Written};
-use crate::seat::{Seat, acknowledge_abort, outcome_message, presumed, up};
+use crate::seat::{Seat, acknowledge_abort, outcome_message, up};
 use coord_case::Live;
+use inquire_core::presumed;
 use std::alloc::{AllocError, Global};
 use tree_model::{Envelopes, Message, Outcome, Presumption, Record, Sequence, Ticket};
 
@@ -59,7 +60,7 @@ fn tell_one(
     Ok(RowEffect::sends(alloc, messages))
 }
 
-/// Committing or Aborting, INQUIRE of a child of the case: the decision is told again.
+/// INQUIRE of a child of a case that has an answer (`inquire_core`, `answer`): the child is told it.
 pub fn decided_inquiry(
     alloc: Global,
     seat: Seat,

@@ -33,6 +33,7 @@ mod collecting;
 mod decided;
 mod effect;
 mod prepared;
+mod resuming;
 mod seat;
 
 pub use active::{active_abort, active_commit, active_join, active_joined, active_work};
@@ -43,4 +44,5 @@ pub use decided::{
 };
 pub use effect::{Framed, RowEffect};
 pub use prepared::{prepared_abort, prepared_ask, prepared_commit, prepared_prepare};
+pub use resuming::resume;
 pub use seat::{Reason, Seat};

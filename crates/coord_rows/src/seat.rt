@@ -2,7 +2,6 @@
 
 ghost use Rattle.std.specs.Prelude.{◌≡◌, ◌++◌, ◌∷◌, [], IfOk, OnOk};
 ghost use Rattle.tree_model.specs.CoordinatorRows.{abort_heard_above, acknowledges_abort, each, post, tells, tells_outcome, to_child, up as up_of};
-ghost use Rattle.tree_model.specs.Names.{presumed as presumed_of};
 ghost use Rattle.tree_model.specs.Reactions.{told_of};
 ghost use Rattle.tree_model.specs.Records.{none_of as is_none_of};
 ghost use Rattle.coord_rows.specs.Rows.{reason as reason_meant, seat as seat_meant};
@@ -131,16 +130,6 @@ pub(crate) fn tell_each(
         messages.push(outcome_message(seat, outcome, *ticket))?;
     }
     Ok(())
-}
-
-/// The outcome that an inquiry gets where nothing is known.
-pub(crate) fn presumed(presumption: Presumption) -> Outcome
-    ensures { result ≡ presumed_of presumption }
-{
-    match presumption {
-        Presumption::PresumeAbort => Outcome::Aborted,
-        Presumption::PresumeCommit => Outcome::Committed,
-    }
 }
 
 /// Whether there is no ticket.

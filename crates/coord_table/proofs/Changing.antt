@@ -10,7 +10,7 @@ use Rattle.core_model.specs.Makes.{open_view}
 use Rattle.live_table.specs.Tables.{AreApart, Inserts, Moves as MovesValue, Removes, Updates, entry_at}
 use Rattle.live_table.proofs.Writes.{Moves-changed, Updates-set, live_at, same_case-itself}
 use Rattle.coord_table.specs.declared.held.Held.{Held}
-use Rattle.coord_table.specs.Cases.{Begins, Ends, FitsGiven, Gives, Moves, Relives, Retires, Slots, entry_ticket, held_view, is_for, is_given, ticket_in, view_in}
+use Rattle.coord_table.specs.Cases.{Begins, Ends, FitsGiven, Gives, Moves, Relives, Restores, Retires, Slots, entry_ticket, held_view, is_for, is_given, ticket_in, view_in}
 use Rattle.coord_table.specs.Lends.{relived, with_live}
 use Rattle.coord_table.proofs.Tickets.{One, given_or_none, one_given, one_stays, ticket_is, ticket_none, ticket_stays}
 
@@ -49,6 +49,21 @@ begins old new c h key fits ungiven opened inserts =
       key = key;
       updates = subst (λ e. Updates old new key (Some (c, e))) (λ i. record { given_for = ungiven i; live = opened i }) inserts.updates;
       counts = inserts.counts;
+    }
+
+-- an entry that was given for nobody, and whose case stands in some way
+pub restores : (old new : Slots) (c : Case) (v : CoordinatorView) (key : ℕ) → FitsGiven old
+    → Inserts old new c (record { given_for = None; live = v }) key → Restores old new c v
+restores old new c v key fits inserts =
+    let h : Held = record { given_for = None; live = v } in
+    record {
+      moves = moves_view old new c (Some h) inserts.moves;
+      only = λ d differs none. inserts.moves.others d differs ∙ none;
+      tickets = λ d.
+          ticket_stays old new key (Some (c, h)) d (fits.one d) (one_stays old new key (Some (c, h)) d (fits.one d) inserts.updates refl) inserts.updates
+          (ap (is_given d) inserts.vacant) refl;
+      key = key;
+      updates = inserts.updates;
     }
 
 -- where there is no active ticket no key was given for it

@@ -52,12 +52,15 @@ unfoldable pub ticket_in : Slots → Case → Option Ticket
 ticket_in [] d = None
 ticket_in (slot ∷ slots) d = ticket_if d slot (ticket_in slots d)
 
--- A case that was given for one of the parent's has a ticket and is of the same transaction, and no two were given for one
--- case of the parent.
+-- A case that was given for one of the parent's has a ticket and is of the same transaction, and no two were
+-- given for one case of the parent.
 pub record FitsGiven (slots : Slots) : Type 0 where
-  pub ticketed : (k : ℕ) (d : Case) (p : Case × Held) → entry_at slots k ≡ Some p → is_for d p.1.given_for ≡ true → is_some p.0.ticket ≡ true
-  pub txns : (k : ℕ) (d : Case) (p : Case × Held) → entry_at slots k ≡ Some p → is_for d p.1.given_for ≡ true → same_txn p.0.txn d.txn ≡ true
-  pub one : (d : Case) (j k : ℕ) → is_given d (entry_at slots j) ≡ true → is_given d (entry_at slots k) ≡ true → j ≡ k
+  pub ticketed : (k : ℕ) (d : Case) (p : Case × Held) → entry_at slots k ≡ Some p
+      → is_for d p.1.given_for ≡ true → is_some p.0.ticket ≡ true
+  pub txns : (k : ℕ) (d : Case) (p : Case × Held) → entry_at slots k ≡ Some p → is_for d p.1.given_for ≡ true
+      → same_txn p.0.txn d.txn ≡ true
+  pub one : (d : Case) (j k : ℕ) → is_given d (entry_at slots j) ≡ true → is_given d (entry_at slots k) ≡ true
+      → j ≡ k
 
 -- What changes.
 
@@ -104,13 +107,22 @@ pub record Begins (old new : Slots) (c : Case) : Type 0 where
   pub updates : Updates old new key (Some (c, record { given_for = None; live = open_view }))
   pub counts : live_count new ≡ live_count old + 1
 
+-- a case is live again as it stands, and no active ticket moves
+pub record Restores (old new : Slots) (c : Case) (view : CoordinatorView) : Type 0 where
+  pub moves : Moves old new c view
+  pub only : (d : Case) → same_case c d ≡ false → live_value old d ≡ None → live_value new d ≡ None
+  pub tickets : (d : Case) → ticket_in new d ≡ ticket_in old d
+  pub key : ℕ
+  pub updates : Updates old new key (Some (c, record { given_for = None; live = view }))
+
 -- the case of a fresh ticket begins, and the ticket is active for the parent's case
 pub record Gives (old new : Slots) (parent : Case) (t : Ticket) : Type 0 where
   pub moves : Moves old new (child_case parent.txn t) open_view
   pub ticket : ticket_in new parent ≡ Some t
   pub tickets : (d : Case) → same_case parent d ≡ false → ticket_in new d ≡ ticket_in old d
   pub key : ℕ
-  pub updates : Updates old new key (Some (child_case parent.txn t, record { given_for = Some parent; live = open_view }))
+  pub updates : Updates old new key
+      (Some (child_case parent.txn t, record { given_for = Some parent; live = open_view }))
   pub counts : live_count new ≡ live_count old + 1
 
 -- the key's case stands so in place of how it stood, and no other moves, nor does an active ticket

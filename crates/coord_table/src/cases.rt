@@ -5,7 +5,7 @@ ghost use Rattle.std.specs.Borrow.{sem};
 ghost use Rattle.std.specs.Option.{option_copied_mut};
 ghost use Rattle.live_table.specs.Tables.{AreApart, case_of, entry_at, live_count, live_value};
 ghost use Rattle.tree_model.specs.Names.{child_case};
-ghost use Rattle.coord_table.specs.Cases.{Begins, Ends, FindsCase, FindsChild, FitsGiven, Gives, Retires, entry_ticket, has_child, is_for, live_at, ticket_in};
+ghost use Rattle.coord_table.specs.Cases.{Begins, Ends, FindsCase, FindsChild, FitsGiven, Gives, Restores, Retires, entry_ticket, has_child, is_for, live_at, ticket_in};
 
 use crate::held::Held;
 use coord_case::Live;
@@ -159,6 +159,20 @@ impl Cases {
         let held = Held {
             given_for: None,
             live: Live::open(alloc),
+        };
+        let _ = self.table.insert(case, held)?;
+        Ok(())
+    }
+
+    /// A case that was not live is live again as it stands. Memory: nothing changed.
+    pub fn restore(&mut self, case: Case, live: Live) -> Result<(), AllocError>
+        requires { live_value self.old case ≡ None }
+        ensures ok { OnOk result (Restores self.old self.new case live) }
+        ensures err { OnErr result (self.new ≡ self.old) }
+    {
+        let held = Held {
+            given_for: None,
+            live,
         };
         let _ = self.table.insert(case, held)?;
         Ok(())

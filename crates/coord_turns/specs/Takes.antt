@@ -21,7 +21,8 @@ IsAt slots key c = case_of (entry_at slots key) ≡ Some c
 
 -- a case whose ticket is active takes children and work
 abbrev pub GivenAreActive : Slots → Type 0
-GivenAreActive slots = (k : ℕ) (d : Case) (p : Case × Held) → entry_at slots k ≡ Some p → is_for d p.1.given_for ≡ true → p.1.live.standing ≡ Active
+GivenAreActive slots = (k : ℕ) (d : Case) (p : Case × Held) → entry_at slots k ≡ Some p
+    → is_for d p.1.given_for ≡ true → p.1.live.standing ≡ Active
 
 -- no case is live that was not
 abbrev pub AddsNone : Slots → Slots → Type 0
@@ -40,7 +41,8 @@ pub record SameCases (old new : Slots) : Type 0 where
   pub cases : AddsNone old new
 
 -- the key's live case takes the row that it meets
-pub record TakesLive (old new : Slots) (key : ℕ) (s : Seat) (asked : Asked) (effect : RowEffect) : Type 0 where
+pub record TakesLive (old new : Slots) (key : ℕ) (s : Seat) (asked : Asked)
+    (effect : RowEffect) : Type 0 where
   pub held : Held
   pub was : entry_at old key ≡ Some (s.case, held)
   pub fits : FitsGiven old
@@ -56,10 +58,12 @@ RetiresIf false old new key = new ≡ old
 
 -- the key's case leaves the table where it is forgotten, else nothing changes
 abbrev pub LetsGo : Slots → Slots → ℕ → Type 0
-LetsGo old new key = (Ends old new key × (live_at old key ≡ Some unknown_view)) ⊎ ((new ≡ old) × (live_at old key ≡ Some unknown_view → ⊥))
+LetsGo old new key =
+    (Ends old new key × (live_at old key ≡ Some unknown_view))
+    ⊎ ((new ≡ old) × (live_at old key ≡ Some unknown_view → ⊥))
 
--- The case does what the row says, and its ticket is retired if it is to be; where nothing is left of it, it leaves the
--- table. No other case and no other ticket moves.
+-- The case does what the row says, and its ticket is retired if it is to be; where nothing is left of it, it
+-- leaves the table. No other case and no other ticket moves.
 pub record TakesRowOf (old new : Slots) (s : Seat) (asked : Asked) (effect : RowEffect) : Type 0 where
   pub does : Does s (asked_row (seat s) asked (view_in old s.case)) effect (view_in new s.case)
   pub others : (d : Case) → same_case s.case d ≡ false → view_in new d ≡ view_in old d

@@ -22,7 +22,7 @@ use coord_rows::{
     Reason, RowEffect, Seat, aborting_abort, aborting_prepare, active_abort, active_commit,
     active_join, active_joined, active_work, collecting_abort, collecting_vote, committing_commit,
     decided_ack, decided_inquiry, prepared_abort, prepared_ask, prepared_commit, prepared_prepare,
-    unknown_abort, unknown_commit, unknown_inquiry, unknown_prepare,
+    unknown_abort, unknown_commit, unknown_prepare,
 };
 use std::alloc::{AllocError, Global};
 use tree_model::{Outcome, Standing, Ticket, Vote};
@@ -88,11 +88,9 @@ fn on_inquiry(
 ) -> Result<RowEffect, AllocError>
     ensures { IfOk result (λ effect. Does seat (inquiry_row (seat_meant seat) ticket live.now live.now.standing) effect live.now) }
 {
-    match live.standing() {
-        Standing::Committing => decided_inquiry(alloc, seat, Outcome::Committed, ticket),
-        Standing::Aborting => decided_inquiry(alloc, seat, Outcome::Aborted, ticket),
-        Standing::Unknown => unknown_inquiry(alloc, seat, ticket),
-        _ => Ok(RowEffect::quiet(alloc)),
+    match inquire_core::answer(live.standing(), seat.case.txn.presumption) {
+        Some(outcome) => decided_inquiry(alloc, seat, outcome, ticket),
+        None => Ok(RowEffect::quiet(alloc)),
     }
 }
 

@@ -71,12 +71,12 @@ module _ {X : Type 0} where
   take_front [] ys = refl
   take_front (x ∷ xs) ys = ap (λ zs. x ∷ zs) (take_front xs ys)
 
-  drop_front : (xs ys : List X) → drop (length xs) (xs ++ ys) ≡ ys
+  pub drop_front : (xs ys : List X) → drop (length xs) (xs ++ ys) ≡ ys
   drop_front [] ys = refl
   drop_front (x ∷ xs) ys = drop_front xs ys
 
 module _ {X Y : Type 0} (f : X → Y) where
-  map_take : (k : ℕ) (xs : List X) → map f (take k xs) ≡ take k (map f xs)
+  pub map_take : (k : ℕ) (xs : List X) → map f (take k xs) ≡ take k (map f xs)
   map_take zero xs = refl
   map_take (suc k) [] = refl
   map_take (suc k) (x ∷ xs) = ap (λ ys. f x ∷ ys) (map_take k xs)

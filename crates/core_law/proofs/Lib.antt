@@ -19,3 +19,8 @@ pub mod Roots
 pub mod Steps
 pub mod Tickets
 pub mod Turns
+pub mod OwnRecords
+pub mod Restarting
+pub mod TrimmedLogs
+pub mod TrimmedViews
+pub mod Trimming

@@ -1,6 +1,7 @@
 -- What the model's process keeps of its cases in every run, while its device has not failed. That an input
 -- leaves what the reaction table says rests on it.
 use Rattle.std.specs.Prelude.{◌≡◌, false, true}
+use Rattle.std.specs.List.{list_all}
 use Rattle.tree_model.specs.declared.names.Case.{Case}
 use Rattle.tree_model.specs.declared.names.Outcome.{Outcome}
 use Rattle.tree_model.specs.declared.names.Presumption.{Presumption}
@@ -9,9 +10,10 @@ use Rattle.tree_model.specs.declared.names.Txn.{Txn}
 use Rattle.tree_model.specs.declared.records.Branch.TheVariants.{Case as CaseBranch}
 use Rattle.tree_model.specs.declared.standings.Standing.TheVariants.{Prepared, Unknown}
 use Rattle.tree_model.specs.Names.{root_case}
-use Rattle.tree_model.specs.Records.{in_list, promised_by}
+use Rattle.tree_model.specs.LogNames.{is_own_record}
+use Rattle.tree_model.specs.Records.{has, in_list, is_opened, promised_by}
 use Rattle.tree_model.specs.Nodes.{AtLeaf, AtRoot, Below, Node, Place, Role, kept}
-use Rattle.tree_model.specs.Memory.{has_acked, memory_of}
+use Rattle.tree_model.specs.Memory.{Open, has_acked, memory_of}
 use Rattle.tree_model.specs.Standings.{Unmarked, coordinator_view, mark_of}
 use Rattle.tree_model.specs.Views.{IsOpenAlike, IsUnrecorded, fresh_case, next_begun}
 use Rattle.core_law.specs.Ties.{ChildrenFit}
@@ -47,3 +49,17 @@ abbrev pub NodeFits : Role → Place → Node → Type 0
 NodeFits AtRoot place n = RootFits place n
 NodeFits (Below p) place n = CascadeFits place n
 NodeFits (AtLeaf p) place n = LeafFits place n
+
+-- every record that the process keeps is of a case of its own, or of none
+abbrev pub KeepsOwn : Place → Node → Type 0
+KeepsOwn place n = list_all (is_own_record place) (kept n) ≡ true
+
+-- an Opened stands in the log
+abbrev pub HasOpened : Node → Type 0
+HasOpened n = has is_opened (kept n) ≡ true
+
+-- a coordinator's open case has on its lists what it should; of a manager's open branch there is no record
+abbrev pub OpenFits : Role → Place → Node → Type 0
+OpenFits (AtLeaf p) place n =
+    (d : Case) → (memory_of place n d).phase ≡ Open → mark_of (CaseBranch d) (kept n) ≡ Unmarked
+OpenFits _ place n = (c : Case) → IsOpenAlike place n c

@@ -1,18 +1,24 @@
 -- What a process does with an input is a move of the model's process, in the form in which a run of the model
 -- has it.
-use Rattle.std.specs.Prelude.{◌≡◌, true, false, Option, None, Some}
+use Rattle.std.specs.Prelude.{◌≡◌, ◌+◌, ℕ, true, false, Option, None, Some, [], length}
+use Rattle.std.specs.List.{AllByRecursion}
 use Rattle.tree_model.specs.declared.names.ProcessId.{ProcessId}
 use Rattle.tree_model.specs.declared.events.Fault.{Fault}
-use Rattle.tree_model.specs.declared.events.Happening.TheVariants.{Input as Handles}
+use Rattle.tree_model.specs.declared.events.Happening.{Happening}
+use Rattle.tree_model.specs.declared.events.Happening.TheVariants.{Input as Handles, Restart, Trim}
 use Rattle.tree_model.specs.declared.events.Input.{Input}
 use Rattle.tree_model.specs.declared.events.Reaction.{Reaction}
 use Rattle.tree_model.specs.declared.events.StepError.{StepError}
-use Rattle.tree_model.specs.Nodes.{DataAnswer, Effect, Node, reaction_of}
+use Rattle.tree_model.specs.declared.events.StepError.TheVariants.{Device, Failed}
+use Rattle.tree_model.specs.Nodes.{DataAnswer, Effect, Node, ReadsOnly, reaction_of}
 use Rattle.tree_model.specs.Reactions.{is_passed_over}
 use Rattle.tree_model.specs.World.{Makes as Leaves, Move, Refuses, node_makes}
+use Rattle.log_sound.specs.Sound.{IsSound}
+use Rattle.rec_log.specs.Sights.{records_of, whole_within}
 use Rattle.core_model.specs.States.{CoreState}
-use Rattle.core_model.specs.Makes.{IsBroken, IsRefused, Makes}
-use Rattle.core_law.specs.Fits.{NodeFits}
+use Rattle.core_model.specs.Makes.{IsBroken, IsRefused, Makes, kind_of_role}
+use Rattle.core_model.specs.Restarting.{NotRestarted, NotTrimmed, Restarts, Trims}
+use Rattle.core_law.specs.Fits.{HasOpened, KeepsOwn, NodeFits, OpenFits}
 use Rattle.core_law.specs.Ties.{Stands}
 
 -- the move of this process by an input, in which its device fails or not, with what a manager's data answer
@@ -57,3 +63,72 @@ FaultsAreMoves = (n : Node) (old new : CoreState) (a : DataAnswer) (i : Input)
     → Stands n old → (n.failed ≡ false → NodeFits old.place.role old.place n)
     → (is_passed_over old.place n i ≡ true → new.log.kept ≡ old.log.kept)
     → IsBroken old new a i → FaultsAs n old new old.place.me i a
+
+-- Restarts and trims.
+
+-- an answer of a manager's data to a move that asks them nothing
+abbrev pub no_answer : DataAnswer
+no_answer = record { starts = false; does = false; holding = ReadsOnly }
+
+-- a move of this process in which its data are asked nothing, and in which its device fails or not
+abbrev pub quiet_move : ProcessId → Happening → Option Fault → Move
+quiet_move q happening fault =
+    record { step = record { process = q; happening = happening; fault = fault }; data_answer = no_answer }
+
+-- how many of its unforced records a process keeps in a restart that keeps so many bytes behind the forced
+-- front: those that stand whole within them
+abbrev pub records_kept : CoreState → ℕ → ℕ
+records_kept s keep = length (whole_within (s.log.behind + keep) s.log.kept.unforced)
+
+-- what the journal shows of a restart: so many records were kept
+abbrev pub restart_of : CoreState → ℕ → Happening
+restart_of s keep = Restart (records_kept s keep)
+
+-- what the journal shows of a trim that left so many records
+abbrev pub trim_reaction : ℕ → Reaction
+trim_reaction remain =
+    record { begun = None; written = []; told = None; messages = []; kept = Some remain }
+
+-- the records of the process's log can stand in a log of its sort
+abbrev pub IsSoundLog : CoreState → Type 0
+IsSoundLog s = AllByRecursion (IsSound (kind_of_role s.place.role)) (records_of s.log.kept)
+
+-- The model's process makes this move with some fault in it, and the process stands for what that leaves.
+pub record BreaksAs (n : Node) (old new : CoreState) (happening : Happening) : Type 0 where
+  pub fault : Fault
+  pub effect : Effect
+  pub left : Node
+  pub makes : node_makes old.place n (quiet_move old.place.me happening (Some fault)) ≡ Leaves effect left
+  pub stands : Stands left new
+
+-- a restart of a process that keeps records of its own alone is a move of the model's process
+abbrev pub RestartsAreMoves : Type 0
+RestartsAreMoves = (n : Node) (old new : CoreState) (keep : ℕ) (reaction : Reaction)
+    → Stands n old → KeepsOwn old.place n → Restarts old keep new reaction
+    → StepsAs n old new (quiet_move old.place.me (restart_of old keep) None) reaction
+
+-- a device's failure in a restart is one with a fault in it
+abbrev pub RestartFaultsAreMoves : Type 0
+RestartFaultsAreMoves = (n : Node) (old new : CoreState) (keep : ℕ)
+    → Stands n old → KeepsOwn old.place n → NotRestarted old keep new Device
+    → BreaksAs n old new (restart_of old keep)
+
+-- A trim of a process that is up is a move of the model's process, where the records of its log can stand in
+-- one, and the model's process keeps what every run keeps.
+abbrev pub TrimsAreMoves : Type 0
+TrimsAreMoves = (n : Node) (old new : CoreState) (remain : ℕ)
+    → Stands n old → n.failed ≡ false
+    → KeepsOwn old.place n → HasOpened n → OpenFits old.place.role old.place n
+    → IsSoundLog old → Trims old new remain
+    → StepsAs n old new (quiet_move old.place.me Trim None) (trim_reaction remain)
+
+-- a device's failure in a trim of such a process is one with a fault in it
+abbrev pub TrimFaultsAreMoves : Type 0
+TrimFaultsAreMoves = (n : Node) (old new : CoreState)
+    → Stands n old → n.failed ≡ false → KeepsOwn old.place n → HasOpened n
+    → IsSoundLog old → NotTrimmed old new Device → BreaksAs n old new Trim
+
+-- a process that has failed refuses a trim, as the model's does, and still stands for it
+abbrev pub TrimRefusalsAreMoves : Type 0
+TrimRefusalsAreMoves = (n : Node) (old new : CoreState) → Stands n old → NotTrimmed old new Failed
+    → (node_makes old.place n (quiet_move old.place.me Trim None) ≡ Refuses Failed) × Stands n new

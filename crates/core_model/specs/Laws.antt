@@ -9,15 +9,16 @@ use Rattle.core_model.specs.States.{CoreState, SameCore, forced_sight}
 use Rattle.core_model.specs.Turns.{Finds, asked_by, reacted, turn_of}
 use Rattle.core_model.specs.Restarting.{ReadOff}
 
--- Two processes between which nothing is otherwise do the same with each input: rows see of a view no more than views that
--- say the same share.
+-- Two processes between which nothing is otherwise do the same with each input: rows see of a view no more
+-- than views that say the same share.
 abbrev pub SameCoresReactAlike : Type 0
 SameCoresReactAlike = (s t : CoreState) (a : DataAnswer) (found : Option Case) (i : Input) → SameCore s t
     → reacted (turn_of s a found i) ≡ reacted (turn_of t a found i)
 
 -- a child's case is found alike in two processes between which nothing is otherwise
 abbrev pub SameCoresFindAlike : Type 0
-SameCoresFindAlike = (s t : CoreState) (found : Option Case) (i : Input) → SameCore s t → Finds s (asked_by i) found → Finds t (asked_by i) found
+SameCoresFindAlike = (s t : CoreState) (found : Option Case) (i : Input) → SameCore s t
+    → Finds s (asked_by i) found → Finds t (asked_by i) found
 
 -- a process as it opens an empty log
 abbrev pub opened_core : Place → CoreState

@@ -65,7 +65,8 @@ pub record HandlesRow (old new : CoreState) (i : Input) (c : Case) (row : LeafRo
 
 -- a case that takes children and work, and has none
 abbrev pub open_view : CoordinatorView
-open_view = record { standing = Active; accepted = []; votes = []; works = []; promised = []; named = []; owed = [] }
+open_view =
+    record { standing = Active; accepted = []; votes = []; works = []; promised = []; named = []; owed = [] }
 
 -- a branch that was joined, and did no work
 abbrev pub open_branch : ManagerView
@@ -87,7 +88,8 @@ OpensCase (AtLeaf p) old new c =
     (new.branch_of c ≡ open_branch) × ((d : Case) → same_case c d ≡ false → new.branch_of d ≡ old.branch_of d)
     × ((d : Case) → SameView (new.view_of d) (old.view_of d))
 OpensCase _ old new c =
-    SameView (new.view_of c) open_view × ((d : Case) → same_case c d ≡ false → SameView (new.view_of d) (old.view_of d))
+    SameView (new.view_of c) open_view
+    × ((d : Case) → same_case c d ≡ false → SameView (new.view_of d) (old.view_of d))
     × ((d : Case) → new.branch_of d ≡ old.branch_of d)
 
 -- a fresh ticket was given for the parent's case d
@@ -130,7 +132,8 @@ kind_of_role _ = Coordinator
 abbrev pub seen : CoreState → LogSight → LogState
 seen s l = record { kind = kind_of_role s.place.role; sight = l; room = 0 }
 
--- the device failed: a front of the records was appended, and some forced front was left; nothing is said of the rest
+-- the device failed: a front of the records was appended, and some forced front was left; nothing is said of
+-- the rest
 pub record BreaksOff (old new : CoreState) (rs : List Record) : Type 0 where
   pub log : Breaks (seen old old.log) (seen old new.log) (logged old rs)
   pub place : new.place ≡ old.place
@@ -152,7 +155,8 @@ pub record IsBroken (old new : CoreState) (a : DataAnswer) (i : Input) : Type 0 
   pub finds : Finds old (asked_by i) found
   pub breaks : BreaksIn old new (turn_of old a found i)
 
--- why an input was not made, and what that leaves: Memory changes nothing, nor does a refusal by the reaction table
+-- why an input was not made, and what that leaves: Memory changes nothing, nor does a refusal by the reaction
+-- table
 abbrev pub NotMade : CoreState → CoreState → DataAnswer → Input → StepError → Type 0
 NotMade old new a i Memory = SameCore old new
 NotMade old new a i Device = IsBroken old new a i

@@ -10,7 +10,8 @@ use Rattle.core_model.specs.Restarting.{ReadOff}
 abbrev pub first_opened : LogRecord
 first_opened = record { entry = Opened 1; parent = None }
 
--- a process that opened an empty log over a device that failed so often: it stands as its one record says, which is forced
+-- a process that opened an empty log over a device that failed so often: it stands as its one record says,
+-- which is forced
 pub record IsOpened (s : CoreState) (place : Place) (failures : ℕ) : Type 0 where
   pub place_is : s.place ≡ place
   pub log : s.log ≡ forced_sight (first_opened ∷ []) failures

@@ -66,17 +66,21 @@ reopened s keep = reopens s.place.role (read_of s (left_by s.log keep))
 abbrev pub restarted_log : CoreState → ℕ → List LogRecord
 restarted_log s keep = left_by s.log keep ++ logged s (reopened s keep)
 
--- the process restarted: what a crash left stands, with what a restart appends, all of it forced; and it stands as that says
+-- the process restarted: what a crash left stands, with what a restart appends, all of it forced; and it
+-- stands as that says
 pub record Restarts (old : CoreState) (keep : ℕ) (new : CoreState) (reaction : Reaction) : Type 0 where
   pub place : new.place ≡ old.place
   pub log : new.log ≡ forced_sight (restarted_log old keep) old.log.failures
   pub read : ReadOff new (read_of old (restarted_log old keep))
-  pub shown : reaction ≡ reaction_of (reopening old.place.role old.place.me (read_of old (left_by old.log keep)))
+  pub shown : reaction ≡ reaction_of
+      (reopening old.place.role old.place.me (read_of old (left_by old.log keep)))
 
 -- why a process did not restart, and what that leaves
 abbrev pub NotRestarted : CoreState → ℕ → CoreState → StepError → Type 0
 NotRestarted old keep new Memory = SameCore old new
-NotRestarted old keep new Device = RestartBreaks (seen old old.log) (seen old new.log) keep (logged old (reopened old keep)) × (new.place ≡ old.place)
+NotRestarted old keep new Device =
+    RestartBreaks (seen old old.log) (seen old new.log) keep (logged old (reopened old keep))
+    × (new.place ≡ old.place)
 NotRestarted old keep new e = ⊥
 
 -- Trim.
@@ -84,7 +88,8 @@ NotRestarted old keep new e = ⊥
 -- the log that a trim leaves: what stays of its records, and a manager's data behind them
 abbrev pub trimmed_log : CoreState → List LogRecord
 trimmed_log s =
-    front_of_trim (records_of s.log.kept) ++ logged s (data_records s.place.role (read_of s (records_of s.log.kept)))
+    front_of_trim (records_of s.log.kept)
+    ++ logged s (data_records s.place.role (read_of s (records_of s.log.kept)))
 
 -- the log was trimmed, all of it forced, and nothing else moved; so many records remain
 pub record Trims (old new : CoreState) (remain : ℕ) : Type 0 where
@@ -92,9 +97,11 @@ pub record Trims (old new : CoreState) (remain : ℕ) : Type 0 where
   pub counts : remain ≡ length (trimmed_log old)
   pub rest : SameButLog old new
 
--- the device failed in a trim: the old records stand, with their forced front, or the trimmed ones, all forced
+-- the device failed in a trim: the old records stand, with their forced front, or the trimmed ones, all
+-- forced
 pub record TrimBreaks (old new : CoreState) : Type 0 where
-  pub either : (new.log.kept ≡ old.log.kept) ⊎ (new.log.kept ≡ record { forced = trimmed_log old; unforced = [] })
+  pub either : (new.log.kept ≡ old.log.kept)
+      ⊎ (new.log.kept ≡ record { forced = trimmed_log old; unforced = [] })
   pub failed : new.log.failed ≡ true
   pub cause : old.log.failures < new.log.failures
   pub place : new.place ≡ old.place

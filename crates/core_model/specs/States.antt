@@ -1,4 +1,5 @@
--- What a process keeps while it runs, of whatever kind it is: in place of the lists from which the model reads it off.
+-- What a process keeps while it runs, of whatever kind it is: in place of the lists from which the model
+-- reads it off.
 use Rattle.std.specs.Prelude.{◌≡◌, ◌<◌, ◌+◌, ◌^◌, ℕ, false, if◌then◌else◌, Option, List, [], ◌++◌, map}
 use Rattle.tree_model.specs.declared.names.Case.{Case}
 use Rattle.tree_model.specs.declared.names.ProcessId.{ProcessId}
@@ -11,9 +12,9 @@ use Rattle.tree_model.specs.Standings.{CoordinatorView, ManagerView}
 use Rattle.rec_log.specs.Sights.{LogSight, records_of}
 use Rattle.core_model.specs.Views.{SameView}
 
--- Where it sits; its log; its boot; how many transactions it began and how many tickets it gave in this boot; the
--- active ticket that was given to a parent's case; and how each case stands, which is Unknown where it is not live. A
--- coordinator has no branches, and a manager no coordinator's views.
+-- Where it sits; its log; its boot; how many transactions it began and how many tickets it gave in this boot;
+-- the active ticket that was given to a parent's case; and how each case stands, which is Unknown where it is
+-- not live. A coordinator has no branches, and a manager no coordinator's views.
 pub record CoreState : Type 0 where
   pub place : Place
   pub log : LogSight
@@ -67,4 +68,5 @@ log_behind s ws = wrote s.log ws (logged s (entries_written ws))
 
 -- a log all of whose records are forced, over a device that did not fail since
 abbrev pub forced_sight : List LogRecord → ℕ → LogSight
-forced_sight ls failures = record { kept = record { forced = ls; unforced = [] }; behind = 0; failed = false; failures = failures }
+forced_sight ls failures =
+    record { kept = record { forced = ls; unforced = [] }; behind = 0; failed = false; failures = failures }

@@ -1,5 +1,5 @@
--- What an input meets at a process: a row of the reaction table, a refusal, or nothing. One dispatch for the root, a
--- coordinator below it, and a manager.
+-- What an input meets at a process: a row of the reaction table, a refusal, or nothing. One dispatch for the
+-- root, a coordinator below it, and a manager.
 use Rattle.std.specs.Prelude.{◌≡◌, ◌+◌, Bool, true, false, ◌&&◌, ◌||◌, if◌then◌else◌, Option, Some, None, List, [], ◌∷◌}
 use Rattle.tree_model.specs.declared.names.Case.{Case}
 use Rattle.tree_model.specs.declared.names.ProcessId.{ProcessId}
@@ -59,10 +59,12 @@ reacted (Says ls) = Does (sends_only ls)
 
 -- Whose case a child is of.
 
--- the case is live, of this transaction, and has accepted the child's ticket, or a kept record of it names the ticket
+-- the case is live, of this transaction, and has accepted the child's ticket, or a kept record of it names
+-- the ticket
 abbrev pub is_case_of : CoreState → Txn → Ticket → Case → Bool
 is_case_of s x t c =
-    same_txn c.txn x && (is_known (s.view_of c).standing && (in_list (s.view_of c).accepted t || in_list (s.view_of c).named t))
+    same_txn c.txn x && (is_known (s.view_of c).standing
+    && (in_list (s.view_of c).accepted t || in_list (s.view_of c).named t))
 
 -- the transaction with the child's ticket, if the case has one
 abbrev pub asked_of : Case → Option (Txn × Ticket)
@@ -106,13 +108,15 @@ begin_turn s p (Some q) = Refuses NoSuch
 -- join: the case is Active, and the process is a child of this one
 abbrev pub join_turn : Seat → List TreeEntry → ProcessId → CoordinatorView → Standing → Turn
 join_turn s tree q v Unknown = Refuses UnknownTxn
-join_turn s tree q v Active = if is_child tree q s.me then Takes s.own (active_join s q v) else Refuses NotAChild
+join_turn s tree q v Active =
+    if is_child tree q s.me then Takes s.own (active_join s q v) else Refuses NotAChild
 join_turn s tree q v _ = Refuses Closed
 
 -- an accepted child that is a manager takes work
 abbrev pub work_for_turn : Seat → List TreeEntry → Op → CoordinatorView → Option Ticket → Turn
 work_for_turn s tree op v None = Refuses NotAChild
-work_for_turn s tree op v (Some t) = if is_leaf (role_of tree t.child) then Takes s.own (active_work s t op v) else Refuses NotAChild
+work_for_turn s tree op v (Some t) =
+    if is_leaf (role_of tree t.child) then Takes s.own (active_work s t op v) else Refuses NotAChild
 
 -- work: the case is Active, and the process is an accepted child of it, and a manager
 abbrev pub work_turn : Seat → List TreeEntry → ProcessId → Op → CoordinatorView → Standing → Turn
@@ -148,9 +152,12 @@ live_turn e _ = Refuses e
 abbrev pub coordinator_act : CoreState → Act → Turn
 coordinator_act s (Begin p) = begin_turn s p (parent s)
 coordinator_act s (JoinAct c q) = let v = s.view_of c in join_turn (seat_in s c) s.place.tree q v v.standing
-coordinator_act s (WorkAct c q op) = let v = s.view_of c in work_turn (seat_in s c) s.place.tree q op v v.standing
-coordinator_act s (CommitAct x) = let v = s.view_of (root_case x) in commit_turn (seat_in s (root_case x)) v v.standing
-coordinator_act s (AbortAct x) = let v = s.view_of (root_case x) in abort_turn (seat_in s (root_case x)) v v.standing
+coordinator_act s (WorkAct c q op) =
+    let v = s.view_of c in work_turn (seat_in s c) s.place.tree q op v v.standing
+coordinator_act s (CommitAct x) =
+    let v = s.view_of (root_case x) in commit_turn (seat_in s (root_case x)) v v.standing
+coordinator_act s (AbortAct x) =
+    let v = s.view_of (root_case x) in abort_turn (seat_in s (root_case x)) v v.standing
 coordinator_act s (Ask c) = let v = s.view_of c in ask_turn (seat_in s c) v v.standing
 coordinator_act s (Decide c o) = live_turn NotInDoubt (s.view_of c).standing
 coordinator_act s (Forget c) = live_turn NothingToForget (s.view_of c).standing
@@ -167,7 +174,8 @@ ack_turn s o t (Some c) = let v = s.view_of c in Takes c (on_ack (seat_in s c) t
 
 -- an inquiry, in the case that was found for the child; where there is none, the child gets what is presumed
 abbrev pub inquiry_turn : CoreState → Txn → Ticket → Option Case → Turn
-inquiry_turn s x t None = Says (post s.place.me t.child (tells_outcome (presumed x.presumption) (child_case x t)) ∷ [])
+inquiry_turn s x t None =
+    Says (post s.place.me t.child (tells_outcome (presumed x.presumption) (child_case x t)) ∷ [])
 inquiry_turn s x t (Some c) = let v = s.view_of c in Takes c (on_inquiry (seat_in s c) t v v.standing)
 
 -- a message of a child names the child's ticket
@@ -260,8 +268,10 @@ leaf_joined_turn s p d false None = Says []
 abbrev pub manager_turn : CoreState → ProcessId → DataAnswer → Message → Turn
 manager_turn s p a (Join d) = leaf_joined_turn s p d a.starts (s.ticket_for d)
 manager_turn s p a (Work d i op) = let v = s.branch_of d in Handles d (leaf.on_work i a.does v v.standing)
-manager_turn s p a (Prepare d k) = let v = s.branch_of d in Handles d (leaf.on_prepare (leaf_in s p d) k a.holding v v.standing)
-manager_turn s p a (Commit d) = let v = s.branch_of d in Handles d (leaf.on_commit (leaf_in s p d) v v.standing)
+manager_turn s p a (Prepare d k) =
+    let v = s.branch_of d in Handles d (leaf.on_prepare (leaf_in s p d) k a.holding v v.standing)
+manager_turn s p a (Commit d) =
+    let v = s.branch_of d in Handles d (leaf.on_commit (leaf_in s p d) v v.standing)
 manager_turn s p a (Abort d) = let v = s.branch_of d in Handles d (leaf.on_abort (leaf_in s p d) v v.standing)
 manager_turn s p a _ = Says []
 
@@ -284,7 +294,8 @@ abbrev pub up_turn : CoreState → DataAnswer → Option Case → Input → Turn
 up_turn s a found (ActInput x) = act_turn s.place.role s x
 up_turn s a found (MessageInput k m) = message_turn s.place.role s a found m
 
--- what an input meets, with what a manager's data answer to it, and the case that was found for the child that it is of
+-- what an input meets, with what a manager's data answer to it, and the case that was found for the child
+-- that it is of
 unfoldable pub turn_of : CoreState → DataAnswer → Option Case → Input → Turn
 turn_of s a found i =
     if act_is_listed s.place.tree i

@@ -1,4 +1,5 @@
--- When two views of a coordinator say the same, so that a core may keep counters where the definitions keep lists.
+-- When two views of a coordinator say the same, so that a core may keep counters where the definitions keep
+-- lists.
 use Rattle.std.specs.Prelude.{◌≡◌}
 use Rattle.tree_model.specs.declared.names.Ticket.{Ticket}
 use Rattle.tree_model.specs.declared.standings.Vote.{Vote}
@@ -7,8 +8,8 @@ use Rattle.tree_model.specs.Memory.{voted_so, works_of}
 use Rattle.tree_model.specs.Standings.{CoordinatorView}
 use Rattle.tree_model.specs.CoordinatorRows.{Row}
 
--- Two views say the same: they differ at most in the order of votes and works, and in the order of the tickets that are
--- named or owe an acknowledgement, none of which a message or a record lists.
+-- Two views say the same: they differ at most in the order of votes and works, and in the order of the
+-- tickets that are named or owe an acknowledgement, none of which a message or a record lists.
 pub record SameView (v w : CoordinatorView) : Type 0 where
   pub standing : v.standing ≡ w.standing
   pub accepted : v.accepted ≡ w.accepted

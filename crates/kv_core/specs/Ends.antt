@@ -41,7 +41,8 @@ pub record IsDue (s : KeySight) (v : Verb) (x : Xid) (flags : ℕ) (due : Call �
 -- a call is refused: by the first check that applies; or no row of the table is the turn
 pub data IsOff (s : KeySight) (v : Verb) (x : Xid) (flags : ℕ) (answer : Code) : Type 0 where
   Refused : ready s.tables v x flags ≡ Err answer → IsOff s v x flags answer
-  Unlisted : (c : Call) → ready s.tables v x flags ≡ Ok c → (IsListed s x c (turn_for s x c) → ⊥) → answer ≡ off_row c
+  Unlisted : (c : Call) → ready s.tables v x flags ≡ Ok c → (IsListed s x c (turn_for s x c) → ⊥)
+      → answer ≡ off_row c
       → IsOff s v x flags answer
 
 -- the branch's writes are staged, and nothing else changes

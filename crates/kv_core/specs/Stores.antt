@@ -29,7 +29,8 @@ is_let_go S0 = true
 is_let_go S5 = true
 is_let_go _ = false
 
--- a branch holds each key exclusively that it has written, and one that is let go has written nothing and holds nothing
+-- a branch holds each key exclusively that it has written, and one that is let go has written nothing and
+-- holds nothing
 pub record IsTidy (s : KeySight) : Type 0 where
   pub held : (x : Xid) (k : List ℕ) → names_key (writes_of s.writes x) k ≡ true
       → holders_of s.locks k ≡ record { xid = x; mode = Exclusive } ∷ []
@@ -55,7 +56,8 @@ abbrev pub has_numbers : KeySight → Bool
 has_numbers s = nat_lt s.versions.count (2 ^ 63 - 1)
 
 -- the store behind a restart, with these branches in doubt
-pub record Rebuilt (s : KeySight) (left : List (Xid × Bool)) (writes : WriteTable) (locks : LockTable) (versions : VersionTable) : Type 0 where
+pub record Rebuilt (s : KeySight) (left : List (Xid × Bool)) (writes : WriteTable) (locks : LockTable)
+    (versions : VersionTable) : Type 0 where
   pub tables : Restored left s.tables
   pub writes_left : s.writes ≡ writes
   pub locks_left : s.locks ≡ locks

@@ -1,11 +1,11 @@
 -- A manager over an empty store.
-use Rattle.std.proofs.Common.{◌≡◌, ◌∙◌, ◌∷◌, [], ◌++◌, ℕ, false, List, Option, Some, Result, Ok, Err, IfOk, refl, sym, subst, ap}
+use Rattle.std.proofs.Common.{◌≡◌, ◌∙◌, ◌∷◌, [], ◌++◌, ℕ, List, Some, Result, Ok, Err, IfOk, refl, sym, subst, ap}
 use Rattle.tree_model.specs.declared.names.Kind.TheVariants.{Manager}
 use Rattle.tree_model.specs.declared.records.LogRecord.{LogRecord}
 use Rattle.tree_model.specs.Records.{same_bytes}
-use Rattle.log_order.specs.Logs.{LogReading, Whole, read_log}
+use Rattle.log_order.specs.Logs.{Whole, read_log}
 use Rattle.log_order.specs.Orders.{SeenLog, nothing_seen}
-use Rattle.rec_log.specs.Sights.{LogSight, LogState, records_of}
+use Rattle.rec_log.specs.Sights.{records_of}
 use Rattle.kv_replay.specs.Replays.{seen_after, seen_of}
 use Rattle.core_model.specs.Opening.{first_opened}
 use Rattle.manager_model.specs.Opening.{IsNew}

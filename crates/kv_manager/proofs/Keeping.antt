@@ -57,6 +57,7 @@ kept_by s store kept keeps = record {
     are_data = data_stay s.store.versions store.versions (logged s) keeps.versions (kept.stands works).are_data;
     rise = (kept.stands works).rise;
     promises = λ x is. keeps.writes x is ∙ (kept.stands works).promises x (keeps.prepared x is);
+    marked = λ x is. (kept.stands works).marked x (keeps.prepared x is);
   };
 }
 

@@ -6,7 +6,6 @@ use Rattle.std.proofs.lemmas.Bool.{ltb-true}
 use Rattle.std.specs.Prelude.{is_some, nat_lt, unwrap_or}
 use Rattle.std.specs.List.{AllByRecursion}
 use Rattle.xa_xid.specs.declared.xid.Xid.{Xid}
-use Rattle.xa_tables.specs.declared.states.BranchState.{BranchState}
 use Rattle.xa_tables.specs.declared.states.BranchState.TheVariants.{S0, S3}
 use Rattle.xa_states.specs.declared.states.States.{States}
 use Rattle.xa_states.specs.Answers.{state_at}
@@ -38,15 +37,12 @@ use Rattle.kv_manager.specs.declared.restart.RestartError.TheVariants.{Device, E
 use Rattle.kv_core.specs.Stores.{IsTidy, KeySight, Rebuilt, is_let_go}
 use Rattle.kv_manager.specs.Restarts.{FailsToRestart, IsReady, LeavesStore, NotRebuilt, error_of, next_boot, opened}
 use Rattle.kv_manager.specs.Sights.{IsKept, IsLogged, KvSight, logged}
-use Rattle.kv_manager.proofs.Turns.{data_behind}
+use Rattle.kv_manager.proofs.Marks.{agrees_of, prepared_mark, state_by}
+use Rattle.kv_manager.proofs.Turns.{data_behind, mark_behind}
+use Rattle.manager_model.specs.Restarting.{mark_at}
 
 Live : Type 0
 Live = List (Xid × Promise)
-
--- the state in which a restart finds a branch
-abbrev pub state_by : Option Promise → BranchState
-state_by None = S0
-state_by (Some p) = state_left (not (opens p.mark))
 
 state_found : (es : List (Xid × Promise)) (x : Xid)
     → unwrap_or (lookup (same x) (states_left (map (λ e. (e.0, not (opens e.1.mark))) es))) S0 ≡ state_by (lookup (same x) es)
@@ -149,21 +145,34 @@ logged_behind_boot s ls boot forced unforced =
     ap (λ us. data_of (s.log.sight.kept.forced ++ us)) unforced ∙ ap data_of (append-nil s.log.sight.kept.forced ∙ forced)
     ∙ data_behind ls (opened boot)
 
+-- and says nothing of a branch
+marked_behind_boot : (s : KvSight) (ls : List LogRecord) (boot : ℕ) → s.log.sight.kept.forced ≡ ls ++ opened boot ∷ []
+    → s.log.sight.kept.unforced ≡ [] → (x : Xid) → mark_at (records_of s.log.sight.kept) x ≡ mark_at ls x
+marked_behind_boot s ls boot forced unforced x =
+    ap (λ us. mark_at (s.log.sight.kept.forced ++ us) x) unforced ∙ ap (λ rs. mark_at rs x) (append-nil s.log.sight.kept.forced ∙ forced)
+    ∙ mark_behind ls (opened boot) x
+
 -- a manager that is what the records leave stands with them
-logged_left : (s : KvSight) (ls : List LogRecord) → LeavesStore ls s.store s.boot → logged s ≡ data_of ls → IsLogged s
-logged_left s ls left is = record {
+logged_left : (s : KvSight) (ls : List LogRecord) → LeavesStore ls s.store s.boot → logged s ≡ data_of ls
+    → ((x : Xid) → mark_at (records_of s.log.sight.kept) x ≡ mark_at ls x) → IsLogged s
+logged_left s ls left is marks = record {
   are_data = subst (AreData s.store.versions) (sym is) left.stored;
   rise = ap (λ (d : Data). keys_rise d.pairs) is ∙ (lawful_of ls left.seen left.read).tied.rise;
   promises = λ x here. left.promises x
       ∙ sym ((lawful_of ls left.seen left.read).tied.tied x (open_by_state (found left.seen x) (sym (restored_state left.seen s.store.tables x left.tables) ∙ here)))
       ∙ ap (λ (d : Data). promised_of (Foreign x) d.promised) (sym is);
+  marked = λ x here. marks x
+      ∙ prepared_mark (mark_at ls x) (sym ((agrees_of ls left.seen left.read).states x) ∙ sym (restored_state left.seen s.store.tables x left.tables) ∙ here);
 }
 
 -- what the records leave stands with a log of them and of the boot, all of it forced
 kept_left : (s : KvSight) (ls : List LogRecord) → s.log.kind ≡ Manager → LeavesStore ls s.store s.boot
     → s.log.sight.kept.forced ≡ ls ++ opened s.boot ∷ [] → s.log.sight.kept.unforced ≡ [] → IsKept s
 kept_left s ls kind left forced unforced =
-    record { kind = kind; stands = λ _. logged_left s ls left (logged_behind_boot s ls s.boot forced unforced) }
+    record {
+      kind = kind;
+      stands = λ _. logged_left s ls left (logged_behind_boot s ls s.boot forced unforced) (marked_behind_boot s ls s.boot forced unforced);
+    }
 
 pub kept_restarted : (old log : LogState) (keep : ℕ) (r : Ready) → old.kind ≡ Manager → IsReady (left_by_crash old.sight keep) r
     → Restarts old log keep (frame_record r.opened ∷ []) → IsKept (record { store = r.store; log = log; boot = r.boot })
@@ -191,6 +200,7 @@ kept_unstarted s log keep l MemoryRestart kept kind stays = record {
     rise = ap (λ (k : LogSight). keys_rise (data_of (records_of k.kept)).pairs) stays ∙ (stands works).rise;
     promises = λ x here. (stands works).promises x here
         ∙ ap (λ (k : LogSight). promised_of (Foreign x) (data_of (records_of k.kept)).promised) (sym stays);
+    marked = λ x here. ap (λ (k : LogSight). mark_at (records_of k.kept) x) stays ∙ (stands works).marked x here;
   };
 }
   where

@@ -22,6 +22,7 @@ use Rattle.tree_model.specs.declared.records.Branch.TheVariants.{Foreign}
 use Rattle.tree_model.specs.declared.records.LogRecord.{LogRecord}
 use Rattle.tree_model.specs.declared.records.Write.{Write}
 use Rattle.tree_model.specs.Records.{same_branch, same_xid}
+use Rattle.tree_model.specs.Standings.{Finished, Mark, Promised, Unmarked, mark_after, mark_of}
 use Rattle.tree_model.specs.Store.{Data, commits, stored, stored_after, writes_of as promised_of}
 use Rattle.log_text.proofs.NameReading.{same_xid_is, same_xid_refl}
 use Rattle.log_sound.proofs.CutNames.{name_again}
@@ -40,7 +41,9 @@ use Rattle.kv_core.specs.Stores.{KeySight, state_of}
 use Rattle.kv_core.specs.Ends.{IsListed, LetsGo, PublishesWrites, StagesWrites, TakesTurn, ends, turn_for, wrote_some}
 use Rattle.kv_locks.specs.Locks.{Releases}
 use Rattle.kv_manager.specs.Sights.{IsKept, IsLogged, KvSight, SameManager, logged}
+use Rattle.manager_model.specs.Restarting.{mark_at}
 use Rattle.kv_manager.proofs.Keeping.{KeepsPromises, one_data}
+use Rattle.kv_manager.proofs.Marks.{branch_same}
 use Rattle.xa_states.proofs.Reactions.{stays}
 use Rattle.core_model.specs.States.{wrote}
 use Rattle.core_log.specs.Writes.{Writes}
@@ -151,6 +154,11 @@ pub data_behind : (ls : List LogRecord) (l : LogRecord) → data_of (ls ++ l ∷
 unfolding stored
 data_behind ls l = fold_last stored_after by_xid _ ls l
 
+pub mark_behind : (ls : List LogRecord) (l : LogRecord) (x : Xid)
+    → mark_at (ls ++ l ∷ []) x ≡ mark_after (Foreign x) (mark_at ls x) (by_xid l)
+unfolding mark_of
+mark_behind ls l x = fold_last (mark_after (Foreign x)) by_xid Unmarked ls l
+
 pub entry_by_xid : (e : Entry) (x : XidParts) (ws : List Write) → by_xid (entry_record e x ws) ≡ entry_of e (Foreign x) ws
 entry_by_xid Prepared x ws = ap (λ y. entry_of Prepared (Foreign y) ws) (name_again x)
 entry_by_xid Committed x ws = ap (λ y. entry_of Committed (Foreign y) ws) (name_again x)
@@ -174,6 +182,31 @@ logged_behind s s' e x ws is_forced made =
     ∙ ap data_of (wrote_records s.log.sight (entry_record e x ws) is_forced)
     ∙ data_behind (records_of s.log.sight.kept) (entry_record e x ws)
     ∙ ap (stored_after (logged s)) (entry_by_xid e x ws)
+
+marked_logged : (s s' : KvSight) (e : Entry) (x : Xid) (ws : List Write) (is_forced : Bool) → Writes s.log s'.log (entry_record e x ws) is_forced
+    → (y : Xid) → mark_at (records_of s'.log.sight.kept) y
+    ≡ mark_after (Foreign y) (mark_at (records_of s.log.sight.kept) y) (entry_of e (Foreign x) ws)
+marked_logged s s' e x ws is_forced made y =
+    ap (λ (k : LogSight). mark_at (records_of k.kept) y) made.sight
+    ∙ ap (λ ls. mark_at ls y) (wrote_records s.log.sight (entry_record e x ws) is_forced)
+    ∙ mark_behind (records_of s.log.sight.kept) (entry_record e x ws) y
+    ∙ ap (mark_after (Foreign y) (mark_at (records_of s.log.sight.kept) y)) (entry_by_xid e x ws)
+
+-- a record of another branch leaves what is said of a branch
+marks_other : (m : Mark) (e : Entry) (x y : Xid) (ws : List Write) → same x y ≡ false
+    → mark_after (Foreign y) m (entry_of e (Foreign x) ws) ≡ m
+marks_other m e x y ws apart = by_entry e (branch_same x y ∙ apart)
+  where
+    by_entry : (e : Entry) → same_branch (Foreign x) (Foreign y) ≡ false → mark_after (Foreign y) m (entry_of e (Foreign x) ws) ≡ m
+    by_entry Prepared t = ap (λ b. cond b Promised m) t
+    by_entry Committed t = ap (λ b. cond b Finished m) t
+    by_entry RolledBack t = ap (λ b. cond b Finished m) t
+    by_entry Direct t = ap (λ b. cond b Finished m) t
+    by_entry Forgot t = ap (λ b. cond b Finished m) t
+
+marks_own : (m : Mark) (x : Xid) (ws : List Write) → mark_after (Foreign x) m (entry_of Prepared (Foreign x) ws) ≡ Promised
+unfolding same_branch
+marks_own m x ws = ap (λ b. cond b Promised m) (same_xid_refl x)
 
 -- a record of another branch changes no promise
 pub promised_other : (d : Data) (e : Entry) (x y : Xid) (ws : List Write) → same x y ≡ false
@@ -284,6 +317,26 @@ promises_behind s s' x e to stands is_to row goes y is = by_test (same x y) refl
         ∙ stands.promises y (sym (row.branch.others y t) ∙ is)
         ∙ sym (promised_other (logged s) e x y (writes_of s.store.writes x) t)
 
+-- and that is its last record
+marked_behind : (s s' : KvSight) (x : Xid) (e : Entry) (to : BranchState) (ws : List Write) → IsLogged s → to ≡ leads e
+    → TakesRow s.store.tables s'.store.tables x to → (y : Xid) → state_of s'.store y ≡ S3
+    → mark_after (Foreign y) (mark_at (records_of s.log.sight.kept) y) (entry_of e (Foreign x) ws) ≡ Promised
+marked_behind s s' x e to ws stands is_to row y is = by_test (same x y) refl
+  where
+    said : Xid → Mark
+    said z = mark_at (records_of s.log.sight.kept) z
+
+    own : state_of s'.store x ≡ S3 → mark_after (Foreign x) (said x) (entry_of e (Foreign x) ws) ≡ Promised
+    own here =
+        ap (λ f. mark_after (Foreign x) (said x) (entry_of f (Foreign x) ws)) (leads_prepared e (sym is_to ∙ sym row.branch.own ∙ here))
+        ∙ marks_own (said x) x ws
+
+    by_test : (b : Bool) → same x y ≡ b → mark_after (Foreign y) (said y) (entry_of e (Foreign x) ws) ≡ Promised
+    by_test true t =
+        let one : x ≡ y = same_is x y t in
+        subst (λ z. mark_after (Foreign z) (said z) (entry_of e (Foreign x) ws) ≡ Promised) one (own (ap (state_of s'.store) one ∙ is))
+    by_test false t = marks_other (said y) e x y ws t ∙ stands.marked y (sym (row.branch.others y t) ∙ is)
+
 due_leads : (s : KvSight) (x : Xid) (c : Call) (turn : Turn) (e : Entry) → IsDueTurn s x c turn → turn.entry ≡ Some e → turn.to ≡ leads e
 due_leads s x c turn e due is =
     ap (λ (t : Turn). t.to) due.due ∙ turn_leads (state_of s.store x) c _ _ e (ap (λ (t : Turn). t.entry) (sym due.due) ∙ is)
@@ -305,6 +358,8 @@ kept_noted s s' x c turn e kept due is notes takes made = record {
     rise = ap (λ (d : Data). keys_rise d.pairs) behind ∙ ap keys_rise (noted_pairs (logged s) e x ws notes) ∙ stands.rise;
     promises = λ y here. promises_behind s s' x e turn.to stands (due_leads s x c turn e due is) takes.tables takes.keeps y here
         ∙ ap (λ (d : Data). promised_of (Foreign y) d.promised) (sym behind);
+    marked = λ y here. marked_logged s s' e x ws turn.is_forced made y
+        ∙ marked_behind s s' x e turn.to ws stands (due_leads s x c turn e due is) takes.tables y here;
   };
 }
   where
@@ -343,6 +398,8 @@ kept_committed s s' x c turn e kept due is makes takes made = record {
     rise = ap (λ (d : Data). keys_rise d.pairs) committed ∙ (writes_pairs (logged s).pairs ws stands.rise).rise;
     promises = λ y here. promises_behind s s' x e turn.to stands (due_leads s x c turn e due is) takes.tables takes.keeps y here
         ∙ ap (λ (d : Data). promised_of (Foreign y) d.promised) (sym behind);
+    marked = λ y here. marked_logged s s' e x ws turn.is_forced made y
+        ∙ marked_behind s s' x e turn.to ws stands (due_leads s x c turn e due is) takes.tables y here;
   };
 }
   where

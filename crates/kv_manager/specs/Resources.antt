@@ -12,6 +12,14 @@ use Rattle.kv_locks.specs.Locks.{blocked_by, holders_of}
 use Rattle.kv_writes.specs.Writes.{writes_of}
 use Rattle.kv_core.specs.Stores.{KeySight, has_numbers}
 use Rattle.kv_core.specs.Works.{is_too_long, limit_refusal, unless_locked}
+use Rattle.manager_model.specs.declared.errors.RestartError.{RestartError as SeenError}
+use Rattle.manager_model.specs.declared.errors.RestartError.TheVariants as seen
+use Rattle.manager_model.specs.declared.errors.TrimError.{TrimError}
+use Rattle.manager_model.specs.declared.errors.TrimError.TheVariants as trims
+use Rattle.rec_log.specs.declared.log.LogError.{LogError}
+use Rattle.rec_log.specs.declared.log.LogError.TheVariants as log
+use Rattle.kv_manager.specs.declared.restart.RestartError.{RestartError}
+use Rattle.kv_manager.specs.declared.restart.RestartError.TheVariants.{Device, Exhausted, Memory, Unfit}
 use Rattle.kv_manager.specs.Sights.{KvSight}
 
 -- why the data are in the way of a branch that works at a key: the first reason that applies
@@ -36,3 +44,15 @@ sight_of s = record {
   writes = λ x. writes_of s.store.writes x;
   obstacle = λ x op. obstacle_of s.store x op;
 }
+
+-- why it did not restart: where its records leave no manager, nothing changed, as for want of memory
+abbrev pub seen_fault : RestartError → SeenError
+seen_fault Device = seen.Device
+seen_fault Memory = seen.Memory
+seen_fault Unfit = seen.Memory
+seen_fault Exhausted = seen.Memory
+
+-- why its log was not trimmed, where it was not written
+abbrev pub trim_error : LogError → TrimError
+trim_error log.Memory = trims.Memory
+trim_error log.Device = trims.Device

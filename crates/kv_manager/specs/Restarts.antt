@@ -100,8 +100,8 @@ pub record ComesNext (ls : List LogRecord) (boot : ℕ) : Type 0 where
   pub read : seen_of ls ≡ Some seen
   pub next : next_boot seen.boot ≡ Some boot
 
--- the device failed under a restart: it left the log as such a failure does, with the record of the next boot or without;
--- and nothing else changed
+-- the device failed under a restart: it left the log as such a failure does, with the record of the next boot
+-- or without; and nothing else changed
 pub record RestartFails (old new : KvSight) (keep : ℕ) : Type 0 where
   pub next : ℕ
   pub comes : ComesNext (left_by old.log.sight keep) next
@@ -134,15 +134,18 @@ pub record RestoredFrom (bytes : List ℕ) (forced failures : ℕ) (s : KvSight)
 
 -- the log was opened, and its records leave no manager; or the device failed under the record of the boot
 abbrev pub LeavesNone : LogState → LogState → RestartError → Type 0
-LeavesNone old new Device = (boot : ℕ) × ComesNext (records_of old.sight.kept) boot × Breaks old new (opened boot ∷ [])
+LeavesNone old new Device = (boot : ℕ) × ComesNext (records_of old.sight.kept) boot
+    × Breaks old new (opened boot ∷ [])
 LeavesNone old new e = NotRebuilt (records_of old.sight.kept) e × (new.sight ≡ old.sight)
 
 -- a store whose log was opened is handed back
-pub record HandsBack {S : Type 0} (bytes : S → List ℕ) (forced failures : S → ℕ) (old new : S) (e : RestartError) : Type 0 where
+pub record HandsBack {S : Type 0} (bytes : S → List ℕ) (forced failures : S → ℕ) (old new : S)
+    (e : RestartError) : Type 0 where
   pub opened_as : LogState
   pub opens : Opens Manager (bytes old) (forced old) (failures old) opened_as
   pub left_as : LogState
-  pub holds : left_as.sight ≡ (log_state Manager (bytes new) (forced new) (failures new) 0 left_as.sight.failed).sight
+  pub holds : left_as.sight
+      ≡ (log_state Manager (bytes new) (forced new) (failures new) 0 left_as.sight.failed).sight
   pub why : LeavesNone opened_as left_as e
 
 -- why no manager is restored, and what store is handed back

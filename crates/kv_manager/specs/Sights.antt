@@ -4,6 +4,7 @@ use Rattle.xa_tables.specs.declared.states.BranchState.TheVariants.{S3}
 use Rattle.xa_xid.specs.declared.xid.Xid.{Xid}
 use Rattle.tree_model.specs.declared.names.Kind.TheVariants.{Manager}
 use Rattle.tree_model.specs.declared.records.Branch.TheVariants.{Foreign}
+use Rattle.tree_model.specs.Standings.{Promised}
 use Rattle.tree_model.specs.Store.{Data, writes_of as promised_of}
 use Rattle.rec_log.specs.Sights.{LogState, records_of}
 use Rattle.kv_store.specs.Pairs.{keys_rise}
@@ -11,6 +12,7 @@ use Rattle.kv_replay.specs.Folds.{AreData, data_of}
 use Rattle.kv_store.specs.Versions.{SameData}
 use Rattle.kv_writes.specs.Writes.{SameWrites, writes_of}
 use Rattle.xa_states.specs.Answers.{Same}
+use Rattle.manager_model.specs.Restarting.{mark_at}
 use Rattle.kv_core.specs.Stores.{KeySight, state_of}
 
 -- what a contract sees: the key store, its log, and how often it opened
@@ -23,12 +25,14 @@ pub record KvSight : Type 0 where
 abbrev pub logged : KvSight → Data
 logged s = data_of (records_of s.log.sight.kept)
 
--- the data are those that the log's records make, their keys rising, and each prepared branch has the writes
--- that its record promised
+-- the data are those that the log's records make, their keys rising; each prepared branch has the writes that
+-- its record promised, and that is its last record
 pub record IsLogged (s : KvSight) : Type 0 where
   pub are_data : AreData s.store.versions (logged s)
   pub rise : keys_rise (logged s).pairs ≡ true
-  pub promises : (x : Xid) → state_of s.store x ≡ S3 → writes_of s.store.writes x ≡ promised_of (Foreign x) (logged s).promised
+  pub promises : (x : Xid) → state_of s.store x ≡ S3
+      → writes_of s.store.writes x ≡ promised_of (Foreign x) (logged s).promised
+  pub marked : (x : Xid) → state_of s.store x ≡ S3 → mark_at (records_of s.log.sight.kept) x ≡ Promised
 
 -- what a manager keeps: the log is a manager's, and while it has not failed the data are those of its records
 pub record IsKept (s : KvSight) : Type 0 where

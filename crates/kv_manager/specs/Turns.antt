@@ -45,7 +45,8 @@ commits (Some e) = applies e
 pub record Makes (old new : KvSight) (x : Xid) (turn : Turn) : Type 0 where
   pub tables : TakesRow old.store.tables new.store.tables x turn.to
   pub keeps : LetsGo old.store new.store x turn.to
-  pub versions : MatchBool (commits turn.entry) (Applies old.store.versions new.store.versions (writes_of old.store.writes x))
+  pub versions : MatchBool (commits turn.entry)
+      (Applies old.store.versions new.store.versions (writes_of old.store.writes x))
       (new.store.versions ≡ old.store.versions)
   pub log : Logs old new x turn.is_forced turn.entry
   pub boot : new.boot ≡ old.boot
@@ -65,13 +66,15 @@ pub record Fails (old new : KvSight) (x : Xid) (turn : Turn) : Type 0 where
 pub data Takes (old new : KvSight) (x : Xid) (turn : Turn) (answer : Code) : Type 0 where
   Made : answer ≡ turn.code → Makes old new x turn → Takes old new x turn answer
   Broke : answer ≡ code.RmFail → Fails old new x turn → Takes old new x turn answer
-  Spent : answer ≡ code.RmErr → commits turn.entry ≡ true → has_numbers old.store ≡ false → SameManager old new
+  Spent : answer ≡ code.RmErr → commits turn.entry ≡ true → has_numbers old.store ≡ false
+      → SameManager old new
       → Takes old new x turn answer
 
 -- what a prepare, commit, rollback or forget answers and does: a failed manager refuses it, then the first
 -- check, and else its turn is taken
 pub data Finishes (old new : KvSight) (v : Verb) (x : Xid) (flags : ℕ) (answer : Code) : Type 0 where
-  Failed : old.log.sight.failed ≡ true → answer ≡ code.RmFail → SameManager old new → Finishes old new v x flags answer
+  Failed : old.log.sight.failed ≡ true → answer ≡ code.RmFail → SameManager old new
+      → Finishes old new v x flags answer
   Refused : old.log.sight.failed ≡ false → IsOff old.store v x flags answer → SameManager old new
       → Finishes old new v x flags answer
   Taken : old.log.sight.failed ≡ false → (due : Call × Turn) → IsDue old.store v x flags due

@@ -4,6 +4,7 @@
 mod manager;
 mod resource;
 mod restart;
+mod trimming;
 
 pub use manager::{KvManager, RestoreError};
 pub use restart::{RestartError, rebuilt};

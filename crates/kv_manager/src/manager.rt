@@ -11,9 +11,11 @@ ghost use Rattle.xa_tables.specs.Calls.{legal};
 ghost use Rattle.kv_manager.specs.Resources.{sight_of};
 ghost use Rattle.kv_manager.specs.Sights.{IsLogged, SameManager};
 ghost use Rattle.manager_model.specs.Opening.{IsNew};
+ghost use Rattle.std.specs.List.{AllByRecursion};
+ghost use Rattle.log_sound.specs.Sound.{IsSound};
 ghost use Rattle.log_text.specs.Made.{frame_record};
 ghost use Rattle.log_text.specs.Payloads.{record_text};
-ghost use Rattle.rec_log.specs.Sights.{IsRecord, ReadsAs, Restarts, left_by, records_of};
+ghost use Rattle.rec_log.specs.Sights.{IsRecord, ReadsAs, Restarts, left_by, records_of, whole_within};
 ghost use Rattle.tree_model.specs.declared.names.Kind.TheVariants as kind;
 ghost use Rattle.kv_writes.specs.Writes.{writes_of};
 ghost use Rattle.kv_turns.specs.Turns.{applies, entry_record};
@@ -51,8 +53,8 @@ pub enum RestoreError {
 /// A key store with a log, as an XA manager.
 #[derive(Drop)]
 pub struct KvManager<L: LogStore> {
-    alloc: Global,
-    log: RecLog<L>,
+    pub(crate) alloc: Global,
+    pub(crate) log: RecLog<L>,
     boot: u64,
     store: KeyStore,
 }
@@ -115,11 +117,39 @@ impl<L: LogStore> KvManager<L> {
         self.log.text(self.alloc)
     }
 
+    /// How many bytes its log has. A crash that keeps so many behind the forced front keeps every record.
+    pub fn log_size(&self) -> usize
+        ensures { left_by self.now.log.sight result ≡ records_of self.now.log.sight.kept }
+    {
+        self.log.size()
+    }
+
+    /// How many of the records behind the forced ones a crash would leave that keeps so many bytes behind the forced front.
+    pub fn left_behind(&self, keep: usize) -> Result<usize, AllocError>
+        ensures { IfOk result (λ count. count ≡ length (whole_within (self.now.log.sight.behind + keep) self.now.log.sight.kept.unforced)) }
+    {
+        self.log.left_behind(keep, self.alloc)
+    }
+
+    /// Each record of its log can stand in a manager's log.
+    pub fn records_are_sound(&self)
+        ensures { AllByRecursion (IsSound kind.Manager) (records_of self.now.log.sight.kept) }
+    {
+        self.log.records_are_sound();
+    }
+
     /// The records of its log, as a list made anew.
     pub fn records(&self) -> Result<Vec<LogRecord>, AllocError>
         ensures { IfOk result (λ records. records.items ≡ records_of self.now.log.sight.kept) }
     {
         self.log.records(self.alloc)
+    }
+
+    /// The records that a crash would leave which keeps so many bytes behind the forced front, as a list made anew.
+    pub fn left(&self, keep: usize) -> Result<Vec<LogRecord>, AllocError>
+        ensures { IfOk result (λ records. records.items ≡ left_by self.now.log.sight keep) }
+    {
+        self.log.kept(keep, self.alloc)
     }
 
     /// Whether its device has failed: it answers nothing until a restart.

@@ -1,14 +1,29 @@
 //! A key store with a log, as a resource manager that a process drives.
 
+ghost use Rattle.std.specs.Prelude.{◌≡◌};
+ghost use Rattle.kv_manager.specs.Resources.{seen_fault};
+
 use crate::manager::KvManager;
+use crate::restart::RestartError as RestartFault;
 use log_store::LogStore;
-use manager_model::ResourceManager;
+use manager_model::{ResourceManager, RestartError, TrimError};
 use std::alloc::AllocError;
-use tree_model::Op;
+use tree_model::{LogRecord, Op};
 use xa_codes::{Code, Flags};
 use xa_manager::WorkError;
 use xa_tables::BranchState;
 use xa_xid::Xid;
+
+/// Why a manager did not restart, as a process sees it that drives it.
+fn seen_fault(fault: RestartFault) -> RestartError
+    ensures { result ≡ seen_fault fault }
+{
+    match fault {
+        RestartFault::Device => RestartError::Device,
+        RestartFault::Memory | RestartFault::Unfit | RestartFault::Exhausted =>
+            RestartError::Memory,
+    }
+}
 
 impl<L: LogStore> ResourceManager for KvManager<L> {
     ghost use Rattle.kv_manager.specs.Resources.{sight_of};
@@ -77,5 +92,24 @@ impl<L: LogStore> ResourceManager for KvManager<L> {
                 Ok(())
             }
         }
+    }
+
+    fn left(&self, keep: usize) -> Result<Vec<LogRecord>, AllocError> {
+        KvManager::left(self, keep)
+    }
+
+    fn records_are_sound(&self) {
+        KvManager::records_are_sound(self);
+    }
+
+    fn restart(&mut self, keep: usize) -> Result<(), RestartError> {
+        match KvManager::restart(self, keep) {
+            Ok(_) => Ok(()),
+            Err(fault) => Err(seen_fault(fault)),
+        }
+    }
+
+    fn trim(&mut self) -> Result<usize, TrimError> {
+        KvManager::trim(self)
     }
 }

@@ -6,7 +6,8 @@ use Rattle.key_tables.specs.Tables.{Becomes, list_at, same_key}
 use Rattle.tree_model.specs.declared.records.Write.{Write}
 use Rattle.kv_store.specs.declared.version.Version.{Version}
 
--- the count of the base and of the last commit, whether writes are staged, and each key's versions, rising by count
+-- the count of the base and of the last commit, whether writes are staged, and each key's versions, rising by
+-- count
 pub record VersionTable : Type 0 where
   pub base : ℕ
   pub count : ℕ

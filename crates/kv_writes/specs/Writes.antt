@@ -15,7 +15,8 @@ use Rattle.log_sound.specs.Sound.{IsSoundWrite}
 abbrev pub same : Xid → Xid → Bool
 same = names.ghosts.eq
 
--- what a branch has written, in order of each key's first write, and how many more writes fit without a growth
+-- what a branch has written, in order of each key's first write, and how many more writes fit without a
+-- growth
 pub record Workspace : Type 0 where
   pub writes : List Write
   pub room : ℕ

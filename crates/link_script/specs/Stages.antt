@@ -26,8 +26,8 @@ admits Whole event = true
 admits Run (ActOf a) = admits_act a
 admits Run (Deliver n) = true
 admits Run Settle = true
-admits Run (Restart q k) = false
-admits Run (Trim q) = false
+admits Run (Restart q k) = true
+admits Run (Trim q) = true
 
 -- the event, where it is read
 abbrev pub staged : Stage → Option Event → Option Event

@@ -23,8 +23,7 @@ impl Stage {
         match (self, event) {
             (Stage::Whole, _) => true,
             (Stage::Run, Event::Act(act)) => !matches!(act, Act::Decide(..) | Act::Forget(_)),
-            (Stage::Run, Event::Deliver(_) | Event::Settle) => true,
-            (Stage::Run, Event::Restart(..) | Event::Trim(_)) => false,
+            (Stage::Run, _) => true,
         }
     }
 

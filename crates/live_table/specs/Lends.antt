@@ -15,5 +15,6 @@ abbrev pub with_value : {V : Type 0} → List (Option (Case × V)) → ℕ → V
 with_value slots key w = slice_set slots key (rewritten (entry_at slots key) w)
 
 -- the key has the last value written through r, and at `None` the table stays as it is
-abbrev pub lends_get : (V : RattleType) → MutBor (List (Option (Case × V.Denot))) → ℕ → Option (MutBor V.Denot) → Fml
+abbrev pub lends_get : (V : RattleType) → MutBor (List (Option (Case × V.Denot))) → ℕ
+    → Option (MutBor V.Denot) → Fml
 lends_get V t key r = LendsIf (the_row V) V t r (with_value t.now key) t.now

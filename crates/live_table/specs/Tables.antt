@@ -53,7 +53,8 @@ module _ {V : Type 0} where
 
   -- each case has one key at most
   abbrev pub AreApart : List (Option (Case × V)) → Type 0
-  AreApart slots = (c : Case) (j k : ℕ) → is_of_case c (entry_at slots j) ≡ true → is_of_case c (entry_at slots k) ≡ true → j ≡ k
+  AreApart slots = (c : Case) (j k : ℕ) → is_of_case c (entry_at slots j) ≡ true
+      → is_of_case c (entry_at slots k) ≡ true → j ≡ k
 
   -- one key changes, and no other
   pub record Updates (old new : List (Option (Case × V))) (key : ℕ) (slot : Option (Case × V)) : Type 0 where
@@ -92,15 +93,18 @@ module _ {V : Type 0} where
     pub updates : Updates old new key (Some (owner, behind))
     pub moves : Moves old new owner (Some behind)
 
-  -- A live case of a transaction whose value passes a test, under its key; or there is none. The relation says what the
-  -- test may answer of a value.
+  -- A live case of a transaction whose value passes a test, under its key; or there is none. The relation
+  -- says what the test may answer of a value.
   abbrev pub FindsIn : (V → Bool → Type 0) → List (Option (Case × V)) → Txn → Option ℕ → Type 0
-  FindsIn answers slots x None = (c : Case) (v : V) → live_value slots c ≡ Some v → same_txn c.txn x ≡ true → answers v false
+  FindsIn answers slots x None = (c : Case) (v : V) → live_value slots c ≡ Some v → same_txn c.txn x ≡ true
+      → answers v false
   FindsIn answers slots x (Some k) =
-      (p : Case × V) × (entry_at slots k ≡ Some p) × (live_value slots p.0 ≡ Some p.1) × (same_txn p.0.txn x ≡ true) × answers p.1 true
+      (p : Case × V) × (entry_at slots k ≡ Some p) × (live_value slots p.0 ≡ Some p.1)
+      × (same_txn p.0.txn x ≡ true) × answers p.1 true
 
   -- the same, as a record
-  pub record FindsBy (answers : V → Bool → Type 0) (slots : List (Option (Case × V))) (x : Txn) (found : Option ℕ) : Type 0 where
+  pub record FindsBy (answers : V → Bool
+      → Type 0) (slots : List (Option (Case × V))) (x : Txn) (found : Option ℕ) : Type 0 where
     pub key : FindsIn answers slots x found
 
 -- the key is in the list
@@ -118,11 +122,13 @@ listed_for x keys k = listed (lookup (txns.ghosts.eq x) keys) k
 
 -- the key is listed for the transaction, and nothing else moves
 abbrev pub Lists : List (Txn × SmallVec ℕ) → List (Txn × SmallVec ℕ) → Txn → ℕ → Type 0
-Lists old new x key = (y : Txn) (k : ℕ) → listed_for y new k ≡ (listed_for y old k || (same_txn x y && (key == k)))
+Lists old new x key = (y : Txn) (k : ℕ)
+    → listed_for y new k ≡ (listed_for y old k || (same_txn x y && (key == k)))
 
 -- the key is listed no longer for the transaction, and nothing else moves
 abbrev pub Drops : List (Txn × SmallVec ℕ) → List (Txn × SmallVec ℕ) → Txn → ℕ → Type 0
-Drops old new x key = (y : Txn) (k : ℕ) → listed_for y new k ≡ (listed_for y old k && not (same_txn x y && (key == k)))
+Drops old new x key = (y : Txn) (k : ℕ)
+    → listed_for y new k ≡ (listed_for y old k && not (same_txn x y && (key == k)))
 
 -- the same keys are listed
 abbrev pub SameLists : List (Txn × SmallVec ℕ) → List (Txn × SmallVec ℕ) → Type 0
@@ -133,6 +139,7 @@ abbrev pub Agrees : {V : Type 0} → List (Option (Case × V)) → List (Txn × 
 Agrees slots keys = (x : Txn) (k : ℕ) → listed_for x keys k ≡ is_of_txn x (entry_at slots k)
 
 -- what a table keeps: its lists of keys are right, and each case has one key at most
-pub record IsKept {V : Type 0} (slots : List (Option (Case × V))) (keys : List (Txn × SmallVec ℕ)) : Type 0 where
+pub record IsKept {V : Type 0} (slots : List (Option (Case × V)))
+    (keys : List (Txn × SmallVec ℕ)) : Type 0 where
   pub agrees : Agrees slots keys
   pub apart : AreApart slots

@@ -89,7 +89,8 @@ promised_by (Some p) = if opens p.mark then p.writes else []
 abbrev pub promised : SeenLog → Xid → List Write
 promised s x = promised_by (found s x)
 
--- the branches that are open or heuristic, in the order of their promises, and whether an operator decided them
+-- the branches that are open or heuristic, in the order of their promises, and whether an operator decided
+-- them
 abbrev pub left_by : SeenLog → List (Xid × Bool)
 left_by s = map (λ e. (e.0, not (opens e.1.mark))) s.live
 

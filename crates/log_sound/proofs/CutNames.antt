@@ -26,7 +26,7 @@ use Rattle.log_sound.proofs.Cuts.{IsCut, bytes_behind, none_some, some_is}
 
 -- The XID.
 
-four_below : (a b c d : ℕ) → a < 256 → b < 256 → c < 256 → d < 256
+pub four_below : (a b c d : ℕ) → a < 256 → b < 256 → c < 256 → d < 256
     → from_be_bytes w32 (a ∷ b ∷ c ∷ d ∷ []) < 2 ^ 32
 four_below a b c d ha hb hc hd = omega arith
 
@@ -37,13 +37,13 @@ format_kept a b c d ha hb hc hd =
     ap (cast_signed w32) (of_z-to_z w32 (from_be_bytes w32 (a ∷ b ∷ c ∷ d ∷ []))
     (four_below a b c d ha hb hc hd))
 
-no_fault : (o : Option XidError) (b : Bool) → is_some (option_or o (cond b (Some Truncated) None)) ≡ false
+pub no_fault : (o : Option XidError) (b : Bool) → is_some (option_or o (cond b (Some Truncated) None)) ≡ false
     → b ≡ false
 no_fault None false h = refl
 no_fault None true h = h
 no_fault (Some e) b h = absurd (cc)
 
-enough : (n m : ℕ) → nat_lt n m ≡ false → m ≤ n
+pub enough : (n m : ℕ) → nat_lt n m ≡ false → m ≤ n
 enough n m h = grind (arith, nat_tests)
 
 front_spelled : (xs : List ℕ) → AreBytes xs → is_some (front_fault xs) ≡ false

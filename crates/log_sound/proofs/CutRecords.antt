@@ -22,7 +22,7 @@ use Rattle.log_sound.specs.Written.{AreBytes, IsWrittenAs, ReadIsWritten}
 use Rattle.log_sound.proofs.Cuts.{IsCut, both, key_cut, none_some, number_again, passed, some_is, tickets_cut, value_cut, writes_cut}
 use Rattle.log_sound.proofs.CutNames.{name_cut}
 
-is_number : (n m : ℕ) → (n == m) ≡ true → n ≡ m
+pub is_number : (n m : ℕ) → (n == m) ≡ true → n ≡ m
 is_number n m h = grind (arith, nat_tests)
 
 empty : (xs : List ℕ) → (length xs == 0) ≡ true → xs ≡ []

@@ -19,7 +19,7 @@ use Rattle.log_sound.specs.Written.{AreBytes}
 pub bytes_behind : (n : ℕ) (xs : List ℕ) → AreBytes xs → AreBytes (drop n xs)
 bytes_behind n xs h i = subst (λ b. b < 256) (sym (get_or-drop n xs i 0)) (h (n + i))
 
-tail_bytes : (a : ℕ) (xs : List ℕ) → AreBytes (a ∷ xs) → AreBytes xs
+pub tail_bytes : (a : ℕ) (xs : List ℕ) → AreBytes (a ∷ xs) → AreBytes xs
 tail_bytes a xs h i = h (suc i)
 
 -- Numbers.
@@ -95,7 +95,7 @@ pub passed : {A : Type 0} (b : Bool) (x y : A) → cond b (Some x) None ≡ Some
 passed true x y h = (refl, some_is x y h)
 passed false x y h = absurd (none_some y h)
 
-at_most : (n m : ℕ) → nat_le n m ≡ true → n ≤ m
+pub at_most : (n m : ℕ) → nat_le n m ≡ true → n ≤ m
 at_most n m h = grind (arith, nat_tests)
 
 -- Tickets.
@@ -199,7 +199,7 @@ tickets_cut (count ∷ rest) ts h e =
 
 -- Keys, values and writes.
 
-piece_cut : (least most size : ℕ) (rest : List ℕ) (p : List ℕ × List ℕ)
+pub piece_cut : (least most size : ℕ) (rest : List ℕ) (p : List ℕ × List ℕ)
     → piece_at least most size rest ≡ Some p
     → (rest ≡ p.0 ++ p.1) × ((length p.0 ≡ size) × (p.1 ≡ drop size rest))
 piece_cut least most size rest p e =

@@ -6,3 +6,4 @@ pub mod Cuts
 pub mod CutNames
 pub mod CutRecords
 pub mod OwnNames
+pub mod ReadSound

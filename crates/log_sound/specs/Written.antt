@@ -4,6 +4,7 @@ use Rattle.tree_model.specs.declared.names.Kind.{Kind}
 use Rattle.tree_model.specs.declared.records.LogRecord.{LogRecord}
 use Rattle.log_text.specs.Payloads.{kind_byte, payload_text}
 use Rattle.log_text.specs.Reading.{read_record}
+use Rattle.log_sound.specs.Sound.{IsSound}
 
 -- each number of the list is a byte
 abbrev pub AreBytes : List ℕ → Type 0
@@ -18,3 +19,8 @@ pub record IsWrittenAs (l : LogRecord) (kind : ℕ) (payload : List ℕ) : Type 
 abbrev pub ReadIsWritten : Type 0
 ReadIsWritten = (p : Kind) (kind : ℕ) (payload : List ℕ) (l : LogRecord) → AreBytes payload
     → read_record p kind payload ≡ Some l → IsWrittenAs l kind payload
+
+-- what is read of a payload can stand in a log
+abbrev pub ReadIsSound : Type 0
+ReadIsSound = (p : Kind) (kind : ℕ) (payload : List ℕ) (l : LogRecord) → AreBytes payload
+    → read_record p kind payload ≡ Some l → IsSound p l

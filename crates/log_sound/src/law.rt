@@ -1,7 +1,7 @@
 //! A sound record's payload reads as this record.
 
 ghost use Rattle.log_sound.specs.Sound.{NamesAreSound, NamesAreWrittenBack, NamesReadBack, RecordsFitFrames, RecordsReadBack};
-ghost use Rattle.log_sound.specs.Written.{ReadIsWritten};
+ghost use Rattle.log_sound.specs.Written.{ReadIsSound, ReadIsWritten};
 
 /// The XID that a log writes for a whole name reads as this name.
 pub fn names_read_back()
@@ -31,4 +31,9 @@ pub fn records_fit_frames()
 /// The record that a frame reads as is written as this frame.
 pub fn what_is_read_was_written()
     ensures { ReadIsWritten }
+{}
+
+/// What is read of a payload can stand in a log.
+pub fn what_is_read_is_sound()
+    ensures { ReadIsSound }
 {}

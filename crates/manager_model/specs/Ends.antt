@@ -63,8 +63,8 @@ abbrev pub unless_empty : (List Write → Record) → List Write → List Writte
 unless_empty entry [] = []
 unless_empty entry (w ∷ ws) = forced (entry (w ∷ ws))
 
--- what a call writes that finishes a branch in a state, under this name: an outcome is forced unless the presumption
--- covers it, and nothing is written of a branch that wrote nothing or promised nothing
+-- what a call writes that finishes a branch in a state, under this name: an outcome is forced unless the
+-- presumption covers it, and nothing is written of a branch that wrote nothing or promised nothing
 abbrev pub written_by : Call → BranchState → Branch → List Write → List Written
 written_by call.Prepare S2 b ws = unless_empty (Prepared b) ws
 written_by call.CommitOnePhase S2 b ws = unless_empty (Direct b) ws
@@ -110,11 +110,12 @@ pub record Fails (old new : ManagerSight) (x : Xid) (c : Call) : Type 0 where
   pub writes : (y : Xid) → new.writes y ≡ old.writes y
   pub boot : new.boot ≡ old.boot
 
--- what a prepare, commit, rollback or forget answers and does: a failed manager refuses it, then the first check, then a
--- limit of the manager's own; else its row is made, or the device fails. A row that the table does not have, as of a branch
--- that an operator decided, is not made
+-- what a prepare, commit, rollback or forget answers and does: a failed manager refuses it, then the first
+-- check, then a limit of the manager's own; else its row is made, or the device fails. A row that the table
+-- does not have, as of a branch that an operator decided, is not made
 pub data Finishes (old new : ManagerSight) (v : Verb) (x : Xid) (flags : ℕ) (answer : Code) : Type 0 where
-  Failed : old.log.failed ≡ true → answer ≡ code.RmFail → SameManager old new → Finishes old new v x flags answer
+  Failed : old.log.failed ≡ true → answer ≡ code.RmFail → SameManager old new
+      → Finishes old new v x flags answer
   Refused : old.log.failed ≡ false → ready old.tables v x flags ≡ Err answer → SameManager old new
       → Finishes old new v x flags answer
   Limited : old.log.failed ≡ false → old.spent ≡ true → answer ≡ code.RmErr → SameManager old new

@@ -5,8 +5,8 @@ use Rattle.core_model.specs.States.{forced_sight}
 use Rattle.core_model.specs.Opening.{first_opened}
 use Rattle.manager_model.specs.Sights.{ManagerSight}
 
--- a manager that was just made over an empty log: it is not open, this is its first boot, and the record of that, which is
--- forced, is its log's only one
+-- a manager that was just made over an empty log: it is not open, this is its first boot, and the record of
+-- that, which is forced, is its log's only one
 pub record IsNew (m : ManagerSight) : Type 0 where
   pub closed : m.tables.init ≡ R0
   pub boot : m.boot ≡ 1

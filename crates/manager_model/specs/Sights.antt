@@ -8,9 +8,9 @@ use Rattle.tree_model.specs.declared.messages.Op.{Op}
 use Rattle.tree_model.specs.declared.records.Write.{Write}
 use Rattle.rec_log.specs.Sights.{LogSight}
 
--- The tables of its calls; its log; how often it opened; whether a limit of its own is met, so that it may refuse to finish
--- a branch; what each branch has written that is at work or prepared, in order of each key's first write; and why its data
--- are in the way of an operation of a branch.
+-- The tables of its calls; its log; how often it opened; whether a limit of its own is met, so that it may
+-- refuse to finish a branch; what each branch has written that is at work or prepared, in order of each key's
+-- first write; and why its data are in the way of an operation of a branch.
 pub record ManagerSight : Type 0 where
   pub tables : States
   pub log : LogSight
@@ -32,7 +32,8 @@ pub record SameManager (old new : ManagerSight) : Type 0 where
   pub spent : new.spent ≡ old.spent
   pub rest : SameData old new
 
--- a call that concerns the tables alone: a failed manager refuses it, and else it moves them so; nothing else changes
+-- a call that concerns the tables alone: a failed manager refuses it, and else it moves them so; nothing else
+-- changes
 pub record Calls (old new : ManagerSight) (refuses : Type 0) (Moves : States → States → Type 0) : Type 0 where
   pub failed : old.log.failed ≡ true → refuses × SameManager old new
   pub works : old.log.failed ≡ false → Moves old.tables new.tables

@@ -25,7 +25,8 @@ refusal_by m op (Some x) = state_refusal (state_at m.tables x) (m.obstacle x op)
 
 -- why a thread may not do an operation: the first reason that applies
 abbrev pub work_refusal : ManagerSight → ℕ → Op → Option WorkError
-work_refusal m t op = if m.log.failed then Some RmFail else refusal_by m op (active_of m.tables.associations t)
+work_refusal m t op =
+    if m.log.failed then Some RmFail else refusal_by m op (active_of m.tables.associations t)
 
 -- a thread did an operation: the branch that it is active in has written that, and no other branch anything
 pub record Works (old new : ManagerSight) (t : ℕ) (op : Op) : Type 0 where

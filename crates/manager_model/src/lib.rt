@@ -1,7 +1,9 @@
 //! A resource manager, as a process sees it that drives it.
 #![tactic(auto)]
 
+mod errors;
 mod manager;
 
+pub use errors::{RestartError, TrimError};
 pub use manager::ResourceManager;
 pub use xa_manager::WorkError;

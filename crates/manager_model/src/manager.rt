@@ -1,13 +1,20 @@
 //! The calls of a resource manager.
 
 ghost use Rattle.std.specs.Prelude.{◌≡◌, false, Err, IfErr, IfOk, OnErr, OnOk};
+ghost use Rattle.std.specs.List.{AllByRecursion};
 ghost use Rattle.xa_states.specs.Answers.{Answers, Closes, Opens, Recovers, Wanted, map_ok, state_at};
 ghost use Rattle.manager_model.specs.Sights.{Calls, ManagerSight, SameManager};
 ghost use Rattle.manager_model.specs.Works.{WorkRefused, Works};
 ghost use Rattle.manager_model.specs.Ends.{Finishes, is_left};
+ghost use Rattle.manager_model.specs.Restarting.{NotRestarted, Restarts};
+ghost use Rattle.manager_model.specs.Trimming.{NotTrimmed, Trims};
+ghost use Rattle.rec_log.specs.Sights.{left_by, records_of};
+ghost use Rattle.log_sound.specs.Sound.{IsSound};
+ghost use Rattle.tree_model.specs.declared.names.Kind.TheVariants as kind;
 
+use crate::errors::{RestartError, TrimError};
 use std::alloc::AllocError;
-use tree_model::Op;
+use tree_model::{LogRecord, Op};
 use xa_codes::{Code, Flags};
 use xa_manager::WorkError;
 use xa_tables::{BranchState, Verb};
@@ -91,4 +98,27 @@ pub trait ResourceManager {
     fn work(&mut self, thread: u32, op: &Op) -> Result<(), WorkError>
         ensures ok { OnOk result (Works (sight self.old) (sight self.new) thread op.now) }
         ensures err { IfErr result (WorkRefused (sight self.old) (sight self.new) thread op.now) };
+
+    /// The records that a crash would leave which keeps so many bytes behind the forced front, as a list made anew.
+    fn left(&self, keep: usize) -> Result<Vec<LogRecord>, AllocError>
+        ensures { IfOk result (λ records. records.items ≡ left_by (sight self.now).log keep) };
+
+    /// Each record of its log can stand in a manager's log: it was read off bytes.
+    fn records_are_sound(&self)
+        ensures { AllByRecursion (IsSound kind.Manager) (records_of (sight self.now).log.kept) };
+
+    /// Restarts the manager behind a crash that keeps so many of the log's unforced bytes: it stands as the records say that
+    /// are left, and is not open. Memory: nothing changed, also where the records leave no manager, or no boot comes behind
+    /// the last one, which is so of no log that a manager wrote. Device: the manager has failed until it is restarted.
+    fn restart(&mut self, keep: usize) -> Result<(), RestartError>
+        ensures ok { OnOk result (Restarts (sight self.old) (sight self.new) keep) }
+        ensures err { IfErr result (NotRestarted (sight self.old) (sight self.new) keep) };
+
+    /// Trims the log: the last Opened and the records of the branches that are not forgotten stay, and behind them the data,
+    /// keys rising, all of it forced by one write. Gives how many records remain. Failed: nothing changed. Memory: nothing
+    /// changed, also where the records leave no manager, which is so of no log that a manager wrote. Device: the log stands
+    /// as it was or trimmed, and the manager has failed until a restart.
+    fn trim(&mut self) -> Result<usize, TrimError>
+        ensures ok { IfOk result (Trims (sight self.old) (sight self.new)) }
+        ensures err { IfErr result (NotTrimmed (sight self.old) (sight self.new)) };
 }

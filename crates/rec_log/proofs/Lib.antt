@@ -9,3 +9,4 @@ pub mod Within
 pub mod Rewriting
 pub mod Restarting
 pub mod Trims
+pub mod SoundRecords

@@ -1,11 +1,13 @@
 //! A log as its records.
 
 ghost use Rattle.std.specs.Prelude.{◌≡◌, ◌≤◌, ◌<◌, ◌+◌, ◌++◌, ◌∷◌, [], true, false, IfOk, IfErr, OnOk, OnErr, is_some, length, map, take};
+ghost use Rattle.std.specs.List.{AllByRecursion};
+ghost use Rattle.log_sound.specs.Sound.{IsSound};
 ghost use Rattle.log_text.specs.Reading.{read_record};
 ghost use Rattle.log_text.specs.Frames.{header};
 ghost use Rattle.log_text.specs.Made.{frame_record};
 ghost use Rattle.log_text.specs.Payloads.{record_text, records_text};
-ghost use Rattle.rec_log.specs.Sights.{Appended, AreRecords, Breaks, Forced, IsRecord, LeavesText, NotRestarted, NotRewritten, ReadsAs, Restarts, Rewritten, Sounds, body, left_by, log_state, records_of};
+ghost use Rattle.rec_log.specs.Sights.{Appended, AreRecords, Breaks, Forced, IsRecord, LeavesText, NotRestarted, NotRewritten, ReadsAs, Restarts, Rewritten, Sounds, body, left_by, log_state, records_of, whole_within};
 ghost use Rattle.log_store.specs.Stores.{Replaces};
 ghost use Rattle.rec_log.specs.Openings.{IsRefused, NotOpened, Opens, Settles};
 ghost use Rattle.rec_log.specs.Texts.{records_in};
@@ -88,6 +90,11 @@ pub(crate) fn records_in(
     }
     Ok(records)
 }
+
+/// The records that are read off these bytes can stand in a log.
+fn are_sound(kind: Kind, bytes: &[u8])
+    ensures { AllByRecursion (IsSound kind) (records_in kind 0 bytes.now) }
+{}
 
 /// The first bytes, as a list of their own.
 fn front_of(bytes: &[u8], size: usize, alloc: Global) -> Result<Vec<u8>, AllocError>
@@ -265,6 +272,13 @@ impl<L: LogStore> RecLog<L> {
         Vec::from_slice(alloc, self.store.bytes())
     }
 
+    /// How many bytes it has. A crash that keeps so many behind the forced front keeps every record.
+    pub fn size(&self) -> usize
+        ensures { left_by self.now.sight result ≡ records_of self.now.sight.kept }
+    {
+        self.store.bytes().len()
+    }
+
     /// The records that stand, as a list made anew.
     pub fn records(&self, alloc: Global) -> Result<Vec<LogRecord>, AllocError>
         ensures { IfOk result (λ records. records.items ≡ records_of self.now.sight.kept) }
@@ -280,6 +294,30 @@ impl<L: LogStore> RecLog<L> {
         let forced = self.store.forced();
         let left = left_by(self.store.bytes(), forced, keep);
         records_in(self.kind, body(left), alloc)
+    }
+
+    /// How many of the records behind the forced ones a crash would leave that keeps so many bytes behind the forced front.
+    pub fn left_behind(&self, keep: usize, alloc: Global) -> Result<usize, AllocError>
+        ensures { IfOk result (λ count. count ≡ length (whole_within (self.now.sight.behind + keep) self.now.sight.kept.unforced)) }
+    {
+        let left = self.kept(keep, alloc)?;
+        let forced = self.forced_records(alloc)?;
+        Ok(left.len() - forced.len())
+    }
+
+    /// The records that are forced, as a list made anew.
+    fn forced_records(&self, alloc: Global) -> Result<Vec<LogRecord>, AllocError>
+        ensures { IfOk result (λ records. records.items ≡ self.now.sight.kept.forced) }
+    {
+        let front = left_by(self.store.bytes(), self.store.forced(), 0);
+        records_in(self.kind, body(front), alloc)
+    }
+
+    /// Each record that stands was read off bytes: so it can stand in a log of this sort of process.
+    pub fn records_are_sound(&self)
+        ensures { AllByRecursion (IsSound self.now.kind) (records_of self.now.sight.kept) }
+    {
+        are_sound(self.kind, body(self.store.bytes()));
     }
 
     /// After a crash that kept so many bytes behind the forced front: the records of what is left, a torn tail gone, and
@@ -331,6 +369,7 @@ impl<L: LogStore> RecLog<L> {
     fn put(&mut self, text: &[u8]) -> Result<(), LogError>
         requires works { self.old.sight.failed ≡ false }
         requires sound { Spells self.old.kind text.now (records_in self.old.kind 0 (body text.now)) }
+        ensures kind { self.new.kind ≡ self.old.kind }
         ensures ok { OnOk result (Rewritten self.old self.new (records_in self.old.kind 0 (body text.now))) }
         ensures err { IfErr result (λ e. NotRewritten self.old self.new (records_in self.old.kind 0 (body text.now)) e) }
     {
@@ -350,6 +389,7 @@ impl<L: LogStore> RecLog<L> {
     pub fn trim(&mut self, behind: &[Frame], alloc: Global) -> Result<usize, LogError>
         requires works { self.old.sight.failed ≡ false }
         requires sound { AreRecords self.old.kind (map frame_record behind.now) }
+        ensures kind { self.new.kind ≡ self.old.kind }
         ensures ok { IfOk result (λ count. Trimmed self.old self.new (map frame_record behind.now) count) }
         ensures err { IfErr result (λ e. NotRewritten self.old self.new (trim_of self.old (map frame_record behind.now)) e) }
     {

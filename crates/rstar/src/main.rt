@@ -42,22 +42,25 @@ Exit status: 0 the script was run to its end, 1 it was refused, 2 an event was r
 /// What `rstar tree --help` says below its usage.
 const TREE_HELP: &str = "\
 In: the processes as TOML, a line ---, and an event a line: begin, join, work, commit,
-abort, ask, deliver, settle. Out: a line for each log record, message and word to the
-application, and 'end'; 'refused N E' where event N is refused, 'error ..' where the
-script is. With --logs, where no event is refused: the processes, a line ---, and a line
-'log P HEX' for the log of each process, as 'rstar log' reads them.
+abort, ask, deliver, settle, restart P (restart P K: process P crashes, and K bytes of its
+log are kept behind those that are forced), trim P. Out: a line for each log record, message
+and word to the application, 'trim P N' where N records remain, and 'end'; 'refused N E'
+where event N is refused, 'error ..' where the script is. With --logs, where no event is
+refused: the processes, a line ---, and a line 'log P HEX' for the log of each process, as
+'rstar log' reads them.
 
 Examples: rstar tree < examples/commit.tree
-          rstar tree < examples/cascade.tree
+          rstar tree < examples/crash.tree
           rstar tree --logs < examples/commit.tree | rstar log";
 
 /// What `rstar xa --help` says below its usage.
 const XA_HELP: &str = "\
 In: a line for each call of the XA interface (open, close, start, end, prepare, commit,
-rollback, forget, recover), for each operation of a thread on the data (get, put, del), and
-for each restart of the manager (restart, restart K: of the log only K bytes are kept behind
-those that are forced). Out: a line for each answer, and 'end': a code by its name in XA,
-'= VALUE', '= none', 'done', 'refused N', 'boot N'; 'error ..' where the script is refused.
+rollback, forget, recover), for each operation of a thread on the data (get, put, del), for
+each restart of the manager (restart, restart K: of the log only K bytes are kept behind
+those that are forced), and for each trim of its log (trim). Out: a line for each answer, and
+'end': a code by its name in XA, '= VALUE', '= none', 'done', 'refused N', 'boot N',
+'trim N'; 'error ..' where the script is refused.
 
 Examples: rstar xa < examples/migrate.xa
           rstar xa < examples/prepared.xa";

@@ -7,3 +7,6 @@ pub mod Early
 pub mod Leaves
 pub mod Runs
 pub mod Cascades
+pub mod Kept
+pub mod Restarts
+pub mod Tops

@@ -1,18 +1,23 @@
 -- What each process of the model keeps of its cases in every run.
-use Rattle.std.specs.Prelude.{◌≡◌, true, false, None, Some, List, ◌++◌}
+use Rattle.std.specs.Prelude.{◌≡◌, ℕ, true, false, None, Some, List, ◌++◌}
 use Rattle.tree_model.specs.declared.names.ProcessId.{ProcessId}
 use Rattle.tree_model.specs.declared.events.Fault.{Fault}
+use Rattle.tree_model.specs.declared.events.Happening.{Happening}
+use Rattle.tree_model.specs.declared.events.Happening.TheVariants.{Trim}
 use Rattle.tree_model.specs.declared.events.Input.{Input}
 use Rattle.tree_model.specs.declared.events.Reaction.{Reaction}
 use Rattle.tree_model.specs.declared.events.StepError.{StepError}
+use Rattle.tree_model.specs.declared.events.StepError.TheVariants.{Device, Failed}
 use Rattle.tree_model.specs.declared.trees.TreeEntry.{TreeEntry}
 use Rattle.tree_model.specs.Nodes.{DataAnswer, Effect, Node, is_listed, place_of, reaction_of, role_of}
 use Rattle.tree_model.specs.Reactions.{is_passed_over}
+use Rattle.tree_model.specs.Trees.{IsTree}
 use Rattle.tree_model.specs.World.{IsRun, Made, Move, World, put_at, world_makes}
 use Rattle.core_model.specs.States.{CoreState}
 use Rattle.core_model.specs.Makes.{IsBroken, IsRefused, Makes}
-use Rattle.core_law.specs.Fits.{NodeFits}
-use Rattle.core_law.specs.Steps.{input_move}
+use Rattle.core_model.specs.Restarting.{NotRestarted, NotTrimmed, Restarts, Trims}
+use Rattle.core_law.specs.Fits.{HasOpened, KeepsOwn, NodeFits, OpenFits}
+use Rattle.core_law.specs.Steps.{IsSoundLog, input_move, quiet_move, restart_of, trim_reaction}
 use Rattle.core_law.specs.Ties.{Stands}
 
 -- in every run each process whose device did not fail keeps what the law of its role asks for
@@ -67,3 +72,67 @@ FaultsMoveRuns = (tree : List TreeEntry) (es : List Made) (w : World) → IsRun 
     → old.place ≡ place_of tree q → Stands (w.at q) old
     → (is_passed_over old.place (w.at q) i ≡ true → new.log.kept ≡ old.log.kept)
     → IsBroken old new a i → BreaksWorld tree w q new i a
+
+-- Restarts and trims.
+
+-- in every run of a tree each listed process keeps records of its own alone
+abbrev pub RunsKeepOwn : Type 0
+RunsKeepOwn = (tree : List TreeEntry) (es : List Made) (w : World) → IsTree tree → IsRun tree es w
+    → (q : ProcessId) → is_listed tree q ≡ true → KeepsOwn (place_of tree q) (w.at q)
+
+-- in every run an Opened stands in the log of each process
+abbrev pub RunsHaveOpened : Type 0
+RunsHaveOpened = (tree : List TreeEntry) (es : List Made) (w : World) → IsRun tree es w → (q : ProcessId)
+    → HasOpened (w.at q)
+
+-- in every run each process whose device did not fail keeps of open cases what a trim asks for
+abbrev pub RunsKeepOpen : Type 0
+RunsKeepOpen = (tree : List TreeEntry) (es : List Made) (w : World) → IsRun tree es w → (q : ProcessId)
+    → (w.at q).failed ≡ false → OpenFits (role_of tree q) (place_of tree q) (w.at q)
+
+-- The process's move by what happens here is one of the model's world with a fault in it, which then has the
+-- process as the fault leaves it; the process stands for that.
+pub record BreaksOffWorld (tree : List TreeEntry) (w : World) (q : ProcessId) (new : CoreState)
+    (happening : Happening) : Type 0 where
+  pub fault : Fault
+  pub effect : Effect
+  pub left : Node
+  pub makes : world_makes tree w (quiet_move q happening (Some fault))
+      ≡ Some (effect, record { at = put_at q left w.at; net = w.net ++ effect.messages })
+  pub stands : Stands left new
+
+-- behind any run of a tree, a restart of a listed process is a move of the model's world
+abbrev pub RestartsMoveRuns : Type 0
+RestartsMoveRuns = (tree : List TreeEntry) (es : List Made) (w : World) → IsTree tree → IsRun tree es w
+    → (q : ProcessId) → is_listed tree q ≡ true → (old new : CoreState) (keep : ℕ) (reaction : Reaction)
+    → old.place ≡ place_of tree q → Stands (w.at q) old → Restarts old keep new reaction
+    → MovesWorld tree w q new (quiet_move q (restart_of old keep) None) reaction
+
+-- and a device's failure in it is one with a fault in it
+abbrev pub RestartFaultsMoveRuns : Type 0
+RestartFaultsMoveRuns = (tree : List TreeEntry) (es : List Made) (w : World) → IsTree tree → IsRun tree es w
+    → (q : ProcessId) → is_listed tree q ≡ true → (old new : CoreState) (keep : ℕ)
+    → old.place ≡ place_of tree q → Stands (w.at q) old → NotRestarted old keep new Device
+    → BreaksOffWorld tree w q new (restart_of old keep)
+
+-- behind any run of a tree, a trim of a listed process that is up, and whose records can stand in a log, is
+-- a move of the model's world
+abbrev pub TrimsMoveRuns : Type 0
+TrimsMoveRuns = (tree : List TreeEntry) (es : List Made) (w : World) → IsTree tree → IsRun tree es w
+    → (q : ProcessId) → is_listed tree q ≡ true → (old new : CoreState) (remain : ℕ)
+    → old.place ≡ place_of tree q → Stands (w.at q) old → old.log.failed ≡ false → IsSoundLog old
+    → Trims old new remain → MovesWorld tree w q new (quiet_move q Trim None) (trim_reaction remain)
+
+-- and a device's failure in it is one with a fault in it
+abbrev pub TrimFaultsMoveRuns : Type 0
+TrimFaultsMoveRuns = (tree : List TreeEntry) (es : List Made) (w : World) → IsTree tree → IsRun tree es w
+    → (q : ProcessId) → is_listed tree q ≡ true → (old new : CoreState)
+    → old.place ≡ place_of tree q → Stands (w.at q) old → old.log.failed ≡ false → IsSoundLog old
+    → NotTrimmed old new Device → BreaksOffWorld tree w q new Trim
+
+-- a trim that a failed process refuses is no move of the model's world, and the process still stands for the
+-- model's
+abbrev pub TrimRefusalsMoveNothing : Type 0
+TrimRefusalsMoveNothing = (tree : List TreeEntry) (w : World) (q : ProcessId) (old new : CoreState)
+    → old.place ≡ place_of tree q → Stands (w.at q) old → NotTrimmed old new Failed
+    → (world_makes tree w (quiet_move q Trim None) ≡ None) × Stands (w.at q) new

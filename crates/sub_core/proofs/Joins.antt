@@ -1,6 +1,5 @@
 -- What comes of a JOIN.
-use Rattle.std.proofs.Common.{◌≡◌, ◌≢◌, ◌≤◌, ◌+◌, ◌∙◌, ℕ, ℤ, pos, negsuc, Bool, true, false, Option, Some, None, List, [], ◌∷◌, Result, Ok, Err, refl, sym, ap, subst, arith, if◌then◌else◌}
-use Rattle.xa_tables.specs.declared.states.BranchState.TheVariants.{S2}
+use Rattle.std.proofs.Common.{◌≡◌, ◌≢◌, ◌≤◌, ◌+◌, ◌∙◌, ℕ, negsuc, Bool, true, false, Option, Some, None, List, [], ◌∷◌, refl, sym, ap, subst, arith}
 use Rattle.xa_xid.specs.declared.xid.Xid.{Xid}
 use Rattle.xa_xid.specs.Xids.{XidParts, null_xid}
 use Rattle.xa_branch.specs.Names.{same}
@@ -15,22 +14,19 @@ use Rattle.tree_model.specs.declared.messages.Envelope.{Envelope}
 use Rattle.tree_model.specs.declared.messages.Message.TheVariants.{Join, Joined}
 use Rattle.tree_model.specs.declared.events.Input.{Input}
 use Rattle.tree_model.specs.declared.events.Input.TheVariants.{Message as MessageInput}
-use Rattle.tree_model.specs.declared.events.Reaction.{Reaction}
 use Rattle.tree_model.specs.Branches.{branch_format, branch_parts}
-use Rattle.tree_model.specs.Names.{child_case, same_case}
+use Rattle.tree_model.specs.Names.{same_case}
 use Rattle.tree_model.specs.CoordinatorRows.{post}
 use Rattle.tree_model.specs.Reactions.{sends_only}
 use Rattle.core_model.specs.States.{SameCore}
 use Rattle.core_model.specs.Turns.{Issues, Says, Turn, leaf_joined_turn, next_ticket}
-use Rattle.core_model.specs.Makes.{IssuesTicket}
-use Rattle.live_table.specs.Tables.{Moves}
 use Rattle.manager_model.specs.Sights.{ManagerSight, SameManager}
 use Rattle.sub_deeds.specs.Deeds.{Begins, HasBegun, starts}
 use Rattle.sub_table.specs.declared.branch.Branch.{Branch}
 use Rattle.sub_table.specs.Tables.{BranchTable, Opens, SameTable, branch_in, kept_view, opened, ticket_in}
-use Rattle.sub_core.specs.Subordinates.{Hears, IsGiven, IsNamed, IsTied, Joins, SubState, Turns, WritesNothing, core_of, next_case, shown, stage_state, turn_for, xid_of}
+use Rattle.sub_core.specs.Subordinates.{Hears, IsGiven, IsNamed, IsTied, Joins, SubState, Turns, core_of, next_case, shown, stage_state, xid_of}
 use Rattle.sub_core.proofs.Ties.{apart_xids, behind, one, same_tied}
-use Rattle.sub_core.proofs.Rows.{no_view, same_core}
+use Rattle.sub_core.proofs.Rows.{no_view}
 
 some_same : {A : Type 0} (a b : A) → Some a ≡ Some b → a ≡ b
 some_same a b e = cc

@@ -8,3 +8,5 @@ pub mod Doing
 pub mod Joins
 pub mod Steps
 pub mod Opened
+pub mod Restarted
+pub mod Trimmed

@@ -1,25 +1,21 @@
 -- A subordinate whose manager was just made over an empty log.
-use Rattle.std.proofs.Common.{◌≡◌, ◌∙◌, ◌∷◌, [], ℕ, false, List, None, refl, sym, ap, arith}
+use Rattle.std.proofs.Common.{◌≡◌, ◌∙◌, ◌∷◌, [], false, List, None, refl, sym, ap, arith}
 use Rattle.std.specs.Prelude.{length}
 use Rattle.xa_codes.specs.declared.code.Code.{Code}
 use Rattle.xa_assoc.specs.Associations.{AssocList, IsBare, moved_of}
-use Rattle.xa_xid.specs.declared.xid.Xid.{Xid}
 use Rattle.xa_states.specs.Answers.{Opens}
 use Rattle.tree_model.specs.declared.names.Case.{Case}
 use Rattle.tree_model.specs.declared.names.ProcessId.{ProcessId}
 use Rattle.tree_model.specs.declared.trees.TreeEntry.{TreeEntry}
-use Rattle.tree_model.specs.declared.records.Record.TheVariants.{Opened}
-use Rattle.tree_model.specs.Nodes.{AtLeaf, Place}
-use Rattle.tree_model.specs.Standings.{ManagerView}
+use Rattle.tree_model.specs.Nodes.{AtLeaf}
 use Rattle.live_table.specs.Tables.{live_value}
 use Rattle.core_model.specs.Opening.{IsOpened}
-use Rattle.core_model.specs.Restarting.{recorded_branch_at}
 use Rattle.core_model.proofs.Opened.{opened_is_read}
 use Rattle.manager_model.specs.Opening.{IsNew}
 use Rattle.manager_model.specs.Sights.{Calls, ManagerSight}
 use Rattle.sub_deeds.specs.Deeds.{IsIdle, IsQuiet}
 use Rattle.sub_table.specs.Tables.{BranchTable, branch_in, kept_view, ticket_in, view_in}
-use Rattle.sub_core.specs.Subordinates.{IsTied, SubState, core_of}
+use Rattle.sub_core.specs.Subordinates.{IsTied, core_of}
 
 abbrev none : BranchTable
 none = record { tickets = []; branches = [] }
@@ -37,7 +33,7 @@ no_items : {A : Type 0} (xs : List A) → length xs ≡ 0 → xs ≡ []
 no_items [] e = refl
 no_items (x ∷ xs) e = absurd (omega arith)
 
-bare_quiet : (a : AssocList) → IsBare a → a.seats ≡ [] → IsQuiet a
+pub bare_quiet : (a : AssocList) → IsBare a → a.seats ≡ [] → IsQuiet a
 bare_quiet a bare seats = record {
   holders = no_items a.holders bare.holders;
   seats = seats;

@@ -1,7 +1,6 @@
 -- What an input makes of a subordinate.
-use Rattle.std.proofs.Common.{◌≡◌, ◌∙◌, ℕ, Bool, true, false, Option, Some, None, List, [], ◌∷◌, Result, Ok, Err, IfOk, IfErr, refl, sym, ap, subst, if◌then◌else◌}
+use Rattle.std.proofs.Common.{◌≡◌, ◌∙◌, ℕ, Bool, true, false, Option, Some, None, [], ◌∷◌, Result, Ok, Err, IfOk, IfErr, refl, sym, ap, subst, if◌then◌else◌}
 use Rattle.std.specs.Prelude.{◌&&◌, OnOk}
-use Rattle.std.proofs.lemmas.Bool.{cases_eq}
 use Rattle.tree_model.specs.declared.names.Case.{Case}
 use Rattle.tree_model.specs.declared.names.Ticket.{Ticket}
 use Rattle.tree_model.specs.declared.names.Txn.{Txn}
@@ -15,18 +14,16 @@ use Rattle.tree_model.specs.declared.events.Input.TheVariants.{Act as ActInput, 
 use Rattle.tree_model.specs.declared.events.Reaction.{Reaction}
 use Rattle.tree_model.specs.declared.events.StepError.{StepError}
 use Rattle.tree_model.specs.declared.events.StepError.TheVariants.{Memory, Device, UnknownTxn, NotAChild, Closed, Failed, NotInDoubt, NothingToForget, NoSuch}
-use Rattle.tree_model.specs.declared.trees.TreeEntry.{TreeEntry}
 use Rattle.tree_model.specs.Names.{same_txn}
 use Rattle.tree_model.specs.Nodes.{DataAnswer}
 use Rattle.tree_model.specs.CoordinatorRows.{post}
 use Rattle.tree_model.specs.ManagerRows.{untold_ask}
 use Rattle.tree_model.specs.Reactions.{act_is_listed, sends_only}
-use Rattle.core_model.specs.States.{CoreState}
-use Rattle.core_model.specs.Turns.{Finds, Handles, Refuses, Says, Turn, asked_by, asked_in, is_case_of, leaf_ask_turn, leaf_in, manager_turn, reacted, turn_of, up_turn}
+use Rattle.core_model.specs.Turns.{Finds, Handles, Refuses, Says, Turn, asked_by, asked_in, leaf_ask_turn, leaf_in, reacted, turn_of, up_turn}
 use Rattle.core_model.specs.Makes.{Makes, NotMade, retired_by}
 use Rattle.sub_table.specs.declared.branch.Branch.{Branch}
 use Rattle.sub_table.specs.Tables.{branch_in, kept_view, ticket_in, view_in}
-use Rattle.sub_core.specs.Subordinates.{Hears, NotHeard, NotTurned, SubState, Turns, Writes, answer_for, core_of, prepared, shown, turn_for}
+use Rattle.sub_core.specs.Subordinates.{Hears, NotHeard, NotTurned, SubState, Turns, Writes, core_of, prepared, shown, turn_for}
 use Rattle.sub_core.specs.Steps.{Acts, Leaves, NotActed, data_answer, is_refusal, turn_at}
 use Rattle.sub_core.proofs.Joins.{stays_core}
 use Rattle.sub_core.proofs.Rows.{handled}

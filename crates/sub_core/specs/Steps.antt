@@ -1,5 +1,6 @@
 -- A step of a subordinate: one input, as `core_model` says of any process.
-use Rattle.std.specs.Prelude.{◌≡◌, Bool, true, false}
+use Rattle.std.specs.Prelude.{◌≡◌, ℕ, Bool, true, false}
+use Rattle.xa_xid.specs.declared.xid.Xid.{Xid}
 use Rattle.tree_model.specs.declared.events.Act.{Act}
 use Rattle.tree_model.specs.declared.events.Act.TheVariants.{Decide}
 use Rattle.tree_model.specs.declared.events.Input.{Input}
@@ -10,6 +11,8 @@ use Rattle.tree_model.specs.declared.events.StepError.TheVariants.{Device}
 use Rattle.tree_model.specs.Nodes.{DataAnswer, ReadsOnly}
 use Rattle.core_model.specs.States.{CoreState}
 use Rattle.core_model.specs.Turns.{Turn, manager_act}
+use Rattle.rec_log.specs.Sights.{left_by}
+use Rattle.manager_model.specs.Restarting.{writes_left}
 use Rattle.manager_model.specs.Sights.{ManagerSight}
 use Rattle.sub_core.specs.Subordinates.{NotTurned, SubState, SubValue, Turns, Writes, WritesNothing, answer_for, core_of, seen}
 
@@ -53,3 +56,8 @@ Acts s a reaction = Turns s s (ActInput a) (turn_at s a) reaction
 -- why an act was not made
 abbrev pub NotActed : SubState → Act → StepError → Type 0
 NotActed s a e = NotTurned s s (turn_at s a) e
+
+-- behind a restart each branch that is in doubt by the records that were left has the writes that it
+-- promised, and no other branch has any
+abbrev pub LeavesPromises : SubState → ℕ → SubState → Type 0
+LeavesPromises old keep new = (x : Xid) → new.manager.writes x ≡ writes_left (left_by old.manager.log keep) x

@@ -44,7 +44,8 @@ use Rattle.sub_table.specs.declared.branch.Stage.TheVariants.{Active, Prepared}
 use Rattle.live_table.specs.Tables.{entry_at}
 use Rattle.sub_table.specs.Tables.{BranchTable, branch_in, ticket_in, view_in}
 
--- what a subordinate is: where it sits, how many tickets it gave in this boot, its live branches, and its manager
+-- what a subordinate is: where it sits, how many tickets it gave in this boot, its live branches, and its
+-- manager
 pub record SubValue (M : Type 0) : Type 0 where
   pub me : ProcessId
   pub parent : ProcessId
@@ -102,9 +103,12 @@ next_case s d = child_case d.txn (next_ticket (core_of s))
 
 -- what the manager's data answer to a message
 abbrev pub answer_for : SubState → Message → DataAnswer
-answer_for s (Join d) = record { starts = starts s.manager (xid_of s (next_case s d)); does = true; holding = ReadsOnly }
-answer_for s (Work c i op) = record { starts = true; does = is_none (s.manager.obstacle (xid_of s c) op); holding = ReadsOnly }
-answer_for s (Prepare c n) = record { starts = true; does = true; holding = held_writes (s.manager.writes (xid_of s c)) }
+answer_for s (Join d) =
+    record { starts = starts s.manager (xid_of s (next_case s d)); does = true; holding = ReadsOnly }
+answer_for s (Work c i op) =
+    record { starts = true; does = is_none (s.manager.obstacle (xid_of s c) op); holding = ReadsOnly }
+answer_for s (Prepare c n) =
+    record { starts = true; does = true; holding = held_writes (s.manager.writes (xid_of s c)) }
 answer_for s _ = record { starts = true; does = true; holding = ReadsOnly }
 
 -- The tie of the live branches with the manager's.
@@ -131,7 +135,8 @@ pub record IsGiven (s : SubState) (c : Case) : Type 0 where
 pub record IsTied (s : SubState) : Type 0 where
   pub idle : IsIdle s.manager
   pub named : (c : Case) (b : Branch) → branch_in s.table c ≡ Some b → IsNamed s.parent c b.xid
-  pub stands : (c : Case) (b : Branch) → branch_in s.table c ≡ Some b → state_at s.manager.tables b.xid ≡ stage_state b.stage
+  pub stands : (c : Case) (b : Branch) → branch_in s.table c ≡ Some b
+      → state_at s.manager.tables b.xid ≡ stage_state b.stage
   pub given_before : (c : Case) (b : Branch) → branch_in s.table c ≡ Some b → IsGiven s c
 
 -- Turns.
@@ -165,17 +170,19 @@ abbrev pub takes_work : Option Branch → ℕ → Bool
 takes_work None i = false
 takes_work (Some b) i = stage_takes b.stage i
 
--- what the branch of a case has written behind a work: what the operation writes, where the case takes the work and the
--- data are not in its way
+-- what the branch of a case has written behind a work: what the operation writes, where the case takes the
+-- work and the data are not in its way
 abbrev pub written_behind : SubState → Case → ℕ → Op → List Write
 written_behind s c i op =
     let x = xid_of s c in
-    if takes_work (branch_in s.table c) i && is_none (s.manager.obstacle x op) then op_writes (s.manager.writes x) op
+    if takes_work (branch_in s.table c) i
+    && is_none (s.manager.obstacle x op) then op_writes (s.manager.writes x) op
     else s.manager.writes x
 
 -- no branch has written anything but that of the case
 abbrev pub OthersWriteNothing : SubState → SubState → Case → Type 0
-OthersWriteNothing old new c = (y : Xid) → same (xid_of old c) y ≡ false → new.manager.writes y ≡ old.manager.writes y
+OthersWriteNothing old new c = (y : Xid) → same (xid_of old c) y ≡ false
+    → new.manager.writes y ≡ old.manager.writes y
 
 -- no branch has written anything
 abbrev pub WritesNothing : SubState → SubState → Type 0
@@ -200,7 +207,8 @@ Joins old new d true =
     (starts old.manager (xid_of old (next_case old d)) ≡ true)
     × IssuesTicket (core_of old) (core_of new) d (next_ticket (core_of old)) × WritesNothing old new
 Joins old new d false =
-    (starts old.manager (xid_of old (next_case old d)) ≡ false) × SameCore (core_of old) (core_of new) × WritesNothing old new
+    (starts old.manager (xid_of old (next_case old d)) ≡ false) × SameCore (core_of old) (core_of new)
+    × WritesNothing old new
 
 -- why a message was not heard, and what that leaves
 abbrev pub NotHeard : SubState → SubState → Message → StepError → Type 0

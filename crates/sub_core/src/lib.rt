@@ -6,6 +6,7 @@ mod ending;
 mod hearing;
 mod joining;
 mod replies;
+mod restarting;
 mod stepping;
 mod subordinate;
 mod voting;

@@ -1,4 +1,5 @@
--- What a subordinate does with its manager in one event: whole pieces of work, between which no thread is at work.
+-- What a subordinate does with its manager in one event: whole pieces of work, between which no thread is at
+-- work.
 use Rattle.std.specs.Prelude.{◌≡◌, Bool, true, false, is_none, is_ok, if◌then◌else◌, List, [], ◌∷◌}
 use Rattle.xa_tables.specs.declared.call.Call.{Call}
 use Rattle.xa_tables.specs.declared.states.InitState.TheVariants.{R1}
@@ -93,7 +94,8 @@ abbrev pub vote_of : List Write → Vote
 vote_of [] = Read
 vote_of (w ∷ ws) = Yes
 
--- a call did not make its row: for memory nothing changed; or the device failed under its record, and the branches stay
+-- a call did not make its row: for memory nothing changed; or the device failed under its record, and the
+-- branches stay
 pub record BreaksUnder (old new : ManagerSight) (x : Xid) (c : Call) : Type 0 where
   pub log : Breaks (state_of old.log) (state_of new.log) (logged_under x (written_for old x c))
   pub states : (y : Xid) → state_at new.tables y ≡ state_at old.tables y

@@ -301,3 +301,27 @@ module _ (ts us vs : Tickets) (bs : Slots) (d : Case) (t s : Ticket) (j : ℕ) (
     given = λ e k h. kept.given e k (sym (same_tickets e) ∙ h);
     active = λ c b h. ticket_with ts vs c b.stage (λ e k there child. same_tickets e ∙ there) (kept.active c b h);
   }
+
+-- a case that promised is live again
+module _ (ts : Tickets) (bs cs : Slots) (c0 : Case) (x : Xid) (key : ℕ) (kept : IsKept (table ts bs)) (fresh : live_value bs c0 ≡ None)
+    (inserts : Inserts bs cs c0 (record { xid = x; stage = Prepared }) key) where
+  given_restored : (d : Case) (k : Ticket) (b : Bool) → same_case c0 (child_case d.txn k) ≡ b → live_value ts d ≡ Some k
+      → (v : Branch) × (live_value cs (child_case d.txn k) ≡ Some v) × IsGivenFor d v.stage
+  given_restored d k true is e =
+      let g = kept.given d k e in
+      absurd (let none = ap (live_value bs) (sym (one c0 _ is)) ∙ fresh in let some = g.1 in cc)
+  given_restored d k false differs e =
+      let g = kept.given d k e in (g.0, inserts.moves.others (child_case d.txn k) differs ∙ g.1, g.2)
+
+  active_restored : (c : Case) (v : Branch) (b : Bool) → same_case c0 c ≡ b → live_value cs c ≡ Some v → HasTicket ts c v.stage
+  active_restored c v true is e =
+      let entry : record { xid = x; stage = Prepared } ≡ v = some_same _ v (sym inserts.moves.own ∙ ap (live_value cs) (one c0 c is) ∙ e) in
+      subst (λ (w : Branch). HasTicket ts c w.stage) entry tt
+  active_restored c v false differs e = kept.active c v (sym (inserts.moves.others c differs) ∙ e)
+
+  pub restored_kept : IsKept (table ts cs)
+  restored_kept = record {
+    apart = apart_inserted bs cs key c0 (record { xid = x; stage = Prepared }) fresh inserts.updates kept.apart;
+    given = λ d k e. given_restored d k (same_case c0 (child_case d.txn k)) refl e;
+    active = λ c v e. active_restored c v (same_case c0 c) refl e;
+  }

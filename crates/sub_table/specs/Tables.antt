@@ -1,4 +1,5 @@
--- The live branches of a subordinate, and the tickets that it gave for cases of its parent and that are active.
+-- The live branches of a subordinate, and the tickets that it gave for cases of its parent and that are
+-- active.
 use Rattle.std.specs.Prelude.{◌≡◌, ℕ, false, if◌then◌else◌, Option, Some, None, List}
 use Rattle.xa_xid.specs.declared.xid.Xid.{Xid}
 use Rattle.tree_model.specs.declared.names.Case.{Case}
@@ -11,7 +12,8 @@ use Rattle.sub_table.specs.declared.branch.Branch.{Branch}
 use Rattle.sub_table.specs.declared.branch.Stage.{Stage}
 use Rattle.sub_table.specs.declared.branch.Stage.TheVariants.{Active, Prepared}
 
--- what a contract sees: the live branches by case, and by the parent's case the active ticket that was given for it
+-- what a contract sees: the live branches by case, and by the parent's case the active ticket that was given
+-- for it
 pub record BranchTable : Type 0 where
   pub tickets : List (Option (Case × Ticket))
   pub branches : List (Option (Case × Branch))
@@ -26,7 +28,8 @@ branch_in t c = live_value t.branches c
 
 -- how a branch stands by its stage
 abbrev pub stage_view : Stage → ManagerView
-stage_view (Active d done spoiled) = record { standing = ActiveStanding; done = done; spoiled = spoiled; told = None }
+stage_view (Active d done spoiled) =
+    record { standing = ActiveStanding; done = done; spoiled = spoiled; told = None }
 stage_view Prepared = standing_branch PreparedStanding None
 
 -- how a case stands by what is kept of it; where nothing is, it is Unknown
@@ -45,11 +48,12 @@ IsGivenFor d Prepared = ⊥
 
 -- an Active case has the active ticket that was given for the parent's case
 abbrev pub HasTicket : List (Option (Case × Ticket)) → Case → Stage → Type 0
-HasTicket tickets c (Active d done spoiled) = (t : Ticket) × (live_value tickets d ≡ Some t) × (child_case d.txn t ≡ c)
+HasTicket tickets c (Active d done spoiled) = (t : Ticket) × (live_value tickets d ≡ Some t)
+    × (child_case d.txn t ≡ c)
 HasTicket tickets c Prepared = Unit {0}
 
--- what the table keeps: each case has one key at most, the case of each active ticket is live and Active, and each Active
--- case has an active ticket
+-- what the table keeps: each case has one key at most, the case of each active ticket is live and Active, and
+-- each Active case has an active ticket
 pub record IsKept (t : BranchTable) : Type 0 where
   pub apart : AreApart t.branches
   pub given : (d : Case) (k : Ticket) → ticket_in t d ≡ Some k
@@ -76,6 +80,11 @@ opened x d = record { xid = x; stage = Active d 0 false }
 pub record Opens (old new : BranchTable) (d : Case) (t : Ticket) (x : Xid) : Type 0 where
   pub branches : Moves old.branches new.branches (child_case d.txn t) (Some (opened x d))
   pub tickets : Moves old.tickets new.tickets d (Some t)
+
+-- a case that is not live is live now, and promised; no ticket moves
+pub record Restores (old new : BranchTable) (c : Case) (x : Xid) : Type 0 where
+  pub branches : Moves old.branches new.branches c (Some (record { xid = x; stage = Prepared }))
+  pub tickets : new.tickets ≡ old.tickets
 
 -- the case of a key has this in place of what it had, and no ticket moves
 pub record Notes (old new : BranchTable) (key : ℕ) (stage : Stage) : Type 0 where

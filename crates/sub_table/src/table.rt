@@ -5,7 +5,7 @@ ghost use Rattle.live_table.specs.Tables.{Finds, Moves, entry_at, live_count, li
 ghost use Rattle.tree_model.specs.Names.{child_case};
 ghost use Rattle.sub_table.specs.declared.branch.Branch.{Branch as AnyBranch};
 ghost use Rattle.sub_table.specs.declared.branch.Stage.TheVariants as stage;
-ghost use Rattle.sub_table.specs.Tables.{IsGivenFor, IsKept, Notes, Opens, Retires, SameTable, branch_in, nothing, opened, promised, ticket_in};
+ghost use Rattle.sub_table.specs.Tables.{IsGivenFor, IsKept, Notes, Opens, Restores, Retires, SameTable, branch_in, nothing, opened, promised, ticket_in};
 
 use crate::branch::{Branch, Stage};
 use live_table::LiveTable;
@@ -115,6 +115,20 @@ impl Branches {
                 Err(error)
             }
         }
+    }
+
+    /// A case that is not live is live again, as it promised before a restart. Memory: nothing changed.
+    pub fn restore(&mut self, case: Case, xid: Xid) -> Result<(), AllocError>
+        requires { branch_in self.old case ≡ None }
+        ensures ok { OnOk result (Restores self.old self.new case xid) }
+        ensures err { OnErr result (self.new ≡ self.old) }
+    {
+        let branch = Branch {
+            xid,
+            stage: Stage::Prepared,
+        };
+        let _ = self.branches.insert(case, branch)?;
+        Ok(())
     }
 
     /// An Active branch goes on: so many works are done, and one was refused or not. It takes no memory.

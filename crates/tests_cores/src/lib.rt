@@ -8,4 +8,6 @@ mod faults;
 #[cfg(test)]
 mod players;
 #[cfg(test)]
+mod restarts;
+#[cfg(test)]
 mod rows;

@@ -129,3 +129,31 @@ fn play(
     push_entry(text, u64::from(sent), &entry)?;
     Ok(())
 }
+
+/// Restarts it, keeping so many bytes of its log that were not forced; gives the lines of the trace, before which so many
+/// messages were sent.
+pub(crate) fn restarted(
+    alloc: Global,
+    core: &mut Coordinator<MemoryStore>,
+    sent: u32,
+    keep: usize,
+) -> Result<Vec<u8>, Fail> {
+    let reaction = match core.restart(keep) {
+        Ok(reaction) => reaction,
+        Err(_) => return Err(Fail::from("a restart that is made")),
+    };
+    if reaction.messages.len() > 100 {
+        return Err(Fail::from("few messages"));
+    }
+    let entry = Entry {
+        step: Step {
+            process: core.me(),
+            happening: Happening::Restart(keep as u64),
+            fault: None,
+        },
+        reaction,
+    };
+    let mut text = Vec::new(alloc);
+    push_entry(&mut text, u64::from(sent), &entry)?;
+    Ok(text)
+}

@@ -6,7 +6,7 @@ use std::test::Fail;
 use tree_model::{Act, Input, Kind, Message, Outcome, Presumption, ProcessId, Tree, Txn};
 
 /// A root with two managers.
-fn flat_tree(alloc: Global) -> Result<Tree, AllocError> {
+pub(crate) fn flat_tree(alloc: Global) -> Result<Tree, AllocError> {
     Ok(Tree::from_vec(vec![in alloc;
         listed(1, Kind::Coordinator, None),
         listed(2, Kind::Manager, Some(1)),
@@ -15,7 +15,7 @@ fn flat_tree(alloc: Global) -> Result<Tree, AllocError> {
 }
 
 /// A root, a coordinator below it, and a manager below that.
-fn deep_tree(alloc: Global) -> Result<Tree, AllocError> {
+pub(crate) fn deep_tree(alloc: Global) -> Result<Tree, AllocError> {
     Ok(Tree::from_vec(vec![in alloc;
         listed(1, Kind::Coordinator, None),
         listed(2, Kind::Coordinator, Some(1)),
@@ -24,7 +24,7 @@ fn deep_tree(alloc: Global) -> Result<Tree, AllocError> {
 }
 
 /// Both managers join, work, and vote YES.
-fn flat_votes(
+pub(crate) fn flat_votes(
     alloc: Global,
     presumption: Presumption,
     txn: Txn,
@@ -91,7 +91,7 @@ fn flat_pc_commit(rt: HostRuntime) -> Result<(), Fail> {
 }
 
 /// The row cascaded_pa_commit at process 2.
-fn below_the_root(alloc: Global, txn: Txn) -> Result<Vec<(u32, Input)>, AllocError> {
+pub(crate) fn below_the_root(alloc: Global, txn: Txn) -> Result<Vec<(u32, Input)>, AllocError> {
     let own = child_case(txn, 2);
     let child = child_case(txn, 3);
     Ok(vec![in alloc;

@@ -6,6 +6,8 @@ mod cascades;
 #[cfg(test)]
 mod logs;
 #[cfg(test)]
+mod restarts;
+#[cfg(test)]
 mod running;
 #[cfg(test)]
 mod trees;

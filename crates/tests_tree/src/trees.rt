@@ -14,7 +14,7 @@ pub(crate) const FLAT_PA_COMMIT: &str =
      join a1.1 2\njoin a1.1 3\nsettle\nwork a1.1 2 put x 1\nwork a1.1 3 put y 2\nsettle\n\
      commit a1.1\nsettle\n";
 
-const ROWS: [Row; 34] = [
+const ROWS: [Row; 33] = [
     (
         "flat_pa_commit",
         FLAT_PA_COMMIT,
@@ -146,21 +146,6 @@ const ROWS: [Row; 34] = [
         Status::Stopped,
     ),
     ("no_bytes_at_all", "", "error 1\n", Status::Refused),
-    (
-        "late_no_vote_pa",
-        "[[process]]\nid = 1\nkind = \"coordinator\"\n[[process]]\nid = 2\nkind = \"manager\"\n\
-         parent = 1\n[[process]]\nid = 3\nkind = \"manager\"\nparent = 1\n---\nbegin pa\n\
-         join a1.1 2\njoin a1.1 3\nsettle\nwork a1.1 2 put x 1\nwork a1.1 3 put y 2\ndeliver 5\n\
-         commit a1.1\ndeliver 7\ndeliver 8\ndeliver 9\ndeliver 10\ndeliver 11\n",
-        "log 1 Opened 1 forced\nlog 2 Opened 1 forced\nlog 3 Opened 1 forced\nbegin a1.1\n\
-         1 1->2 JOIN a1.1\n2 1->3 JOIN a1.1\n3 2->1 JOINED a1.1 2.1.1\n4 3->1 JOINED a1.1 3.1.1\n\
-         5 1->2 WORK a1.1@2.1.1 1 put x 1\n6 1->3 WORK a1.1@3.1.1 1 put y 2\n\
-         7 1->2 PREPARE a1.1@2.1.1 1\n8 1->3 PREPARE a1.1@3.1.1 1\n\
-         log 2 Prepared a1.1@2.1.1 forced\n9 2->1 YES a1.1@2.1.1\n10 3->1 NO a1.1@3.1.1\n\
-         log 1 Abort a1.1 plain\ntold a1.1 aborted\n11 1->2 ABORT a1.1@2.1.1\n\
-         log 2 RolledBack a1.1@2.1.1 plain\nend\n",
-        Status::Ended,
-    ),
     ("empty_document", "---\n", "error 2 1\n", Status::Refused),
     (
         "no_rule",
@@ -220,15 +205,15 @@ const ROWS: [Row; 34] = [
         Status::Refused,
     ),
     (
-        "restart_is_a_fault_of_its_line",
-        "[[process]]\nid = 1\nkind = \"coordinator\"\n---\nrestart 1\n",
+        "an_operators_act_is_a_fault_of_its_line",
+        "[[process]]\nid = 1\nkind = \"coordinator\"\n---\nforget a1.1\n",
         "error 3 5\n",
         Status::Refused,
     ),
     (
         "the_first_faulty_line",
         "[[process]]\nid = 1\nkind = \"coordinator\"\n[[process]]\nid = 2\nkind = \"manager\"\n\
-         parent = 1\n[[process]]\nid = 3\nkind = \"manager\"\nparent = 1\n---\nbegin pc\ntrim 2\n\
+         parent = 1\n[[process]]\nid = 3\nkind = \"manager\"\nparent = 1\n---\nbegin pc\nforget c1.1\n\
          nonsense\n",
         "error 3 14\n",
         Status::Refused,

@@ -164,6 +164,13 @@ impl Script {
         writeln!(self.answers, "boot {boot}")
     }
 
+    /// Adds a trim.
+    fn trim(&mut self, rows: &mut Rows) -> Result<(), AllocError> {
+        self.requests.push_str("trim\n")?;
+        let remain = rows.trim()?;
+        writeln!(self.answers, "trim {remain}")
+    }
+
     /// Adds a read of a thread.
     fn get(&mut self, rows: &mut Rows, thread: u64, key: usize) -> Result<(), AllocError> {
         let word = KEY_NAMES[key % KEYS];
@@ -227,7 +234,8 @@ impl Script {
         match numbers.below(100) {
             0 => self.restart(rows, None),
             1 => self.restart(rows, Some(numbers.below(120))),
-            2..14 => self.get(rows, thread, key),
+            2 => self.trim(rows),
+            3..14 => self.get(rows, thread, key),
             14..28 => self.put(rows, thread, key, Some(numbers.below(10))),
             28..32 => self.put(rows, thread, key, None),
             _ => self.call(rows, thread, numbers),

@@ -9,7 +9,7 @@ use xa_engine::{Failure, Status, run_xa};
 type Row = (&'static str, &'static str, &'static str, Status);
 
 /// The worked rows, and some more.
-const ROWS: [Row; 17] = [
+const ROWS: [Row; 20] = [
     (
         "xa_prepared_branch_survives_restart",
         "open TMNOFLAGS\nstart 1 7:01: TMNOFLAGS\nput 1 a 1\nend 1 7:01: TMSUCCESS\n\
@@ -146,10 +146,38 @@ const ROWS: [Row; 17] = [
          XA_RBROLLBACK\nrefused 6\nXA_RBROLLBACK\nXA_OK\nboot 2\nboot 3\nend\n",
         Status::Ended,
     ),
+    (
+        "a_trim_before_the_first_open",
+        "trim\ntrim\nopen TMNOFLAGS\n",
+        "trim 2\ntrim 2\nXA_OK\nend\n",
+        Status::Ended,
+    ),
+    (
+        "a_trim_keeps_the_data_and_the_branches_in_doubt",
+        "open TMNOFLAGS\nstart 1 7:01: TMNOFLAGS\nput 1 b 2\nput 1 a 1\nend 1 7:01: TMSUCCESS\n\
+         commit 1 7:01: TMONEPHASE\ntrim\nstart 1 7:02: TMNOFLAGS\nput 1 a 3\nend 1 7:02: TMSUCCESS\n\
+         prepare 1 7:02: TMNOFLAGS\ntrim\ntrim\nrestart 0\nopen TMNOFLAGS\n\
+         recover 1 9 TMSTARTRSCAN+TMENDRSCAN\nstart 2 7:03: TMNOFLAGS\nget 2 a\nget 2 b\n\
+         commit 1 7:02: TMNOFLAGS\nget 2 a\ntrim\n",
+        "XA_OK\nXA_OK\ndone\ndone\nXA_OK\nXA_OK\ntrim 4\nXA_OK\ndone\nXA_OK\nXA_OK\ntrim 5\ntrim 5\n\
+         boot 2\nXA_OK\n1 7:02:\nXA_OK\nrefused 2 7:02:\n= 2\nXA_OK\n= 3\ntrim 4\nend\n",
+        Status::Ended,
+    ),
+    (
+        "a_trim_takes_what_is_ended_and_deleted",
+        "open TMNOFLAGS\nstart 1 7:01: TMNOFLAGS\nput 1 a 1\nend 1 7:01: TMSUCCESS\n\
+         prepare 1 7:01: TMNOFLAGS\nrollback 1 7:01: TMNOFLAGS\ntrim\nstart 1 7:01: TMNOFLAGS\n\
+         put 1 a 1\nend 1 7:01: TMSUCCESS\nprepare 1 7:01: TMNOFLAGS\ncommit 1 7:01: TMNOFLAGS\ntrim\n\
+         start 1 7:01: TMNOFLAGS\ndel 1 a\nend 1 7:01: TMSUCCESS\ncommit 1 7:01: TMONEPHASE\ntrim\n\
+         restart 0\ntrim\n",
+        "XA_OK\nXA_OK\ndone\nXA_OK\nXA_OK\nXA_OK\ntrim 2\nXA_OK\ndone\nXA_OK\nXA_OK\nXA_OK\ntrim 3\n\
+         XA_OK\ndone\nXA_OK\nXA_OK\ntrim 2\nboot 2\ntrim 2\nend\n",
+        Status::Ended,
+    ),
 ];
 
 /// Lines that are no request.
-const BAD_LINES: [&str; 16] = [
+const BAD_LINES: [&str; 17] = [
     "start 01 7:aa: TMNOFLAGS",
     "put 1 a",
     "put 1 a ",
@@ -165,7 +193,8 @@ const BAD_LINES: [&str; 16] = [
     "restart 01",
     "restart 18446744073709551616",
     "heur 7:01: commit",
-    "trim",
+    "trim ",
+    "trim 1",
 ];
 
 /// Whether a script's run ends so, and writes these answers.

@@ -45,13 +45,26 @@ struct Lock {
     exclusive: bool,
 }
 
-/// A record of a branch.
+/// A record of a branch, or the data that a trim wrote.
 #[derive(Clone, Copy)]
 enum Entry {
     Prepared(usize, Writes),
     Committed(usize),
     RolledBack(usize),
     Direct(Writes),
+    Base(Values),
+}
+
+impl Entry {
+    /// The branch that it names.
+    fn name(&self) -> Option<usize> {
+        match self {
+            Entry::Prepared(name, _) | Entry::Committed(name) | Entry::RolledBack(name) => Some(
+                *name,
+            ),
+            Entry::Direct(_) | Entry::Base(_) => None,
+        }
+    }
 }
 
 /// A key store: its locks in the order in which they were taken, and of its log how many records are forced.
@@ -221,7 +234,7 @@ impl Store {
         for (i, entry) in self.log.iter().enumerate() {
             let size = match entry {
                 Entry::Committed(name) | Entry::RolledBack(name) => SIZES[*name % NAMES],
-                Entry::Prepared(..) | Entry::Direct(_) => 0,
+                Entry::Prepared(..) | Entry::Direct(_) | Entry::Base(_) => 0,
             };
             if i >= self.forced {
                 if bytes < size {
@@ -251,8 +264,36 @@ impl Store {
                 promised.retain(|other| *other != name);
             }
             Entry::Direct(writes) => self.apply(&writes),
+            Entry::Base(values) => self.data = values,
         }
         Ok(())
+    }
+
+    /// The promises of the branches that are in doubt, in order.
+    fn promises(&self, alloc: Global) -> Result<Vec<Entry>, AllocError> {
+        let mut promises = Vec::new(alloc);
+        for entry in &self.log {
+            if entry.name().is_some() {
+                promises.retain(|other: &Entry| other.name() != entry.name());
+            }
+            if let Entry::Prepared(..) = entry {
+                promises.push(*entry)?;
+            }
+        }
+        Ok(promises)
+    }
+
+    /// Trims the log. Gives how many records remain: Opened, the promises, Base, and a Pair for each key with a value.
+    pub(crate) fn trim(&mut self, alloc: Global) -> Result<u64, AllocError> {
+        self.log = self.promises(alloc)?;
+        self.log(Entry::Base(self.data), true)?;
+        let mut remain = (self.log.len() as u64).saturating_add(1);
+        for value in &self.data {
+            if value.is_some() {
+                remain = remain.saturating_add(1);
+            }
+        }
+        Ok(remain)
     }
 
     /// Restarts behind a crash that keeps so many bytes behind the forced ones. Gives the branches that have

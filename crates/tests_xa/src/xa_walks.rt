@@ -188,6 +188,11 @@ impl Rows {
         Ok(self.store.boot)
     }
 
+    /// Trims the log. Gives how many records remain.
+    pub(crate) fn trim(&mut self) -> Result<u64, AllocError> {
+        self.store.trim(self.alloc)
+    }
+
     /// The branch that a thread works for.
     pub(crate) fn worker(&self, thread: usize) -> Option<usize> {
         (0..NAMES).find(|name| self.own_at(thread, *name) == T1)

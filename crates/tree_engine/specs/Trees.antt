@@ -45,7 +45,8 @@ IsNumbered None = Unit {0}
 IsNumbered (Some refused) = refused.0 + 1 < 2 ^ 64
 
 -- a tree opened, these events led it, up to the refused one, to this state, and that is a run of the model
-pub record Plays (tree : List TreeEntry) (events : List Event) (refusal : Refusal) (end : WorldState) : Type 0 where
+pub record Plays (tree : List TreeEntry) (events : List Event) (refusal : Refusal)
+    (end : WorldState) : Type 0 where
   pub start : WorldState
   pub opens : IsOpened start tree
   pub leads : LeadsTo start events refusal end
@@ -61,7 +62,8 @@ abbrev pub ending : Refusal → Status
 ending None = Ended
 ending (Some refused) = Stopped
 
--- what is written of a run that ended so: its trace and the last line, or, where it was to its end, the logs it leaves
+-- what is written of a run that ended so: its trace and the last line, or, where it was to its end, the logs
+-- it leaves
 abbrev pub Tells : Output → WorldState → Refusal → List ℕ → Type 0
 Tells Logs w None text = LeavesLogs w text
 Tells Logs w (Some refused) text = text ≡ trace_of w ++ last_line (Some refused)
@@ -71,10 +73,11 @@ Tells Trace w refusal text = text ≡ trace_of w ++ last_line refusal
 abbrev pub Saying : Type 1
 Saying = List TreeEntry → List Made → World → Type 0
 
--- The text is that of the run of just these events: they led the tree, opened, to a state that stands for a run of the
--- model, with its journal, its messages and its processes; of this run the saying holds; and the text tells that state. A
--- refused event is one that the model refuses there by that number.
-pub record RunsOver (Holds : Saying) (output : Output) (tree : List TreeEntry) (events : List Event) (status : Status)
+-- The text is that of the run of just these events: they led the tree, opened, to a state that stands for a
+-- run of the model, with its journal, its messages and its processes; of this run the saying holds; and the
+-- text tells that state. A refused event is one that the model refuses there by that number.
+pub record RunsOver (Holds : Saying) (output : Output) (tree : List TreeEntry) (events : List Event)
+    (status : Status)
     (text : List ℕ) : Type 0 where
   pub refusal : Refusal
   pub start : WorldState
@@ -99,7 +102,8 @@ fault_text Utf8 = codes "error 4" ++ 10 ∷ []
 fault_text TooLong = codes "error 5" ++ 10 ∷ []
 
 -- the text is that of the run of the script that the input is
-pub record RunsScript (Holds : Saying) (output : Output) (status : Status) (input text : List ℕ) : Type 0 where
+pub record RunsScript (Holds : Saying) (output : Output) (status : Status)
+    (input text : List ℕ) : Type 0 where
   pub tree : List TreeEntry
   pub events : List Event
   pub script : IsScript Run input tree events

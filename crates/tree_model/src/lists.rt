@@ -50,13 +50,17 @@ impl<T> Sequence<T> {
         self.items.len()
     }
 
-    /// Adds a value at the end. A refusal for memory changes nothing.
+    /// Adds a value at the end. A refusal for memory changes nothing. Most lists have one value, so the first gets room for
+    /// itself alone.
     pub fn push(&mut self, value: T) -> Result<(), AllocError>
     where
         T: Drop,
         ensures ok { OnOk result (self.new ≡ self.old ++ value ∷ []) }
         ensures err { OnErr result (self.new ≡ self.old) }
     {
+        if self.items.is_empty() {
+            self.items.reserve_exact(1)?;
+        }
         self.items.push(value)?;
         Ok(())
     }

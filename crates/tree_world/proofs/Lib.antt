@@ -5,6 +5,7 @@ pub mod Logs
 pub mod OpenNodes
 pub mod OpenPlaces
 pub mod Processes
+pub mod Restarted
 pub mod Running
 pub mod Settling
 pub mod Steps

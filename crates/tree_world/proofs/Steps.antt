@@ -27,7 +27,7 @@ pub same_as_it_is : (o : Option CoreState) → SameNode o o
 same_as_it_is None = tt
 same_as_it_is (Some s) = same_core s
 
-moves_at : {L : Type 0} (es fs : List (ProcessId × Node L)) (q : ProcessId) (before behind : Node L)
+pub moves_at : {L : Type 0} (es fs : List (ProcessId × Node L)) (q : ProcessId) (before behind : Node L)
     → node_in es q ≡ Some before → node_in fs q ≡ Some behind
     → ((p : ProcessId) → same_process q p ≡ false → node_in fs p ≡ node_in es p)
     → MovesAt (nodes_at es) (nodes_at fs) q (core_of before) (core_of behind)
@@ -39,7 +39,7 @@ moves_at es fs q before behind stood stands others =
     }
 
 -- where one process is the same, and each other as it was, nothing is otherwise
-same_nodes : (old new : ProcessId → Option CoreState) (q : ProcessId) (s t : CoreState) → MovesAt old new q s t → SameCore s t
+pub same_nodes : (old new : ProcessId → Option CoreState) (q : ProcessId) (s t : CoreState) → MovesAt old new q s t → SameCore s t
     → SameNodes old new
 same_nodes old new q s t moves same p = at (same_process_tells q p)
   where

@@ -75,7 +75,8 @@ abbrev pub taken_up : ℕ → Envelope → ProcessId × Input
 taken_up k l = (l.to, MessageInput k l.message)
 
 -- a step was entered: its message is delivered, and its own messages are sent
-pub record Enters (old new : JournalState) (q : ProcessId) (input : Input) (reaction : Reaction) : Type 0 where
+pub record Enters (old new : JournalState) (q : ProcessId) (input : Input)
+    (reaction : Reaction) : Type 0 where
   pub net : new.net ≡ old.net ++ reaction.messages
   pub delivered : new.delivered ≡ marked_by input old.delivered ++ undelivered reaction.messages
   pub entries : new.entries ≡ old.entries ++ entry_at q input reaction ∷ []

@@ -65,13 +65,15 @@ abbrev pub NotHandled : CoreState → CoreState → Input → StepError → Type
 NotHandled old new i e = (answer : DataAnswer) × NotMade old new answer i e
 
 -- of the processes this one alone moves, from the first state to the second
-pub record MovesAt (old new : ProcessId → Option CoreState) (q : ProcessId) (before behind : CoreState) : Type 0 where
+pub record MovesAt (old new : ProcessId → Option CoreState) (q : ProcessId)
+    (before behind : CoreState) : Type 0 where
   pub stood : old q ≡ Some before
   pub stands : new q ≡ Some behind
   pub others : (p : ProcessId) → same_process q p ≡ false → new p ≡ old p
 
 -- a process handles an input
-pub record StepsAt (old new : ProcessId → Option CoreState) (q : ProcessId) (input : Input) (reaction : Reaction) : Type 0 where
+pub record StepsAt (old new : ProcessId → Option CoreState) (q : ProcessId) (input : Input)
+    (reaction : Reaction) : Type 0 where
   pub before : CoreState
   pub behind : CoreState
   pub moves : MovesAt old new q before behind
@@ -90,7 +92,8 @@ abbrev pub SameNodes : (ProcessId → Option CoreState) → (ProcessId → Optio
 SameNodes old new = (q : ProcessId) → SameNode (old q) (new q)
 
 -- why a process did not handle an input, and what that leaves of all
-abbrev pub NoStepAt : (ProcessId → Option CoreState) → (ProcessId → Option CoreState) → ProcessId → Input → StepError → Type 0
+abbrev pub NoStepAt : (ProcessId → Option CoreState) → (ProcessId → Option CoreState) → ProcessId → Input
+    → StepError → Type 0
 NoStepAt old new q i Memory = SameNodes old new
 NoStepAt old new q i Device = BreaksAt old new q i
 NoStepAt old new q i e = SameNodes old new × RefusesAt (old q) i e

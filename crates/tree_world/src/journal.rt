@@ -6,7 +6,7 @@ ghost use Rattle.std.specs.Vec.{vec_capacity, vec_len};
 ghost use Rattle.tree_model.specs.declared.events.Reaction.{Reaction as AnyReaction};
 ghost use Rattle.sub_core.specs.Steps.{is_decision};
 ghost use Rattle.tree_model.specs.Plays.{sent_as};
-ghost use Rattle.world_law.specs.Worlds.{entry_at, least_open as least_open_in, undelivered};
+ghost use Rattle.world_law.specs.Worlds.{least_open as least_open_in, step_entry, undelivered};
 ghost use Rattle.tree_world.specs.Journals.{AreNamed, Enters, IsReady, Keeps, last_messages as last_messages_of, marked_by, messages_of, names, taken_up};
 
 use crate::marks::Marks;
@@ -145,7 +145,7 @@ impl Journal {
         match made {
             Ok(reaction) => {
                 self.mark(&input);
-                self.enter(process, input, reaction);
+                self.enter(process, Happening::Input(input), reaction);
                 Ok(())
             }
             Err(error) => Err(error),
@@ -165,16 +165,16 @@ impl Journal {
     }
 
     /// A step more, where there is room for it.
-    fn enter(&mut self, process: ProcessId, input: Input, reaction: Reaction)
+    pub(crate) fn enter(&mut self, process: ProcessId, happening: Happening, reaction: Reaction)
         requires { IsReady self.old }
         ensures net { self.new.net ≡ self.old.net ++ reaction.messages }
         ensures delivered { self.new.delivered ≡ self.old.delivered ++ undelivered reaction.messages }
-        ensures entries { self.new.entries ≡ self.old.entries ++ entry_at process input reaction ∷ [] }
+        ensures entries { self.new.entries ≡ self.old.entries ++ step_entry process happening reaction ∷ [] }
     {
         self.entries.push_reserved(Entry {
             step: Step {
                 process,
-                happening: Happening::Input(input),
+                happening,
                 fault: None,
             },
             reaction,
@@ -191,7 +191,7 @@ impl Journal {
     }
 
     /// Posts the messages of the last step, and makes room for a step.
-    fn make_room(&mut self) -> Result<(), AllocError>
+    pub(crate) fn make_room(&mut self) -> Result<(), AllocError>
         ensures keeps { Keeps self.old self.new }
         ensures ready { OnOk result (IsReady self.new) }
     {

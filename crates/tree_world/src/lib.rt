@@ -6,6 +6,7 @@ mod marks;
 mod node;
 mod nodes;
 mod opening;
+mod restarting;
 mod world;
 
 pub use node::Node;

@@ -3,6 +3,7 @@
 ghost use Rattle.std.specs.Prelude.{◌≡◌, false, IfErr, IfOk, option_map};
 ghost use Rattle.sub_core.specs.Steps.{is_decision};
 ghost use Rattle.tree_world.specs.Nodes.{NoStepAt, SpellsLogBy, StepsAt, live_at, log_by, node_in, nodes_at};
+ghost use Rattle.tree_world.specs.Restarts.{NoRestartAt, NoTrimAt, RestartsAt, TrimsAt};
 
 use crate::node::Node;
 use indexmap::IndexMap;
@@ -26,6 +27,33 @@ impl<L: LogStore> Nodes<L> {
         match self.nodes.get_mut(&process) {
             None => Err(StepError::NoSuch),
             Some(node) => node.handle(input),
+        }
+    }
+
+    /// A process restarts, and keeps so many bytes behind its forced front; all of them, where no number is given. Gives how
+    /// many of its unforced records were kept. NoSuch: there is no such process.
+    pub(crate) fn restart(
+        &mut self,
+        process: ProcessId,
+        bytes: Option<u64>,
+    ) -> Result<(u64, Reaction), StepError>
+        ensures ok { IfOk result (RestartsAt (nodes_at self.old.nodes.entries) (nodes_at self.new.nodes.entries) process bytes) }
+        ensures err { IfErr result (NoRestartAt (nodes_at self.old.nodes.entries) (nodes_at self.new.nodes.entries) process bytes) }
+    {
+        match self.nodes.get_mut(&process) {
+            None => Err(StepError::NoSuch),
+            Some(node) => node.restart_keeping(bytes),
+        }
+    }
+
+    /// The log of a process is trimmed. Gives how many records remain. NoSuch: there is no such process.
+    pub(crate) fn trim(&mut self, process: ProcessId) -> Result<u64, StepError>
+        ensures ok { IfOk result (TrimsAt (nodes_at self.old.nodes.entries) (nodes_at self.new.nodes.entries) process) }
+        ensures err { IfErr result (NoTrimAt (nodes_at self.old.nodes.entries) (nodes_at self.new.nodes.entries) process) }
+    {
+        match self.nodes.get_mut(&process) {
+            None => Err(StepError::NoSuch),
+            Some(node) => node.trim_sound(),
         }
     }
 

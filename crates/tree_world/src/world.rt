@@ -3,6 +3,7 @@
 ghost use Rattle.std.specs.Prelude.{◌≡◌, ◌<◌, [], false, true, All, IfErr, IfOk, OnOk, length, map, option_map};
 ghost use Rattle.sub_core.specs.Steps.{is_decision};
 ghost use Rattle.tree_model.specs.Plays.{process_of_act};
+ghost use Rattle.core_law.specs.Steps.{trim_reaction};
 ghost use Rattle.world_law.specs.Worlds.{Applies, Stops, Steps, is_run_event as is_run_event_of};
 ghost use Rattle.world_law.specs.Runs.{Leads, LeadsUntil};
 ghost use Rattle.tree_world.specs.Journals.{IsReady, marked_by};
@@ -13,7 +14,10 @@ use crate::journal::Journal;
 use crate::nodes::Nodes;
 use log_store::LogStore;
 use std::alloc::{AllocError, Global};
-use tree_model::{Act, Entry, Envelope, Event, Input, LogRecord, ProcessId, StepError, Tree};
+use tree_model::{
+    Act, Entry, Envelope, Event, Happening, Input, LogRecord, ProcessId, Reaction, Sequence,
+    StepError, Tree,
+};
 
 /// At most so many messages are delivered by one settle.
 const SETTLE_LIMIT: u32 = 10_000;
@@ -28,13 +32,13 @@ pub struct World<L: LogStore> {
     pub(crate) journal: Journal,
 }
 
-/// Whether an event is one of those that a world makes so far: an application's act, or a delivery; no operator's act, no
-/// restart and no trim.
+/// Whether an event is one of those that a world makes so far: an application's act, a delivery, a restart or a trim; no
+/// operator's act.
 pub fn is_run_event(event: &Event) -> bool
     ensures { result ≡ is_run_event_of event.now }
 {
     match event {
-        Event::Act(Act::Decide(..) | Act::Forget(_)) | Event::Restart(..) | Event::Trim(_) => false,
+        Event::Act(Act::Decide(..) | Act::Forget(_)) => false,
         _ => true,
     }
 }
@@ -54,6 +58,19 @@ fn process_of(root: ProcessId, act: &Act) -> ProcessId
             Some(ticket) => ticket.child,
         },
         Act::Commit(txn) | Act::Abort(txn) => txn.root,
+    }
+}
+
+/// What a trim shows: how many records remain. It takes no memory.
+fn trimmed(alloc: Global, remain: u64) -> Reaction
+    ensures { result ≡ trim_reaction remain }
+{
+    Reaction {
+        begun: None,
+        written: Sequence::new(alloc),
+        told: None,
+        messages: Sequence::new(alloc),
+        kept: Some(remain),
     }
 }
 
@@ -141,7 +158,8 @@ impl<L: LogStore> World<L> {
             Event::Act(act) => self.act(act),
             Event::Deliver(number) => self.deliver(*number),
             Event::Settle => self.settle(),
-            Event::Restart(..) | Event::Trim(_) => unreachable!(),
+            Event::Restart(process, bytes) => self.restart(*process, *bytes),
+            Event::Trim(process) => self.trim(*process),
         }
     }
 
@@ -203,6 +221,30 @@ impl<L: LogStore> World<L> {
             };
             self.deliver(number)?;
         }
+        Ok(())
+    }
+
+    /// Restarts a process, which keeps so many bytes behind its forced front; all of them, where no number is given.
+    fn restart(&mut self, process: ProcessId, bytes: Option<u64>) -> Result<(), StepError>
+        ensures ok { OnOk result (Applies (state self.old) (Event.Restart process bytes) (state self.new)) }
+        ensures err { IfErr result (λ e. Stops (state self.old) (Event.Restart process bytes) e (state self.new)) }
+    {
+        self.journal.make_room()?;
+        let (kept, reaction) = self.nodes.restart(process, bytes)?;
+        self.journal
+            .enter(process, Happening::Restart(kept), reaction);
+        Ok(())
+    }
+
+    /// Trims the log of a process.
+    fn trim(&mut self, process: ProcessId) -> Result<(), StepError>
+        ensures ok { OnOk result (Applies (state self.old) (Event.Trim process) (state self.new)) }
+        ensures err { IfErr result (λ e. Stops (state self.old) (Event.Trim process) e (state self.new)) }
+    {
+        self.journal.make_room()?;
+        let remain = self.nodes.trim(process)?;
+        self.journal
+            .enter(process, Happening::Trim, trimmed(self.alloc, remain));
         Ok(())
     }
 

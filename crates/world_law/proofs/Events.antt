@@ -11,9 +11,10 @@ use Rattle.tree_model.specs.declared.trees.TreeEntry.{TreeEntry}
 use Rattle.tree_model.specs.Plays.{process_of_act, sent_as}
 use Rattle.tree_model.specs.Trees.{IsTree, root_of}
 use Rattle.tree_model.specs.World.{Continues, Made, World, goes_on, stays}
-use Rattle.world_law.specs.Worlds.{Applies, Delivers, NoneDelivered, NotActed, NotDelivered, Same, Settles, SettleStops, Stops, WorldState, least_open, marks, settles_by}
+use Rattle.world_law.specs.Worlds.{Applies, Delivers, NoneDelivered, NotActed, NotDelivered, NotRestartedAt, NotTrimmedAt, Same, Settles, SettleStops, Stops, WorldState, least_open, marks, settles_by}
 use Rattle.world_law.specs.Runs.{Leads, LeadsUntil}
 use Rattle.world_law.specs.Ties.{Follows, GoesOn}
+use Rattle.world_law.proofs.Restarts.{restart_goes_on, trim_goes_on}
 use Rattle.world_law.proofs.Steps.{InputsAsTheModel, sent_stands, step_goes_on}
 use Rattle.world_law.proofs.Unchanged.{same_follows}
 
@@ -85,8 +86,14 @@ module _ (law : (tree : List TreeEntry) → IsTree tree → InputsAsTheModel tre
   }
   applied_on s t (Deliver k) es w is f made = delivered_on s t k es w is f made
   applied_on s t Settle es w is f made = settles_on 10000 s t es w is f made
-  applied_on s t (Restart q k) es w is f made = absurd made
-  applied_on s t (Trim q) es w is f made = absurd made
+  applied_on s t (Restart q bytes) es w is f made = record {
+    goes_on_so = restart_goes_on es w s f t q (subst IsTree (sym is) is_tree) bytes made;
+    tree_stays = made.moves.tree ∙ is;
+  }
+  applied_on s t (Trim q) es w is f made = record {
+    goes_on_so = trim_goes_on es w s f t q (subst IsTree (sym is) is_tree) made;
+    tree_stays = made.moves.tree ∙ is;
+  }
 
   -- one that was not made, but by a device
 
@@ -117,6 +124,30 @@ module _ (law : (tree : List TreeEntry) → IsTree tree → InputsAsTheModel tre
   unacted_on s t q a step_error.Failed es w works is f h = same_on s t es w is f h.0
   unacted_on s t q a step_error.NoSuch es w works is f h = same_on s t es w is f h.0
 
+  unrestarted_on : (s t : WorldState) (q : ProcessId) (bytes : Option ℕ) (e : StepError) (es : List Made) (w : World) → e ≢ step_error.Device
+      → s.tree ≡ tree → Follows es w s → NotRestartedAt s t q bytes e → GoesOnIn tree es w t
+  unrestarted_on s t q bytes step_error.Memory es w works is f h = same_on s t es w is f h
+  unrestarted_on s t q bytes step_error.Device es w works is f h = absurd (works refl)
+  unrestarted_on s t q bytes step_error.UnknownTxn es w works is f h = absurd h
+  unrestarted_on s t q bytes step_error.NotAChild es w works is f h = absurd h
+  unrestarted_on s t q bytes step_error.Closed es w works is f h = absurd h
+  unrestarted_on s t q bytes step_error.NotInDoubt es w works is f h = absurd h
+  unrestarted_on s t q bytes step_error.NothingToForget es w works is f h = absurd h
+  unrestarted_on s t q bytes step_error.Failed es w works is f h = absurd h
+  unrestarted_on s t q bytes step_error.NoSuch es w works is f h = same_on s t es w is f h.0
+
+  untrimmed_on : (s t : WorldState) (q : ProcessId) (e : StepError) (es : List Made) (w : World) → e ≢ step_error.Device → s.tree ≡ tree → Follows es w s
+      → NotTrimmedAt s t q e → GoesOnIn tree es w t
+  untrimmed_on s t q step_error.Memory es w works is f h = same_on s t es w is f h
+  untrimmed_on s t q step_error.Device es w works is f h = absurd (works refl)
+  untrimmed_on s t q step_error.UnknownTxn es w works is f h = absurd h
+  untrimmed_on s t q step_error.NotAChild es w works is f h = absurd h
+  untrimmed_on s t q step_error.Closed es w works is f h = absurd h
+  untrimmed_on s t q step_error.NotInDoubt es w works is f h = absurd h
+  untrimmed_on s t q step_error.NothingToForget es w works is f h = absurd h
+  untrimmed_on s t q step_error.Failed es w works is f h = same_on s t es w is f h.0
+  untrimmed_on s t q step_error.NoSuch es w works is f h = same_on s t es w is f h.0
+
   none_on : (s t : WorldState) (e : StepError) (o : Option ℕ) (es : List Made) (w : World) → e ≢ step_error.Device → s.tree ≡ tree → Follows es w s
       → NoneDelivered s t e o → GoesOnIn tree es w t
   none_on s t e None es w works is f h = same_on s t es w is f h.1
@@ -134,8 +165,8 @@ module _ (law : (tree : List TreeEntry) → IsTree tree → InputsAsTheModel tre
   stopped_on s t (ActOf a) e es w works is f h = unacted_on s t (process_of_act (root_of s.tree) a) a e es w works is f h
   stopped_on s t (Deliver k) e es w works is f h = undelivered_on s t k e es w works is f h
   stopped_on s t Settle e es w works is f h = settle_stops_on 10000 s t e es w works is f h
-  stopped_on s t (Restart q k) e es w works is f h = absurd h
-  stopped_on s t (Trim q) e es w works is f h = absurd h
+  stopped_on s t (Restart q bytes) e es w works is f h = unrestarted_on s t q bytes e es w works is f h
+  stopped_on s t (Trim q) e es w works is f h = untrimmed_on s t q e es w works is f h
 
   -- Lists of events.
 

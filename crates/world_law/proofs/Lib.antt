@@ -4,3 +4,4 @@ pub mod Unchanged
 pub mod Events
 pub mod Processes
 pub mod Whole
+pub mod Restarts

@@ -4,6 +4,7 @@ use Rattle.std.specs.Prelude.{slice_get}
 use Rattle.tree_model.specs.declared.names.ProcessId.{ProcessId}
 use Rattle.tree_model.specs.declared.messages.Envelope.{Envelope}
 use Rattle.tree_model.specs.declared.events.Input.{Input}
+use Rattle.tree_model.specs.declared.events.Happening.{Happening}
 use Rattle.tree_model.specs.declared.events.Happening.TheVariants.{Input as Handles}
 use Rattle.tree_model.specs.declared.events.Reaction.{Reaction}
 use Rattle.tree_model.specs.declared.trees.TreeEntry.{TreeEntry}
@@ -13,11 +14,12 @@ use Rattle.tree_model.specs.Nodes.{DataAnswer, Effect, Node, is_listed, place_of
 use Rattle.tree_model.specs.Plays.{move_of, sent_as}
 use Rattle.tree_model.specs.Trees.{IsTree}
 use Rattle.tree_model.specs.World.{Continues, InputStands, IsRun, IsSent, Made, Move, World, goes_on, journal_of, makes, node_makes, put_at, stays, world_makes, world_stepped}
+use Rattle.tree_model.specs.World.{Stands as Happens}
 use Rattle.tree_model.specs.World.{Makes as Leaves}
 use Rattle.core_model.specs.States.{CoreState}
 use Rattle.core_model.specs.Makes.{Makes}
 use Rattle.core_law.specs.Ties.{Stands}
-use Rattle.world_law.specs.Worlds.{Steps, WorldState, entry_at}
+use Rattle.world_law.specs.Worlds.{Enters, MovesNode, Steps, WorldState, step_entry}
 use Rattle.world_law.specs.Ties.{Follows, GoesOn, StandsAt}
 
 -- the model's process makes the input too and shows the same, and what is kept stands for what that leaves
@@ -37,8 +39,8 @@ InputsAsTheModel tree = (es : List Made) (w : World) (q : ProcessId) (old new : 
 
 -- The world behind a move.
 
-abbrev pub made_of : ProcessId → Input → DataAnswer → Effect → Made
-made_of q i a e = record { move = move_of q (Handles i) a; effect = e }
+abbrev pub made_of : ProcessId → Happening → DataAnswer → Effect → Made
+made_of q h a e = record { move = move_of q h a; effect = e }
 
 abbrev pub world_after : World → ProcessId → Node → Effect → World
 world_after w q n e = record { at = put_at q n w.at; net = w.net ++ e.messages }
@@ -60,13 +62,13 @@ put_there q p n at h = rw h refl
 
 -- The journal and the net grow by the step.
 
-shown_by : (es : List Made) (s s' : WorldState) (q : ProcessId) (i : Input) (a : DataAnswer) (e : Effect) (reaction : Reaction)
-    → journal_of es ≡ s.entries → reaction ≡ reaction_of e → s'.entries ≡ s.entries ++ entry_at q i reaction ∷ []
-    → journal_of (made_of q i a e ∷ es) ≡ s'.entries
+shown_by : (es : List Made) (s s' : WorldState) (q : ProcessId) (h : Happening) (a : DataAnswer) (e : Effect) (reaction : Reaction)
+    → journal_of es ≡ s.entries → reaction ≡ reaction_of e → s'.entries ≡ s.entries ++ step_entry q h reaction ∷ []
+    → journal_of (made_of q h a e ∷ es) ≡ s'.entries
 unfolding journal_of
-shown_by es s s' q i a e reaction before shown grown =
-    ap (λ xs. xs ++ entry_at q i (reaction_of e) ∷ []) before
-    ∙ (ap (λ y. s.entries ++ entry_at q i y ∷ []) (sym shown) ∙ sym grown)
+shown_by es s s' q h a e reaction before shown grown =
+    ap (λ xs. xs ++ step_entry q h (reaction_of e) ∷ []) before
+    ∙ (ap (λ y. s.entries ++ step_entry q h y ∷ []) (sym shown) ∙ sym grown)
 
 sent_by : (w : World) (s s' : WorldState) (e : Effect) (reaction : Reaction) → s.net ≡ w.net → reaction ≡ reaction_of e
     → s'.net ≡ s.net ++ reaction.messages → s'.net ≡ w.net ++ e.messages
@@ -113,28 +115,44 @@ listed_after s s' q before behind tree stood left others listed p = elim (same_p
   | inr z ↦ ap is_some (others p z.0) ∙ (listed p ∙ ap (λ t. is_listed t p) (sym tree))
 ]
 
+-- a move of the model's world that a process makes too: the run goes on by it
+pub move_goes_on : (es : List Made) (w : World) (s s' : WorldState) (q : ProcessId) (h : Happening) (a : DataAnswer)
+    (reaction : Reaction) (marked : List Bool) (before behind : CoreState) → Follows es w s → Happens w.net q h
+    → MovesNode s s' q before behind → Enters s s' q h reaction marked
+    → (e : Effect) (n : Node) → world_makes s.tree w (move_of q h a) ≡ Some (e, world_after w q n e)
+    → reaction ≡ reaction_of e → behind.place ≡ place_of s.tree q → Stands n behind → GoesOn es w s'
+move_goes_on es w s s' q h a reaction marked before behind f happens moves enters e n step shown place stands =
+    let m = made_of q h a e in
+    let w' = world_after w q n e in
+    record {
+      later = m ∷ [];
+      world = w';
+      leads = subst (λ t. Continues t w (m ∷ []) w') (sym moves.tree) (goes_on [] w m.move e w' stays happens step);
+      follows = record {
+        is_run = subst (λ t. IsRun t (m ∷ es) w') (sym moves.tree) (makes es w m.move e w' f.is_run happens step);
+        shown = shown_by es s s' q h a e reaction f.shown shown enters.entries;
+        net = sent_by w s s' e reaction f.net shown enters.net;
+        nodes = nodes_after es w s s' q n e moves.tree before behind moves.stands moves.others f.nodes place stands;
+        listed = listed_after s s' q before behind moves.tree moves.stood moves.stands moves.others f.listed;
+      };
+    }
+
+-- a process of a tree that stands for a run is one that the tree lists
+pub listed_at : (es : List Made) (w : World) (s : WorldState) (q : ProcessId) (c : CoreState) → Follows es w s
+    → s.node_at q ≡ Some c → is_listed s.tree q ≡ true
+listed_at es w s q c f stood = sym (f.listed q) ∙ ap is_some stood
+
 pub step_goes_on : (law : (tree : List TreeEntry) → IsTree tree → InputsAsTheModel tree) (es : List Made) (w : World) (s s' : WorldState)
     (q : ProcessId) (i : Input) (marked : List Bool) → IsTree s.tree → Follows es w s → InputStands w.net q i → Steps s s' q i marked → GoesOn es w s'
 step_goes_on law es w s s' q i marked is_tree f stands h =
     let here = f.nodes q h.before h.moves.stood in
-    let listed : is_listed s.tree q ≡ true = sym (f.listed q) ∙ ap is_some h.moves.stood in
+    let listed = listed_at es w s q h.before f h.moves.stood in
     let made : MadeSo s.tree w q h.handles.answer i h.behind h.reaction =
     law s.tree is_tree es w q h.before h.behind h.handles.answer i h.reaction f.is_run listed stands here.place here.stands h.handles.makes in
-    let m = made_of q i h.handles.answer made.effect in
-    let w' = world_after w q made.node made.effect in
-    let step = made_at s.tree w m.move made.effect made.node listed made.makes in
-    record {
-      later = m ∷ [];
-      world = w';
-      leads = subst (λ t. Continues t w (m ∷ []) w') (sym h.moves.tree) (goes_on [] w m.move made.effect w' stays stands step);
-      follows = record {
-        is_run = subst (λ t. IsRun t (m ∷ es) w') (sym h.moves.tree) (makes es w m.move made.effect w' f.is_run stands step);
-        shown = shown_by es s s' q i h.handles.answer made.effect h.reaction f.shown made.shown h.enters.entries;
-        net = sent_by w s s' made.effect h.reaction f.net made.shown h.enters.net;
-        nodes = nodes_after es w s s' q made.node made.effect h.moves.tree h.before h.behind h.moves.stands h.moves.others f.nodes made.place made.stands;
-        listed = listed_after s s' q h.before h.behind h.moves.tree h.moves.stood h.moves.stands h.moves.others f.listed;
-      };
-    }
+    move_goes_on es w s s' q (Handles i) h.handles.answer h.reaction marked h.before h.behind f stands h.moves h.enters
+    made.effect made.node
+    (made_at s.tree w (move_of q (Handles i) h.handles.answer) made.effect made.node listed made.makes)
+    made.shown made.place made.stands
 
 -- a message with a number stands in the net
 pub sent_stands : (net : List Envelope) (k : ℕ) (envelope : Envelope) → sent_as net k ≡ Some envelope → IsSent net envelope.to k envelope.message

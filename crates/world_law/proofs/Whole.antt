@@ -1,5 +1,5 @@
 -- What events lead an opened tree to is a run of the model, of which the headline holds.
-use Rattle.std.proofs.Common.{◌≡◌, ◌≢◌, ◌∙◌, subst, refl, ℕ, Option, Some, None, List, [], ◌++◌, take}
+use Rattle.std.proofs.Common.{◌≡◌, ◌≢◌, ◌∙◌, sym, subst, refl, ℕ, Option, Some, None, List, [], ◌++◌, take}
 use Rattle.tree_model.specs.declared.names.ProcessId.{ProcessId}
 use Rattle.tree_model.specs.declared.messages.Envelope.{Envelope}
 use Rattle.tree_model.specs.declared.events.Act.{Act}
@@ -14,7 +14,7 @@ use Rattle.tree_model.specs.Plays.{process_of_act, sent_as}
 use Rattle.tree_model.specs.Trees.{IsTree, root_of}
 use Rattle.tree_model.specs.World.{IsRun, Made, World, opened_world}
 use Rattle.tree_runs.proofs.Headline as runs
-use Rattle.world_law.specs.Worlds.{NoneDelivered, NotActed, NotDelivered, RefusesAt, RefusesMessage, Same, Stops, WorldState, least_open}
+use Rattle.world_law.specs.Worlds.{NoneDelivered, NotActed, NotDelivered, NotRestartedAt, NotTrimmedAt, RefusesAt, RefusesMessage, Same, Stops, WorldState, least_open}
 use Rattle.world_law.specs.Runs.{IsOpened}
 use Rattle.world_law.specs.Ties.{Follows, IsModelled}
 use Rattle.world_law.specs.Refusals.{IsForItself, IsRunOf, LeadsTo, Refusal, RefusesDelivery, RefusesEvent}
@@ -22,6 +22,7 @@ use Rattle.world_law.proofs.Openings.{opened_follows}
 use Rattle.world_law.proofs.Unchanged.{same_follows}
 use Rattle.world_law.proofs.Events.{leads_on, settles_on}
 use Rattle.world_law.proofs.Processes.{as_the_model, refused_so}
+use Rattle.world_law.proofs.Restarts.{restart_refused, trim_failed, trim_unknown}
 
 -- a refusal that is neither for memory nor because of a device
 pub record ForItself (e : StepError) : Type 0 where
@@ -59,6 +60,32 @@ refused_delivery : (es : List Made) (w : World) (s : WorldState) (k : ℕ) (e : 
     → RefusesDelivery s.tree w k (sent_as w.net k) e
 refused_delivery es w s k e f h =
     subst (λ net. RefusesDelivery s.tree w k (sent_as net k) e) f.net (refused_message es w s k (sent_as s.net k) e f h)
+
+-- a restart that was refused for itself is of no process of the tree
+not_restarted : (s t : WorldState) (q : ProcessId) (bytes : Option ℕ) (e : StepError) → ForItself e → NotRestartedAt s t q bytes e
+    → Same s t × (s.node_at q ≡ None) × (e ≡ step_error.NoSuch)
+not_restarted s t q bytes step_error.Memory itself h = absurd (itself.memory refl)
+not_restarted s t q bytes step_error.Device itself h = absurd (itself.device refl)
+not_restarted s t q bytes step_error.UnknownTxn itself h = absurd h
+not_restarted s t q bytes step_error.NotAChild itself h = absurd h
+not_restarted s t q bytes step_error.Closed itself h = absurd h
+not_restarted s t q bytes step_error.NotInDoubt itself h = absurd h
+not_restarted s t q bytes step_error.NothingToForget itself h = absurd h
+not_restarted s t q bytes step_error.Failed itself h = absurd h
+not_restarted s t q bytes step_error.NoSuch itself h = (h.0, h.1, refl)
+
+-- of a trim that was refused for itself there is no process, or it has failed
+not_trimmed : (es : List Made) (w : World) (s t : WorldState) (q : ProcessId) (e : StepError) → Follows es w s → ForItself e → NotTrimmedAt s t q e
+    → Same s t × RefusesEvent s.tree w (Trim q) e
+not_trimmed es w s t q step_error.Memory f itself h = absurd (itself.memory refl)
+not_trimmed es w s t q step_error.Device f itself h = absurd (itself.device refl)
+not_trimmed es w s t q step_error.UnknownTxn f itself h = absurd h
+not_trimmed es w s t q step_error.NotAChild f itself h = absurd h
+not_trimmed es w s t q step_error.Closed f itself h = absurd h
+not_trimmed es w s t q step_error.NotInDoubt f itself h = absurd h
+not_trimmed es w s t q step_error.NothingToForget f itself h = absurd h
+not_trimmed es w s t q step_error.Failed f itself h = (h.0, trim_failed es w s f q h.1)
+not_trimmed es w s t q step_error.NoSuch f itself h = (h.0, trim_unknown es w s f q h.1)
 
 -- an event that was refused for itself left a state that stands for a run, which refuses it so
 record StoppedSo (tree : List TreeEntry) (t : WorldState) (event : Event) (e : StepError) : Type 0 where
@@ -105,8 +132,25 @@ module _ (tree : List TreeEntry) (is_tree : IsTree tree) where
   stopped_so s t Settle e es w is itself f h =
       let g = settles_on as_the_model tree is_tree h.count s h.before es w is f h.settles in
       settle_refused h.before t e (least_open 1 h.before.delivered) (g.goes_on_so.later ++ es) g.goes_on_so.world g.tree_stays itself g.goes_on_so.follows h.stops
-  stopped_so s t (Restart q k) e es w is itself f h = absurd h
-  stopped_so s t (Trim q) e es w is itself f h = absurd h
+  stopped_so s t (Restart q bytes) e es w is itself f h =
+      let why = not_restarted s t q bytes e itself h in
+      record {
+        moves = es;
+        world = w;
+        tree_is = why.0.tree ∙ is;
+        follows = same_follows es w s t f why.0;
+        refuses = subst (λ z. RefusesEvent z w (Restart q bytes) e) is
+            (subst (λ x. RefusesEvent s.tree w (Restart q bytes) x) (sym why.2) (restart_refused es w s f q why.1));
+      }
+  stopped_so s t (Trim q) e es w is itself f h =
+      let why = not_trimmed es w s t q e f itself h in
+      record {
+        moves = es;
+        world = w;
+        tree_is = why.0.tree ∙ is;
+        follows = same_follows es w s t f why.0;
+        refuses = subst (λ z. RefusesEvent z w (Trim q) e) is why.1;
+      }
 
   headline_of : (s : WorldState) (es : List Made) (w : World) → s.tree ≡ tree → Follows es w s → Headline tree es w
   headline_of s es w is f = runs.headline tree is_tree es w (subst (λ z. IsRun z es w) is f.is_run)

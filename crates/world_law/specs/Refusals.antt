@@ -4,7 +4,7 @@ use Rattle.tree_model.specs.declared.names.ProcessId.{ProcessId}
 use Rattle.tree_model.specs.declared.messages.Envelope.{Envelope}
 use Rattle.tree_model.specs.declared.events.Event.{Event}
 use Rattle.tree_model.specs.declared.events.Event.TheVariants.{Act as ActOf, Deliver, Settle, Restart, Trim}
-use Rattle.tree_model.specs.declared.events.Happening.TheVariants.{Input as Handles}
+use Rattle.tree_model.specs.declared.events.Happening.TheVariants.{Input as Handles, Restart as Restarting, Trim as Trimming}
 use Rattle.tree_model.specs.declared.events.Input.{Input}
 use Rattle.tree_model.specs.declared.events.Input.TheVariants.{Act as ActInput, Message as MessageInput}
 use Rattle.tree_model.specs.declared.events.StepError.{StepError}
@@ -15,6 +15,7 @@ use Rattle.tree_model.specs.Plays.{move_of, process_of_act, sent_as}
 use Rattle.tree_model.specs.Trees.{root_of}
 use Rattle.tree_model.specs.Outcomes.{Headline}
 use Rattle.tree_model.specs.World.{Made, Makes, Move, Refuses, Stepped, World, node_makes}
+use Rattle.core_law.specs.Steps.{quiet_move}
 use Rattle.world_law.specs.Worlds.{WorldState}
 use Rattle.world_law.specs.Runs.{Leads, LeadsUntil}
 use Rattle.world_law.specs.Ties.{Follows}
@@ -39,16 +40,19 @@ abbrev pub RefusesDelivery : List TreeEntry → World → ℕ → Option Envelop
 RefusesDelivery tree w k None e = e ≡ NoSuch
 RefusesDelivery tree w k (Some l) e = RefusesSo tree w l.to (MessageInput k l.message) e
 
--- the model refuses the event so: of a settle, one of its deliveries
+-- the model refuses the event so: of a settle, one of its deliveries; of a restart, whichever records it
+-- keeps
 abbrev pub RefusesEvent : List TreeEntry → World → Event → StepError → Type 0
 RefusesEvent tree w (ActOf a) e = RefusesSo tree w (process_of_act (root_of tree) a) (ActInput a) e
 RefusesEvent tree w (Deliver k) e = RefusesDelivery tree w k (sent_as w.net k) e
 RefusesEvent tree w Settle e = (k : ℕ) × RefusesDelivery tree w k (sent_as w.net k) e
-RefusesEvent tree w (Restart q k) e = ⊥
-RefusesEvent tree w (Trim q) e = ⊥
+RefusesEvent tree w (Restart q bytes) e = (k : ℕ)
+    → model_refusal tree w (quiet_move q (Restarting k) None) ≡ Some e
+RefusesEvent tree w (Trim q) e = model_refusal tree w (quiet_move q Trimming None) ≡ Some e
 
 -- the event behind those that were made is one that the model refuses so
-pub record RefusesNext (tree : List TreeEntry) (w : World) (events : List Event) (made : ℕ) (e : StepError) : Type 0 where
+pub record RefusesNext (tree : List TreeEntry) (w : World) (events : List Event) (made : ℕ)
+    (e : StepError) : Type 0 where
   pub event : Event
   pub next : slice_get events made ≡ Some event
   pub refused : RefusesEvent tree w event e
@@ -72,8 +76,10 @@ abbrev pub RefusesIn : List TreeEntry → World → List Event → Refusal → T
 RefusesIn tree w events None = ⊤
 RefusesIn tree w events (Some refused) = RefusesNext tree w events refused.0 refused.1
 
--- what the events come to is a run of the model, of which the headline holds, and a refused event is one that it refuses
-pub record IsRunOf (tree : List TreeEntry) (events : List Event) (refusal : Refusal) (end : WorldState) : Type 0 where
+-- what the events come to is a run of the model, of which the headline holds, and a refused event is one that
+-- it refuses
+pub record IsRunOf (tree : List TreeEntry) (events : List Event) (refusal : Refusal)
+    (end : WorldState) : Type 0 where
   pub moves : List Made
   pub world : World
   pub tree_is : end.tree ≡ tree

@@ -15,7 +15,8 @@ Leads old [] new = new ≡ old
 Leads old (e ∷ es) new = (mid : WorldState) × Applies old e mid × Leads mid es new
 
 -- so many events were made, and the next was not, for this error
-pub record LeadsUntil (old : WorldState) (events : List Event) (n : ℕ) (e : StepError) (new : WorldState) : Type 0 where
+pub record LeadsUntil (old : WorldState) (events : List Event) (n : ℕ) (e : StepError)
+    (new : WorldState) : Type 0 where
   pub event : Event
   pub next : slice_get events n ≡ Some event
   pub before : WorldState

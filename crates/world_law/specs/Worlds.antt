@@ -9,22 +9,26 @@ use Rattle.tree_model.specs.declared.events.Input.{Input}
 use Rattle.tree_model.specs.declared.events.Input.TheVariants.{Act as ActInput, Message as MessageInput}
 use Rattle.tree_model.specs.declared.events.Event.{Event}
 use Rattle.tree_model.specs.declared.events.Event.TheVariants.{Act as ActOf, Deliver, Settle, Restart, Trim}
-use Rattle.tree_model.specs.declared.events.Happening.TheVariants.{Input as Handles}
+use Rattle.tree_model.specs.declared.events.Happening.{Happening}
+use Rattle.tree_model.specs.declared.events.Happening.TheVariants.{Input as Handles, Trim as Trimming}
 use Rattle.tree_model.specs.declared.events.Entry.{Entry}
 use Rattle.tree_model.specs.declared.events.Reaction.{Reaction}
 use Rattle.tree_model.specs.declared.events.StepError.{StepError}
-use Rattle.tree_model.specs.declared.events.StepError.TheVariants.{Memory, Device, NoSuch}
+use Rattle.tree_model.specs.declared.events.StepError.TheVariants.{Memory, Device, Failed, NoSuch}
 use Rattle.tree_model.specs.declared.trees.TreeEntry.{TreeEntry}
 use Rattle.tree_model.specs.Names.{same_process}
 use Rattle.tree_model.specs.Nodes.{DataAnswer}
 use Rattle.tree_model.specs.Trees.{root_of}
 use Rattle.tree_model.specs.Plays.{process_of_act, sent_as}
+use Rattle.rec_log.specs.Sights.{left_by, records_of}
 use Rattle.core_model.specs.States.{CoreState, SameCore}
 use Rattle.core_model.specs.Turns.{Finds, Refuses, asked_by, turn_of}
 use Rattle.core_model.specs.Makes.{IsBroken, Makes}
+use Rattle.core_model.specs.Restarting.{NotRestarted, NotTrimmed, Restarts, Trims}
+use Rattle.core_law.specs.Steps.{IsSoundLog, restart_of, trim_reaction}
 
--- The tree, what each process keeps, every message ever sent (the first has number 1) with the mark whether it was
--- delivered, and every step that was made with its reaction.
+-- The tree, what each process keeps, every message ever sent (the first has number 1) with the mark whether
+-- it was delivered, and every step that was made with its reaction.
 pub record WorldState : Type 0 where
   pub tree : List TreeEntry
   pub node_at : ProcessId → Option CoreState
@@ -46,19 +50,25 @@ pub record MovesNode (old new : WorldState) (q : ProcessId) (before behind : Cor
   pub stands : new.node_at q ≡ Some behind
   pub others : (p : ProcessId) → same_process q p ≡ false → new.node_at p ≡ old.node_at p
 
+-- the journal's entry of what happened at a process
+abbrev pub step_entry : ProcessId → Happening → Reaction → Entry
+step_entry q happening reaction =
+    record { step = record { process = q; happening = happening; fault = None }; reaction = reaction }
+
 -- the journal's entry of an input
 abbrev pub entry_at : ProcessId → Input → Reaction → Entry
-entry_at q input reaction = record { step = record { process = q; happening = Handles input; fault = None }; reaction = reaction }
+entry_at q input reaction = step_entry q (Handles input) reaction
 
 -- the marks of messages that were just sent
 abbrev pub undelivered : List Envelope → List Bool
 undelivered ls = map (λ l. false) ls
 
 -- a step was entered: its messages are sent, and the journal has one entry more
-pub record Enters (old new : WorldState) (q : ProcessId) (input : Input) (reaction : Reaction) (marked : List Bool) : Type 0 where
+pub record Enters (old new : WorldState) (q : ProcessId) (happening : Happening) (reaction : Reaction)
+    (marked : List Bool) : Type 0 where
   pub net : new.net ≡ old.net ++ reaction.messages
   pub delivered : new.delivered ≡ marked ++ undelivered reaction.messages
-  pub entries : new.entries ≡ old.entries ++ entry_at q input reaction ∷ []
+  pub entries : new.entries ≡ old.entries ++ step_entry q happening reaction ∷ []
 
 -- a process handles an input, and the step is entered
 pub record Steps (old new : WorldState) (q : ProcessId) (input : Input) (marked : List Bool) : Type 0 where
@@ -67,16 +77,42 @@ pub record Steps (old new : WorldState) (q : ProcessId) (input : Input) (marked 
   pub reaction : Reaction
   pub moves : MovesNode old new q before behind
   pub handles : HandlesInput before behind input reaction
-  pub enters : Enters old new q input reaction marked
+  pub enters : Enters old new q (Handles input) reaction marked
+
+-- so many bytes behind the forced front are kept as a restart names; all of its records, where it names none
+abbrev pub KeepsBytes : CoreState → Option ℕ → ℕ → Type 0
+KeepsBytes s (Some bytes) keep = keep ≡ bytes
+KeepsBytes s None keep = left_by s.log keep ≡ records_of s.log.kept
+
+-- a process restarts, and the step is entered, with the number of its unforced records that were kept
+pub record RestartsAt (old new : WorldState) (q : ProcessId) (bytes : Option ℕ) : Type 0 where
+  pub before : CoreState
+  pub behind : CoreState
+  pub keep : ℕ
+  pub reaction : Reaction
+  pub moves : MovesNode old new q before behind
+  pub keeps : KeepsBytes before bytes keep
+  pub restarts : Restarts before keep behind reaction
+  pub enters : Enters old new q (restart_of before keep) reaction old.delivered
+
+-- the log of a process that is up, and whose records can stand in one, is trimmed, and the step is entered,
+-- with the number of records that remain
+pub record TrimsAt (old new : WorldState) (q : ProcessId) : Type 0 where
+  pub before : CoreState
+  pub behind : CoreState
+  pub remain : ℕ
+  pub moves : MovesNode old new q before behind
+  pub works : before.log.failed ≡ false
+  pub sound : IsSoundLog before
+  pub trims : Trims before behind remain
+  pub enters : Enters old new q Trimming (trim_reaction remain) old.delivered
 
 -- Events.
 
--- the event is made at this stage: an application's act, or a delivery; no operator's act, no restart, no trim
+-- the event is made at this stage: an application's act, a delivery, a restart or a trim; no operator's act
 abbrev pub is_run_event : Event → Bool
 is_run_event (ActOf (Decide c o)) = false
 is_run_event (ActOf (Forget c)) = false
-is_run_event (Restart q k) = false
-is_run_event (Trim q) = false
 is_run_event _ = true
 
 -- the mark of the message with this number is set
@@ -111,8 +147,8 @@ abbrev pub Applies : WorldState → Event → WorldState → Type 0
 Applies old (ActOf a) new = Steps old new (process_of_act (root_of old.tree) a) (ActInput a) old.delivered
 Applies old (Deliver k) new = Delivers old new k
 Applies old Settle new = Settles 10000 old new
-Applies old (Restart q k) new = ⊥
-Applies old (Trim q) new = ⊥
+Applies old (Restart q bytes) new = RestartsAt old new q bytes
+Applies old (Trim q) new = TrimsAt old new q
 
 -- Refusals.
 
@@ -133,7 +169,8 @@ pub record Same (old new : WorldState) : Type 0 where
 -- why a process refuses an input: there is no such process, or the input meets this refusal
 abbrev pub RefusesAt : Option CoreState → Input → StepError → Type 0
 RefusesAt None i e = e ≡ NoSuch
-RefusesAt (Some s) i e = (a : DataAnswer) × (found : Option Case) × Finds s (asked_by i) found × (turn_of s a found i ≡ Refuses e)
+RefusesAt (Some s) i e = (a : DataAnswer) × (found : Option Case) × Finds s (asked_by i) found
+    × (turn_of s a found i ≡ Refuses e)
 
 -- why a message is not delivered: there is none with the number, or its process refuses it
 abbrev pub RefusesMessage : WorldState → ℕ → Option Envelope → StepError → Type 0
@@ -168,7 +205,8 @@ NotActed old new q a Memory = Same old new
 NotActed old new q a Device = DeviceFails old new q (ActInput a)
 NotActed old new q a e = Same old new × RefusesAt (old.node_at q) (ActInput a) e
 
--- a settle went no further: for memory, also as it looked for the next message, or as that one was not delivered
+-- a settle went no further: for memory, also as it looked for the next message, or as that one was not
+-- delivered
 abbrev pub NoneDelivered : WorldState → WorldState → StepError → Option ℕ → Type 0
 NoneDelivered old new e None = (e ≡ Memory) × Same old new
 NoneDelivered old new e (Some k) = NotDelivered old new k e
@@ -181,10 +219,56 @@ pub record SettleStops (limit : ℕ) (old new : WorldState) (e : StepError) : Ty
   pub settles : Settles count old before
   pub stops : NoneDelivered before new e (least_open 1 before.delivered)
 
+-- the device of the process failed in its restart; the step was not entered
+pub record RestartFails (old new : WorldState) (q : ProcessId) (bytes : Option ℕ) : Type 0 where
+  pub before : CoreState
+  pub behind : CoreState
+  pub keep : ℕ
+  pub moves : MovesNode old new q before behind
+  pub keeps : KeepsBytes before bytes keep
+  pub broken : NotRestarted before keep behind Device
+  pub net : new.net ≡ old.net
+  pub delivered : new.delivered ≡ old.delivered
+  pub entries : new.entries ≡ old.entries
+
+-- why a process was not restarted, and what that leaves: there is no such process, or Memory, which changes
+-- nothing, or its device failed
+abbrev pub NotRestartedAt : WorldState → WorldState → ProcessId → Option ℕ → StepError → Type 0
+NotRestartedAt old new q bytes Memory = Same old new
+NotRestartedAt old new q bytes Device = RestartFails old new q bytes
+NotRestartedAt old new q bytes NoSuch = Same old new × (old.node_at q ≡ None)
+NotRestartedAt old new q bytes e = ⊥
+
+-- the device of the process failed in a trim of its log; the step was not entered
+pub record TrimFails (old new : WorldState) (q : ProcessId) : Type 0 where
+  pub before : CoreState
+  pub behind : CoreState
+  pub moves : MovesNode old new q before behind
+  pub works : before.log.failed ≡ false
+  pub sound : IsSoundLog before
+  pub broken : NotTrimmed before behind Device
+  pub net : new.net ≡ old.net
+  pub delivered : new.delivered ≡ old.delivered
+  pub entries : new.entries ≡ old.entries
+
+-- there is a process, and its device failed
+abbrev pub HasFailed : Option CoreState → Type 0
+HasFailed None = ⊥
+HasFailed (Some s) = s.log.failed ≡ true
+
+-- why a process was not trimmed, and what that leaves: there is no such process, or it has failed, or Memory,
+-- none of which changes anything, or its device failed now
+abbrev pub NotTrimmedAt : WorldState → WorldState → ProcessId → StepError → Type 0
+NotTrimmedAt old new q Memory = Same old new
+NotTrimmedAt old new q Device = TrimFails old new q
+NotTrimmedAt old new q Failed = Same old new × HasFailed (old.node_at q)
+NotTrimmedAt old new q NoSuch = Same old new × (old.node_at q ≡ None)
+NotTrimmedAt old new q e = ⊥
+
 -- an event was not made, for this error, and this is left
 abbrev pub Stops : WorldState → Event → StepError → WorldState → Type 0
 Stops old (ActOf a) e new = NotActed old new (process_of_act (root_of old.tree) a) a e
 Stops old (Deliver k) e new = NotDelivered old new k e
 Stops old Settle e new = SettleStops 10000 old new e
-Stops old (Restart q k) e new = ⊥
-Stops old (Trim q) e new = ⊥
+Stops old (Restart q bytes) e new = NotRestartedAt old new q bytes e
+Stops old (Trim q) e new = NotTrimmedAt old new q e

@@ -36,7 +36,7 @@ use Rattle.tree_model.specs.Records.{same_bytes}
 use Rattle.log_order.specs.Logs.{Whole, read_log}
 use Rattle.log_order.specs.Orders.{SeenLog, left_by as in_doubt_by, nothing_seen}
 use Rattle.rec_log.specs.Openings.{Opens as OpensLog}
-use Rattle.rec_log.specs.Sights.{LogSight, LogState, RestartBreaks, left_by, records_of}
+use Rattle.rec_log.specs.Sights.{Kept, LogSight, LogState, RestartBreaks, left_by, records_of}
 use Rattle.tree_model.specs.Nodes.{Written, is_any_forced}
 use Rattle.core_model.specs.States.{wrote}
 use Rattle.kv_replay.specs.Replays.{seen_after, seen_of}
@@ -51,6 +51,8 @@ use Rattle.kv_core.specs.Ends.{IsDue, turn_for, wrote_some}
 use Rattle.kv_core.proofs.Moves.{IsApart, Keeps, moves_keep, recovers_keep, same_keeps, works_keep}
 use Rattle.kv_law.specs.Rows.{rows_of}
 use Rattle.kv_law.proofs.Rows.{checks_alone, fits}
+use Rattle.manager_model.specs.Trimming.{trimmed}
+use Rattle.manager_model.specs.declared.errors.TrimError.TheVariants as trim_error
 use Rattle.kv_manager.specs.Sights.{KvSight, SameManager}
 use Rattle.kv_manager.specs.Turns.{Calls, Fails, Finishes, Logs, Makes as MakesTurn, Refuses as RefusesWork, Takes as TakesTurn, Made, Broke, Spent, Failed, Refused, Taken}
 use Rattle.kv_manager.specs.Restarts.{NotRestarted, RestartFails, Restarted, opened}
@@ -59,13 +61,13 @@ use Rattle.kv_manager.specs.declared.restart.RestartError.TheVariants as restart
 use Rattle.xa_script.specs.declared.request.BranchCall.{BranchCall}
 use Rattle.xa_script.specs.declared.request.BranchCall.TheVariants.{Start, End, Prepare, Commit, Rollback, Forget}
 use Rattle.xa_script.specs.declared.request.Request.{Request}
-use Rattle.xa_script.specs.declared.request.Request.TheVariants.{Open, Close, Branch, Recover, Work, Restart}
+use Rattle.xa_script.specs.declared.request.Request.TheVariants.{Open, Close, Branch, Recover, Work, Restart, Trim}
 use Rattle.xa_engine.specs.declared.answer.Answer.{Answer}
 use Rattle.xa_engine.specs.declared.answer.Answer.TheVariants as answer
 use Rattle.xa_engine.specs.Histories.{IsHistory, ShowEach, Shows, verb_of}
-use Rattle.xa_engine.specs.Makes.{Boots, CallsBranch, IsRead, IsWritten, Makes, Moves, Works, kept_bytes}
+use Rattle.xa_engine.specs.Makes.{Boots, CallsBranch, IsRead, IsWritten, Makes, Moves, Trims, Works, kept_bytes}
 use Rattle.xa_engine.specs.Runs.{IsFresh, Leads}
-use Rattle.xa_engine.proofs.Undecided.{NoneDecides, all_open, is_decided, none_append, none_crashed, none_left, none_left_decided, none_right, none_take}
+use Rattle.xa_engine.proofs.Undecided.{NoneDecides, all_open, is_decided, none_append, none_crashed, none_in_trim, none_left, none_left_decided, none_right, none_take}
 
 -- no operator decided a branch, and the log says so
 pub record Undecided (s : KvSight) : Type 0 where
@@ -363,6 +365,8 @@ read_stands old new t k (answer.Given xs) un h = absurd h
 read_stands old new t k answer.Done un h = absurd h
 read_stands old new t k (answer.Booted n) un h = absurd h
 read_stands old new t k (answer.NotBooted e) un h = absurd h
+read_stands old new t k (answer.Trimmed n) un h = absurd h
+read_stands old new t k (answer.NotTrimmed e) un h = absurd h
 
 write_stands : (old new : KvSight) (t : ℕ) (k : List ℕ) (v : Option (List ℕ)) (a : Answer) → Undecided old → IsWritten old new t k v a → Stands old new
 write_stands old new t k v answer.Done un h = done_stands old new _ (λ before behind writes. writes.tables) un h
@@ -372,6 +376,8 @@ write_stands old new t k v (answer.Given xs) un h = absurd h
 write_stands old new t k v (answer.Found w) un h = absurd h
 write_stands old new t k v (answer.Booted n) un h = absurd h
 write_stands old new t k v (answer.NotBooted e) un h = absurd h
+write_stands old new t k v (answer.Trimmed n) un h = absurd h
+write_stands old new t k v (answer.NotTrimmed e) un h = absurd h
 
 op_stands : (old new : KvSight) (t : ℕ) (op : Op) (a : Answer) → Undecided old → Works old new t op a → Stands old new
 op_stands old new t (Get k) a un h = read_stands old new t k a un h
@@ -430,6 +436,61 @@ boot_moved old new keep (answer.Given xs) un h = absurd h
 boot_moved old new keep (answer.Found v) un h = absurd h
 boot_moved old new keep answer.Done un h = absurd h
 boot_moved old new keep (answer.Refused e) un h = absurd h
+boot_moved old new keep (answer.Trimmed n) un h = absurd h
+boot_moved old new keep (answer.NotTrimmed e) un h = absurd h
+
+-- Trims.
+
+-- the log that a trim leaves has no record of an operator
+none_trimmed : (old new : KvSight) → NoneDecides (records_of old.log.sight.kept)
+    → new.log.sight.kept ≡ record { forced = trimmed old.log.sight; unforced = [] } → NoneDecides (records_of new.log.sight.kept)
+none_trimmed old new none is =
+    subst NoneDecides (sym (ap (λ (k : Kept). records_of k) is)) (none_append (trimmed old.log.sight) [] (none_in_trim old.log.sight none) tt)
+
+trim_keeps : (old new : KvSight) → Same old.store.tables new.store.tables → NoneDecides (records_of new.log.sight.kept) → Undecided old → Stands old new
+trim_keeps old new same none un = (
+  same,
+  record {
+    branches = kept_undecided old.store.tables new.store.tables (same_keeps is_decided old.store.tables new.store.tables same) un.branches;
+    records = none;
+  },
+)
+
+trim_stands : (old new : KvSight) (a : Answer) → Undecided old → Trims old new a → Stands old new
+trim_stands old new (answer.Trimmed n) un h =
+    trim_keeps old new h.tables (none_trimmed old new un.records (ap (λ (l : LogSight). l.kept) h.log)) un
+trim_stands old new (answer.NotTrimmed trim_error.Memory) un h = absurd (h.0 refl)
+trim_stands old new (answer.NotTrimmed trim_error.Device) un h =
+    let fails = h.1 in
+    trim_keeps old new fails.tables (elim fails.either [
+      | inl stands ↦ subst (λ (k : Kept). NoneDecides (records_of k)) (sym stands) un.records
+      | inr one ↦ none_trimmed old new un.records one
+    ]) un
+trim_stands old new (answer.NotTrimmed trim_error.Failed) un h =
+    let same = h.1.0 in
+    trim_keeps old new same.tables (subst (λ (l : LogSight). NoneDecides (records_of l.kept)) (sym same.log) un.records) un
+trim_stands old new (answer.Code c) un h = absurd h
+trim_stands old new (answer.Given xs) un h = absurd h
+trim_stands old new (answer.Found v) un h = absurd h
+trim_stands old new answer.Done un h = absurd h
+trim_stands old new (answer.Refused e) un h = absurd h
+trim_stands old new (answer.Booted n) un h = absurd h
+trim_stands old new (answer.NotBooted e) un h = absurd h
+
+trim_moved : (old new : KvSight) (a : Answer) → Undecided old → Trims old new a → Moved old new Trim a
+trim_moved old new (answer.Trimmed n) un h =
+    let stands = trim_stands old new (answer.Trimmed n) un h in
+    record { move = WorkMove; shown = refl; makes = stands.0; still = stands.1 }
+trim_moved old new (answer.NotTrimmed e) un h =
+    let stands = trim_stands old new (answer.NotTrimmed e) un h in
+    record { move = WorkMove; shown = refl; makes = stands.0; still = stands.1 }
+trim_moved old new (answer.Code c) un h = absurd h
+trim_moved old new (answer.Given xs) un h = absurd h
+trim_moved old new (answer.Found v) un h = absurd h
+trim_moved old new answer.Done un h = absurd h
+trim_moved old new (answer.Refused e) un h = absurd h
+trim_moved old new (answer.Booted n) un h = absurd h
+trim_moved old new (answer.NotBooted e) un h = absurd h
 
 -- Each request.
 
@@ -443,6 +504,8 @@ moved old new (Open flags migrates) answer.Done un h = absurd h
 moved old new (Open flags migrates) (answer.Refused e) un h = absurd h
 moved old new (Open flags migrates) (answer.Booted n) un h = absurd h
 moved old new (Open flags migrates) (answer.NotBooted e) un h = absurd h
+moved old new (Open flags migrates) (answer.Trimmed n) un h = absurd h
+moved old new (Open flags migrates) (answer.NotTrimmed e) un h = absurd h
 moved old new (Close flags) (answer.Code c) un h =
     let done = close_moved old new flags.0 c un h in
     record { move = CloseMove flags.0 c; shown = refl; makes = done.0; still = done.1 }
@@ -452,6 +515,8 @@ moved old new (Close flags) answer.Done un h = absurd h
 moved old new (Close flags) (answer.Refused e) un h = absurd h
 moved old new (Close flags) (answer.Booted n) un h = absurd h
 moved old new (Close flags) (answer.NotBooted e) un h = absurd h
+moved old new (Close flags) (answer.Trimmed n) un h = absurd h
+moved old new (Close flags) (answer.NotTrimmed e) un h = absurd h
 moved old new (Branch f t x flags) (answer.Code c) un h =
     let done = branch_moved f old new t x flags.0 c un h in
     record { move = BranchMove (verb_of f) t x flags.0 c; shown = refl; makes = done.0; still = done.1 }
@@ -461,6 +526,8 @@ moved old new (Branch f t x flags) answer.Done un h = absurd h
 moved old new (Branch f t x flags) (answer.Refused e) un h = absurd h
 moved old new (Branch f t x flags) (answer.Booted n) un h = absurd h
 moved old new (Branch f t x flags) (answer.NotBooted e) un h = absurd h
+moved old new (Branch f t x flags) (answer.Trimmed n) un h = absurd h
+moved old new (Branch f t x flags) (answer.NotTrimmed e) un h = absurd h
 moved old new (Recover t count flags) (answer.Code c) un h =
     let done = scan_moved old new t count flags.0 (Err c) un h in
     record { move = RecoverMove t count flags.0 (Err c); shown = refl; makes = done.0; still = done.1 }
@@ -472,10 +539,13 @@ moved old new (Recover t count flags) answer.Done un h = absurd h
 moved old new (Recover t count flags) (answer.Refused e) un h = absurd h
 moved old new (Recover t count flags) (answer.Booted n) un h = absurd h
 moved old new (Recover t count flags) (answer.NotBooted e) un h = absurd h
+moved old new (Recover t count flags) (answer.Trimmed n) un h = absurd h
+moved old new (Recover t count flags) (answer.NotTrimmed e) un h = absurd h
 moved old new (Work t op) a un h =
     let stands = op_stands old new t op a un h in
     record { move = WorkMove; shown = refl; makes = stands.0; still = stands.1 }
 moved old new (Restart keep) a un h = boot_moved old new keep a un h
+moved old new Trim a un h = trim_moved old new a un h
 
 -- Whole runs.
 

@@ -1,5 +1,5 @@
 -- A log without records of an operator leaves no branch decided by one.
-use Rattle.std.proofs.Common.{◌≡◌, ◌+◌, ◌-◌, ℕ, zero, suc, Bool, true, false, not, cond, List, [], ◌∷◌, ◌++◌, take, map, Option, Some, None, refl, ap, subst}
+use Rattle.std.proofs.Common.{◌≡◌, ◌+◌, ◌-◌, ℕ, zero, suc, Bool, true, false, not, cond, List, [], ◌∷◌, ◌++◌, take, map, fold, Option, Some, None, refl, ap, subst}
 use Rattle.std.specs.Prelude.{nat_le, unwrap_or, if◌then◌else◌}
 use Rattle.std.specs.Map.{lookup, remove_entry}
 use Rattle.indexmap.specs.IndexMap.{insert_entry}
@@ -12,9 +12,14 @@ use Rattle.xa_states.specs.Restored.{state_left, states_left}
 use Rattle.tree_model.specs.declared.records.LogRecord.{LogRecord}
 use Rattle.tree_model.specs.declared.records.Record.{Record}
 use Rattle.tree_model.specs.declared.records.Record.TheVariants.{Opened, Collecting, Prepare, Commit, Abort, End, Prepared, Committed, RolledBack, Direct, HeurCommit, HeurRollback, Told, Forgot, Base, Pair}
+use Rattle.tree_model.specs.Records.{is_opened}
+use Rattle.tree_model.specs.Store.{base_records, pair_record}
+use Rattle.log_trim.specs.Trims.{front_of_trim, last_opened, opened_after, staying, stays}
 use Rattle.log_order.specs.declared.seen.Promise.{Promise}
 use Rattle.log_order.specs.Orders.{SeenLog, after, followed, left_by as in_doubt_by, nothing_seen, opens, same}
 use Rattle.rec_log.specs.Sights.{LogSight, left_by, record_size, records_of, whole_within}
+use Rattle.manager_model.specs.Restarting.{data_in}
+use Rattle.manager_model.specs.Trimming.{trimmed, unnamed}
 use Rattle.kv_replay.specs.Replays.{seen_after, seen_of}
 
 -- a record of an operator's decision, or of what it was told
@@ -61,6 +66,40 @@ pub none_crashed : (s : LogSight) (keep : ℕ) → NoneDecides (records_of s.kep
 none_crashed s keep h =
     none_append s.kept.forced (whole_within (s.behind + keep) s.kept.unforced) (none_left s.kept.forced s.kept.unforced h)
     (none_within (s.behind + keep) s.kept.unforced (none_right s.kept.forced s.kept.unforced h))
+
+-- A trim.
+
+none_opened : (o ls : List LogRecord) → NoneDecides o → NoneDecides ls → NoneDecides (fold opened_after o ls)
+none_opened o [] h k = h
+none_opened o (l ∷ ls) h k = none_opened (opened_after o l) ls (by_test (is_opened l.entry)) k.1
+  where
+    by_test : (b : Bool) → NoneDecides (if b then l ∷ [] else o)
+    by_test true = (k.0, tt)
+    by_test false = h
+
+none_staying : (whole ls : List LogRecord) → NoneDecides ls → NoneDecides (staying whole ls)
+unfolding staying
+none_staying whole [] h = tt
+none_staying whole (l ∷ ls) h = by_test (stays whole ls l) (none_staying whole ls h.1)
+  where
+    by_test : (b : Bool) → NoneDecides (staying whole ls) → NoneDecides (if b then l ∷ staying whole ls else staying whole ls)
+    by_test true rest = (h.0, rest)
+    by_test false rest = rest
+
+none_kept : (ls : List LogRecord) → NoneDecides ls → NoneDecides (front_of_trim ls)
+unfolding front_of_trim last_opened
+none_kept ls h = none_append (fold opened_after [] ls) (staying ls ls) (none_opened [] ls tt h) (none_staying ls ls h)
+
+none_pairs : (ps : List (List ℕ × List ℕ)) → NoneDecides (map unnamed (map pair_record ps))
+none_pairs [] = tt
+none_pairs (p ∷ ps) = (refl, none_pairs ps)
+
+-- a trim leaves none that was not there
+pub none_in_trim : (s : LogSight) → NoneDecides (records_of s.kept) → NoneDecides (trimmed s)
+none_in_trim s h =
+    let data' = data_in (records_of s.kept) in
+    none_append (front_of_trim (records_of s.kept)) (map unnamed (base_records data')) (none_kept (records_of s.kept) h)
+    (refl, none_pairs data'.pairs)
 
 -- What has been seen.
 

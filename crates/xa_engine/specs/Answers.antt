@@ -10,8 +10,10 @@ use Rattle.xa_manager.specs.declared.errors.WorkError.{WorkError}
 use Rattle.xa_manager.specs.declared.errors.WorkError.TheVariants.{Locked}
 use Rattle.kv_manager.specs.declared.restart.RestartError.{RestartError}
 use Rattle.kv_manager.specs.declared.restart.RestartError.TheVariants.{Memory, Device, Unfit, Exhausted}
+use Rattle.manager_model.specs.declared.errors.TrimError.{TrimError}
+use Rattle.manager_model.specs.declared.errors.TrimError.TheVariants as trim_error
 use Rattle.xa_engine.specs.declared.answer.Answer.{Answer}
-use Rattle.xa_engine.specs.declared.answer.Answer.TheVariants.{Code, Given, Found, Done, Refused, Booted, NotBooted}
+use Rattle.xa_engine.specs.declared.answer.Answer.TheVariants.{Code, Given, Found, Done, Refused, Booted, NotBooted, Trimmed, NotTrimmed}
 
 -- a branch behind a space
 abbrev pub branch_text : Xid → List ℕ
@@ -37,6 +39,12 @@ restart_number Device = 2
 restart_number Unfit = 3
 restart_number Exhausted = 4
 
+-- the number of why a log was not trimmed; want of memory has none, since no output names it
+abbrev pub trim_number : TrimError → ℕ
+trim_number trim_error.Memory = 0
+trim_number trim_error.Device = 2
+trim_number trim_error.Failed = 5
+
 -- the line of an answer
 abbrev pub answer_text : Answer → List ℕ
 answer_text (Code c) = code_name c ++ 10 ∷ []
@@ -47,3 +55,5 @@ answer_text Done = codes "done" ++ 10 ∷ []
 answer_text (Refused e) = refusal_text e
 answer_text (Booted n) = codes "boot " ++ decimal n ++ 10 ∷ []
 answer_text (NotBooted e) = codes "refused " ++ decimal (restart_number e) ++ 10 ∷ []
+answer_text (Trimmed n) = codes "trim " ++ decimal n ++ 10 ∷ []
+answer_text (NotTrimmed e) = codes "refused " ++ decimal (trim_number e) ++ 10 ∷ []

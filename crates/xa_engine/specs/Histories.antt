@@ -9,9 +9,9 @@ use Rattle.kv_manager.specs.Sights.{KvSight}
 use Rattle.xa_script.specs.declared.request.BranchCall.{BranchCall}
 use Rattle.xa_script.specs.declared.request.BranchCall.TheVariants.{Start, End, Prepare, Commit, Rollback, Forget}
 use Rattle.xa_script.specs.declared.request.Request.{Request}
-use Rattle.xa_script.specs.declared.request.Request.TheVariants.{Open, Close, Branch, Recover, Work, Restart}
+use Rattle.xa_script.specs.declared.request.Request.TheVariants.{Open, Close, Branch, Recover, Work, Restart, Trim}
 use Rattle.xa_engine.specs.declared.answer.Answer.{Answer}
-use Rattle.xa_engine.specs.declared.answer.Answer.TheVariants.{Code, Given, Booted, NotBooted}
+use Rattle.xa_engine.specs.declared.answer.Answer.TheVariants.{Code, Given, Booted, NotBooted, Trimmed, NotTrimmed}
 
 -- the function of XA that a call on a branch is
 abbrev pub verb_of : BranchCall → Verb
@@ -22,8 +22,9 @@ verb_of Commit = verb.Commit
 verb_of Rollback = verb.Rollback
 verb_of Forget = verb.Forget
 
--- a request with its answer is this move of the tables: a call with its answer, or a restart with the branches that it
--- leaves in doubt; an operation on data and a restart that is refused leave them alone
+-- a request with its answer is this move of the tables: a call with its answer, or a restart with the
+-- branches that it leaves in doubt; an operation on data, a trim, and a restart that is refused leave them
+-- alone
 abbrev pub Shows : Request → Answer → Move → Type 0
 Shows (Open flags migrates) (Code c) move = move ≡ OpenMove flags.0 migrates c
 Shows (Close flags) (Code c) move = move ≡ CloseMove flags.0 c
@@ -33,6 +34,8 @@ Shows (Recover thread count flags) (Given xs) move = move ≡ RecoverMove thread
 Shows (Work thread op) answer move = move ≡ WorkMove
 Shows (Restart keep) (Booted n) move = (left : List (Xid × Bool)) × (move ≡ RestartMove left)
 Shows (Restart keep) (NotBooted e) move = move ≡ WorkMove
+Shows Trim (Trimmed n) move = move ≡ WorkMove
+Shows Trim (NotTrimmed e) move = move ≡ WorkMove
 Shows _ _ move = ⊥
 
 -- requests with their answers are these moves, one for one
@@ -42,7 +45,8 @@ ShowEach (r ∷ rs) (a ∷ rest) (move ∷ moves) = Shows r a move × ShowEach r
 ShowEach _ _ _ = ⊥
 
 -- requests with their answers do to the tables of states what a legal history does
-pub record IsHistory (m : KvSight) (requests : List Request) (answers : List Answer) (n : KvSight) : Type 0 where
+pub record IsHistory (m : KvSight) (requests : List Request) (answers : List Answer)
+    (n : KvSight) : Type 0 where
   pub moves : List Move
   pub shown : ShowEach requests answers moves
   pub legal : IsLegalHistory m.store.tables moves n.store.tables

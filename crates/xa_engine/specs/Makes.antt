@@ -18,10 +18,13 @@ use Rattle.kv_manager.specs.declared.restart.RestartError.TheVariants as restart
 use Rattle.kv_manager.specs.Sights.{KvSight}
 use Rattle.kv_manager.specs.Turns.{Calls, Finishes, Refuses}
 use Rattle.kv_manager.specs.Restarts.{NotRestarted, Restarted}
+use Rattle.kv_manager.specs.Resources.{sight_of}
+use Rattle.manager_model.specs.Trimming.{NotTrimmed, Trims as TrimsLog}
+use Rattle.manager_model.specs.declared.errors.TrimError.TheVariants as trim_error
 use Rattle.xa_script.specs.declared.request.BranchCall.{BranchCall}
 use Rattle.xa_script.specs.declared.request.BranchCall.TheVariants.{Start, End, Prepare, Commit, Rollback, Forget}
 use Rattle.xa_script.specs.declared.request.Request.{Request}
-use Rattle.xa_script.specs.declared.request.Request.TheVariants.{Open, Close, Branch, Recover, Work, Restart}
+use Rattle.xa_script.specs.declared.request.Request.TheVariants.{Open, Close, Branch, Recover, Work, Restart, Trim}
 use Rattle.xa_engine.specs.declared.answer.Answer.{Answer}
 use Rattle.xa_engine.specs.declared.answer.Answer.TheVariants as answer
 
@@ -96,6 +99,12 @@ Boots old new keep (answer.NotBooted e) =
     (e ≡ restart_error.Memory → ⊥) × NotRestarted old new (kept_bytes keep) e
 Boots old new keep _ = ⊥
 
+-- a trim, of which so many records remain, or why there is none
+abbrev pub Trims : KvSight → KvSight → Answer → Type 0
+Trims old new (answer.Trimmed n) = TrimsLog (sight_of old) (sight_of new) n
+Trims old new (answer.NotTrimmed e) = (e ≡ trim_error.Memory → ⊥) × NotTrimmed (sight_of old) (sight_of new) e
+Trims old new _ = ⊥
+
 -- a request takes a manager from one state to another, and is answered so
 abbrev pub Makes : KvSight → KvSight → Request → Answer → Type 0
 Makes old new (Open flags migrates) = IsCode (λ c. Moves old new c (λ a b. Opens a b flags.0 migrates c))
@@ -104,3 +113,4 @@ Makes old new (Branch f thread xid flags) = IsCode (CallsBranch f old new thread
 Makes old new (Recover thread count flags) = Scans old new thread count flags.0
 Makes old new (Work thread op) = Works old new thread op
 Makes old new (Restart keep) = Boots old new keep
+Makes old new Trim = Trims old new

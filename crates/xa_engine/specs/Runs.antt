@@ -53,8 +53,8 @@ fault_text Utf8 = codes "error 4" ++ 10 ∷ []
 fault_text TooLong = codes "error 5" ++ 10 ∷ []
 fault_text (Line n) = codes "error 3 " ++ decimal n ++ 10 ∷ []
 
--- what a run writes of an input, by how it ends: the answers of the requests that the input spells, or the line
--- of the fault that is there
+-- what a run writes of an input, by how it ends: the answers of the requests that the input spells, or the
+-- line of the fault that is there
 abbrev pub IsReport : Status → List ℕ → List ℕ → Type 0
 IsReport Ended input text = (requests : List Request) × IsScript input requests × Reports requests text
 IsReport Refused input text = (error : ScriptError) × IsScriptFault input error × (text ≡ fault_text error)

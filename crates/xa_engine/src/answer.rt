@@ -2,9 +2,10 @@
 
 ghost use Rattle.std.specs.Prelude.{◌≡◌, ◌++◌, ◌∷◌, [], OnOk, decimal, codes};
 ghost use Rattle.xa_xid.specs.Text.{xid_text};
-ghost use Rattle.xa_engine.specs.Answers.{answer_text, branch_text, given_text, refusal_text, restart_number};
+ghost use Rattle.xa_engine.specs.Answers.{answer_text, branch_text, given_text, refusal_text, restart_number, trim_number};
 
 use kv_manager::RestartError;
+use manager_model::TrimError;
 use std::alloc::{AllocError, Global};
 use trace_lines::{push, push_number};
 use tree_model::{Bytes, Sequence};
@@ -28,6 +29,10 @@ pub(crate) enum Answer {
     Booted(u64),
     /// The manager did not restart.
     NotBooted(RestartError),
+    /// The log was trimmed, and so many records remain.
+    Trimmed(u64),
+    /// The log was not trimmed.
+    NotTrimmed(TrimError),
 }
 
 /// The number by which the output names why a manager did not restart; 0 for want of memory, which no output names.
@@ -39,6 +44,17 @@ fn restart_number(error: RestartError) -> u64
         RestartError::Device => 2,
         RestartError::Unfit => 3,
         RestartError::Exhausted => 4,
+    }
+}
+
+/// The number by which the output names why a log was not trimmed; 0 for want of memory, which no output names.
+fn trim_number(error: TrimError) -> u64
+    ensures { result ≡ trim_number error }
+{
+    match error {
+        TrimError::Memory => 0,
+        TrimError::Device => 2,
+        TrimError::Failed => 5,
     }
 }
 
@@ -116,5 +132,7 @@ pub(crate) fn push_answer(
         Answer::Refused(error) => push_refusal(alloc, out, error),
         Answer::Booted(boot) => push_numbered(out, "boot ", *boot),
         Answer::NotBooted(error) => push_numbered(out, "refused ", restart_number(*error)),
+        Answer::Trimmed(remain) => push_numbered(out, "trim ", *remain),
+        Answer::NotTrimmed(error) => push_numbered(out, "refused ", trim_number(*error)),
     }
 }

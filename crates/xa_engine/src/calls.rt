@@ -4,11 +4,12 @@ ghost use Rattle.std.specs.Prelude.{◌≡◌, IfOk, Some, None};
 ghost use Rattle.kv_locks.specs.declared.holders.Mode.TheVariants as mode;
 ghost use Rattle.kv_core.specs.Works.{Reads, Writes, work_refusal};
 ghost use Rattle.kv_manager.specs.Turns.{Calls, Refuses};
-ghost use Rattle.xa_engine.specs.Makes.{Boots, CallsBranch, IsRead, IsRefused, IsWritten, Makes, Scans, Works};
+ghost use Rattle.xa_engine.specs.Makes.{Boots, CallsBranch, IsRead, IsRefused, IsWritten, Makes, Scans, Trims, Works};
 
 use crate::answer::Answer;
 use kv_manager::{KvManager, RestartError};
 use log_store::MemoryStore;
+use manager_model::TrimError;
 use std::alloc::AllocError;
 use tree_model::{Op, Sequence};
 use xa_codes::{Code, Flags};
@@ -39,6 +40,7 @@ pub(crate) fn make(manager: &mut Manager, request: &Request) -> Result<Answer, A
         } => scan(manager, *thread, *count, *flags),
         Request::Work { thread, op } => work(manager, *thread, op),
         Request::Restart { keep } => restart(manager, *keep),
+        Request::Trim => trim(manager),
     }
 }
 
@@ -132,5 +134,16 @@ fn restart(manager: &mut Manager, keep: Option<u64>) -> Result<Answer, AllocErro
         Ok(_) => Ok(Answer::Booted(manager.boot())),
         Err(RestartError::Memory) => Err(AllocError),
         Err(error) => Ok(Answer::NotBooted(error)),
+    }
+}
+
+/// A trim of the log.
+fn trim(manager: &mut Manager) -> Result<Answer, AllocError>
+    ensures { IfOk result (λ answer. Trims manager.old manager.new answer) }
+{
+    match manager.trim() {
+        Ok(remain) => Ok(Answer::Trimmed(remain as u64)),
+        Err(TrimError::Memory) => Err(AllocError),
+        Err(error) => Ok(Answer::NotTrimmed(error)),
     }
 }

@@ -1,4 +1,5 @@
--- Legal histories of a resource manager: which rows of the tables any list of moves walks, and what each call answers.
+-- Legal histories of a resource manager: which rows of the tables any list of moves walks, and what each call
+-- answers.
 use Rattle.std.specs.Prelude.{◌≡◌, ℕ, ◌+◌, Bool, false, not, ◌&&◌, List, [], ◌∷◌, Contains, Result, Ok, Err, IsOkAnd, MatchBool, nat_eq}
 use Rattle.xa_codes.specs.declared.code.Code.{Code}
 use Rattle.xa_tables.specs.Calls.{legal}
@@ -29,11 +30,13 @@ use Rattle.xa_law.specs.Refusals.{AnswersFirst, is_refusal}
 abbrev pub HasInitRow : InitState → Verb → ℕ → Code → InitState → Type 0
 HasInitRow s v flags answer k = IsOkAnd (legal v flags) (λ c. Contains (init_rows s c) (answer, k))
 
--- an open or a close that is not refused makes a row, a restart leaves the manager closed, and nothing else moves it
+-- an open or a close that is not refused makes a row, a restart leaves the manager closed, and nothing else
+-- moves it
 abbrev pub InitStep : InitState → Move → InitState → Type 0
 InitStep s (Open flags migrates answer) k =
     MatchBool (is_refusal answer) (k ≡ s) (HasInitRow s verb.Open flags answer k)
-InitStep s (Close flags answer) k = MatchBool (is_refusal answer) (k ≡ s) (HasInitRow s verb.Close flags answer k)
+InitStep s (Close flags answer) k =
+    MatchBool (is_refusal answer) (k ≡ s) (HasInitRow s verb.Close flags answer k)
 InitStep s (Restart left) k = k ≡ R0
 InitStep s _ k = k ≡ s
 
@@ -41,8 +44,8 @@ InitStep s _ k = k ≡ s
 abbrev pub HasBranchRow : BranchState → Verb → ℕ → Code → BranchState → Type 0
 HasBranchRow s v flags answer k = IsOkAnd (legal v flags) (λ c. Contains (branch_rows s c) (answer, k))
 
--- a call on a branch that is not refused makes a row, an operator's decision leads it from prepared to decided, a restart
--- leaves what it says, and nothing else moves the branch
+-- a call on a branch that is not refused makes a row, an operator's decision leads it from prepared to
+-- decided, a restart leaves what it says, and nothing else moves the branch
 abbrev pub BranchStep : Xid → BranchState → Move → BranchState → Type 0
 BranchStep x s (Branch v t y flags answer) k =
     MatchBool (same y x && not (is_refusal answer)) (HasBranchRow s v flags answer k) (k ≡ s)
@@ -71,11 +74,12 @@ pub record OwnRow (s : AssocState) (c : Call) (a : Code) (k : AssocState) : Type
 abbrev pub HasOwnRow : AssocState → Verb → ℕ → Code → AssocState → Type 0
 HasOwnRow s v flags answer k = IsOkAnd (legal v flags) (λ c. OwnRow s c answer k)
 
--- a start or an end by this thread on this branch that is not refused makes a row, a restart leaves no association, and
--- nothing else moves the association
+-- a start or an end by this thread on this branch that is not refused makes a row, a restart leaves no
+-- association, and nothing else moves the association
 abbrev pub OwnStep : ℕ → Xid → AssocState → Move → AssocState → Type 0
 OwnStep t x s (Branch v u y flags answer) k =
-    MatchBool ((is_work_on x v flags y && nat_eq t u) && not (is_refusal answer)) (HasOwnRow s v flags answer k) (k ≡ s)
+    MatchBool ((is_work_on x v flags y && nat_eq t u)
+    && not (is_refusal answer)) (HasOwnRow s v flags answer k) (k ≡ s)
 OwnStep t x s (Restart left) k = k ≡ T0
 OwnStep t x s _ k = k ≡ s
 
@@ -90,7 +94,8 @@ pub record MigrationRow (n : ℕ) (c : Call) (a : Code) (k : ℕ) : Type 0 where
 abbrev pub HasMigrationRow : ℕ → Verb → ℕ → Code → ℕ → Type 0
 HasMigrationRow n v flags answer k = IsOkAnd (legal v flags) (λ c. MigrationRow n c answer k)
 
--- a start or an end on this branch that is not refused makes a row, a restart leaves none, and nothing else migrates it
+-- a start or an end on this branch that is not refused makes a row, a restart leaves none, and nothing else
+-- migrates it
 abbrev pub MigrationStep : Xid → ℕ → Move → ℕ → Type 0
 MigrationStep x n (Branch v u y flags answer) k =
     MatchBool (is_work_on x v flags y && not (is_refusal answer)) (HasMigrationRow n v flags answer k) (k ≡ n)
@@ -105,8 +110,8 @@ WalksBy step s [] e = s ≡ e
 WalksBy {S} step s (m ∷ moves) e = (k : S) × step s m k × WalksBy step k moves e
 
 -- a history is legal: its projections on the manager, on each branch, on each thread's association with each
--- branch and on the migrations of each branch walk rows of the tables and the moves without a call, a thread is active
--- in one branch at most, and each call answers by the first check that refuses it
+-- branch and on the migrations of each branch walk rows of the tables and the moves without a call, a thread
+-- is active in one branch at most, and each call answers by the first check that refuses it
 pub record IsLegalHistory (m : States) (moves : List Move) (n : States) : Type 0 where
   pub manager : WalksBy InitStep m.init moves n.init
   pub branches : (x : Xid) → WalksBy (BranchStep x) (state_at m x) moves (state_at n x)

@@ -13,8 +13,9 @@ use Rattle.xa_states.specs.Answers.{Answers, Closes, Opens, Recovers, Same, Take
 use Rattle.xa_states.specs.Ready.{has_rows, is_work}
 use Rattle.xa_states.specs.Restored.{Restored}
 
--- a call with its answer; or a move without a call: an operator decides a branch, or the manager restarts with these
--- branches in doubt, each decided or not. Work is whatever leaves the tables alone, as a thread's reads and writes do
+-- a call with its answer; or a move without a call: an operator decides a branch, or the manager restarts
+-- with these branches in doubt, each decided or not. Work is whatever leaves the tables alone, as a thread's
+-- reads and writes do
 pub data Move : Type 0 where
   Open : ℕ → Bool → Code → Move
   Close : ℕ → Code → Move
@@ -24,7 +25,8 @@ pub data Move : Type 0 where
   Decide : Xid → Move
   Restart : List (Xid × Bool) → Move
 
--- the rows that a manager takes stand in the table: for each call that finishes a branch in a state, where there are any
+-- the rows that a manager takes stand in the table: for each call that finishes a branch in a state, where
+-- there are any
 abbrev pub FitsRows : Wanted → BranchState → Type 0
 FitsRows wanted s = (c : Call) → is_work c ≡ false → has_rows (branch_rows s c) ≡ true
     → Contains (branch_rows s c) (wanted c)
@@ -39,7 +41,8 @@ is_own _ = false
 abbrev pub Declines : States → States → Code → Type 0
 Declines old new answer = (is_own answer ≡ true) × Same old new
 
--- a call on a branch is answered as the tables say, the manager choosing among the rows of those that finish it
+-- a call on a branch is answered as the tables say, the manager choosing among the rows of those that finish
+-- it
 abbrev pub Answered : States → States → Verb → ℕ → Xid → ℕ → Code → Type 0
 Answered old new v t x flags answer =
     (wanted : Wanted) × FitsRows wanted (state_at old x) × Answers wanted old new v t x flags answer

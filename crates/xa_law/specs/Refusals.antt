@@ -1,4 +1,5 @@
--- The checks of a call in their order, and the answer of the first that applies (after C193, chapters 3 and 5).
+-- The checks of a call in their order, and the answer of the first that applies (after C193, chapters 3 and
+-- 5).
 use Rattle.std.specs.Prelude.{◌≡◌, ℕ, ◌-◌, ◌^◌, Bool, true, false, not, ◌||◌, ◌&&◌, ◌==◌, List, [], ◌∷◌, length, Option, Some, None, IsSomeAnd, is_some, Result, Ok, Err, nat_le, nat_lt, if◌then◌else◌}
 use Rattle.std.specs.Option.{option_map_or}
 use Rattle.xa_codes.specs.declared.code.Code.{Code}
@@ -97,7 +98,8 @@ first_refusal m (Open flags migrates answer) = behind_flags (λ c. []) (legal ve
 first_refusal m (Close flags answer) =
     behind_flags (λ c. (has_associations m.associations, code.Proto) ∷ []) (legal verb.Close flags)
 first_refusal m (Branch v t x flags answer) = behind_flags (λ c. branch_checks m c t x) (legal v flags)
-first_refusal m (Recover t count flags answer) = behind_flags (λ c. scan_checks m c t) (legal verb.Recover flags)
+first_refusal m (Recover t count flags answer) =
+    behind_flags (λ c. scan_checks m c t) (legal verb.Recover flags)
 first_refusal m _ = None
 
 -- an answer that no row has
@@ -117,7 +119,8 @@ abbrev pub refusal_in : Result (List Xid) Code → Option Code
 refusal_in (Ok given) = None
 refusal_in (Err c) = Some c
 
--- the code that a call is answered by; a scan may give branches in its place, and the other moves are answered by none
+-- the code that a call is answered by; a scan may give branches in its place, and the other moves are
+-- answered by none
 abbrev pub code_of : Move → Option Code
 code_of (Open flags migrates answer) = Some answer
 code_of (Close flags answer) = Some answer
@@ -129,9 +132,10 @@ code_of _ = None
 abbrev pub is_refused : Move → Bool
 is_refused m = option_map_or is_refusal (code_of m) false
 
--- a call is refused by an answer of the manager's own, or by the first check that applies, and then changes nothing; and
--- where none applies it is not refused
+-- a call is refused by an answer of the manager's own, or by the first check that applies, and then changes
+-- nothing; and where none applies it is not refused
 pub data AnswersFirst (old : States) (m : Move) (new : States) : Type 0 where
   Declined : IsSomeAnd (code_of m) (λ c. is_own c ≡ true) → Same old new → AnswersFirst old m new
-  Refused : (c : Code) → first_refusal old m ≡ Some c → code_of m ≡ Some c → Same old new → AnswersFirst old m new
+  Refused : (c : Code) → first_refusal old m ≡ Some c → code_of m ≡ Some c → Same old new
+      → AnswersFirst old m new
   Made : first_refusal old m ≡ None → is_refused m ≡ false → AnswersFirst old m new

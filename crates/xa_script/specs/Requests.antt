@@ -17,7 +17,7 @@ use Rattle.xa_script.specs.declared.request.Call.TheVariants as call
 use Rattle.xa_script.specs.declared.request.Word.{Word}
 use Rattle.xa_script.specs.declared.request.Word.TheVariants as word
 use Rattle.xa_script.specs.declared.request.Request.{Request}
-use Rattle.xa_script.specs.declared.request.Request.TheVariants.{Open, Close, Branch, Recover, Work, Restart}
+use Rattle.xa_script.specs.declared.request.Request.TheVariants.{Open, Close, Branch, Recover, Work, Restart, Trim}
 
 -- what the first word of a line asks for
 abbrev pub word_at : List ℕ → Option Word
@@ -26,6 +26,7 @@ word_at w =
     else if same w (codes "close") then Some (word.Call call.Close)
     else if same w (codes "recover") then Some (word.Call call.Recover)
     else if same w (codes "restart") then Some (word.Call call.Restart)
+    else if same w (codes "trim") then Some (word.Call call.Trim)
     else if same w (codes "start") then Some (word.Call (call.Branch Start))
     else if same w (codes "end") then Some (word.Call (call.Branch End))
     else if same w (codes "prepare") then Some (word.Call (call.Branch Prepare))
@@ -96,6 +97,7 @@ SpellsCall c rest (Branch f thread xid flags) = (c ≡ call.Branch f) × SpellsB
 SpellsCall c rest (Recover thread count flags) = (c ≡ call.Recover) × SpellsRecover rest thread count flags.0
 SpellsCall c rest (Work thread op) = ⊥
 SpellsCall c rest (Restart keep) = (c ≡ call.Restart) × SpellsKeep rest keep
+SpellsCall c rest Trim = ⊥
 
 -- what stands behind `put`, `get` and `del`: a thread, and the key with its value
 abbrev pub SpellsTask : List ℕ → List ℕ → ℕ → Op → Type 0
@@ -113,10 +115,15 @@ SpellsBy None first rest request = ⊥
 SpellsBy (Some (word.Call c)) first rest request = SpellsCall c rest request
 SpellsBy (Some word.Work) first rest request = SpellsWork first rest request
 
--- a line of one word: `restart`, and all bytes are kept
-pub record IsAlone (line : List ℕ) (request : Request) : Type 0 where
-  pub restarts : word_at line ≡ Some (word.Call call.Restart)
-  pub keeps_all : request ≡ Restart None
+-- the request of a word that stands alone: `restart`, and all bytes are kept; or `trim`
+abbrev pub alone_by : Option Word → Option Request
+alone_by (Some (word.Call call.Restart)) = Some (Restart None)
+alone_by (Some (word.Call call.Trim)) = Some Trim
+alone_by _ = None
+
+-- a line of one word spells a request
+abbrev pub IsAlone : List ℕ → Request → Type 0
+IsAlone line request = alone_by (word_at line) ≡ Some request
 
 -- a line spells a request, by where it is cut
 abbrev pub SpellsCut : List ℕ → Option (List ℕ × List ℕ) → Request → Type 0

@@ -18,8 +18,8 @@ SpellEach [] [] = Unit {0}
 SpellEach (line ∷ ls) (request ∷ requests) = Spells line request × SpellEach ls requests
 SpellEach _ _ = ⊥
 
--- an input is a script of these requests: text, of which at most 100,000 lines are not skipped, and these spell
--- them
+-- an input is a script of these requests: text, of which at most 100,000 lines are not skipped, and these
+-- spell them
 pub record IsScript (input : List ℕ) (requests : List Request) : Type 0 where
   pub text : IsUtf8 input
   pub short : asked_in (lines input) ≤ 100000

@@ -60,6 +60,8 @@ pub enum Request {
     Restart {
         keep: Option<u64>,
     },
+    /// The log is trimmed.
+    Trim,
 }
 
 /// What the first word of a line asks for.
@@ -70,13 +72,14 @@ enum Word {
     Work,
 }
 
-/// A call of a function, or a restart.
+/// A call of a function, a restart or a trim.
 #[derive(Clone, Copy, PartialEq, Eq)]
 enum Call {
     Open,
     Close,
     Recover,
     Restart,
+    Trim,
     Branch(BranchCall),
 }
 
@@ -89,6 +92,7 @@ fn word_of(word: &str) -> Option<Word>
         "close" => Some(Word::Call(Call::Close)),
         "recover" => Some(Word::Call(Call::Recover)),
         "restart" => Some(Word::Call(Call::Restart)),
+        "trim" => Some(Word::Call(Call::Trim)),
         "start" => Some(Word::Call(Call::Branch(BranchCall::Start))),
         "end" => Some(Word::Call(Call::Branch(BranchCall::End))),
         "prepare" => Some(Word::Call(Call::Branch(BranchCall::Prepare))),
@@ -122,6 +126,7 @@ fn alone_of(line: &str) -> Option<Request>
 {
     match word_of(line) {
         Some(Word::Call(Call::Restart)) => Some(Request::Restart { keep: None }),
+        Some(Word::Call(Call::Trim)) => Some(Request::Trim),
         _ => None,
     }
 }
@@ -152,6 +157,7 @@ fn call_of(call: Call, rest: &str) -> Option<Request>
             let keep = numeral::number_of(rest)?;
             Some(Request::Restart { keep: Some(keep) })
         }
+        Call::Trim => None,
         Call::Branch(call) => {
             let (thread, xid, flags) = branch_of(rest)?;
             Some(Request::Branch {

@@ -1,6 +1,4 @@
-use Rattle.std.proofs.Common.{Some, subst, sym, arith, ◌≢◌, ◌≡◌, ◌∙◌, ap}
-use Rattle.xa_xid.specs.Xids.{XidParts, null_xid}
-use Rattle.tree_model.specs.Names.{child_case}
+use Rattle.std.proofs.Common.{Some, sym, arith, ◌∙◌}
 use Rattle.log_text.proofs.NameReading.{case_of}
 use Rattle.sub_core.proofs.Joins.{is_real}
 use Rattle.sub_core.proofs.joining.child_xid.Goals as goal

@@ -1,4 +1,4 @@
-use Rattle.std.proofs.Common.{◌≡◌, ◌∙◌, Some, sym, ap, subst}
+use Rattle.std.proofs.Common.{◌≡◌, Some, sym, subst}
 use Rattle.tree_model.specs.declared.messages.Message.TheVariants.{Join}
 use Rattle.sub_table.specs.Tables.{ticket_in}
 use Rattle.sub_core.specs.Subordinates.{Hears, SubState, seen}

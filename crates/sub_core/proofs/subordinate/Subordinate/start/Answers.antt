@@ -1,12 +1,11 @@
-use Rattle.std.proofs.Common.{◌≡◌, ◌∙◌, ◌+◌, None, true, false, sym, ap, subst}
+use Rattle.std.proofs.Common.{◌≡◌, ◌∙◌, None, true, false, sym, ap, subst}
 use Rattle.tree_model.specs.declared.names.Ticket.{Ticket}
 use Rattle.tree_model.specs.Names.{child_case}
 use Rattle.manager_model.specs.Sights.{ManagerSight}
 use Rattle.sub_deeds.specs.Deeds.{HasBegun}
 use Rattle.core_model.specs.States.{SameCore}
 use Rattle.core_model.specs.Turns.{next_ticket}
-use Rattle.live_table.specs.Tables.{entry_at}
-use Rattle.sub_table.specs.Tables.{IsKept, Opens, SameTable, branch_in, opened, ticket_in}
+use Rattle.sub_table.specs.Tables.{IsKept, Opens, SameTable, branch_in, ticket_in}
 use Rattle.sub_table.proofs.Undoing.{undone}
 use Rattle.sub_core.specs.Subordinates.{IsNamed, IsTied, Joins, SubState, core_of, next_case, seen}
 use Rattle.sub_core.proofs.Ties.{behind}

@@ -1,6 +1,6 @@
 use Rattle.std.proofs.Common.{◌≡◌, true, false, refl, sym, subst, rules, IfOk, IfErr}
 use Rattle.tree_model.specs.declared.events.Input.{Input}
-use Rattle.tree_model.specs.declared.events.Input.TheVariants.{Act as ActInput, Message as MessageInput}
+use Rattle.tree_model.specs.declared.events.Input.TheVariants.{Act as ActInput}
 use Rattle.tree_model.specs.declared.events.StepError.TheVariants.{Failed, NoSuch}
 use Rattle.tree_model.specs.Reactions.{act_is_listed}
 use Rattle.core_model.specs.Turns.{Refuses}

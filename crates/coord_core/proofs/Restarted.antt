@@ -1,0 +1,159 @@
+-- A coordinator that restarted, or was trimmed, or was not.
+use Rattle.std.proofs.Common.{◌≡◌, ◌≤◌, ◌<◌, ◌++◌, [], ℕ, true, false, Option, None, Some, List, map, length, refl, subst, sym, ap, ◌∙◌, arith, ◌⊎◌}
+use Rattle.tree_model.specs.declared.names.Case.{Case}
+use Rattle.tree_model.specs.declared.names.Kind.TheVariants.{Coordinator}
+use Rattle.tree_model.specs.declared.names.ProcessId.{ProcessId}
+use Rattle.tree_model.specs.declared.records.LogRecord.{LogRecord}
+use Rattle.tree_model.specs.declared.records.Record.{Record}
+use Rattle.tree_model.specs.Names.{child_case, root_case}
+use Rattle.tree_model.specs.Restarts.{data_records}
+use Rattle.tree_model.specs.Standings.{CoordinatorView, unknown_branch}
+use Rattle.live_table.specs.Tables.{case_of, entry_at}
+use Rattle.log_text.specs.Made.{frame_record}
+use Rattle.log_trim.specs.Trims.{front_of_trim}
+use Rattle.rec_log.specs.Sights.{LogState, NotRestarted as LogNotRestarted, NotRewritten, Restarts as LogRestarts, left_by, records_of}
+use Rattle.rec_log.specs.Trimming.{Trimmed, trim_of}
+use Rattle.rec_log.specs.declared.log.LogError.{LogError}
+use Rattle.rec_log.specs.declared.log.LogError.TheVariants as log_error
+use Rattle.core_model.specs.Views.{SameView}
+use Rattle.core_model.specs.States.{SameButLog, SameCore, logged}
+use Rattle.core_model.specs.Restarting.{NotRestarted, NotTrimmed, Restarts, Trims, read_of, recorded_branch_at, recorded_view_at, restarted_log, trimmed_log}
+use Rattle.core_model.proofs.Alike.{same_view}
+use Rattle.coord_table.specs.declared.held.Held.{Held}
+use Rattle.coord_table.specs.Cases.{is_for}
+use Rattle.inquire_core.specs.Readings.{role_below}
+use Rattle.coord_restart.specs.Restores.{IsNumbered, IsRestored, Rebuilds}
+use Rattle.coord_restart.specs.declared.rebuilding.Rebuilt.{Rebuilt}
+use Rattle.coord_core.specs.States.{CoordinatorValue, IsCoordinator, error_of, own_ticket, own_txn, place_of, state}
+
+-- but for its log nothing is otherwise
+pub same_but_log : (v : CoordinatorValue) (log : LogState) → SameButLog (state v) (state (record v { log = log }))
+same_but_log v log =
+    record {
+      place = refl;
+      boot = refl;
+      begun = refl;
+      given = refl;
+      tickets = λ d. refl;
+      views = λ c. same_view _;
+      branches = λ c. refl;
+    }
+
+-- a log that is seen as it was
+pub same_log : (v : CoordinatorValue) (log : LogState) → log.sight ≡ v.log.sight → SameCore (state v) (state (record v { log = log }))
+same_log v log same = record { log = same; rest = same_but_log v log }
+
+pub same_itself : (v : CoordinatorValue) → SameCore (state v) (state v)
+same_itself v = same_log v v.log refl
+
+-- A restart.
+
+-- the coordinator behind its restart
+abbrev pub rebuilt_as : CoordinatorValue → LogState → Rebuilt → CoordinatorValue
+rebuilt_as v log r = record v { log = log; boot = r.boot; begun = 0; given = 0; slots = r.cases }
+
+no_branches : (parent : Option ProcessId) (rs : List Record) (c : Case) → unknown_branch ≡ recorded_branch_at (role_below parent) rs c
+no_branches None rs c = refl
+no_branches (Some p) rs c = refl
+
+module _ (v : CoordinatorValue) (keep : ℕ) (ls : List LogRecord) (r : Rebuilt) (log : LogState) (left : ls ≡ left_by v.log.sight keep) (rebuilds : Rebuilds (place_of v) ls r) where
+  of_left : Rebuilds (place_of v) (left_by v.log.sight keep) r
+  of_left = subst (λ ks. Rebuilds (place_of v) ks r) left rebuilds
+
+  pub restarts : LogRestarts v.log log keep (map frame_record r.frames.items) → Restarts (state v) keep (state (rebuilt_as v log r)) r.reaction
+  restarts restarted =
+      record {
+        place = refl;
+        log = λ i. record {
+          kept = record {
+            forced = (restarted.forced ∙ ap (λ ks. left_by v.log.sight keep ++ ks) of_left.frames) i;
+            unforced = restarted.unforced i;
+          };
+          behind = restarted.behind i;
+          failed = restarted.works i;
+          failures = restarted.failures i;
+        };
+        read = record {
+          boot = of_left.boot;
+          begun = refl;
+          given = refl;
+          tickets = of_left.tickets;
+          views = λ c. subst (λ (w : CoordinatorView). SameView w (recorded_view_at (role_below v.parent) (read_of (state v) (restarted_log (state v) keep)) c))
+              (sym (of_left.views c)) (same_view _);
+          branches = λ c. no_branches v.parent (read_of (state v) (restarted_log (state v) keep)) c;
+        };
+        shown = of_left.shown;
+      }
+
+  pub not_restarted : (e : LogError) → LogNotRestarted v.log log keep (map frame_record r.frames.items) e
+      → NotRestarted (state v) keep (state (record v { log = log })) (error_of e)
+  not_restarted log_error.Memory same = same_log v log same
+  not_restarted log_error.Device breaks = (
+    record {
+      kind = refl;
+      either = subst (λ ks. ((records_of log.sight.kept ≡ left_by v.log.sight keep) × (log.sight.kept.forced ≡ v.log.sight.kept.forced))
+          ⊎ (log.sight.kept ≡ record { forced = left_by v.log.sight keep ++ ks; unforced = [] })) of_left.frames breaks.either;
+      failed = breaks.failed;
+      cause = breaks.cause;
+    },
+    refl,
+  )
+
+never : (boot n : ℕ) → boot < boot → n ≤ 0
+never boot n below = absurd (omega arith)
+
+-- a live case was numbered in an earlier boot
+numbered_before : (boot : ℕ) (slot : Option (Case × Held)) (c : Case) → ((p : Case × Held) → slot ≡ Some p → IsRestored boot p) → case_of slot ≡ Some c → IsNumbered boot c
+numbered_before boot None c restored at = absurd (cc)
+numbered_before boot (Some p) c restored at =
+    let one : p.0 ≡ c = cc in
+    subst (IsNumbered boot) one (restored p refl).numbered
+
+-- the cases that were rebuilt have numbers of earlier boots, and no ticket is active
+pub is_coordinator : (v : CoordinatorValue) (ls : List LogRecord) (r : Rebuilt) (log : LogState) → Rebuilds (place_of v) ls r → log.kind ≡ Coordinator
+    → IsCoordinator (rebuilt_as v log r)
+is_coordinator v ls r log rebuilds kind =
+    record {
+      kind = kind;
+      active = λ k d p at is.
+          let no : false ≡ true = sym (ap (is_for d) (rebuilds.entries k p at).ungiven) ∙ is in
+          absurd (cc);
+      begun = λ k p n at. never r.boot n (numbered_before r.boot (entry_at r.cases k) (root_case (own_txn (rebuilt_as v log r) p n)) (rebuilds.entries k) at);
+      given = λ k x n at. never r.boot n (numbered_before r.boot (entry_at r.cases k) (child_case x (own_ticket (rebuilt_as v log r) n)) (rebuilds.entries k) at);
+    }
+
+-- A trim.
+
+no_data_records : (parent : Option ProcessId) (rs : List Record) → data_records (role_below parent) rs ≡ []
+no_data_records None rs = refl
+no_data_records (Some p) rs = refl
+
+-- what stays in a trim of a coordinator's log
+trimmed_as : (v : CoordinatorValue) → trim_of v.log [] ≡ trimmed_log (state v)
+trimmed_as v =
+    ap (λ rs. front_of_trim (records_of v.log.sight.kept) ++ logged (state v) rs)
+    (sym (no_data_records v.parent (read_of (state v) (records_of v.log.sight.kept))))
+
+pub trims : (v : CoordinatorValue) (log : LogState) (count : ℕ) → Trimmed v.log log [] count → Trims (state v) (state (record v { log = log })) count
+trims v log count trimmed =
+    record {
+      log = λ i. record {
+        kept = record { forced = (trimmed.log.forced ∙ trimmed_as v) i; unforced = trimmed.log.unforced i };
+        behind = trimmed.log.behind i;
+        failed = trimmed.log.works i;
+        failures = trimmed.log.failures i;
+      };
+      counts = trimmed.counted ∙ ap length (trimmed_as v);
+      rest = same_but_log v log;
+    }
+
+pub not_trimmed : (v : CoordinatorValue) (log : LogState) (e : LogError) → NotRewritten v.log log (trim_of v.log []) e
+    → NotTrimmed (state v) (state (record v { log = log })) (error_of e)
+not_trimmed v log log_error.Memory same = same_log v log same
+not_trimmed v log log_error.Device breaks =
+    record {
+      either = subst (λ ls. (log.sight.kept ≡ v.log.sight.kept) ⊎ (log.sight.kept ≡ record { forced = ls; unforced = [] })) (trimmed_as v) breaks.either;
+      failed = breaks.failed;
+      cause = breaks.cause;
+      place = refl;
+    }

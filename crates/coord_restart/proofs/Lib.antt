@@ -1,0 +1,4 @@
+pub mod Framed
+pub mod Restores
+pub mod OwnCases
+pub mod Rebuilds

@@ -1,0 +1,38 @@
+//! What a case sends as its coordinator restarts.
+
+ghost use Rattle.std.specs.Prelude.{◌≡◌, ◌++◌, OnOk};
+ghost use Rattle.tree_model.specs.CoordinatorRows.{up as up_of};
+ghost use Rattle.tree_model.specs.Restarts.{resumes_by};
+ghost use Rattle.coord_rows.specs.Rows.{seat as seat_meant};
+
+use crate::seat::{Seat, tell_each};
+use coord_case::Live;
+use std::alloc::AllocError;
+use tree_model::{Envelope, Envelopes, Message, Outcome, Standing};
+
+/// Behind these messages an inquiry to the parent, where there is one.
+fn inquire(messages: &mut Envelopes, seat: Seat) -> Result<(), AllocError>
+    ensures { OnOk result (messages.new ≡ messages.old ++ up_of (seat_meant seat) (Message.Inquire seat.case)) }
+{
+    match seat.parent {
+        None => Ok(()),
+        Some(parent) => messages.push(Envelope {
+            from: seat.me,
+            to: parent,
+            message: Message::Inquire(seat.case),
+        }),
+    }
+}
+
+/// Behind these messages what the case sends again: a decision goes to each that owes an acknowledgement, and a case in
+/// doubt asks its parent.
+pub fn resume(messages: &mut Envelopes, seat: Seat, live: &Live) -> Result<(), AllocError>
+    ensures { OnOk result (messages.new ≡ messages.old ++ resumes_by (seat_meant seat) live.now live.now.standing) }
+{
+    match live.standing() {
+        Standing::Committing => tell_each(messages, seat, Outcome::Committed, live.owed()),
+        Standing::Aborting => tell_each(messages, seat, Outcome::Aborted, live.owed()),
+        Standing::Prepared => inquire(messages, seat),
+        _ => Ok(()),
+    }
+}

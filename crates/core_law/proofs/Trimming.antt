@@ -1,0 +1,141 @@
+-- A process's trim is a move of the model's process.
+use Rattle.std.proofs.Common.{◌≡◌, ◌∙◌, inl, inr, ℕ, suc, true, false, Bool, Option, None, Some, List, [], ◌∷◌, ◌++◌, append-nil, map, refl, sym, ap, subst, if◌then◌else◌}
+use Rattle.std.specs.Prelude.{length}
+use Rattle.tree_model.specs.declared.names.Case.{Case}
+use Rattle.tree_model.specs.declared.names.ProcessId.{ProcessId}
+use Rattle.tree_model.specs.declared.events.Fault.{Fault}
+use Rattle.tree_model.specs.declared.events.Happening.TheVariants.{Trim}
+use Rattle.tree_model.specs.declared.events.StepError.TheVariants.{Device, Failed}
+use Rattle.tree_model.specs.LogNames.{in_log}
+use Rattle.tree_model.specs.Memory.{Memory, active_ticket}
+use Rattle.tree_model.specs.Nodes.{AtLeaf, AtRoot, Below, Node, Place, Role, kept}
+use Rattle.tree_model.specs.Records.{boot_of}
+use Rattle.tree_model.specs.Restarts.{trim_effect, trim_fails, trimmed, trims}
+use Rattle.tree_model.specs.World.{Refuses, fault_effect, node_makes, trim_makes}
+use Rattle.tree_nodes.proofs.Boots.{trimmed_boot, trims_memory}
+use Rattle.rec_log.specs.Sights.{Kept, LogSight, records_of}
+use Rattle.log_law.specs.ReadTrims.{Coordinates}
+use Rattle.core_model.specs.Restarting.{NotTrimmed, Trims, trimmed_log}
+use Rattle.core_model.specs.States.{CoreState, logged, parent}
+use Rattle.core_model.specs.Views.{SameView}
+use Rattle.core_law.specs.Fits.{HasOpened, KeepsOwn, OpenFits}
+use Rattle.core_law.specs.Steps.{BreaksAs, IsSoundLog, StepsAs, quiet_move, trim_reaction}
+use Rattle.core_law.specs.Ties.{Stands, StandsUp, branch_at, view_at}
+use Rattle.core_law.proofs.Faults.{same_stands}
+use Rattle.core_law.proofs.Managers.{same_view-trans}
+use Rattle.core_law.proofs.Records.{map_append}
+use Rattle.core_law.proofs.TrimmedLogs.{trimmed_is}
+use Rattle.core_law.proofs.TrimmedViews.{trimmed_branch, trimmed_view}
+
+-- The views.
+
+view_stays : (role : Role) (place : Place) (n : Node) (c : Case) → place.role ≡ role → OpenFits role place n
+    → view_at role place n c ≡ view_at role place (trims place n) c
+view_stays AtRoot place n c is fits =
+    sym (trimmed_view c place n (fits c) (subst Coordinates (sym is) tt))
+view_stays (Below p) place n c is fits =
+    sym (trimmed_view c place n (fits c) (subst Coordinates (sym is) tt))
+view_stays (AtLeaf p) place n c is fits = refl
+
+branch_stays : (role : Role) (place : Place) (n : Node) (c : Case) → place.role ≡ role → OpenFits role place n
+    → branch_at role place n c ≡ branch_at role place (trims place n) c
+branch_stays AtRoot place n c is fits = refl
+branch_stays (Below p) place n c is fits = refl
+branch_stays (AtLeaf p) place n c is fits = sym (trimmed_branch place p is n c (fits c))
+
+length_map : {X Y : Type 0} (f : X → Y) (xs : List X) → length (map f xs) ≡ length xs
+length_map f [] = refl
+length_map f (x ∷ xs) = ap suc (length_map f xs)
+
+-- a move of a process that is up, and of one that is not
+pub trim_done : (place : Place) (n : Node) (fault : Option Fault) (b : Bool) → n.failed ≡ b
+    → node_makes place n (quiet_move place.me Trim fault) ≡ (if b then Refuses Failed else trim_makes place n fault)
+unfolding node_makes
+trim_done place n fault b is = ap (λ k. if k then Refuses Failed else trim_makes place n fault) is
+
+module _ (n : Node) (old new : CoreState) (stands : Stands n old) where
+  abbrev place : Place
+  place = old.place
+
+  abbrev q : Option ProcessId
+  q = parent old
+
+  pub trim_refused : NotTrimmed old new Failed
+      → (node_makes place n (quiet_move place.me Trim None) ≡ Refuses Failed) × Stands n new
+  trim_refused refused =
+      (trim_done place n None true (sym stands.failed ∙ refused.1), same_stands n old new refused.0 stands)
+
+  module _ (runs : n.failed ≡ false) (own : KeepsOwn place n) (opened : HasOpened n) (sound : IsSoundLog old) where
+    log_is : records_of old.log.kept ≡ map (in_log q) (kept n)
+    log_is = (λ j. stands.forced j ++ stands.unforced j) ∙ sym (map_append (in_log q) n.forced n.unforced)
+
+    left_is : trimmed_log old ≡ logged old (trimmed place.role (kept n))
+    left_is = trimmed_is place (kept n) (records_of old.log.kept) log_is own opened sound
+
+    module _ (fits : OpenFits place.role place n) (remain : ℕ) (made : Trims old new remain) where
+      up_trimmed : StandsUp n old → StandsUp (trims place n) (record new { place = place })
+      up_trimmed up =
+          record {
+            boot = made.rest.boot ∙ up.boot ∙ sym (trimmed_boot place.role (kept n))
+                ∙ ap boot_of (sym (append-nil (trimmed place.role (kept n))));
+            begun = λ c. made.rest.begun ∙ up.begun c ∙ ap (λ (m : Memory). m.begun) (sym (trims_memory place n c));
+            given = λ c. made.rest.given ∙ up.given c ∙ ap (λ (m : Memory). m.given) (sym (trims_memory place n c));
+            tickets = λ d. made.rest.tickets d ∙ up.tickets d
+                ∙ ap (λ (m : Memory). active_ticket m.active d) (sym (trims_memory place n d));
+            views = λ c. subst (λ v. SameView (new.view_of c) v) (view_stays place.role place n c refl fits)
+                (same_view-trans (new.view_of c) (old.view_of c) (view_at place.role place n c)
+                (made.rest.views c) (up.views c));
+            branches = λ c. made.rest.branches c ∙ up.branches c ∙ branch_stays place.role place n c refl fits;
+          }
+
+      stands_trimmed : Stands (trims place n) (record new { place = place })
+      stands_trimmed =
+          record {
+            forced = ap (λ (l : LogSight). l.kept.forced) made.log ∙ left_is;
+            unforced = ap (λ (l : LogSight). l.kept.unforced) made.log;
+            failed = ap (λ (l : LogSight). l.failed) made.log ∙ sym runs;
+            up = λ still. up_trimmed (stands.up runs);
+          }
+
+      count_is : remain ≡ length (trimmed place.role (kept n))
+      count_is = made.counts ∙ ap length left_is ∙ length_map (in_log q) (trimmed place.role (kept n))
+
+      pub trims_so : StepsAs n old new (quiet_move place.me Trim None) (trim_reaction remain)
+      trims_so =
+          record {
+            effect = trim_effect place n;
+            left = trims place n;
+            makes = trim_done place n None false runs;
+            shown = ap trim_reaction count_is;
+            stands = subst (λ p. Stands (trims place n) (record new { place = p })) (sym made.rest.place)
+                stands_trimmed;
+          }
+
+    -- The device fails: the old log stands, or the trimmed one, forced.
+
+    broken : (appended : ℕ) → new.log.failed ≡ true → new.place ≡ place
+        → new.log.kept.forced ≡ logged old (trim_fails place n appended).forced
+        → new.log.kept.unforced ≡ logged old (trim_fails place n appended).unforced
+        → (trim_fails place n appended).failed ≡ true → BreaksAs n old new Trim
+    broken appended failed same forced unforced fails =
+        record {
+          fault = record { appended = appended; forced = 0 };
+          effect = fault_effect (trim_effect place n) 0;
+          left = trim_fails place n appended;
+          makes = trim_done place n (Some (record { appended = appended; forced = 0 })) false runs;
+          stands = subst (λ p. Stands (trim_fails place n appended) (record new { place = p })) (sym same)
+              (record {
+                forced = forced;
+                unforced = unforced;
+                failed = failed ∙ sym fails;
+                up = λ up. absurd (let clash : true ≡ false = sym fails ∙ up in cc);
+              });
+        }
+
+    pub trim_faults_so : NotTrimmed old new Device → BreaksAs n old new Trim
+    trim_faults_so breaks = elim breaks.either [
+      | inl before ↦ broken 0 breaks.failed breaks.place (ap (λ (k : Kept). k.forced) before ∙ stands.forced)
+          (ap (λ (k : Kept). k.unforced) before ∙ stands.unforced) refl
+      | inr after ↦ broken 1 breaks.failed breaks.place (ap (λ (k : Kept). k.forced) after ∙ left_is)
+          (ap (λ (k : Kept). k.unforced) after) refl
+    ]

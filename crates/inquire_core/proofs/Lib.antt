@@ -1,0 +1,3 @@
+pub mod Summaries
+pub mod Readings
+pub mod Inquiries

@@ -1,0 +1,4 @@
+pub mod Summaries
+pub mod Readings
+pub mod Plans
+pub mod Answers

@@ -1,0 +1,11 @@
+-- What a restart makes of a coordinator's log.
+use Rattle.std.specs.Prelude.{◌≡◌, List, ◌++◌}
+use Rattle.tree_model.specs.declared.records.Record.{Record}
+use Rattle.tree_model.specs.Restarts.{coordinator_reopens}
+use Rattle.inquire_core.specs.Readings.{reading_of}
+use Rattle.inquire_core.specs.declared.planning.RestartPlan.{RestartPlan}
+
+-- what a restart with these records appends, and what all of them then say
+pub record IsPlan (rs : List Record) (p : RestartPlan) : Type 0 where
+  pub appended : p.appended.items ≡ coordinator_reopens rs
+  pub reading : p.reading ≡ reading_of (rs ++ coordinator_reopens rs)

@@ -1,0 +1,21 @@
+//! What the records of a log say of each case: where it stands, what a child in doubt is told of it, and
+//! what a restart makes of it.
+//!
+//! ```text
+//! recorded     what the records of one case say, noted record by record: where it stands, and whom they name
+//! reading      one pass over the records of a log: the boot, and each case in order of its first record
+//! planning     what a restart appends, and what the log then says
+//! answers      what an inquiry gets, by where its case stands
+//! ```
+#![tactic(auto)]
+
+mod answers;
+pub mod law;
+mod planning;
+mod reading;
+mod recorded;
+
+pub use answers::{answer, presumed};
+pub use planning::{RestartPlan, plan};
+pub use reading::Reading;
+pub use recorded::{Recorded, Stage};

@@ -1,0 +1,190 @@
+//! What the records of one case say of it.
+
+ghost use Rattle.std.specs.Prelude.{◌≡◌, ◌++◌, IfOk, OnOk};
+ghost use Rattle.tree_model.specs.Records.{none_of as is_none_of};
+ghost use Rattle.tree_model.specs.Standings.{unless_none};
+ghost use Rattle.inquire_core.specs.Summaries.{decides, furthest, names, no_records, rank, standing_of, summary_after};
+
+use std::alloc::{AllocError, Global};
+use std::marker::Model;
+use tree_model::{Record, Standing, Ticket, Tickets};
+
+/// How far the records of a case have come.
+#[derive(Clone, Copy, PartialEq, Eq)]
+pub enum Stage {
+    /// There is none that says so.
+    Nothing,
+    /// Its votes are collected.
+    Collecting,
+    /// It promised.
+    Prepared,
+    /// It was aborted.
+    Aborted,
+    /// It was committed.
+    Committed,
+    /// Nobody owes an acknowledgement any more.
+    Ended,
+}
+
+/// What the records of a case say of it: how far they have come, the tickets that Prepare names, those that
+/// any of them names, and those that a decision names.
+#[derive(Drop)]
+pub struct Recorded {
+    stage: Stage,
+    promised: Vec<Ticket>,
+    named: Vec<Ticket>,
+    owing: Vec<Ticket>,
+}
+
+impl Model for Recorded {
+    ghost use Rattle.inquire_core.specs.Summaries.{Summary};
+
+    ghost Value = { Summary };
+
+    ghost view = { λ r. record { stage = r.stage; promised = r.promised.items; named = r.named.items; owing = r.owing.items } };
+}
+
+impl Stage {
+    fn rank(self) -> u8
+        ensures { result ≡ rank self }
+    {
+        match self {
+            Stage::Nothing => 0,
+            Stage::Collecting => 1,
+            Stage::Prepared => 2,
+            Stage::Aborted => 3,
+            Stage::Committed => 4,
+            Stage::Ended => 5,
+        }
+    }
+
+    /// The further of the two.
+    fn furthest(self, other: Stage) -> Stage
+        ensures { result ≡ furthest self other }
+    {
+        if self.rank() < other.rank() {
+            other
+        } else {
+            self
+        }
+    }
+}
+
+impl Recorded {
+    /// No records. It takes no memory.
+    pub(crate) fn nothing(alloc: Global) -> Recorded
+        ensures { result ≡ no_records }
+    {
+        Recorded {
+            stage: Stage::Nothing,
+            promised: Vec::new(alloc),
+            named: Vec::new(alloc),
+            owing: Vec::new(alloc),
+        }
+    }
+
+    /// One record more of the case.
+    pub(crate) fn note(&mut self, record: &Record) -> Result<(), AllocError>
+        ensures { OnOk result (self.new ≡ summary_after self.old record.now) }
+    {
+        match record {
+            Record::Collecting(_, tickets) => self.names(Stage::Collecting, tickets),
+            Record::Prepare(_, tickets) => self.promises(tickets),
+            Record::Commit(_, tickets) => self.decides(Stage::Committed, tickets),
+            Record::Abort(_, tickets) => self.decides(Stage::Aborted, tickets),
+            Record::End(_) => {
+                self.stage = self.stage.furthest(Stage::Ended);
+                Ok(())
+            }
+            _ => Ok(()),
+        }
+    }
+
+    /// A record of this stage, which names these.
+    fn names(&mut self, stage: Stage, tickets: &Tickets) -> Result<(), AllocError>
+        ensures { OnOk result (self.new ≡ names stage tickets.now self.old) }
+    {
+        self.named.extend_from_slice(tickets.as_slice())?;
+        self.stage = self.stage.furthest(stage);
+        Ok(())
+    }
+
+    /// A promise, which names these.
+    fn promises(&mut self, tickets: &Tickets) -> Result<(), AllocError>
+        ensures { OnOk result (self.new ≡ record (names Stage.Prepared tickets.now self.old) { promised = self.old.promised ++ tickets.now }) }
+    {
+        self.promised.extend_from_slice(tickets.as_slice())?;
+        self.names(Stage::Prepared, tickets)
+    }
+
+    /// A decision, which names these.
+    fn decides(&mut self, stage: Stage, tickets: &Tickets) -> Result<(), AllocError>
+        ensures { OnOk result (self.new ≡ decides stage tickets.now self.old) }
+    {
+        self.owing.extend_from_slice(tickets.as_slice())?;
+        self.names(stage, tickets)
+    }
+
+    /// Whether nobody owes an acknowledgement.
+    #[tactic(auto, unfolding(tree_model::specs::Records::none_of))]
+    fn owes_none(&self) -> bool
+        ensures { result ≡ is_none_of self.now.owing }
+    {
+        match self.owing.as_slice() {
+            [] => true,
+            [_, ..] => false,
+        }
+    }
+
+    /// Where the case stands.
+    pub fn standing(&self) -> Standing
+        ensures { result ≡ standing_of self.now }
+    {
+        match self.stage {
+            Stage::Nothing | Stage::Ended => Standing::Unknown,
+            Stage::Collecting => Standing::Collecting,
+            Stage::Prepared => Standing::Prepared,
+            Stage::Aborted => self.unless_none(Standing::Aborting),
+            Stage::Committed => self.unless_none(Standing::Committing),
+        }
+    }
+
+    /// The standing of a decided case, but Unknown where the decision names nobody.
+    fn unless_none(&self, standing: Standing) -> Standing
+        ensures { result ≡ unless_none (is_none_of self.now.owing) standing }
+    {
+        if self.owes_none() {
+            Standing::Unknown
+        } else {
+            standing
+        }
+    }
+
+    /// The tickets that its promise names.
+    pub fn promised(&self) -> &[Ticket]
+        ensures { result.now ≡ self.now.promised }
+    {
+        &self.promised
+    }
+
+    /// The tickets that any of its records names.
+    pub fn named(&self) -> &[Ticket]
+        ensures { result.now ≡ self.now.named }
+    {
+        &self.named
+    }
+
+    /// The tickets that its decision names.
+    pub fn owing(&self) -> &[Ticket]
+        ensures { result.now ≡ self.now.owing }
+    {
+        &self.owing
+    }
+
+    /// The tickets that any of its records names, as a list of its own.
+    pub(crate) fn named_again(&self, alloc: Global) -> Result<Tickets, AllocError>
+        ensures { IfOk result (λ tickets. tickets ≡ self.now.named) }
+    {
+        Ok(Tickets::from_vec(Vec::from_slice(alloc, &self.named)?))
+    }
+}

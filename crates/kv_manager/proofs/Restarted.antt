@@ -1,0 +1,70 @@
+-- A key store behind a restart is what a resource manager is then.
+use Rattle.std.proofs.Common.{◌≡◌, ◌∙◌, ℕ, List, [], ◌∷◌, ◌++◌, refl, sym, ap, subst}
+use Rattle.xa_xid.specs.declared.xid.Xid.{Xid}
+use Rattle.xa_states.specs.declared.states.States.{States}
+use Rattle.xa_states.specs.Answers.{Same}
+use Rattle.xa_states.proofs.Reactions.{stays}
+use Rattle.tree_model.specs.declared.records.LogRecord.{LogRecord}
+use Rattle.rec_log.specs.Sights.{LogState, RestartBreaks, Restarts as LogRestarts, left_by}
+use Rattle.core_model.specs.States.{forced_sight}
+use Rattle.manager_model.specs.Ends.{state_of}
+use Rattle.manager_model.specs.Restarting.{NotRestarted, RestartFails, Restarts, boot_record, next_boot}
+use Rattle.kv_manager.specs.declared.restart.RestartError.{RestartError}
+use Rattle.kv_manager.specs.declared.restart.RestartError.TheVariants.{Device, Exhausted, Memory, Unfit}
+use Rattle.kv_manager.specs.Resources.{seen_fault, sight_of}
+use Rattle.kv_manager.specs.Restarts.{NotRestarted as KvNotRestarted, RestartFails as KvFails, Restarted, opened}
+use Rattle.kv_manager.specs.Sights.{KvSight}
+use Rattle.kv_manager.proofs.Marks.{agrees_of, boot_next, writes_as}
+use Rattle.kv_manager.proofs.Resources.{same_sight}
+use Rattle.kv_manager.proofs.Restoring.{restored_state}
+
+-- a log that restarted, all of it forced
+log_of : (old new : LogState) (keep : ℕ) (rs : List LogRecord) → LogRestarts old new keep rs
+    → new.sight ≡ forced_sight (left_by old.sight keep ++ rs) old.sight.failures
+log_of old new keep rs made = λ i. record {
+  kept = record { forced = made.forced i; unforced = made.unforced i };
+  behind = made.behind i;
+  failed = made.works i;
+  failures = made.failures i;
+}
+
+pub restarted : (old new : KvSight) (keep : ℕ) (given : List Xid) → Restarted old new keep given → Restarts (sight_of old) (sight_of new) keep
+restarted old new keep given made =
+    let left = made.left in
+    let ls = left_by old.log.sight keep in
+    let boot : new.boot ≡ next_boot ls = boot_next ls left.seen new.boot left.read left.next in
+    record {
+      closed = left.tables.init;
+      states = λ x. restored_state left.seen new.store.tables x left.tables ∙ (agrees_of ls left.seen left.read).states x;
+      scans = left.tables.scans;
+      associations = left.tables.associations;
+      seats = left.tables.seats;
+      writes = λ x. left.promises x ∙ writes_as ls left.seen x left.read;
+      boot = boot;
+      log = log_of old.log new.log keep (opened new.boot ∷ []) made.log ∙ ap (λ n. forced_sight (ls ++ boot_record n ∷ []) old.log.sight.failures) boot;
+    }
+
+same_tables : (a b : States) → b ≡ a → Same a b
+same_tables a b is = subst (Same a) (sym is) (record { init = refl; branches = stays a.branches a.branches refl; associations = refl })
+
+broken : (old new : LogState) (keep : ℕ) (rs : List LogRecord) → RestartBreaks old new keep rs
+    → RestartBreaks (state_of old.sight) (state_of new.sight) keep rs
+broken old new keep rs b = record { kind = refl; either = b.either; failed = b.failed; cause = b.cause }
+
+fails : (old new : KvSight) (keep : ℕ) → KvFails old new keep → RestartFails (sight_of old) (sight_of new) keep
+fails old new keep made =
+    let ls = left_by old.log.sight keep in
+    let boot : made.next ≡ next_boot ls = boot_next ls made.comes.seen made.next made.comes.read made.comes.next in
+    record {
+      log = subst (λ n. RestartBreaks (state_of old.log.sight) (state_of new.log.sight) keep (boot_record n ∷ [])) boot
+          (broken old.log new.log keep (opened made.next ∷ []) made.log);
+      tables = same_tables old.store.tables new.store.tables (ap (λ s. s.tables) made.store);
+      boot = made.boot;
+    }
+
+pub not_restarted : (old new : KvSight) (keep : ℕ) (e : RestartError) → KvNotRestarted old new keep e
+    → NotRestarted (sight_of old) (sight_of new) keep (seen_fault e)
+not_restarted old new keep Device made = fails old new keep made
+not_restarted old new keep Memory made = same_sight old new made.1
+not_restarted old new keep Unfit made = same_sight old new made.1
+not_restarted old new keep Exhausted made = same_sight old new made.1

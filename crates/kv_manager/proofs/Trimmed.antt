@@ -1,0 +1,110 @@
+-- A manager behind a trim of its log.
+use Rattle.std.proofs.Common.{◌≡◌, ◌∙◌, ℕ, Bool, true, false, Option, List, [], ◌∷◌, ◌++◌, map, refl, sym, ap, subst}
+use Rattle.std.proofs.lemmas.List.{append-nil}
+use Rattle.std.specs.List.{AllByRecursion}
+use Rattle.xa_xid.specs.declared.xid.Xid.{Xid}
+use Rattle.tree_model.specs.declared.names.Kind.TheVariants.{Manager}
+use Rattle.tree_model.specs.declared.names.ProcessId.{ProcessId}
+use Rattle.tree_model.specs.declared.records.Branch.TheVariants.{Foreign}
+use Rattle.tree_model.specs.declared.records.LogRecord.{LogRecord}
+use Rattle.tree_model.specs.declared.records.Record.{Record}
+use Rattle.tree_model.specs.declared.records.Record.TheVariants.{Opened, Collecting, Prepare, Commit, Abort, End, Prepared, Committed, RolledBack, Direct, HeurCommit, HeurRollback, Told, Forgot, Base, Pair}
+use Rattle.tree_model.specs.Restarts.{is_open}
+use Rattle.tree_model.specs.Store.{base_records, pair_record, writes_of as promised_of}
+use Rattle.log_sound.specs.Sound.{IsSound, IsSoundEntry}
+use Rattle.rec_log.specs.Sights.{LogState, records_of}
+use Rattle.rec_log.specs.Trimming.{Trimmed}
+use Rattle.rec_log.specs.Trimming as rec_log
+use Rattle.kv_store.specs.Pairs.{keys_rise}
+use Rattle.kv_locks.specs.Locks.{LockTable}
+use Rattle.kv_store.specs.Versions.{VersionTable}
+use Rattle.kv_writes.specs.Writes.{WriteTable}
+use Rattle.kv_replay.specs.Folds.{AreData, data_of}
+use Rattle.kv_replay.specs.Replays.{Leaves}
+use Rattle.kv_replay.proofs.Lawful.{lawful_of}
+use Rattle.trim_law.specs.Keeping.{KeepsData, is_managers, trim_of, unnamed}
+use Rattle.trim_law.proofs.Trims.{trims_keep_data}
+use Rattle.manager_model.specs.Restarting.{mark_at}
+use Rattle.kv_manager.specs.Sights.{IsKept, IsLogged, KvSight, logged}
+use Rattle.kv_manager.proofs.Turns.{same_data}
+
+-- The records of a manager's log are of no coordinator's case.
+
+of_manager : (q : Option ProcessId) (r : Record) → IsSoundEntry Manager q r → is_managers r ≡ true
+of_manager q (Collecting c ts) h = absurd h.1
+of_manager q (Prepare c ts) h = absurd h.1
+of_manager q (Commit c ts) h = absurd h.1
+of_manager q (Abort c ts) h = absurd h.1
+of_manager q (End c) h = absurd h.1
+of_manager q (Opened n) h = refl
+of_manager q (Prepared b ws) h = refl
+of_manager q (Committed b) h = refl
+of_manager q (RolledBack b) h = refl
+of_manager q (Direct b ws) h = refl
+of_manager q (HeurCommit b) h = refl
+of_manager q (HeurRollback b) h = refl
+of_manager q (Told b o) h = refl
+of_manager q (Forgot b) h = refl
+of_manager q (Base n) h = refl
+of_manager q (Pair k v) h = refl
+
+all_of_manager : (ls : List LogRecord) → AllByRecursion (IsSound Manager) ls → AllByRecursion (λ l. is_managers l.entry ≡ true) ls
+all_of_manager [] h = tt
+all_of_manager (l ∷ ls) h = (of_manager l.parent l.entry h.0, all_of_manager ls h.1)
+
+-- The log.
+
+-- the frames behind what stays are those of the data
+abbrev pub AreOfData : KvSight → List LogRecord → Type 0
+AreOfData s rs = rs ≡ map unnamed (base_records (logged s))
+
+pairs_unnamed : (ps : List (List ℕ × List ℕ)) → map (λ p. unnamed (pair_record p)) ps ≡ map unnamed (map pair_record ps)
+pairs_unnamed [] = refl
+pairs_unnamed (p ∷ ps) = ap (λ rs. unnamed (pair_record p) ∷ rs) (pairs_unnamed ps)
+
+-- what a base and its pairs spell are the data, where their parts are
+pub of_data : (ls rs : List LogRecord) (v : VersionTable) (count : ℕ) (ps : List (List ℕ × List ℕ)) → AreData v (data_of ls)
+    → count ≡ v.count → ps ≡ (data_of ls).pairs → rs ≡ unnamed (Base count) ∷ map (λ p. unnamed (pair_record p)) ps
+    → rs ≡ map unnamed (base_records (data_of ls))
+of_data ls rs v count ps are counted is made =
+    made ∙ (λ i. unnamed (Base ((counted ∙ are.count) i)) ∷ map (λ p. unnamed (pair_record p)) (is i))
+    ∙ ap (λ ks. unnamed (Base (data_of ls).count) ∷ ks) (pairs_unnamed (data_of ls).pairs)
+
+-- the keys of the data rise where records leave a manager
+pub rise_left : (ls : List LogRecord) (boot : Option ℕ) (left : List (Xid × Bool)) (versions : VersionTable) (writes : WriteTable)
+    (locks : LockTable) → Leaves ls boot left versions writes locks → keys_rise (data_of ls).pairs ≡ true
+rise_left ls boot left versions writes locks leaves = (lawful_of ls leaves.seen leaves.read).tied.rise
+
+records_behind : (s : KvSight) (log : LogState) (rs : List LogRecord) (n : ℕ) → AreOfData s rs → Trimmed s.log log rs n
+    → records_of log.sight.kept ≡ trim_of (records_of s.log.sight.kept)
+records_behind s log rs n of made =
+    ap (λ us. log.sight.kept.forced ++ us) made.log.unforced ∙ append-nil log.sight.kept.forced ∙ made.log.forced
+    ∙ ap (rec_log.trim_of s.log) of
+
+-- the data of the log stand behind a trim, and so do the branches that are prepared
+pub kept_trimmed : (s : KvSight) (log : LogState) (rs : List LogRecord) (n : ℕ) → IsKept s → s.log.sight.failed ≡ false
+    → AllByRecursion (IsSound Manager) (records_of s.log.sight.kept) → AreOfData s rs → Trimmed s.log log rs n
+    → IsKept (record s { log = log })
+kept_trimmed s log rs n kept works sound of made = record {
+  kind = made.log.kind ∙ kept.kind;
+  stands = λ _. record {
+    are_data = subst (λ ks. AreData s.store.versions (data_of ks)) (sym is)
+        (same_data s.store.versions (data_of ls) (data_of (trim_of ls)) keeps.count keeps.pairs stands.are_data);
+    rise = ap (λ ks. keys_rise (data_of ks).pairs) is ∙ ap keys_rise keeps.pairs ∙ stands.rise;
+    promises = λ x here. stands.promises x here ∙ sym (keeps.promises x (ap is_open (stands.marked x here)))
+        ∙ sym (ap (λ ks. promised_of (Foreign x) (data_of ks).promised) is);
+    marked = λ x here. ap (λ ks. mark_at ks x) is ∙ keeps.marks x (ap is_open (stands.marked x here)) ∙ stands.marked x here;
+  };
+}
+  where
+    ls : List LogRecord
+    ls = records_of s.log.sight.kept
+
+    is : records_of log.sight.kept ≡ trim_of ls
+    is = records_behind s log rs n of made
+
+    stands : IsLogged s
+    stands = kept.stands works
+
+    keeps : KeepsData ls (trim_of ls)
+    keeps = trims_keep_data ls (all_of_manager ls sound) stands.rise

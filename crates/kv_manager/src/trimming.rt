@@ -1,0 +1,65 @@
+//! A manager's trim.
+
+ghost use Rattle.std.specs.Prelude.{◌≡◌, IfErr, IfOk, map};
+ghost use Rattle.tree_model.specs.declared.names.Kind.TheVariants as kind;
+ghost use Rattle.tree_model.specs.Store.{base_records};
+ghost use Rattle.log_text.specs.Made.{frame_record};
+ghost use Rattle.rec_log.specs.Sights.{AreRecords, records_of};
+ghost use Rattle.trim_law.specs.Keeping.{unnamed};
+ghost use Rattle.kv_replay.specs.Folds.{data_of};
+ghost use Rattle.kv_manager.specs.Resources.{sight_of, trim_error};
+ghost use Rattle.manager_model.specs.Trimming.{NotTrimmed, Trims};
+
+use crate::manager::KvManager;
+use kv_pairs::{base_frames, pairs_of};
+use kv_replay::replay;
+use log_store::LogStore;
+use log_text::Frame;
+use manager_model::TrimError;
+use rec_log::LogError;
+use std::alloc::AllocError;
+
+/// Why a manager's log was not trimmed, where it was not written.
+fn trim_error(error: LogError) -> TrimError
+    ensures { result ≡ trim_error error }
+{
+    match error {
+        LogError::Memory => TrimError::Memory,
+        LogError::Device => TrimError::Device,
+    }
+}
+
+impl<L: LogStore> KvManager<L> {
+    /// The frames of the data that the log's records make, keys rising. It also gives none where the records leave no
+    /// manager.
+    fn data_frames(&self) -> Result<Vec<Frame>, AllocError>
+        ensures frames { IfOk result (λ frames. map frame_record frames.items
+            ≡ map unnamed (base_records (data_of (records_of self.now.log.sight.kept)))) }
+        ensures sound { IfOk result (λ frames. AreRecords kind.Manager (map frame_record frames.items)) }
+    {
+        let records = self.records()?;
+        let Ok(replayed) = replay(self.records()?, self.alloc) else {
+            return Err(AllocError);
+        };
+        let pairs = pairs_of(&records, &replayed.data, self.alloc)?;
+        base_frames(replayed.data.count(), &pairs, self.alloc)
+    }
+
+    /// Trims its log: the last Opened and the records of the branches that are not forgotten stay, and behind them the data,
+    /// keys rising, forced by one write. Gives how many records remain. Failed, Memory: nothing changed. Device: the log
+    /// stands as it was or trimmed, and the manager has failed until a restart.
+    pub fn trim(&mut self) -> Result<usize, TrimError>
+        ensures ok { IfOk result (Trims (sight_of self.old) (sight_of self.new)) }
+        ensures err { IfErr result (NotTrimmed (sight_of self.old) (sight_of self.new)) }
+    {
+        if self.has_failed() {
+            return Err(TrimError::Failed);
+        }
+        let frames = self.data_frames()?;
+        self.records_are_sound();
+        match self.log.trim(&frames, self.alloc) {
+            Ok(count) => Ok(count),
+            Err(error) => Err(trim_error(error)),
+        }
+    }
+}

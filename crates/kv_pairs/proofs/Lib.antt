@@ -1,0 +1,5 @@
+pub mod Ordered
+pub mod Named
+pub mod Spelt
+pub mod Sorted
+pub mod KeysIn

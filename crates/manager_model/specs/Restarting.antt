@@ -1,0 +1,101 @@
+-- A manager behind a crash: what the records say that are left of its log.
+use Rattle.std.specs.Prelude.{◌≡◌, ◌+◌, ℕ, Option, Some, None, List, [], ◌∷◌, ◌++◌, map}
+use Rattle.xa_tables.specs.declared.states.BranchState.{BranchState}
+use Rattle.xa_tables.specs.declared.states.BranchState.TheVariants.{S0, S3, S5}
+use Rattle.xa_tables.specs.declared.states.InitState.TheVariants.{R0}
+use Rattle.xa_xid.specs.declared.xid.Xid.{Xid}
+use Rattle.xa_assoc.specs.Associations.{IsBare}
+use Rattle.xa_states.specs.Answers.{Same, state_at}
+use Rattle.tree_model.specs.declared.names.ProcessId.{ProcessId}
+use Rattle.tree_model.specs.declared.records.Branch.{Branch}
+use Rattle.tree_model.specs.declared.records.Branch.TheVariants.{Foreign}
+use Rattle.tree_model.specs.declared.records.LogRecord.{LogRecord}
+use Rattle.tree_model.specs.declared.records.Record.{Record}
+use Rattle.tree_model.specs.declared.records.Record.TheVariants.{Opened}
+use Rattle.tree_model.specs.declared.records.Write.{Write}
+use Rattle.tree_model.specs.LogNames.{name_xid, renamed}
+use Rattle.tree_model.specs.Records.{boot_of, record_branch}
+use Rattle.tree_model.specs.Standings.{Mark, Unmarked, Promised, Decided, ToldOf, Finished, mark_of}
+use Rattle.tree_model.specs.Store.{Data, stored, writes_of}
+use Rattle.rec_log.specs.Sights.{RestartBreaks, left_by}
+use Rattle.core_model.specs.States.{forced_sight}
+use Rattle.manager_model.specs.Sights.{ManagerSight, SameManager}
+use Rattle.manager_model.specs.Ends.{state_of}
+use Rattle.manager_model.specs.declared.errors.RestartError.{RestartError}
+use Rattle.manager_model.specs.declared.errors.RestartError.TheVariants.{Memory, Device}
+
+-- What records say of a branch, by its XID.
+
+-- a record whose branch is named by its XID; one without a branch stays
+abbrev pub renamed_by : Option ProcessId → Option Branch → Record → Record
+renamed_by p None r = r
+renamed_by p (Some b) r = renamed (Foreign (name_xid p b)) r
+
+-- a record of a log, its branch named by its XID: so a branch is the same whoever reads the log
+abbrev pub by_xid : LogRecord → Record
+by_xid l = renamed_by l.parent (record_branch l.entry) l.entry
+
+-- what the last record of a branch says
+abbrev pub mark_at : List LogRecord → Xid → Mark
+mark_at ls x = mark_of (Foreign x) (map by_xid ls)
+
+-- the data that the records make
+abbrev pub data_in : List LogRecord → Data
+data_in ls = stored (map by_xid ls)
+
+-- the state of a branch by what its last record says: prepared, or decided by an operator, else gone
+abbrev pub marked_state : Mark → BranchState
+marked_state Promised = S3
+marked_state Decided = S5
+marked_state (ToldOf o) = S5
+marked_state Unmarked = S0
+marked_state Finished = S0
+
+-- a branch that promised has the writes that it promised, and no other has any
+abbrev pub marked_writes : Mark → List Write → List Write
+marked_writes Promised ws = ws
+marked_writes _ ws = []
+
+-- what a branch has written by these records
+abbrev pub writes_left : List LogRecord → Xid → List Write
+writes_left ls x = marked_writes (mark_at ls x) (writes_of (Foreign x) (data_in ls).promised)
+
+-- the boot behind those of these records
+abbrev pub next_boot : List LogRecord → ℕ
+next_boot ls = boot_of (map (λ l. l.entry) ls) + 1
+
+-- the record of a boot
+abbrev pub boot_record : ℕ → LogRecord
+boot_record n = record { entry = Opened n; parent = None }
+
+-- these records with that of the next boot
+abbrev pub with_boot : List LogRecord → List LogRecord
+with_boot ls = ls ++ boot_record (next_boot ls) ∷ []
+
+-- Restart.
+
+-- a manager restarted, after a crash that kept so many unforced bytes: it is not open, each branch is as the
+-- records that are left say, without associations and scans, and its log is these records and the next boot,
+-- all forced
+pub record Restarts (old new : ManagerSight) (keep : ℕ) : Type 0 where
+  pub closed : new.tables.init ≡ R0
+  pub states : (x : Xid) → state_at new.tables x ≡ marked_state (mark_at (left_by old.log keep) x)
+  pub scans : new.tables.branches.scans ≡ []
+  pub associations : IsBare new.tables.associations
+  pub seats : new.tables.associations.seats ≡ []
+  pub writes : (x : Xid) → new.writes x ≡ writes_left (left_by old.log keep) x
+  pub boot : new.boot ≡ next_boot (left_by old.log keep)
+  pub log : new.log ≡ forced_sight (with_boot (left_by old.log keep)) old.log.failures
+
+-- the device failed under a restart: it left the log as such a failure does, with the record of the next boot
+-- or without; and nothing else changed
+pub record RestartFails (old new : ManagerSight) (keep : ℕ) : Type 0 where
+  pub log : RestartBreaks (state_of old.log) (state_of new.log) keep
+      (boot_record (next_boot (left_by old.log keep)) ∷ [])
+  pub tables : Same old.tables new.tables
+  pub boot : new.boot ≡ old.boot
+
+-- why a manager did not restart, and what that leaves
+abbrev pub NotRestarted : ManagerSight → ManagerSight → ℕ → RestartError → Type 0
+NotRestarted old new keep Memory = SameManager old new
+NotRestarted old new keep Device = RestartFails old new keep

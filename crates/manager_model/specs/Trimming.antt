@@ -1,0 +1,47 @@
+-- A trim of a manager's log.
+use Rattle.std.specs.Prelude.{◌≡◌, ◌<◌, ◌⊎◌, ℕ, true, List, [], ◌++◌, length, map, None}
+use Rattle.xa_states.specs.Answers.{Same}
+use Rattle.tree_model.specs.declared.records.LogRecord.{LogRecord}
+use Rattle.tree_model.specs.declared.records.Record.{Record}
+use Rattle.tree_model.specs.Store.{base_records}
+use Rattle.log_trim.specs.Trims.{front_of_trim}
+use Rattle.rec_log.specs.Sights.{LogSight, records_of}
+use Rattle.core_model.specs.States.{forced_sight}
+use Rattle.manager_model.specs.Sights.{ManagerSight, SameData, SameManager}
+use Rattle.manager_model.specs.Restarting.{data_in}
+use Rattle.manager_model.specs.declared.errors.TrimError.{TrimError}
+use Rattle.manager_model.specs.declared.errors.TrimError.TheVariants.{Memory, Device, Failed}
+
+-- a record of no branch, as a log holds it
+abbrev pub unnamed : Record → LogRecord
+unnamed r = record { entry = r; parent = None }
+
+-- the log that a trim leaves: what stays of its records, and the data behind them as a base and its pairs,
+-- keys rising
+abbrev pub trimmed : LogSight → List LogRecord
+trimmed s = front_of_trim (records_of s.kept) ++ map unnamed (base_records (data_in (records_of s.kept)))
+
+-- the log was trimmed, all of it forced, and nothing else moved; so many records remain
+pub record Trims (old new : ManagerSight) (remain : ℕ) : Type 0 where
+  pub log : new.log ≡ forced_sight (trimmed old.log) old.log.failures
+  pub counts : remain ≡ length (trimmed old.log)
+  pub tables : Same old.tables new.tables
+  pub boot : new.boot ≡ old.boot
+  pub spent : new.spent ≡ old.spent
+  pub rest : SameData old new
+
+-- the device failed in a trim: the old records stand, with their forced front, or the trimmed ones, all
+-- forced
+pub record TrimFails (old new : ManagerSight) : Type 0 where
+  pub either : (new.log.kept ≡ old.log.kept)
+      ⊎ (new.log.kept ≡ record { forced = trimmed old.log; unforced = [] })
+  pub failed : new.log.failed ≡ true
+  pub cause : old.log.failures < new.log.failures
+  pub tables : Same old.tables new.tables
+  pub boot : new.boot ≡ old.boot
+
+-- why a manager's log was not trimmed, and what that leaves
+abbrev pub NotTrimmed : ManagerSight → ManagerSight → TrimError → Type 0
+NotTrimmed old new Memory = SameManager old new
+NotTrimmed old new Device = TrimFails old new
+NotTrimmed old new Failed = SameManager old new × (old.log.failed ≡ true)

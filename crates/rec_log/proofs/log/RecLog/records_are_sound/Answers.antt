@@ -1,0 +1,15 @@
+use Rattle.std.proofs.Common.{◌∙◌, ap, subst, sym}
+use Rattle.std.specs.List.{AllByRecursion}
+use Rattle.log_sound.specs.Sound.{IsSound}
+use Rattle.rec_log.specs.Texts.{records_in}
+use Rattle.rec_log.specs.Sights.{body, records_of}
+use Rattle.rec_log.proofs.Turns.{records_stand}
+use Rattle.rec_log.proofs.log.RecLog.records_are_sound.Goals as goal
+
+pub returns : goal.returns
+returns g c =
+    let is = ap (records_in c.self.inside.kind 0) (c.body.ensures ∙ ap body c.bytes.ensures)
+    ∙ sym (records_stand c.self.inside.kind (g.L.LogStore.bytes c.self.inside.store)
+    (g.L.LogStore.forced c.self.inside.store)) in
+    subst (λ s. AllByRecursion (IsSound s.kind) (records_of s.sight.kept)) c.self.view_is
+    (subst (AllByRecursion (IsSound c.self.inside.kind)) is c.are_sound.ensures)

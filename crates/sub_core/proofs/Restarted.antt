@@ -1,0 +1,157 @@
+-- A subordinate behind a restart.
+use Rattle.std.proofs.Common.{◌≡◌, ◌∙◌, ◌+◌, ◌∷◌, ◌++◌, [], ℕ, true, false, List, Some, None, refl, sym, ap, subst, arith}
+use Rattle.xa_codes.specs.declared.code.Code.{Code}
+use Rattle.xa_tables.specs.declared.states.BranchState.{BranchState}
+use Rattle.xa_xid.specs.declared.xid.Xid.{Xid}
+use Rattle.xa_branch.specs.Branches.{BranchList, state_in}
+use Rattle.xa_states.specs.Answers.{Opens, state_at}
+use Rattle.tree_model.specs.declared.names.Case.{Case}
+use Rattle.tree_model.specs.declared.messages.Envelope.{Envelope}
+use Rattle.tree_model.specs.declared.records.Branch.TheVariants.{Case as CaseBranch}
+use Rattle.tree_model.specs.declared.records.LogRecord.{LogRecord}
+use Rattle.tree_model.specs.declared.records.Record.{Record}
+use Rattle.tree_model.specs.declared.records.Record.TheVariants.{Opened}
+use Rattle.tree_model.specs.declared.records.RecordKind.TheVariants as kind
+use Rattle.tree_model.specs.declared.records.Subject.TheVariants as subject
+use Rattle.tree_model.specs.declared.events.Reaction.{Reaction}
+use Rattle.tree_model.specs.declared.events.StepError.TheVariants as error
+use Rattle.tree_model.specs.LogNames.{below_of, name_xid, own_records}
+use Rattle.tree_model.specs.Branches.{branch_parts}
+use Rattle.tree_model.specs.Records.{boot_of}
+use Rattle.tree_model.specs.Restarts.{recorded_branch}
+use Rattle.tree_model.specs.Standings.{unknown_view}
+use Rattle.log_text.specs.Parts.{name_in}
+use Rattle.rec_log.specs.Sights.{RestartBreaks, left_by}
+use Rattle.core_model.specs.States.{forced_sight}
+use Rattle.core_model.specs.Restarting.{NotRestarted, Restarts, restarted_log}
+use Rattle.core_model.proofs.Alike.{same_view}
+use Rattle.manager_model.specs.Ends.{state_of}
+use Rattle.manager_model.specs.Restarting.{RestartFails, Restarts as ManagerRestarts, boot_record, mark_at, marked_state, next_boot}
+use Rattle.manager_model.specs.Sights.{Calls, ManagerSight}
+use Rattle.sub_deeds.specs.Deeds.{IsIdle}
+use Rattle.sub_deeds.proofs.Quiet.{same_idle}
+use Rattle.sub_restart.specs.declared.rebuilt.Rebuilt.{Rebuilt}
+use Rattle.sub_restart.specs.Rebuilt.{IsInDoubt, Rebuilds, leaf}
+use Rattle.sub_restart.proofs.Booting.{boot_branch, boot_last, boot_read, boot_resumes}
+use Rattle.sub_restart.proofs.Marks.{boots_alike, marks_alike}
+use Rattle.sub_table.specs.declared.branch.Branch.{Branch}
+use Rattle.sub_core.specs.Subordinates.{IsGiven, IsNamed, IsTied, SubState, core_of, stage_state}
+use Rattle.sub_core.proofs.Joins.{is_real}
+use Rattle.sub_core.proofs.Opened.{bare_quiet}
+use Rattle.sub_core.proofs.Ties.{behind, still_tied}
+
+-- the reaction of a restart
+abbrev pub shown_restart : ℕ → List Envelope → Reaction
+shown_restart boot messages =
+    record {
+      begun = None;
+      written = record { kind = kind.Opened; subject = subject.Boot boot; forced = true } ∷ [];
+      told = None;
+      messages = messages;
+      kept = None;
+    }
+
+module _ (s : SubState) (keep : ℕ) (r : Rebuilt) (mid m : ManagerSight) (refuses : Code → Type 0) (answer : Code)
+    (made : Rebuilds (leaf s.me s.parent s.tree) s.parent (left_by s.manager.log keep) r) (restarts : ManagerRestarts s.manager mid keep)
+    (calls : Calls mid m (refuses answer) (λ old new. Opens old new 0 false answer)) where
+  abbrev ls : List LogRecord
+  ls = left_by s.manager.log keep
+
+  abbrev rs : List Record
+  rs = own_records (leaf s.me s.parent s.tree) (left_by s.manager.log keep)
+
+  -- the subordinate behind it
+  abbrev pub reopened : SubState
+  reopened = record { me = s.me; parent = s.parent; tree = s.tree; given = 0; table = r.branches; manager = m }
+
+  up : mid.log.failed ≡ false
+  up = ap (λ l. l.failed) restarts.log
+
+  boots : next_boot (left_by s.manager.log keep) ≡ boot_of (own_records (leaf s.me s.parent s.tree) (left_by s.manager.log keep)) + 1
+  boots = ap (λ n. n + 1) (sym (boots_alike s.me s.parent s.tree (left_by s.manager.log keep)))
+
+  boot_is : m.boot ≡ boot_of (own_records (leaf s.me s.parent s.tree) (left_by s.manager.log keep)) + 1
+  boot_is = calls.boot ∙ restarts.boot ∙ boots
+
+  idle : IsIdle m
+  idle = let o = calls.works up in record {
+    opened = o.init;
+    quiet = bare_quiet m.tables.associations (o.anew restarts.closed).0 (o.anew restarts.closed).1;
+  }
+
+  states : (x : Xid) → state_at m.tables x ≡ state_at mid.tables x
+  states x = ap (λ (bs : BranchList). state_in bs.branches x) (calls.works up).branches
+
+  named : (c : Case) (b : Branch) → IsInDoubt (leaf s.me s.parent s.tree) s.parent rs r.boot c b → IsNamed s.parent c b.xid
+  named c b d =
+      let is : b.xid ≡ name_xid (Some s.parent) (CaseBranch c) = ap (λ (v : Branch). v.xid) d.kept in
+      record {
+        is = is;
+        reads = ap name_in is ∙ d.own.reads;
+        real = λ e. is_real c.txn (Some (s.parent, d.own.given.ticket))
+            (ap (λ t. branch_parts c.txn (below_of t (Some s.parent))) (sym d.own.given.has) ∙ sym is ∙ e);
+      }
+
+  stands : (c : Case) (b : Branch) → IsInDoubt (leaf s.me s.parent s.tree) s.parent rs r.boot c b → state_at m.tables b.xid ≡ stage_state b.stage
+  stands c b d =
+      states b.xid ∙ restarts.states b.xid
+      ∙ ap (λ (x : Xid). marked_state (mark_at (left_by s.manager.log keep) x)) (ap (λ (v : Branch). v.xid) d.kept)
+      ∙ ap marked_state (marks_alike s.me s.parent s.tree c d.own.own d.own.reads (left_by s.manager.log keep) made.reads ∙ d.promised)
+      ∙ ap (λ (v : Branch). stage_state v.stage) (sym d.kept)
+
+  given_by : (c : Case) (b : Branch) → IsInDoubt (leaf s.me s.parent s.tree) s.parent rs r.boot c b → IsGiven reopened c
+  given_by c b d = record {
+    ticket = d.own.given.ticket;
+    has = d.own.given.has;
+    before = λ e.
+        let within = d.own.given.within in
+        let last = made.boot in
+        let now = boot_is in
+        absurd (omega arith);
+  }
+
+  pub reopened_tied : IsTied reopened
+  reopened_tied = record {
+    idle = idle;
+    named = λ c b e. named c b (made.live c b e);
+    stands = λ c b e. stands c b (made.live c b e);
+    given_before = λ c b e. given_by c b (made.live c b e);
+  }
+
+  log_is : m.log ≡ forced_sight (restarted_log (core_of s) keep) s.manager.log.failures
+  log_is = calls.log ∙ restarts.log
+      ∙ ap (λ n. forced_sight (left_by s.manager.log keep ++ boot_record n ∷ []) s.manager.log.failures) boots
+
+  read : own_records (leaf s.me s.parent s.tree) (restarted_log (core_of s) keep) ≡ rs ++ Opened (boot_of rs + 1) ∷ []
+  read = boot_read s.me s.parent s.tree (left_by s.manager.log keep) (boot_of rs + 1)
+
+  pub restarted : Restarts (core_of s) keep (core_of reopened) (shown_restart (r.boot + 1) r.messages)
+  restarted = record {
+    place = refl;
+    log = log_is;
+    read = record {
+      boot = boot_is ∙ sym (boot_last rs (boot_of rs + 1)) ∙ ap boot_of (sym read);
+      begun = refl;
+      given = refl;
+      tickets = made.tickets;
+      views = λ c. same_view unknown_view;
+      branches = λ c. made.views c ∙ sym (boot_branch rs (boot_of rs + 1) c) ∙ ap (λ ks. recorded_branch ks c) (sym read);
+    };
+    shown = ap (λ n. shown_restart n r.messages) (ap (λ n. n + 1) made.boot)
+        ∙ ap (shown_restart (boot_of rs + 1)) (made.messages ∙ sym (boot_resumes s.me s.parent rs (boot_of rs + 1)));
+  }
+
+-- The device failed.
+
+pub broken_tied : (s : SubState) (m : ManagerSight) (keep : ℕ) → IsTied s → RestartFails s.manager m keep → IsTied (behind s s.table m)
+broken_tied s m keep tied fails =
+    still_tied s m tied (same_idle s.manager m fails.tables tied.idle)
+    (λ y. ap (λ (bs : List (Xid × BranchState)). state_in bs y) fails.tables.branches.branches) fails.boot
+
+pub broken : (s : SubState) (m : ManagerSight) (keep : ℕ) → RestartFails s.manager m keep
+    → NotRestarted (core_of s) keep (core_of (behind s s.table m)) error.Device
+broken s m keep fails = (
+  subst (λ n. RestartBreaks (state_of s.manager.log) (state_of m.log) keep (boot_record n ∷ []))
+      (ap (λ n. n + 1) (sym (boots_alike s.me s.parent s.tree (left_by s.manager.log keep)))) fails.log,
+  refl,
+)

@@ -1,0 +1,63 @@
+use Rattle.std.proofs.Common.{ℕ, Result, sym, subst}
+use Rattle.std.specs.Prelude.{IfErr, IfOk}
+use Rattle.tree_model.specs.declared.events.StepError.{StepError}
+use Rattle.tree_model.specs.declared.events.StepError.TheVariants as error
+use Rattle.core_model.specs.Restarting.{NotTrimmed, Trims}
+use Rattle.manager_model.specs.Sights.{ManagerSight}
+use Rattle.manager_model.specs.declared.errors.TrimError.TheVariants as trim_error
+use Rattle.manager_model.specs.Trimming.{NotTrimmed as NotTrimmedBy}
+use Rattle.sub_core.specs.Subordinates.{SubState, core_of}
+use Rattle.sub_core.specs.Steps.{state}
+use Rattle.sub_core.proofs.Ties.{behind}
+use Rattle.sub_core.proofs.Trimmed.{not_trimmed, trims}
+use Rattle.sub_core.proofs.subordinate.Subordinate.trim.Goals as goal
+use Rattle.sub_core.proofs.subordinate.Subordinate.trim.Goals.{in-Ok, in-Err-Memory, in-Err-Device, in-Err-Failed}
+
+pub returns-clause-ok : goal.returns-clause-ok
+returns-clause-ok g c =
+    let s : SubState = record {
+      me = c.self.inside.me;
+      parent = c.self.inside.parent;
+      tree = c.self.inside.tree;
+      given = c.self.inside.given;
+      table = c.self.inside.branches;
+      manager = g.M.ResourceManager.sight c.self.inside.manager;
+    } in
+    let m : ManagerSight = g.M.ResourceManager.sight c.trim.new.self in
+    let P : Result ℕ StepError → Type 0 = λ r. IfOk r (Trims (state g.M.ResourceManager.sight c.args.self.now) (core_of (behind s s.table m))) in
+    elim c.match-trim.branch [
+      | in-Ok w ↦ subst P (sym w.result-is)
+          (subst (λ v. Trims (state g.M.ResourceManager.sight v) (core_of (behind s s.table m)) w.in-Ok.count) c.self.view_is
+          (trims s m c.records_are_sound.ensures w.in-Ok.count w.in-Ok.ensures.ok))
+      | in-Err-Memory w ↦ subst P (sym w.result-is) tt
+      | in-Err-Device w ↦ subst P (sym w.result-is) tt
+      | in-Err-Failed w ↦ subst P (sym w.result-is) tt
+    ]
+
+pub returns-clause-err : goal.returns-clause-err
+returns-clause-err g c =
+    let s : SubState = record {
+      me = c.self.inside.me;
+      parent = c.self.inside.parent;
+      tree = c.self.inside.tree;
+      given = c.self.inside.given;
+      table = c.self.inside.branches;
+      manager = g.M.ResourceManager.sight c.self.inside.manager;
+    } in
+    let m : ManagerSight = g.M.ResourceManager.sight c.trim.new.self in
+    let P : Result ℕ StepError → Type 0 = λ r. IfErr r (NotTrimmed (state g.M.ResourceManager.sight c.args.self.now) (core_of (behind s s.table m))) in
+    elim c.match-trim.branch [
+      | in-Ok w ↦ subst P (sym w.result-is) tt
+      | in-Err-Memory w ↦ subst P (sym w.result-is)
+          (subst (λ v. NotTrimmed (state g.M.ResourceManager.sight v) (core_of (behind s s.table m)) error.Memory) c.self.view_is
+          (not_trimmed s m c.records_are_sound.ensures trim_error.Memory
+          (subst (λ e. NotTrimmedBy s.manager m e) w.in-Err-Memory.field-0-is w.in-Err-Memory.ensures.err)))
+      | in-Err-Device w ↦ subst P (sym w.result-is)
+          (subst (λ v. NotTrimmed (state g.M.ResourceManager.sight v) (core_of (behind s s.table m)) error.Device) c.self.view_is
+          (not_trimmed s m c.records_are_sound.ensures trim_error.Device
+          (subst (λ e. NotTrimmedBy s.manager m e) w.in-Err-Device.field-0-is w.in-Err-Device.ensures.err)))
+      | in-Err-Failed w ↦ subst P (sym w.result-is)
+          (subst (λ v. NotTrimmed (state g.M.ResourceManager.sight v) (core_of (behind s s.table m)) error.Failed) c.self.view_is
+          (not_trimmed s m c.records_are_sound.ensures trim_error.Failed
+          (subst (λ e. NotTrimmedBy s.manager m e) w.in-Err-Failed.field-0-is w.in-Err-Failed.ensures.err)))
+    ]

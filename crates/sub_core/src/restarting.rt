@@ -1,0 +1,94 @@
+//! Restart: what a crash left of the log stands, and the cases in doubt ask for their outcomes. And trim.
+
+ghost use Rattle.std.specs.Prelude.{◌≡◌, ◌∷◌, [], true, IfErr, IfOk, OnOk};
+ghost use Rattle.core_model.specs.Restarting.{NotRestarted, NotTrimmed, Restarts, Trims};
+ghost use Rattle.rec_log.specs.Sights.{left_by};
+ghost use Rattle.sub_restart.specs.Rebuilt.{Rebuilds, leaf};
+ghost use Rattle.sub_core.specs.Subordinates.{seen};
+ghost use Rattle.sub_core.specs.Steps.{LeavesPromises, state};
+ghost use Rattle.tree_model.specs.declared.records.RecordKind.TheVariants as kind;
+ghost use Rattle.tree_model.specs.declared.records.Subject.TheVariants as subject;
+
+use crate::subordinate::Subordinate;
+use manager_model::{ResourceManager, RestartError, TrimError};
+use std::alloc::{AllocError, Global};
+use sub_restart::{Rebuilt, rebuild};
+use tree_model::{Logged, Reaction, RecordKind, Sequence, StepError, Subject};
+use xa_codes::Flags;
+
+/// The record of a boot, as a reaction shows it.
+fn opened(boot: u64, alloc: Global) -> Result<Sequence<Logged>, AllocError>
+    ensures { IfOk result (λ written. written ≡ record { kind = kind.Opened; subject = subject.Boot boot; forced = true } ∷ []) }
+{
+    let mut written = Sequence::new(alloc);
+    written.push(Logged {
+        kind: RecordKind::Opened,
+        subject: Subject::Boot(boot),
+        forced: true,
+    })?;
+    Ok(written)
+}
+
+impl<M: ResourceManager> Subordinate<M> {
+    /// What the records leave that a crash would leave. Memory: also where no run makes such records.
+    fn rebuilt(&self, keep: usize) -> Result<Rebuilt, StepError>
+        ensures ok { IfOk result (Rebuilds (leaf self.now.me self.now.parent self.now.tree) self.now.parent
+            (left_by (M.sight self.now.manager).log keep)) }
+        ensures err { IfErr result (λ e. e ≡ StepError.Memory) }
+    {
+        let records = self.manager.left(keep)?;
+        match rebuild(self.me, self.parent, &self.tree, &records, self.alloc) {
+            Ok(rebuilt) => Ok(rebuilt),
+            Err(_) => Err(StepError::Memory),
+        }
+    }
+
+    /// Restarts behind a crash that keeps so many of the log's unforced bytes: each case in doubt asks for its outcome. All
+    /// memory is taken before the crash. Memory: nothing changed, also where the records that are left are none that a run
+    /// makes: those of no manager, or with a ticket of a boot to come, or of a case that an operator decided. Device: it has
+    /// failed until it is restarted.
+    pub fn restart(&mut self, keep: usize) -> Result<Reaction, StepError>
+        ensures ok { IfOk result (Restarts (state M.sight self.old) keep (state M.sight self.new)) }
+        ensures writes { OnOk result (LeavesPromises (seen M.sight self.old) keep (seen M.sight self.new)) }
+        ensures err { IfErr result (NotRestarted (state M.sight self.old) keep (state M.sight self.new)) }
+    {
+        let Rebuilt {
+            branches,
+            messages,
+            boot,
+        } = self.rebuilt(keep)?;
+        let written = opened(boot + 1, self.alloc)?;
+        match self.manager.restart(keep) {
+            Ok(()) => {
+                let _ = self.manager.open(Flags::TMNOFLAGS, false);
+                self.branches = branches;
+                self.given = 0;
+                Ok(Reaction {
+                    begun: None,
+                    written,
+                    told: None,
+                    messages,
+                    kept: None,
+                })
+            }
+            Err(RestartError::Memory) => Err(StepError::Memory),
+            Err(RestartError::Device) => Err(StepError::Device),
+        }
+    }
+
+    /// Trims its log: the last Opened and the records of the cases that are not forgotten stay, and behind them the manager's
+    /// data, forced by one write. Gives how many records remain. Failed, Memory: nothing changed. Device: the log stands as it
+    /// was or trimmed, and it has failed until it is restarted.
+    pub fn trim(&mut self) -> Result<u64, StepError>
+        ensures ok { IfOk result (Trims (state M.sight self.old) (state M.sight self.new)) }
+        ensures err { IfErr result (NotTrimmed (state M.sight self.old) (state M.sight self.new)) }
+    {
+        self.manager.records_are_sound();
+        match self.manager.trim() {
+            Ok(count) => Ok(count as u64),
+            Err(TrimError::Memory) => Err(StepError::Memory),
+            Err(TrimError::Device) => Err(StepError::Device),
+            Err(TrimError::Failed) => Err(StepError::Failed),
+        }
+    }
+}

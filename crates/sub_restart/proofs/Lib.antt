@@ -1,0 +1,6 @@
+pub mod Reading
+pub mod Steps
+pub mod Noting
+pub mod Rebuilding
+pub mod Marks
+pub mod Booting

@@ -1,0 +1,13 @@
+use Rattle.std.proofs.Common.{◌∙◌, ap, arith, ◌+◌, ◌<◌, ◌^◌, ◌≤◌}
+use Rattle.std.specs.List.{flat_map}
+use Rattle.sub_restart.specs.Rebuilt.{asks, leaf}
+use Rattle.sub_restart.proofs.Rebuilding.{rebuilds}
+use Rattle.sub_restart.proofs.rebuilt.rebuild.Goals as goal
+
+pub returns : goal.returns
+returns c =
+    let s = c.in_ok-branches.field-0 in
+    let low = c.if-boot-gt-LAST_BOOT.false in
+    let within = c.if-newest-boot.false in
+    rebuilds (leaf c.args.me c.args.parent c.args.tree.now) c.args.parent c.args.records.now s c.in_ok-branches.ensures c.in_ok-messages.messages
+    (c.in_ok-messages.ensures ∙ ap (flat_map (asks c.args.me c.args.parent s.branches)) c.as_slice.ensures.keys) (omega arith) (omega arith)

@@ -1,0 +1,191 @@
+-- What the records of a log leave of a subordinate.
+use Rattle.std.specs.Prelude.{◌≡◌, ◌≤◌, ◌<◌, ◌+◌, ◌^◌, ⊤, ℕ, Bool, true, false, if◌then◌else◌, Option, Some, None, List, [], ◌∷◌}
+use Rattle.std.specs.List.{AllByRecursion, flat_map}
+use Rattle.tree_model.specs.declared.names.Case.{Case}
+use Rattle.tree_model.specs.declared.names.ProcessId.{ProcessId}
+use Rattle.tree_model.specs.declared.names.Ticket.{Ticket}
+use Rattle.tree_model.specs.declared.messages.Envelope.{Envelope}
+use Rattle.tree_model.specs.declared.messages.Message.TheVariants.{Inquire}
+use Rattle.tree_model.specs.declared.records.Branch.{Branch as AnyBranch}
+use Rattle.tree_model.specs.declared.records.Branch.TheVariants.{Case as CaseBranch, Foreign}
+use Rattle.tree_model.specs.declared.records.LogRecord.{LogRecord}
+use Rattle.tree_model.specs.declared.records.Record.{Record}
+use Rattle.tree_model.specs.declared.records.Record.TheVariants.{Opened, Prepared as PreparedRecord, Committed, RolledBack, Direct, HeurCommit, HeurRollback, Told, Forgot, Base, Pair}
+use Rattle.tree_model.specs.declared.trees.TreeEntry.{TreeEntry}
+use Rattle.tree_model.specs.CoordinatorRows.{post}
+use Rattle.tree_model.specs.LogNames.{is_own, name_xid, own_records}
+use Rattle.tree_model.specs.Nodes.{AtLeaf, Place}
+use Rattle.tree_model.specs.Records.{boot_after, boot_of, cases_in, record_branch, with_case}
+use Rattle.tree_model.specs.Restarts.{manager_resumes, recorded_branch}
+use Rattle.tree_model.specs.Standings.{Mark, Unmarked, Promised, Finished, mark_of}
+use Rattle.log_text.specs.Parts.{name_in}
+use Rattle.live_table.specs.Tables.{Moves}
+use Rattle.sub_table.specs.declared.branch.Branch.{Branch}
+use Rattle.sub_table.specs.declared.branch.Stage.TheVariants.{Prepared}
+use Rattle.sub_table.specs.Tables.{BranchTable, branch_in, ticket_in, view_in}
+use Rattle.sub_restart.specs.declared.names.Saying.{Saying}
+use Rattle.sub_restart.specs.declared.names.Saying.TheVariants.{Nothing, Boot, Promises as PromisesOf, Ends as EndsOf, Decides, Coordinates}
+use Rattle.sub_restart.specs.declared.cases.Cases.{Cases}
+use Rattle.sub_restart.specs.declared.rebuilt.Rebuilt.{Rebuilt}
+
+-- where a subordinate sits
+abbrev pub leaf : ProcessId → ProcessId → List TreeEntry → Place
+leaf me p tree = record { me = me; role = AtLeaf p; tree = tree }
+
+-- Names.
+
+-- the XID of a name reads as this name
+abbrev pub NameReads : Option ProcessId → AnyBranch → Type 0
+NameReads p b = name_in (name_xid p b) ≡ (p, b)
+
+-- so does that of a record's branch, where it has one
+abbrev pub ReadsBy : Option ProcessId → Option AnyBranch → Type 0
+ReadsBy p None = ⊤
+ReadsBy p (Some b) = NameReads p b
+
+-- the XID of a record's branch reads as the branch
+abbrev pub ReadsBack : LogRecord → Type 0
+ReadsBack l = ReadsBy l.parent (record_branch l.entry)
+
+-- the case that a branch is, where it is the process's own
+abbrev pub own_case : Place → Option ProcessId → AnyBranch → Option Case
+own_case place p (CaseBranch c) = if is_own place p c then Some c else None
+own_case place p (Foreign x) = None
+
+-- what a record says
+abbrev pub saying_of : Record → Saying
+saying_of (Opened n) = Boot n
+saying_of (PreparedRecord b ws) = PromisesOf b
+saying_of (Committed b) = EndsOf b
+saying_of (RolledBack b) = EndsOf b
+saying_of (Direct b ws) = EndsOf b
+saying_of (Forgot b) = EndsOf b
+saying_of (HeurCommit b) = Decides b
+saying_of (HeurRollback b) = Decides b
+saying_of (Told b o) = Decides b
+saying_of (Base n) = Nothing
+saying_of (Pair k v) = Nothing
+saying_of _ = Coordinates
+
+-- What is kept of the cases.
+
+-- a case that promised, as it is kept
+abbrev pub in_doubt : ProcessId → Case → Branch
+in_doubt p c = record { xid = name_xid (Some p) (CaseBranch c); stage = Prepared }
+
+-- what is kept of a case by what its last record says
+abbrev pub branch_left : ProcessId → Case → Mark → Option Branch
+branch_left p c Promised = Some (in_doubt p c)
+branch_left p c _ = None
+
+-- no operator decided the case
+abbrev pub is_plain : Mark → Bool
+is_plain Unmarked = true
+is_plain Promised = true
+is_plain Finished = true
+is_plain _ = false
+
+-- a case has a ticket of a boot that is at most this
+pub record IsGivenBy (boot : ℕ) (c : Case) : Type 0 where
+  pub ticket : Ticket
+  pub has : c.ticket ≡ Some ticket
+  pub within : ticket.boot ≤ boot
+
+-- a case that is live is the process's own, and its name reads back
+pub record IsOwn (place : Place) (p : ProcessId) (boot : ℕ) (c : Case) : Type 0 where
+  pub own : is_own place (Some p) c ≡ true
+  pub reads : NameReads (Some p) (CaseBranch c)
+  pub given : IsGivenBy boot c
+
+-- what some records leave
+pub record Leaves (place : Place) (p : ProcessId) (ls : List LogRecord) (s : Cases) : Type 0 where
+  pub reads : AllByRecursion ReadsBack ls
+  pub boot : s.boot ≡ boot_of (own_records place ls)
+  pub order : s.order.keys ≡ cases_in (own_records place ls)
+  pub tickets : (d : Case) → ticket_in s.branches d ≡ None
+  pub branches : (c : Case)
+      → branch_in s.branches c ≡ branch_left p c (mark_of (CaseBranch c) (own_records place ls))
+  pub plain : (c : Case) → is_plain (mark_of (CaseBranch c) (own_records place ls)) ≡ true
+  pub live : (c : Case) (b : Branch) → branch_in s.branches c ≡ Some b → IsOwn place p s.newest c
+
+-- One record more.
+
+-- there was a record of the case, and nothing else is otherwise
+abbrev pub AddsCase : Cases → Cases → Case → Type 0
+AddsCase old new c =
+    new ≡ record old { order = new.order } × (new.order.keys ≡ with_case old.order.keys (Some c))
+
+-- the case promised
+pub record Promises (old new : Cases) (p : ProcessId) (c : Case) : Type 0 where
+  pub boot : new.boot ≡ old.boot
+  pub order : new.order ≡ old.order
+  pub branches : Moves old.branches.branches new.branches.branches c (Some (in_doubt p c))
+  pub tickets : new.branches.tickets ≡ old.branches.tickets
+  pub given : IsGivenBy new.newest c
+  pub grows : old.newest ≤ new.newest
+
+-- no ticket is active, where none was
+abbrev pub NoTickets : BranchTable → BranchTable → Type 0
+NoTickets old new = ((d : Case) → ticket_in old d ≡ None) → (d : Case) → ticket_in new d ≡ None
+
+-- the case is finished
+pub record Ends (old new : Cases) (c : Case) : Type 0 where
+  pub boot : new.boot ≡ old.boot
+  pub order : new.order ≡ old.order
+  pub branches : Moves old.branches.branches new.branches.branches c None
+  pub tickets : NoTickets old.branches new.branches
+  pub newest : new.newest ≡ old.newest
+
+-- what a case of the process's own, or another branch, makes of it that promised
+abbrev pub PromisesBy : Cases → Cases → ProcessId → Option Case → Type 0
+PromisesBy old new p None = new ≡ old
+PromisesBy old new p (Some c) = (mid : Cases) × AddsCase old mid c × Promises mid new p c
+
+-- the same of one that is finished
+abbrev pub EndsBy : Cases → Cases → Option Case → Type 0
+EndsBy old new None = new ≡ old
+EndsBy old new (Some c) = (mid : Cases) × AddsCase old mid c × Ends mid new c
+
+-- what a record under this parent says makes of the cases
+abbrev pub TakesBy : Place → ProcessId → Cases → Cases → Option ProcessId → Saying → Type 0
+TakesBy place p old new q Nothing = new ≡ old
+TakesBy place p old new q (Boot n) = new ≡ record old { boot = n }
+TakesBy place p old new q (PromisesOf b) = NameReads q b × PromisesBy old new p (own_case place q b)
+TakesBy place p old new q (EndsOf b) = NameReads q b × EndsBy old new (own_case place q b)
+TakesBy place p old new q (Decides b) = NameReads q b × (own_case place q b ≡ None) × (new ≡ old)
+TakesBy place p old new q Coordinates = ⊥
+
+-- one record was read more
+abbrev pub Takes : Place → ProcessId → Cases → Cases → LogRecord → Type 0
+Takes place p old new l = TakesBy place p old new l.parent (saying_of l.entry)
+
+-- What is rebuilt.
+
+-- an inquiry of a case, where it is live
+abbrev pub asks_by : ProcessId → ProcessId → Case → Option Branch → List Envelope
+asks_by me p c None = []
+asks_by me p c (Some b) = post me p (Inquire c) ∷ []
+
+-- the same of a case in a table
+abbrev pub asks : ProcessId → ProcessId → BranchTable → Case → List Envelope
+asks me p t c = asks_by me p c (branch_in t c)
+
+-- a case that is live is in doubt by its records, and kept so
+pub record IsInDoubt (place : Place) (p : ProcessId) (rs : List Record) (boot : ℕ) (c : Case)
+    (b : Branch) : Type 0 where
+  pub own : IsOwn place p boot c
+  pub kept : b ≡ in_doubt p c
+  pub promised : mark_of (CaseBranch c) rs ≡ Promised
+
+-- what the records of a log leave: each case stands as the process reads them, those in doubt are asked
+-- about, and the last boot is that of the last Opened
+pub record Rebuilds (place : Place) (p : ProcessId) (ls : List LogRecord) (r : Rebuilt) : Type 0 where
+  pub reads : AllByRecursion ReadsBack ls
+  pub boot : r.boot ≡ boot_of (own_records place ls)
+  pub room : r.boot + 1 < 2 ^ 63
+  pub tickets : (d : Case) → ticket_in r.branches d ≡ None
+  pub views : (c : Case) → view_in r.branches c ≡ recorded_branch (own_records place ls) c
+  pub live : (c : Case) (b : Branch) → branch_in r.branches c ≡ Some b
+      → IsInDoubt place p (own_records place ls) r.boot c b
+  pub messages : r.messages
+      ≡ flat_map (manager_resumes place.me p (own_records place ls)) (cases_in (own_records place ls))

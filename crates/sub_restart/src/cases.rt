@@ -1,0 +1,112 @@
+//! The cases of the records that were read so far.
+
+ghost use Rattle.std.specs.Prelude.{◌≡◌, [], OnOk};
+ghost use Rattle.sub_restart.specs.Rebuilt.{AddsCase, Ends, Promises, Takes, leaf};
+
+use crate::names::{RebuildError, Saying, own_case, saying_of};
+use indexmap::IndexSet;
+use log_text::name_xid;
+use std::alloc::{AllocError, Global};
+use sub_table::Branches;
+use tree_model::{Branch, Case, LogRecord, ProcessId, Tree};
+
+/// The live branches, the process's own cases in order of their first records, the last boot, and the newest boot of a ticket
+/// of a branch that promised.
+#[derive(Drop)]
+pub(crate) struct Cases {
+    pub(crate) branches: Branches,
+    pub(crate) order: IndexSet<Case>,
+    pub(crate) boot: u64,
+    pub(crate) newest: u64,
+}
+
+impl Cases {
+    /// No case. It takes no memory.
+    pub(crate) fn new(alloc: Global) -> Cases
+        ensures order { result.order.keys ≡ [] }
+        ensures tickets { result.branches.tickets ≡ [] }
+        ensures branches { result.branches.branches ≡ [] }
+        ensures numbers { (result.boot ≡ 0) × (result.newest ≡ 0) }
+    {
+        Cases {
+            branches: Branches::new(alloc),
+            order: IndexSet::new(alloc),
+            boot: 0,
+            newest: 0,
+        }
+    }
+
+    /// There was a record of the case.
+    fn note(&mut self, case: Case) -> Result<(), AllocError>
+        ensures { OnOk result (AddsCase self.old self.new case) }
+    {
+        let _ = self.order.insert(case)?;
+        Ok(())
+    }
+
+    /// The case promised. Unfit: it has promised already, or has no ticket.
+    fn promise(&mut self, parent: ProcessId, case: Case) -> Result<(), RebuildError>
+        ensures { OnOk result (Promises self.old self.new parent case) }
+    {
+        let Some(ticket) = case.ticket else {
+            return Err(RebuildError::Unfit);
+        };
+        if self.branches.find(&case).is_some() {
+            return Err(RebuildError::Unfit);
+        }
+        let xid = name_xid(Some(parent), Branch::Case(case));
+        self.branches.restore(case, xid)?;
+        if self.newest < ticket.boot {
+            self.newest = ticket.boot;
+        }
+        Ok(())
+    }
+
+    /// The case is finished.
+    fn end(&mut self, case: &Case)
+        ensures { Ends self.old self.new case.now }
+    {
+        if let Some(key) = self.branches.find(case) {
+            self.branches.remove(key);
+        }
+    }
+
+    /// One record more. Unfit: it is of a coordinator's case, or an operator decided a case of the process's own; or it names a
+    /// branch whose XID reads as another name; or the case has promised already.
+    pub(crate) fn take(
+        &mut self,
+        me: ProcessId,
+        parent: ProcessId,
+        tree: &Tree,
+        next: &LogRecord,
+    ) -> Result<(), RebuildError>
+        ensures { OnOk result (Takes (leaf me parent tree.now) parent self.old self.new next.now) }
+    {
+        match saying_of(&next.entry) {
+            Saying::Nothing => Ok(()),
+            Saying::Boot(boot) => {
+                self.boot = boot;
+                Ok(())
+            }
+            Saying::Promises(branch) => {
+                if let Some(case) = own_case(me, parent, tree, next.parent, branch)? {
+                    self.note(case)?;
+                    self.promise(parent, case)?;
+                }
+                Ok(())
+            }
+            Saying::Ends(branch) => {
+                if let Some(case) = own_case(me, parent, tree, next.parent, branch)? {
+                    self.note(case)?;
+                    self.end(&case);
+                }
+                Ok(())
+            }
+            Saying::Decides(branch) => match own_case(me, parent, tree, next.parent, branch)? {
+                None => Ok(()),
+                Some(_) => Err(RebuildError::Unfit),
+            },
+            Saying::Coordinates => Err(RebuildError::Unfit),
+        }
+    }
+}

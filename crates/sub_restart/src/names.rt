@@ -1,0 +1,165 @@
+//! What a record says of which branch, and whether the branch is a case of the process's own.
+
+ghost use Rattle.std.specs.Prelude.{◌≡◌, Some, IfOk, IsTrue};
+ghost use Rattle.tree_model.specs.LogNames.{is_own, same_parent};
+ghost use Rattle.sub_restart.specs.Rebuilt.{NameReads, leaf, own_case, saying_of};
+
+use log_text::{name_in, name_xid};
+use std::alloc::AllocError;
+use thiserror::Error;
+use tree_model::{Branch, Case, ProcessId, Record, Tree};
+use xa_xid::Xid;
+
+/// Why nothing was rebuilt.
+#[derive(Clone, Copy, Debug, PartialEq, Eq, Error)]
+pub enum RebuildError {
+    /// There was no memory.
+    #[error("no memory")]
+    Memory,
+    /// The records are those of no log that a subordinate wrote.
+    #[error("the records are those of no subordinate")]
+    Unfit,
+}
+
+impl From<AllocError> for RebuildError {
+    fn from(_error: AllocError) -> RebuildError {
+        RebuildError::Memory
+    }
+}
+
+/// What a record says.
+#[derive(Clone, Copy, PartialEq, Eq)]
+pub(crate) enum Saying {
+    /// Nothing of a branch.
+    Nothing,
+    /// The process opened with this boot.
+    Boot(u64),
+    /// The branch promised.
+    Promises(Branch),
+    /// The branch is finished.
+    Ends(Branch),
+    /// An operator decided the branch, or it was told the outcome behind that.
+    Decides(Branch),
+    /// Something of a coordinator's case.
+    Coordinates,
+}
+
+/// What a record says.
+pub(crate) fn saying_of(entry: &Record) -> Saying
+    ensures { result ≡ saying_of entry.now }
+{
+    match entry {
+        Record::Opened(boot) => Saying::Boot(*boot),
+        Record::Collecting(..)
+        | Record::Prepare(..)
+        | Record::Commit(..)
+        | Record::Abort(..)
+        | Record::End(_) => Saying::Coordinates,
+        Record::Prepared(branch, _) => Saying::Promises(*branch),
+        Record::Committed(branch)
+        | Record::RolledBack(branch)
+        | Record::Direct(branch, _)
+        | Record::Forgot(branch) => Saying::Ends(*branch),
+        Record::HeurCommit(branch) | Record::HeurRollback(branch) | Record::Told(branch, _) => {
+            Saying::Decides(*branch)
+        }
+        Record::Base(_) | Record::Pair(..) => Saying::Nothing,
+    }
+}
+
+/// Whether a name's parent is this process.
+#[tactic(auto, unfolding(tree_model::specs::Names::same_process))]
+fn is_parent(named: Option<ProcessId>, parent: ProcessId) -> bool
+    ensures { result ≡ same_parent named (Some parent) }
+{
+    match named {
+        Some(process) => process.0 == parent.0,
+        None => false,
+    }
+}
+
+/// Whether a case under this parent is the process's own.
+#[tactic(auto, unfolding(tree_model::specs::Names::same_process))]
+fn is_own(
+    me: ProcessId,
+    parent: ProcessId,
+    tree: &Tree,
+    named: Option<ProcessId>,
+    case: &Case,
+) -> bool
+    ensures { result ≡ is_own (leaf me parent tree.now) named case.now }
+{
+    let Some(ticket) = case.ticket else {
+        return false;
+    };
+    let root = tree.root();
+    let rooted = case.txn.root.0 == root.0;
+    let here = ticket.child.0 == me.0;
+    rooted && here && is_parent(named, parent)
+}
+
+/// Whether two parents are one.
+#[tactic(auto, using(tree_model::specs::NameLaws::same_process_tells))]
+fn is_same_parent(one: Option<ProcessId>, other: Option<ProcessId>) -> bool
+    ensures { IsTrue result → one ≡ other }
+{
+    match (one, other) {
+        (None, None) => true,
+        (Some(one), Some(other)) => one.0 == other.0,
+        _ => false,
+    }
+}
+
+fn is_same_xid(one: &Xid, other: &Xid) -> bool
+    ensures { IsTrue result → one.now ≡ other.now }
+{
+    one == other
+}
+
+#[tactic(auto, using(tree_model::specs::NameLaws::same_case_tells))]
+fn is_same_case(one: &Case, other: &Case) -> bool
+    ensures { IsTrue result → one.now ≡ other.now }
+{
+    one.is(other)
+}
+
+/// Whether two branches are one.
+fn is_same_branch(one: &Branch, other: &Branch) -> bool
+    ensures { IsTrue result → one.now ≡ other.now }
+{
+    match (one, other) {
+        (Branch::Case(one), Branch::Case(other)) => is_same_case(one, other),
+        (Branch::Foreign(one), Branch::Foreign(other)) => is_same_xid(one, other),
+        _ => false,
+    }
+}
+
+/// Whether the XID of a name reads as this name.
+fn reads_back(parent: Option<ProcessId>, branch: Branch) -> bool
+    ensures { IsTrue result → NameReads parent branch }
+{
+    let xid = name_xid(parent, branch);
+    let _parts = xid.parts();
+    let (named, read) = name_in(&xid);
+    is_same_parent(named, parent) && is_same_branch(&read, &branch)
+}
+
+/// The case that a branch is, where it is the process's own. Unfit: the XID of its name reads as another name.
+pub(crate) fn own_case(
+    me: ProcessId,
+    parent: ProcessId,
+    tree: &Tree,
+    named: Option<ProcessId>,
+    branch: Branch,
+) -> Result<Option<Case>, RebuildError>
+    ensures own { IfOk result (λ own. own ≡ own_case (leaf me parent tree.now) named branch) }
+    ensures reads { IfOk result (λ own. NameReads named branch) }
+{
+    if !reads_back(named, branch) {
+        return Err(RebuildError::Unfit);
+    }
+    match branch {
+        Branch::Case(case) if is_own(me, parent, tree, named, &case) => Ok(Some(case)),
+        _ => Ok(None),
+    }
+}

@@ -1,0 +1,91 @@
+//! The records of a log, read in one pass.
+
+ghost use Rattle.std.specs.Prelude.{◌≡◌, IfOk};
+ghost use Rattle.std.specs.List.{flat_map};
+ghost use Rattle.sub_restart.specs.Rebuilt.{Leaves, Rebuilds, asks, leaf};
+
+use crate::cases::Cases;
+use crate::names::RebuildError;
+use std::alloc::{AllocError, Global};
+use sub_table::Branches;
+use tree_model::{Case, Envelope, Envelopes, LogRecord, Message, ProcessId, Sequence, Tree};
+
+/// The last boot that another can follow.
+const LAST_BOOT: u64 = (1 << 63) - 2;
+
+/// What the records of a log leave of a subordinate: its live branches, all in doubt; an inquiry for each of them, in order of
+/// the cases' first records; and the last boot.
+#[derive(Drop)]
+pub struct Rebuilt {
+    pub branches: Branches,
+    pub messages: Envelopes,
+    pub boot: u64,
+}
+
+/// The cases of these records.
+fn read(
+    me: ProcessId,
+    parent: ProcessId,
+    tree: &Tree,
+    records: &[LogRecord],
+    alloc: Global,
+) -> Result<Cases, RebuildError>
+    ensures { IfOk result (Leaves (leaf me parent tree.now) parent records.now) }
+{
+    let mut cases = Cases::new(alloc);
+    for next in records {
+        cases.take(me, parent, tree, next)?;
+    }
+    Ok(cases)
+}
+
+/// An inquiry for each of these cases that is live.
+fn inquiries(
+    me: ProcessId,
+    parent: ProcessId,
+    branches: &Branches,
+    cases: &[Case],
+    alloc: Global,
+) -> Result<Envelopes, AllocError>
+    ensures { IfOk result (λ messages. messages ≡ flat_map (asks me parent branches.now) cases.now) }
+{
+    let mut messages = Sequence::new(alloc);
+    for case in cases {
+        if branches.find(case).is_some() {
+            messages.push(Envelope {
+                from: me,
+                to: parent,
+                message: Message::Inquire(*case),
+            })?;
+        }
+    }
+    Ok(messages)
+}
+
+/// What these records leave. Unfit: no run of a subordinate makes such records. So a case that an operator decided is refused,
+/// as no call of a manager decides one; and a boot behind which none comes, and a ticket of a later boot.
+pub fn rebuild(
+    me: ProcessId,
+    parent: ProcessId,
+    tree: &Tree,
+    records: &[LogRecord],
+    alloc: Global,
+) -> Result<Rebuilt, RebuildError>
+    ensures { IfOk result (Rebuilds (leaf me parent tree.now) parent records.now) }
+{
+    let Cases {
+        branches,
+        order,
+        boot,
+        newest,
+    } = read(me, parent, tree, records, alloc)?;
+    if boot > LAST_BOOT || newest > boot {
+        return Err(RebuildError::Unfit);
+    }
+    let messages = inquiries(me, parent, &branches, order.as_slice(), alloc)?;
+    Ok(Rebuilt {
+        branches,
+        messages,
+        boot,
+    })
+}

@@ -1,0 +1,3 @@
+pub mod Rebasing
+pub mod Promises
+pub mod Trims
