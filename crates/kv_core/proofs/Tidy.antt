@@ -1,11 +1,8 @@
 -- What keeps a key store tidy.
-use Rattle.std.proofs.Common.{◌≡◌, ℕ, Bool, true, false, Option, None, List, [], ◌∷◌, refl, ap, sym, ◌∙◌, arith, rules, ◌⊎◌, inl, inr}
+use Rattle.std.proofs.Common.{◌≡◌, ℕ, Bool, true, false, Option, None, List, [], ◌∷◌, refl, ap, sym, ◌∙◌, arith, rules, inl, inr}
+use Rattle.std.specs.Prelude.{MatchBool, is_some}
 use Rattle.std.proofs.lemmas.Grind.{common_steps}
-use Rattle.xa_tables.specs.declared.call.Call.{Call}
-use Rattle.xa_tables.specs.declared.call.Call.TheVariants as call
 use Rattle.xa_tables.specs.declared.states.BranchState.{BranchState}
-use Rattle.xa_tables.specs.declared.states.BranchState.TheVariants.{S0, S1, S2, S3, S4, S5}
-use Rattle.tree_model.specs.declared.names.Presumption.{Presumption}
 use Rattle.xa_xid.specs.declared.xid.Xid.{Xid}
 use Rattle.xa_states.specs.Answers.{Takes as TakesRow}
 use Rattle.log_order.specs.Orders.{names_key}
@@ -22,19 +19,30 @@ use Rattle.kv_locks.proofs.Holding.{holds_given, holds_without, same_is as locks
 use Rattle.kv_writes.specs.Writes.{Leaves, SameWrites, WriteTable, writes_of}
 use Rattle.kv_writes.proofs.Lists.{with_write_names}
 use Rattle.kv_turns.specs.declared.turns.Turn.{Turn}
-use Rattle.kv_turns.specs.Turns.{turn_of}
-use Rattle.kv_core.specs.Ends.{ends, turn_for}
-use Rattle.kv_core.specs.Stores.{IsTidy, KeySight, is_let_go, state_of}
-use Rattle.kv_core.proofs.Moves.{Keeps}
+use Rattle.xa_heur.specs.Cases.{decision_in}
+use Rattle.kv_core.specs.Ends.{TakesTurn, known_behind}
+use Rattle.kv_core.specs.Stores.{IsTidy, KeySight, is_decided, is_let_go, state_of}
+use Rattle.kv_core.proofs.Moves.{Keeps, moves_keep}
 
--- where the tables alone change
+-- of each branch that an operator decided it is known how
+abbrev pub KnowsEach : KeySight → Type 0
+KnowsEach s = (x : Xid) → is_decided (state_of s x) ≡ true → is_some (decision_in s.decisions x) ≡ true
+
+-- where the tables change, and what operators decided
 pub tidy_moved : (s s' : KeySight) → IsTidy s → s'.writes ≡ s.writes → s'.locks ≡ s.locks → Keeps is_let_go s.tables s'.tables
-    → IsTidy s'
-tidy_moved s s' tidy writes locks keeps = record {
+    → KnowsEach s' → IsTidy s'
+tidy_moved s s' tidy writes locks keeps knows = record {
   held = λ x k named. ap (λ l. holders_of l k) locks ∙ tidy.held x k (ap (λ w. names_key (writes_of w x) k) (sym writes) ∙ named);
   written = λ x gone. ap (λ w. writes_of w x) writes ∙ tidy.written x (keeps x gone);
   free = λ x k gone. ap (λ l. holds (holders_of l k) x) locks ∙ tidy.free x k (keeps x gone);
+  decided = knows;
 }
+
+-- where the tables alone change
+pub tidy_called : (s s' : KeySight) → IsTidy s → s'.writes ≡ s.writes → s'.locks ≡ s.locks → s'.decisions ≡ s.decisions
+    → Keeps is_let_go s.tables s'.tables → Keeps is_decided s.tables s'.tables → IsTidy s'
+tidy_called s s' tidy writes locks decisions keeps stays =
+    tidy_moved s s' tidy writes locks keeps (λ x is. ap (λ t. is_some (decision_in t x)) decisions ∙ tidy.decided x (stays x is))
 
 -- A lock that nobody is in the way of.
 
@@ -94,6 +102,7 @@ tidy_read s locks x k m tidy works clear took = record {
   held = held_took s locks x k m tidy clear took;
   written = tidy.written;
   free = free_took s locks x k m tidy works took;
+  decided = tidy.decided;
 }
 
 -- a key that is written is the one of the write, or was written before
@@ -113,6 +122,7 @@ tidy_wrote s writes locks x k v tidy works clear took left = record {
   held = λ y l named. held y l named (same x y) refl;
   written = λ y gone. written y gone (same x y) refl;
   free = free_took s locks x k Exclusive tidy works took;
+  decided = tidy.decided;
 }
   where
     own_key : (l : List ℕ) → names_key (with_write (writes_of s.writes x) k v) l ≡ true → (b : Bool) → same_bytes k l ≡ b
@@ -144,28 +154,6 @@ left_behind t u v x k w stays left = record {
 
 -- A branch takes its turn.
 
-pub turn_leads : (s : BranchState) (c : Call) (wrote : Bool) (p : Presumption)
-    → ((turn_of s c wrote p).to ≡ S0) ⊎ ((turn_of s c wrote p).to ≡ S3)
-turn_leads s call.Prepare true p = inr refl
-turn_leads s call.Prepare false p = inl refl
-turn_leads s call.Commit wrote p = inl refl
-turn_leads s call.CommitOnePhase true p = inl refl
-turn_leads s call.CommitOnePhase false p = inl refl
-turn_leads S0 call.Rollback wrote p = inl refl
-turn_leads S1 call.Rollback wrote p = inl refl
-turn_leads S2 call.Rollback wrote p = inl refl
-turn_leads S3 call.Rollback wrote p = inl refl
-turn_leads S4 call.Rollback wrote p = inl refl
-turn_leads S5 call.Rollback wrote p = inl refl
-turn_leads s _ wrote p = inl refl
-
--- a turn that does not end its branch is a promise
-pub promised_to : (s : KeySight) (x : Xid) (c : Call) (turn : Turn) → turn ≡ turn_for s x c → ends turn.to ≡ false → turn.to ≡ S3
-promised_to s x c turn is goes_on = elim (turn_leads (state_of s x) c _ _) [
-  | inl ended ↦ absurd (let never : true ≡ false = sym (ap ends (ap (λ (t : Turn). t.to) is ∙ ended)) ∙ goes_on in cc)
-  | inr promised ↦ ap (λ (t : Turn). t.to) is ∙ promised
-]
-
 without_other : (y x : Xid) → same y x ≡ false
     → without (record { xid = y; mode = Exclusive } ∷ []) x ≡ record { xid = y; mode = Exclusive } ∷ []
 without_other y x other = grind (arith, common_steps)
@@ -186,13 +174,14 @@ other_way x y apart = by_test (same y x) refl
         let one : y ≡ x = locks_same y x e in
         absurd (let never : true ≡ false = sym (ap (λ z. same z y) (sym one) ∙ ap (same y) one ∙ e) ∙ apart in cc)
 
-pub tidy_ended : (s s' : KeySight) (x : Xid) → IsTidy s → TakesRow s.tables s'.tables x S0
-    → Leaves s.writes s'.writes x [] → Releases s.locks s'.locks x → IsTidy s'
+tidy_ended : (s s' : KeySight) (x : Xid) (to : BranchState) → IsTidy s → TakesRow s.tables s'.tables x to
+    → Leaves s.writes s'.writes x [] → Releases s.locks s'.locks x → KnowsEach s' → IsTidy s'
 unfolding names_key
-tidy_ended s s' x tidy row left released = record {
+tidy_ended s s' x to tidy row left released knows = record {
   held = λ y l named. held y l named (same x y) refl;
   written = λ y gone. written y gone (same x y) refl;
   free = λ y l gone. ap (λ hs. holds hs y) (released.each l) ∙ free y l gone (same x y) refl;
+  decided = knows;
 }
   where
     held : (y : Xid) (l : List ℕ) → names_key (writes_of s'.writes y) l ≡ true → (b : Bool) → same x y ≡ b
@@ -215,3 +204,24 @@ tidy_ended s s' x tidy row left released = record {
         → holds (without (holders_of s.locks l) x) y ≡ false
     free y l gone true e = ap (holds (without (holders_of s.locks l) x)) (sym (locks_same x y e)) ∙ without_itself (holders_of s.locks l) x
     free y l gone false e = still_free (holders_of s.locks l) x y (tidy.free y l (before y gone e))
+
+-- a branch that took a turn leaves the store tidy, where it is known how an operator decided it
+pub tidy_turned : (s s' : KeySight) (x : Xid) (turn : Turn) → IsTidy s → TakesTurn s s' x turn
+    → (is_decided turn.to ≡ true → is_some (known_behind turn.entry (decision_in s.decisions x)) ≡ true) → IsTidy s'
+tidy_turned s s' x turn tidy took known = by_end (is_let_go turn.to) refl took.keeps
+  where
+    decided : (y : Xid) → is_decided (state_of s' y) ≡ true → (b : Bool) → same x y ≡ b → is_some (decision_in s'.decisions y) ≡ true
+    decided y is true e =
+        let one : x ≡ y = locks_same x y e in
+        ap (λ z. is_some (decision_in s'.decisions z)) (sym one) ∙ ap is_some took.decisions.own
+        ∙ known (ap is_decided (sym took.tables.branch.own) ∙ ap (λ z. is_decided (state_of s' z)) one ∙ is)
+    decided y is false e =
+        ap is_some (took.decisions.others y e) ∙ tidy.decided y (ap is_decided (sym (took.tables.branch.others y e)) ∙ is)
+
+    by_end : (b : Bool) → is_let_go turn.to ≡ b
+        → MatchBool b (Leaves s.writes s'.writes x [] × Releases s.locks s'.locks x) ((s'.writes ≡ s.writes) × (s'.locks ≡ s.locks))
+        → IsTidy s'
+    by_end true e h = tidy_ended s s' x turn.to tidy took.tables h.0 h.1 (λ y is. decided y is (same x y) refl)
+    by_end false e h =
+        tidy_moved s s' tidy h.0 h.1 (moves_keep is_let_go s.tables s'.tables x turn.to e took.tables.branch)
+        (λ y is. decided y is (same x y) refl)

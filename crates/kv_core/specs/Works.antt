@@ -96,6 +96,7 @@ pub record Reads (old new : KeySight) (t : ℕ) (k : List ℕ) (found : Option (
   pub tables : new.tables ≡ old.tables
   pub writes : new.writes ≡ old.writes
   pub versions : new.versions ≡ old.versions
+  pub decisions : new.decisions ≡ old.decisions
 
 -- a thread wrote a key, which its branch holds exclusively now; the data do not change before it commits
 pub record Writes (old new : KeySight) (t : ℕ) (k : List ℕ) (v : Option (List ℕ)) : Type 0 where
@@ -106,3 +107,4 @@ pub record Writes (old new : KeySight) (t : ℕ) (k : List ℕ) (v : Option (Lis
   pub writes : Leaves old.writes new.writes branch (with_write (writes_of old.writes branch) k v)
   pub tables : new.tables ≡ old.tables
   pub versions : new.versions ≡ old.versions
+  pub decisions : new.decisions ≡ old.decisions

@@ -1,6 +1,6 @@
 //! A key store behind XA, without its log.
 
-ghost use Rattle.std.specs.Prelude.{◌≡◌, ◌<◌, ◌+◌, ◌^◌, ◌↔◌, not, IsTrue, Contains, MatchResult, IfOk, IfErr, OnOk, OnErr, Some, None, option_map, true, false};
+ghost use Rattle.std.specs.Prelude.{◌≡◌, ◌≤◌, ◌<◌, ◌+◌, ◌^◌, ◌↔◌, not, IsTrue, Contains, MatchResult, IfOk, IfErr, OnOk, OnErr, Some, None, option_map, true, false};
 ghost use Rattle.kv_locks.specs.declared.holders.Mode.TheVariants as mode;
 ghost use Rattle.kv_writes.specs.Writes.{AreWrites, writes_of};
 ghost use Rattle.xa_states.specs.Answers.{Answers, Closes, Opens, Recovers, Wanted, map_ok};
@@ -9,18 +9,21 @@ ghost use Rattle.xa_tables.specs.Calls.{legal};
 ghost use Rattle.xa_branch.specs.Branches.{in_doubt, is_known};
 ghost use Rattle.xa_states.specs.declared.states.States.{States as AnyStates};
 ghost use Rattle.xa_states.specs.Restored.{Restored, restore_refusal};
-ghost use Rattle.kv_core.specs.Stores.{IsTidy, MovesTables, Rebuilt, SameStore, has_numbers, state_of};
+ghost use Rattle.kv_core.specs.Stores.{IsTidy, MovesTables, Rebuilt, SameStore, has_numbers, is_let_go, state_of};
+ghost use Rattle.xa_heur.specs.Cases.{Notes, decision_in};
+ghost use Rattle.xa_heur.specs.Decisions.{decision_at};
 ghost use Rattle.kv_core.specs.Works.{IsRefused, Reads, Writes, at_work, branch_refusal, is_too_long, refusal_by, value_for, work_refusal};
-ghost use Rattle.kv_core.specs.Ends.{IsDue, IsListed, IsOff, PublishesWrites, SameButData, StagesWrites, TakesTurn, ends, turn_for, wrote_some};
+ghost use Rattle.kv_core.specs.Ends.{CanNote, IsDue, IsListed, IsOff, IsTurn, PublishesWrites, Reserves, SameButData, StagesWrites, TakesTurn, known_behind, known_of, wrote_some};
 
 use kv_locks::{LockError, Locks, Mode};
 use kv_store::Versions;
-use kv_turns::{Turn, presumption_of};
+use kv_turns::{Entry, Turn, branch_of};
 use kv_writes::BranchWrites;
 use std::alloc::{AllocError, Global};
 use std::marker::Model;
-use tree_model::{Bytes, Sequence, Write};
+use tree_model::{Bytes, Outcome, Sequence, Write};
 use xa_codes::{Code, Flags};
+use xa_heur::{Decision, Heuristics};
 use xa_manager::WorkError;
 use xa_states::States;
 use xa_tables::{BranchState, Call, Verb, next_branch};
@@ -34,7 +37,7 @@ const VALUE: usize = 256;
 /// The most commits that are counted.
 const COMMITS: u64 = 0x7fff_ffff_ffff_ffff;
 
-/// The tables of calls, what each branch at work has written, the locks and the data.
+/// The tables of calls, what each branch at work has written, the locks, the data, and what operators decided.
 #[derive(Drop)]
 pub struct KeyStore {
     alloc: Global,
@@ -42,6 +45,7 @@ pub struct KeyStore {
     writes: BranchWrites,
     locks: Locks,
     versions: Versions,
+    heuristics: Heuristics,
 }
 
 impl Model for KeyStore {
@@ -49,9 +53,9 @@ impl Model for KeyStore {
 
     ghost Value = { KeySight };
 
-    ghost view = { λ s. record { tables = s.states; writes = s.writes; locks = s.locks; versions = s.versions } };
+    ghost view = { λ s. record { tables = s.states; writes = s.writes; locks = s.locks; versions = s.versions; decisions = s.heuristics } };
 
-    ghost invariant = { λ s. IsTidy (record { tables = s.states; writes = s.writes; locks = s.locks; versions = s.versions }) };
+    ghost invariant = { λ s. IsTidy (record { tables = s.states; writes = s.writes; locks = s.locks; versions = s.versions; decisions = s.heuristics }) };
 }
 
 /// Whether a key has no bytes or more than 64, or a value more than 256.
@@ -80,11 +84,25 @@ fn is_listed(rows: &[(Code, BranchState)], row: (Code, BranchState)) -> bool
     rows.contains(&row)
 }
 
-/// Whether a branch is ended in this state.
-fn ends(state: BranchState) -> bool
-    ensures { result ≡ ends state }
+/// Whether a branch has let its writes and its locks go in this state: it is ended, or an operator decided it.
+fn is_let_go(state: BranchState) -> bool
+    ensures { result ≡ is_let_go state }
 {
-    state == BranchState::S0
+    matches!(state, BranchState::S0 | BranchState::S5)
+}
+
+/// Notes what a record of a branch says of an operator's decision.
+fn note(heuristics: &mut Heuristics, xid: &Xid, entry: Option<Entry>)
+    requires { CanNote entry heuristics.old xid.now }
+    ensures { Notes heuristics.old heuristics.new xid.now (known_behind entry (decision_in heuristics.old xid.now)) }
+{
+    match entry {
+        Some(Entry::HeurCommit) => heuristics.decide(xid, Outcome::Committed),
+        Some(Entry::HeurRollback) => heuristics.decide(xid, Outcome::Aborted),
+        Some(Entry::Told(outcome)) => heuristics.told(xid, outcome),
+        Some(Entry::Forgot) => heuristics.forget(xid),
+        _ => {}
+    }
 }
 
 /// A list of its own of these bytes.
@@ -114,9 +132,10 @@ impl KeyStore {
         writes: BranchWrites,
         locks: Locks,
         versions: Versions,
+        heuristics: Heuristics,
     ) -> Result<Result<Self, Code>, AllocError>
-        requires { (t : AnyStates) → Restored left.now t → IsTidy (record { tables = t; writes = writes; locks = locks; versions = versions }) }
-        ensures { IfOk result (λ made. MatchResult made (λ store. Rebuilt store left.now writes locks versions)
+        requires { (t : AnyStates) → Restored left.now t → IsTidy (record { tables = t; writes = writes; locks = locks; versions = versions; decisions = heuristics }) }
+        ensures { IfOk result (λ made. MatchResult made (λ store. Rebuilt store left.now writes locks versions heuristics)
             (λ refusal. restore_refusal left.now ≡ Some refusal)) }
     {
         match States::restored(alloc, left)? {
@@ -126,6 +145,7 @@ impl KeyStore {
                 writes,
                 locks,
                 versions,
+                heuristics,
             })),
             Err(refusal) => Ok(Err(refusal)),
         }
@@ -157,6 +177,16 @@ impl KeyStore {
         ensures { result ≡ state_of self.now xid.now }
     {
         self.states.state(xid)
+    }
+
+    /// What an operator decided of a branch in S5, and what it was told since.
+    pub fn decision(&self, xid: &Xid) -> Option<Decision>
+        ensures { result ≡ decision_at (state_of self.now xid.now) (known_of self.now xid.now) }
+    {
+        match self.states.state(xid) {
+            BranchState::S5 => Some(self.heuristics.known(xid)),
+            _ => None,
+        }
     }
 
     /// What a branch at work has written.
@@ -295,7 +325,8 @@ impl KeyStore {
             from,
             call,
             wrote_some(self.writes.of(xid)),
-            presumption_of(xid),
+            branch_of(xid),
+            self.heuristics.known(xid),
         );
         if is_listed(next_branch(from, call), (turn.code, turn.to)) {
             Ok((call, turn))
@@ -323,15 +354,25 @@ impl KeyStore {
         self.versions.publish();
     }
 
-    /// A branch takes its turn. In S0 it lets its writes and its locks go. It takes no memory.
+    /// Makes room for an operator's decision. Memory: nothing changed.
+    pub fn reserve_decision(&mut self) -> Result<(), AllocError>
+        ensures stays { Reserves self.old self.new }
+        ensures room { OnOk result (1 ≤ self.new.decisions.room) }
+    {
+        self.heuristics.reserve()
+    }
+
+    /// A branch takes its turn: that of a call, or of an operator's decision, which takes the row of a commit from S3 to S5.
+    /// In S0 and S5 it lets its writes and its locks go. It takes no memory.
     pub fn finish(&mut self, xid: &Xid, call: Call, turn: Turn)
         requires known { is_known self.old.tables.branches.branches xid.now ≡ true }
-        requires turn { turn ≡ turn_for self.old xid.now call }
+        requires turn { IsTurn self.old xid.now call turn }
         requires listed { IsListed self.old xid.now call turn }
         ensures { TakesTurn self.old self.new xid.now turn }
     {
         let _answer = self.states.finish(xid, call, (turn.code, turn.to));
-        if ends(turn.to) {
+        note(&mut self.heuristics, xid, turn.entry);
+        if is_let_go(turn.to) {
             self.writes.remove(xid);
             self.locks.release(xid);
         }

@@ -1,32 +1,33 @@
 -- The turns of a key store as rows of the table of branches.
-use Rattle.std.specs.Prelude.{◌≡◌, ◌≢◌, ℕ, Bool, false, Err}
+use Rattle.std.specs.Prelude.{◌≡◌, ℕ, Bool, false, Err}
 use Rattle.xa_codes.specs.declared.code.Code.{Code}
 use Rattle.xa_tables.specs.declared.call.Verb.{Verb}
 use Rattle.xa_tables.specs.declared.states.BranchState.{BranchState}
-use Rattle.xa_tables.specs.declared.states.BranchState.TheVariants.{S5}
 use Rattle.xa_xid.specs.declared.xid.Xid.{Xid}
 use Rattle.xa_states.specs.Answers.{Wanted}
 use Rattle.xa_states.specs.Ready.{is_work_verb, ready}
 use Rattle.xa_law.specs.Moves.{FitsRows}
-use Rattle.tree_model.specs.declared.names.Presumption.{Presumption}
+use Rattle.xa_heur.specs.declared.decision.Decision.{Decision}
+use Rattle.tree_model.specs.declared.records.Branch.{Branch}
 use Rattle.kv_turns.specs.declared.turns.Turn.{Turn}
 use Rattle.kv_turns.specs.Turns.{turn_of}
-use Rattle.kv_core.specs.Stores.{KeySight, state_of}
+use Rattle.kv_core.specs.Stores.{KeySight}
 use Rattle.kv_core.specs.Ends.{IsOff}
 
 -- the row of a turn: what it answers, and the state behind it
 abbrev pub row_of : Turn → Code × BranchState
 row_of turn = (turn.code, turn.to)
 
--- the rows that a key store takes of a branch in a state, which wrote something or nothing
-abbrev pub rows_of : BranchState → Bool → Presumption → Wanted
-rows_of s wrote p c = row_of (turn_of s c wrote p)
+-- the rows that a key store takes of a branch in a state, which wrote something or nothing; in S5 an operator
+-- decided it so
+abbrev pub rows_of : BranchState → Bool → Branch → Decision → Wanted
+rows_of s wrote b d c = row_of (turn_of s c wrote b d)
 
--- the table has the row of each turn wherever it has any, but for a branch that an operator decided
+-- the table has the row of each turn wherever it has any
 abbrev pub TurnsAreRows : Type 0
-TurnsAreRows = (s : BranchState) (wrote : Bool) (p : Presumption) → s ≢ S5 → FitsRows (rows_of s wrote p) s
+TurnsAreRows = (s : BranchState) (wrote : Bool) (b : Branch) (d : Decision) → FitsRows (rows_of s wrote b d) s
 
--- a call that finishes a branch which no operator decided is refused by a check alone
+-- a call that finishes a branch is refused by a check alone
 abbrev pub RefusalsAreChecks : Type 0
 RefusalsAreChecks = (s : KeySight) (v : Verb) (x : Xid) (flags : ℕ) (answer : Code) → is_work_verb v ≡ false
-    → state_of s x ≢ S5 → IsOff s v x flags answer → ready s.tables v x flags ≡ Err answer
+    → IsOff s v x flags answer → ready s.tables v x flags ≡ Err answer

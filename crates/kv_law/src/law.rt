@@ -2,8 +2,7 @@
 
 ghost use Rattle.kv_law.specs.Rows.{RefusalsAreChecks, TurnsAreRows};
 
-/// What a key store makes of a call that finishes a branch is a row of the table of branches wherever it has any, but
-/// for a branch that an operator decided.
+/// What a key store makes of a call that finishes a branch is a row of the table of branches wherever it has any.
 pub fn turns_are_rows()
     ensures { TurnsAreRows }
 {}

@@ -1,6 +1,14 @@
 -- What keeps the data those of the log.
 use Rattle.std.proofs.Common.{◌≡◌, ℕ, Bool, true, false, List, Option, Result, Ok, Err, refl, sym, ap, subst, ◌∙◌}
-use Rattle.std.specs.Prelude.{IfOk, IfErr, IsErrAnd}
+use Rattle.std.specs.Prelude.{◌==◌, IfOk, IfErr, IsErrAnd, MatchResult, length}
+use Rattle.std.proofs.lemmas.Bool.{eqb-true}
+use Rattle.xa_codes.specs.declared.code.Code.{Code}
+use Rattle.xa_tables.specs.Calls.{legal}
+use Rattle.xa_tables.specs.declared.call.Call.{Call}
+use Rattle.xa_tables.specs.declared.call.Verb.TheVariants as verb
+use Rattle.xa_assoc.specs.Associations.{IsBare}
+use Rattle.xa_branch.specs.Branches.{BranchList, state_in}
+use Rattle.xa_states.specs.Answers.{Closed, Closes, Opened, Opens}
 use Rattle.xa_tables.specs.declared.states.BranchState.{BranchState}
 use Rattle.xa_tables.specs.declared.states.BranchState.TheVariants.{S0, S1, S2, S3, S4, S5}
 use Rattle.xa_xid.specs.declared.xid.Xid.{Xid}
@@ -13,12 +21,15 @@ use Rattle.tree_model.specs.Store.{Data}
 use Rattle.kv_store.specs.Versions.{SameData, VersionTable, value_at}
 use Rattle.kv_replay.specs.Folds.{AreData}
 use Rattle.kv_writes.specs.Writes.{writes_of}
-use Rattle.kv_core.specs.Stores.{KeySight, SameStore, state_of}
-use Rattle.kv_core.specs.Ends.{SameButData}
+use Rattle.xa_heur.specs.Cases.{decision_in, decision_or}
+use Rattle.kv_core.specs.Stores.{KeySight, SameStore, is_decided, state_of}
+use Rattle.kv_core.specs.Ends.{Reserves, SameButData, known_of}
 use Rattle.kv_core.specs.Works.{IsRefused, Writes}
 use Rattle.kv_core.proofs.Moves.{Keeps, same_keeps}
 use Rattle.kv_core.proofs.Working.{works_apart}
-use Rattle.kv_manager.specs.Sights.{IsKept, KvSight, logged}
+use Rattle.xa_heur.specs.declared.decision.Decision.{Decision}
+use Rattle.rec_log.specs.Sights.{records_of}
+use Rattle.kv_manager.specs.Sights.{IsKept, KvSight, SaysDecided, logged}
 
 -- a branch is prepared
 abbrev pub is_prepared : BranchState → Bool
@@ -33,11 +44,22 @@ prepared_is S2 e = absurd (cc)
 prepared_is S4 e = absurd (cc)
 prepared_is S5 e = absurd (cc)
 
--- the data stay, and a branch that is prepared was, with the same writes
+pub decided_is : (b : BranchState) → is_decided b ≡ true → b ≡ S5
+decided_is S5 e = refl
+decided_is S0 e = absurd (cc)
+decided_is S1 e = absurd (cc)
+decided_is S2 e = absurd (cc)
+decided_is S3 e = absurd (cc)
+decided_is S4 e = absurd (cc)
+
+-- the data stay, a branch that is prepared was, with the same writes, and one that an operator decided was
+-- decided so
 pub record KeepsPromises (old new : KeySight) : Type 0 where
   pub versions : SameData old.versions new.versions
   pub prepared : (x : Xid) → state_of new x ≡ S3 → state_of old x ≡ S3
   pub writes : (x : Xid) → state_of new x ≡ S3 → writes_of new.writes x ≡ writes_of old.writes x
+  pub decided : (x : Xid) → state_of new x ≡ S5 → state_of old x ≡ S5
+  pub known : (x : Xid) → state_of new x ≡ S5 → known_of new x ≡ known_of old x
 
 pub data_stay : (v v' : VersionTable) (d : Data) → SameData v v' → AreData v d → AreData v' d
 data_stay v v' d stays are = record {
@@ -58,6 +80,7 @@ kept_by s store kept keeps = record {
     rise = (kept.stands works).rise;
     promises = λ x is. keeps.writes x is ∙ (kept.stands works).promises x (keeps.prepared x is);
     marked = λ x is. (kept.stands works).marked x (keeps.prepared x is);
+    decided = λ x is. subst (SaysDecided (records_of s.log.sight.kept) x) (sym (keeps.known x is)) ((kept.stands works).decided x (keeps.decided x is));
   };
 }
 
@@ -68,19 +91,30 @@ prepared_by old new keeps s s' is_old is_new x is =
     (ap (λ t. is_prepared (state_of (record s { tables = t }) x)) is_old
     ∙ keeps x (ap (λ t. is_prepared (state_of (record s' { tables = t }) x)) (sym is_new) ∙ ap is_prepared is))
 
+decided_by : (old new : States) → Keeps is_decided old new → (s s' : KeySight) → s.tables ≡ old → s'.tables ≡ new
+    → (x : Xid) → state_of s' x ≡ S5 → state_of s x ≡ S5
+decided_by old new keeps s s' is_old is_new x is =
+    decided_is (state_of s x)
+    (ap (λ t. is_decided (state_of (record s { tables = t }) x)) is_old
+    ∙ keeps x (ap (λ t. is_decided (state_of (record s' { tables = t }) x)) (sym is_new) ∙ ap is_decided is))
+
 pub same_promises : (old new : KeySight) → SameStore old new → KeepsPromises old new
 same_promises old new stays = record {
   versions = one_data old.versions new.versions stays.versions;
   prepared = prepared_by old.tables new.tables (same_keeps is_prepared old.tables new.tables stays.tables) old new refl refl;
   writes = λ x is. stays.writes x;
+  decided = decided_by old.tables new.tables (same_keeps is_decided old.tables new.tables stays.tables) old new refl refl;
+  known = λ x is. ap decision_or (stays.decisions x);
 }
 
-pub moved_promises : (old new : KeySight) → Keeps is_prepared old.tables new.tables → new.writes ≡ old.writes
-    → new.versions ≡ old.versions → KeepsPromises old new
-moved_promises old new keeps writes versions = record {
+pub moved_promises : (old new : KeySight) → Keeps is_prepared old.tables new.tables → Keeps is_decided old.tables new.tables
+    → new.writes ≡ old.writes → new.versions ≡ old.versions → new.decisions ≡ old.decisions → KeepsPromises old new
+moved_promises old new keeps still writes versions decisions = record {
   versions = one_data old.versions new.versions versions;
   prepared = prepared_by old.tables new.tables keeps old new refl refl;
   writes = λ x is. ap (λ w. writes_of w x) writes;
+  decided = decided_by old.tables new.tables still old new refl refl;
+  known = λ x is. ap (λ t. decision_or (decision_in t x)) decisions;
 }
 
 pub refused_same : (old new : KeySight) (refusal : Option WorkError) (e : WorkError) → IsRefused old new refusal e → SameStore old new
@@ -97,6 +131,8 @@ wrote_promises old new t k v wrote = record {
   versions = one_data old.versions new.versions wrote.versions;
   prepared = λ x is. ap (λ s. state_of (record old { tables = s }) x) (sym wrote.tables) ∙ is;
   writes = λ x is. writes x (ap (λ s. state_of (record old { tables = s }) x) (sym wrote.tables) ∙ is) (same wrote.branch x) refl;
+  decided = λ x is. ap (λ s. state_of (record old { tables = s }) x) (sym wrote.tables) ∙ is;
+  known = λ x is. ap (λ d. decision_or (decision_in d x)) wrote.decisions;
 }
   where
     writes : (x : Xid) → state_of old x ≡ S3 → (b : Bool) → same wrote.branch x ≡ b → writes_of new.writes x ≡ writes_of old.writes x
@@ -126,4 +162,54 @@ data_only old new stays = record {
   versions = stays.versions;
   prepared = λ x is. ap (λ s. state_of (record old { tables = s }) x) (sym stays.tables) ∙ is;
   writes = λ x is. ap (λ w. writes_of w x) stays.writes;
+  decided = λ x is. ap (λ s. state_of (record old { tables = s }) x) (sym stays.tables) ∙ is;
+  known = λ x is. ap (λ d. decision_or (decision_in d x)) stays.decisions;
 }
+
+-- room was made for a decision
+pub room_alone : (old new : KeySight) → Reserves old new → KeepsPromises old new
+room_alone old new stays = record {
+  versions = one_data old.versions new.versions stays.versions;
+  prepared = λ x is. ap (λ s. state_of (record old { tables = s }) x) (sym stays.tables) ∙ is;
+  writes = λ x is. ap (λ w. writes_of w x) stays.writes;
+  decided = λ x is. ap (λ s. state_of (record old { tables = s }) x) (sym stays.tables) ∙ is;
+  known = λ x is. ap (λ (ds : List (Xid × Decision)). decision_or (decision_in (record old.decisions { decisions = ds }) x)) stays.decisions;
+}
+
+-- Opening and closing move no branch.
+
+not_zero : (n : ℕ) → (n == 0) ≡ false → n ≡ 0 → ⊥
+not_zero n e z = absurd (let f : (0 == 0) ≡ false = subst (λ (k : ℕ). (k == 0) ≡ false) z e in cc)
+
+closed_one : (old new : States) (c : Code) → Closed old new c → new.branches ≡ old.branches
+closed_one old new c h = by_tests (length old.associations.holders == 0) (length old.associations.moved == 0) refl refl
+  where
+    held : (IsBare old.associations → ⊥) → new.branches ≡ old.branches
+    held n = ap (λ (m : States). m.branches) (h.held n).1
+
+    by_tests : (a b : Bool) → (length old.associations.holders == 0) ≡ a → (length old.associations.moved == 0) ≡ b → new.branches ≡ old.branches
+    by_tests true true e f = (h.done (record { holders = eqb-true (length old.associations.holders) 0 e; moved = eqb-true (length old.associations.moved) 0 f })).2
+    by_tests true false e f = held (λ bare. not_zero (length old.associations.moved) f bare.moved)
+    by_tests false b e f = held (λ bare. not_zero (length old.associations.holders) e bare.holders)
+
+pub closes_one : (old new : States) (flags : ℕ) (c : Code) → Closes old new flags c → new.branches ≡ old.branches
+closes_one old new flags c h = by_legal (legal verb.Close flags) h
+  where
+    by_legal : (r : Result Call Code) → MatchResult r (λ _. Closed old new c) (λ refusal. (c ≡ refusal) × (new ≡ old)) → new.branches ≡ old.branches
+    by_legal (Ok k) h = closed_one old new c h
+    by_legal (Err e) h = ap (λ (m : States). m.branches) h.1
+
+pub opens_one : (old new : States) (flags : ℕ) (migrates : Bool) (c : Code) → Opens old new flags migrates c → new.branches ≡ old.branches
+opens_one old new flags migrates c h = by_legal (legal verb.Open flags) h
+  where
+    by_legal : (r : Result Call Code) → MatchResult r (λ _. Opened old new migrates c) (λ refusal. (c ≡ refusal) × (new ≡ old)) → new.branches ≡ old.branches
+    by_legal (Ok k) h = h.branches
+    by_legal (Err e) h = ap (λ (m : States). m.branches) h.1
+
+-- a call that moves no branch keeps the promises
+pub called_promises : (old new : KeySight) → new.tables.branches ≡ old.tables.branches → new.writes ≡ old.writes
+    → new.versions ≡ old.versions → new.decisions ≡ old.decisions → KeepsPromises old new
+called_promises old new one writes versions decisions = moved_promises old new (keeps is_prepared) (keeps is_decided) writes versions decisions
+  where
+    keeps : (q : BranchState → Bool) → Keeps q old.tables new.tables
+    keeps q x h = ap (λ (b : BranchList). q (state_in b.branches x)) (sym one) ∙ h

@@ -3,6 +3,7 @@ pub mod Resources
 pub mod Restoring
 pub mod Turns
 pub mod Creating
+pub mod Deciding
 pub mod Marks
 pub mod Restarted
 pub mod Trimmed

@@ -1,12 +1,10 @@
 -- A key store with a log does what a resource manager does.
 use Rattle.std.proofs.Common.{◌≡◌, ◌-◌, ◌^◌, ℕ, Bool, true, false, not, if◌then◌else◌, List, [], ◌∷◌, Option, Some, None, refl, sym, ap, subst, ◌∙◌}
 use Rattle.std.proofs.lemmas.List.{append-nil}
-use Rattle.std.proofs.lemmas.List.Elements.{All-contains, All-from_recursion}
-use Rattle.std.specs.List.{All}
 use Rattle.std.specs.Prelude.{◌||◌, Contains, nat_lt}
 use Rattle.xa_codes.specs.declared.code.Code.{Code}
 use Rattle.xa_codes.specs.declared.code.Code.TheVariants as code
-use Rattle.xa_tables.specs.Tables.{branch_rows, heuristic}
+use Rattle.xa_tables.specs.Tables.{branch_rows}
 use Rattle.xa_tables.specs.declared.call.Call.{Call}
 use Rattle.xa_tables.specs.declared.call.Call.TheVariants as call
 use Rattle.xa_tables.specs.declared.call.Verb.{Verb}
@@ -21,7 +19,11 @@ use Rattle.xa_states.specs.Answers.{Same, Takes as TakesRow}
 use Rattle.xa_states.specs.Ready.{has_rows, is_work, is_work_verb}
 use Rattle.xa_states.proofs.Finishing.{passed, works_as}
 use Rattle.xa_states.proofs.Reactions.{stays}
-use Rattle.tree_model.specs.declared.names.Presumption.{Presumption}
+use Rattle.xa_heur.specs.declared.decision.Decision.{Decision}
+use Rattle.xa_heur.specs.Decisions.{first_told, told_behind}
+use Rattle.xa_heur.specs.Cases.{decision_in, decision_or}
+use Rattle.tree_model.specs.declared.names.Outcome.{Outcome}
+use Rattle.tree_model.specs.declared.names.Outcome.TheVariants.{Aborted as AbortedOutcome, Committed as CommittedOutcome}
 use Rattle.tree_model.specs.declared.records.Branch.{Branch}
 use Rattle.tree_model.specs.declared.records.Branch.TheVariants.{Case as CaseBranch, Foreign}
 use Rattle.tree_model.specs.declared.records.Write.{Write}
@@ -37,16 +39,16 @@ use Rattle.xa_manager.specs.declared.errors.WorkError.TheVariants.{Locked, Memor
 use Rattle.manager_model.specs.Sights.{Calls, SameManager}
 use Rattle.manager_model.specs.Works.{WorkRefused, Works, work_refusal}
 use Rattle.manager_model.specs.Works as model
-use Rattle.manager_model.specs.Ends.{Broke, Fails, Failed, Finishes, Limited, Made, Makes, Refused, Unlisted, left_with, logged_under, row_of, state_of as state_of_log, written_by, written_for}
+use Rattle.manager_model.specs.Ends.{Broke, Fails, Failed, Finishes, Limited, Made, Makes, Refused, Unlisted, decided_behind, left_with, logged_under, outcome_row, row_for, row_of, state_of as state_of_log, tells, written_by, written_for}
 use Rattle.kv_locks.specs.declared.holders.Mode.{Mode}
 use Rattle.kv_locks.specs.declared.holders.Mode.TheVariants.{Exclusive, Shared}
 use Rattle.kv_locks.specs.Locks.{blocked_by, holders_of}
 use Rattle.kv_writes.specs.Writes.{SameWrites, is_within_limit, writes_of}
 use Rattle.kv_turns.specs.declared.entries.Entry.{Entry}
 use Rattle.kv_turns.specs.declared.turns.Turn.{Turn}
-use Rattle.kv_turns.specs.Turns.{entry_of, presumption_of, turn_of}
+use Rattle.kv_turns.specs.Turns.{entry_of, tell_turn, turn_of}
 use Rattle.kv_core.specs.Stores.{KeySight, MovesTables, SameStore, has_numbers, state_of}
-use Rattle.kv_core.specs.Ends.{IsListed, LetsGo, Refused as OffRefused, Unlisted as OffUnlisted, turn_for, wrote_some}
+use Rattle.kv_core.specs.Ends.{IsListed, LetsGo, Refused as OffRefused, Unlisted as OffUnlisted, known_behind, known_of, turn_for, wrote_some}
 use Rattle.kv_core.specs.Works as core
 use Rattle.kv_core.specs.Works.{IsRefused, Reads, Writes, at_work, branch_refusal, is_spoiled, is_too_long, limit_refusal, refusal_by, unless_locked, worker_of, working}
 use Rattle.kv_manager.specs.Sights.{KvSight, SameManager as SameKv}
@@ -80,14 +82,22 @@ same_sight old new same =
       log = same.log;
       boot = same.boot;
       spent = ap (λ n. not (nat_lt n (2 ^ 63 - 1))) same.versions.count;
-      rest = record { writes = same.writes; obstacles = obstacle_same old.store new.store same.locks same.writes };
+      rest = record {
+        writes = same.writes;
+        obstacles = obstacle_same old.store new.store same.locks same.writes;
+        decided = λ x. ap decision_or (same.decisions x);
+      };
     }
 
 -- Calls on the tables alone.
 
 moved_rest : (old new : KeySight) (Moves : States → States → Type 0) → MovesTables old new Moves
-    → (not (has_numbers new) ≡ not (has_numbers old)) × SameWrites old.writes new.writes
-moved_rest old new Moves made = (ap (λ v. not (nat_lt v.count (2 ^ 63 - 1))) made.versions, λ x. ap (λ w. writes_of w x) made.writes)
+    → (not (has_numbers new) ≡ not (has_numbers old)) × SameWrites old.writes new.writes × ((x : Xid) → known_of new x ≡ known_of old x)
+moved_rest old new Moves made = (
+  ap (λ v. not (nat_lt v.count (2 ^ 63 - 1))) made.versions,
+  λ x. ap (λ w. writes_of w x) made.writes,
+  λ x. ap (λ t. decision_or (decision_in t x)) made.decisions,
+)
 
 pub called : (old new : KvSight) (refuses : Type 0) (Moves : States → States → Type 0)
     → KvCalls old new refuses (λ before behind. MovesTables before behind Moves) → Calls (sight_of old) (sight_of new) refuses Moves
@@ -112,7 +122,11 @@ called old new refuses Moves made = by_failed old.log.sight.failed refl
           log = made.log;
           boot = made.boot;
           spent = rest.0;
-          rest = record { writes = rest.1; obstacles = obstacle_same old.store new.store (made.works works).locks rest.1 };
+          rest = record {
+            writes = rest.1;
+            obstacles = obstacle_same old.store new.store (made.works works).locks rest.1;
+            decided = rest.2;
+          };
         }
 
 -- Work.
@@ -161,7 +175,11 @@ stayed old new same log boot =
       log = log;
       boot = boot;
       spent = ap (λ v. not (nat_lt v.count (2 ^ 63 - 1))) same.versions;
-      rest = record { writes = same.writes; obstacles = obstacle_same old.store new.store same.locks same.writes };
+      rest = record {
+        writes = same.writes;
+        obstacles = obstacle_same old.store new.store same.locks same.writes;
+        decided = λ x. ap decision_or (same.decisions x);
+      };
     }
 
 pub work_refused : (old new : KvSight) (t : ℕ) (op : Op) (e : WorkError) → Refuses old new (op_refusal old.store t op) e
@@ -200,16 +218,16 @@ active_is : (s : KeySight) (o : Option Xid) (x : Xid) → worker_of s o ≡ Some
 active_is s None x h = absurd (cc)
 active_is s (Some y) x h = ap Some (worker_is (state_of s y) y x h)
 
-same_tables : (a b : States) → b ≡ a → Same a b
+pub same_tables : (a b : States) → b ≡ a → Same a b
 same_tables a b is = subst (Same a) (sym is) (record { init = refl; branches = stays a.branches a.branches refl; associations = refl })
 
 -- an operation was done by the branch that the thread is active in
 worked : (old new : KvSight) (t : ℕ) (op : Op) (x : Xid) → old.log.sight.failed ≡ false → at_work old.store t ≡ Some x
     → op_refusal old.store t op ≡ None → writes_of new.store.writes x ≡ op_writes (writes_of old.store.writes x) op
     → ((y : Xid) → same x y ≡ false → writes_of new.store.writes y ≡ writes_of old.store.writes y)
-    → new.store.tables ≡ old.store.tables → new.log.sight ≡ old.log.sight → new.boot ≡ old.boot
+    → new.store.tables ≡ old.store.tables → new.store.decisions ≡ old.store.decisions → new.log.sight ≡ old.log.sight → new.boot ≡ old.boot
     → Works (sight_of old) (sight_of new) t op
-worked old new t op x works at allowed own others tables log boot =
+worked old new t op x works at allowed own others tables decisions log boot =
     record {
       allowed = refusal_as old t op works ∙ allowed;
       branch = x;
@@ -219,6 +237,7 @@ worked old new t op x works at allowed own others tables log boot =
       tables = same_tables old.store.tables new.store.tables tables;
       log = log;
       boot = boot;
+      decided = λ y. ap (λ d. decision_or (decision_in d y)) decisions;
     }
 
 pub did_read : (old new : KvSight) (t : ℕ) (k : List ℕ) (found : Option (List ℕ))
@@ -230,7 +249,7 @@ did_read old new t k found made = by_failed old.log.sight.failed refl
     by_failed false is =
         let reads = made.works is in
         worked old new t (Get k) reads.branch is reads.works (ap (refusal_by old.store k None Shared) reads.works ∙ reads.allowed)
-        (ap (λ w. writes_of w reads.branch) reads.writes) (λ y apart. ap (λ w. writes_of w y) reads.writes) reads.tables made.log made.boot
+        (ap (λ w. writes_of w reads.branch) reads.writes) (λ y apart. ap (λ w. writes_of w y) reads.writes) reads.tables reads.decisions made.log made.boot
 
 pub did_put : (old new : KvSight) (t : ℕ) (k v : List ℕ) → KvCalls old new ⊥ (λ before behind. Writes before behind t k (Some v))
     → Works (sight_of old) (sight_of new) t (Put k v)
@@ -241,7 +260,7 @@ did_put old new t k v made = by_failed old.log.sight.failed refl
     by_failed false is =
         let wrote = made.works is in
         worked old new t (Put k v) wrote.branch is wrote.works (ap (refusal_by old.store k (Some v) Exclusive) wrote.works ∙ wrote.allowed)
-        wrote.writes.own wrote.writes.others wrote.tables made.log made.boot
+        wrote.writes.own wrote.writes.others wrote.tables wrote.decisions made.log made.boot
 
 pub did_delete : (old new : KvSight) (t : ℕ) (k : List ℕ) → KvCalls old new ⊥ (λ before behind. Writes before behind t k None)
     → Works (sight_of old) (sight_of new) t (Delete k)
@@ -252,60 +271,105 @@ did_delete old new t k made = by_failed old.log.sight.failed refl
     by_failed false is =
         let wrote = made.works is in
         worked old new t (Delete k) wrote.branch is wrote.works (ap (refusal_by old.store k None Exclusive) wrote.works ∙ wrote.allowed)
-        wrote.writes.own wrote.writes.others wrote.tables made.log made.boot
+        wrote.writes.own wrote.writes.others wrote.tables wrote.decisions made.log made.boot
 
 -- The calls that finish a branch: a turn is its row, and its record the row's.
 
-row_as : (s : BranchState) (c : Call) (ws : List Write) (p : Presumption)
-    → ((turn_of s c (wrote_some ws) p).code, (turn_of s c (wrote_some ws) p).to) ≡ row_of c ws
-row_as s call.Prepare [] p = refl
-row_as s call.Prepare (w ∷ ws) p = refl
-row_as s call.Commit ws p = refl
-row_as s call.CommitOnePhase [] p = refl
-row_as s call.CommitOnePhase (w ∷ ws) p = refl
-row_as S0 call.Rollback ws p = refl
-row_as S1 call.Rollback ws p = refl
-row_as S2 call.Rollback ws p = refl
-row_as S3 call.Rollback ws p = refl
-row_as S4 call.Rollback ws p = refl
-row_as S5 call.Rollback ws p = refl
-row_as s _ ws p = refl
+told_row : (b : Branch) (o : Outcome) (d : Decision) (told : Option Outcome)
+    → ((tell_turn b o d told).code, (tell_turn b o d told).to) ≡ outcome_row S5 d
+told_row b o d None = refl
+told_row b o d (Some t) = refl
+
+row_as : (s : BranchState) (c : Call) (ws : List Write) (b : Branch) (d : Decision)
+    → ((turn_of s c (wrote_some ws) b d).code, (turn_of s c (wrote_some ws) b d).to) ≡ row_of c s ws d
+row_as s call.Prepare [] b d = refl
+row_as s call.Prepare (w ∷ ws) b d = refl
+row_as S0 call.Commit ws b d = refl
+row_as S1 call.Commit ws b d = refl
+row_as S2 call.Commit ws b d = refl
+row_as S3 call.Commit ws b d = refl
+row_as S4 call.Commit ws b d = refl
+row_as S5 call.Commit ws b d = told_row b CommittedOutcome d d.told
+row_as s call.CommitOnePhase [] b d = refl
+row_as s call.CommitOnePhase (w ∷ ws) b d = refl
+row_as S0 call.Rollback ws b d = refl
+row_as S1 call.Rollback ws b d = refl
+row_as S2 call.Rollback ws b d = refl
+row_as S3 call.Rollback ws b d = refl
+row_as S4 call.Rollback ws b d = refl
+row_as S5 call.Rollback ws b d = told_row b AbortedOutcome d d.told
+row_as s _ ws b d = refl
 
 -- the record of a turn
 abbrev recorded : Option Entry → Bool → Branch → List Write → List Written
 recorded None is_forced b ws = []
 recorded (Some e) is_forced b ws = record { entry = entry_of e b ws; is_forced = is_forced } ∷ []
 
-all_decided : All (λ (r : Code × BranchState). r.1 ≡ S5) heuristic
-all_decided = All-from_recursion (λ (r : Code × BranchState). r.1 ≡ S5) heuristic (refl, (refl, (refl, (refl, tt))))
+told_written : (b : Branch) (o : Outcome) (d : Decision) (told : Option Outcome) (ws : List Write)
+    → tells b o told ≡ recorded (tell_turn b o d told).entry (tell_turn b o d told).is_forced b ws
+told_written (CaseBranch c) o d None ws = refl
+told_written (Foreign x) o d None ws = refl
+told_written b o d (Some t) ws = refl
 
-undecided : Contains heuristic (code.Ok, S0) → ⊥
-undecided h = let never : S0 ≡ S5 = All-contains (λ (r : Code × BranchState). r.1 ≡ S5) heuristic (code.Ok, S0) all_decided h in absurd (cc)
+written_as : (s : BranchState) (c : Call) (ws : List Write) (b : Branch) (d : Decision) → is_work c ≡ false
+    → has_rows (branch_rows s c) ≡ true
+    → written_by c s b ws d ≡ recorded (turn_of s c (wrote_some ws) b d).entry (turn_of s c (wrote_some ws) b d).is_forced b ws
+written_as S0 call.Start ws b d w h = absurd (cc)
+written_as S0 _ ws b d w h = absurd (cc)
+written_as S1 call.Start ws b d w h = absurd (cc)
+written_as S1 _ ws b d w h = absurd (cc)
+written_as S2 call.Prepare [] b d w h = refl
+written_as S2 call.Prepare (x ∷ ws) b d w h = refl
+written_as S2 call.CommitOnePhase [] b d w h = refl
+written_as S2 call.CommitOnePhase (x ∷ ws) b d w h = refl
+written_as S2 call.Rollback ws b d w h = refl
+written_as S2 _ ws b d w h = absurd (cc)
+written_as S3 call.Commit ws (CaseBranch c) d w h = refl
+written_as S3 call.Commit ws (Foreign x) d w h = refl
+written_as S3 call.Rollback ws (CaseBranch c) d w h = refl
+written_as S3 call.Rollback ws (Foreign x) d w h = refl
+written_as S3 _ ws b d w h = absurd (cc)
+written_as S4 call.Rollback ws b d w h = refl
+written_as S4 _ ws b d w h = absurd (cc)
+written_as S5 call.Commit ws b d w h = told_written b CommittedOutcome d d.told ws
+written_as S5 call.Rollback ws b d w h = told_written b AbortedOutcome d d.told ws
+written_as S5 call.Forget ws b d w h = refl
+written_as S5 _ ws b d w h = absurd (cc)
 
-written_as : (s : BranchState) (c : Call) (ws : List Write) (b : Branch) → is_work c ≡ false → has_rows (branch_rows s c) ≡ true
-    → Contains (branch_rows s c) (row_of c ws)
-    → written_by c s b ws ≡ recorded (turn_of s c (wrote_some ws) (presumption_of b)).entry (turn_of s c (wrote_some ws) (presumption_of b)).is_forced b ws
-written_as S0 call.Start ws b w h listed = absurd (cc)
-written_as S0 _ ws b w h listed = absurd (cc)
-written_as S1 call.Start ws b w h listed = absurd (cc)
-written_as S1 _ ws b w h listed = absurd (cc)
-written_as S2 call.Prepare [] b w h listed = refl
-written_as S2 call.Prepare (x ∷ ws) b w h listed = refl
-written_as S2 call.CommitOnePhase [] b w h listed = refl
-written_as S2 call.CommitOnePhase (x ∷ ws) b w h listed = refl
-written_as S2 call.Rollback ws b w h listed = refl
-written_as S2 _ ws b w h listed = absurd (cc)
-written_as S3 call.Commit ws (CaseBranch c) w h listed = refl
-written_as S3 call.Commit ws (Foreign x) w h listed = refl
-written_as S3 call.Rollback ws (CaseBranch c) w h listed = refl
-written_as S3 call.Rollback ws (Foreign x) w h listed = refl
-written_as S3 _ ws b w h listed = absurd (cc)
-written_as S4 call.Rollback ws b w h listed = refl
-written_as S4 _ ws b w h listed = absurd (cc)
-written_as S5 call.Commit ws b w h listed = absurd (undecided listed)
-written_as S5 call.Rollback ws b w h listed = absurd (undecided listed)
-written_as S5 call.Forget ws b w h listed = refl
-written_as S5 _ ws b w h listed = absurd (cc)
+-- the first outcome that a branch was told stays
+first_stays : (o : Outcome) (told : Option Outcome) (t : Outcome) → told ≡ Some t → first_told o told ≡ told
+first_stays o None t is = absurd (cc)
+first_stays o (Some u) t is = refl
+
+told_known : (b : Branch) (o : Outcome) (known : Option Decision) (told : Option Outcome) → (decision_or known).told ≡ told
+    → decision_or (known_behind (tell_turn b o (decision_or known) told).entry known) ≡ told_behind o (decision_or known)
+told_known b o known None is = refl
+told_known b o known (Some t) is =
+    sym (ap (λ u. record { outcome = (decision_or known).outcome; told = u }) (first_stays o (decision_or known).told t is))
+
+-- what is known of a branch behind a turn that leaves it in S5
+known_as : (s : BranchState) (c : Call) (wrote : Bool) (b : Branch) (known : Option Decision) → is_work c ≡ false
+    → has_rows (branch_rows s c) ≡ true → (turn_of s c wrote b (decision_or known)).to ≡ S5
+    → decision_or (known_behind (turn_of s c wrote b (decision_or known)).entry known) ≡ decided_behind c (decision_or known)
+known_as S0 call.Start wrote b known w h to = absurd (cc)
+known_as S0 _ wrote b known w h to = absurd (cc)
+known_as S1 call.Start wrote b known w h to = absurd (cc)
+known_as S1 _ wrote b known w h to = absurd (cc)
+known_as S2 call.Prepare true b known w h to = absurd (cc)
+known_as S2 call.Prepare false b known w h to = absurd (cc)
+known_as S2 call.CommitOnePhase true b known w h to = absurd (cc)
+known_as S2 call.CommitOnePhase false b known w h to = absurd (cc)
+known_as S2 call.Rollback wrote b known w h to = absurd (cc)
+known_as S2 _ wrote b known w h to = absurd (cc)
+known_as S3 call.Commit wrote b known w h to = absurd (cc)
+known_as S3 call.Rollback wrote b known w h to = absurd (cc)
+known_as S3 _ wrote b known w h to = absurd (cc)
+known_as S4 call.Rollback wrote b known w h to = absurd (cc)
+known_as S4 _ wrote b known w h to = absurd (cc)
+known_as S5 call.Commit wrote b known w h to = told_known b CommittedOutcome known (decision_or known).told refl
+known_as S5 call.Rollback wrote b known w h to = told_known b AbortedOutcome known (decision_or known).told refl
+known_as S5 call.Forget wrote b known w h to = absurd (cc)
+known_as S5 _ wrote b known w h to = absurd (cc)
 
 log_as : (old new : KvSight) (x : Xid) (is_forced : Bool) (o : Option Entry) → Logs old new x is_forced o
     → let ws = recorded o is_forced (name_in x).1 (writes_of old.store.writes x) in
@@ -320,7 +384,7 @@ left_own old new x S1 goes = ap (λ w. writes_of w x) goes.0
 left_own old new x S2 goes = ap (λ w. writes_of w x) goes.0
 left_own old new x S3 goes = ap (λ w. writes_of w x) goes.0
 left_own old new x S4 goes = ap (λ w. writes_of w x) goes.0
-left_own old new x S5 goes = ap (λ w. writes_of w x) goes.0
+left_own old new x S5 goes = goes.0.own
 
 left_others : (old new : KeySight) (x : Xid) (to : BranchState) → LetsGo old new x to → (y : Xid) → same x y ≡ false
     → writes_of new.writes y ≡ writes_of old.writes y
@@ -329,7 +393,7 @@ left_others old new x S1 goes y apart = ap (λ w. writes_of w y) goes.0
 left_others old new x S2 goes y apart = ap (λ w. writes_of w y) goes.0
 left_others old new x S3 goes y apart = ap (λ w. writes_of w y) goes.0
 left_others old new x S4 goes y apart = ap (λ w. writes_of w y) goes.0
-left_others old new x S5 goes y apart = ap (λ w. writes_of w y) goes.0
+left_others old new x S5 goes y apart = goes.0.others y apart
 
 module _ (old new : KvSight) (x : Xid) (c : Call) (w : is_work c ≡ false) (h : has_rows (branch_rows (state_of old.store x) c) ≡ true)
     (due : IsListed old.store x c (turn_for old.store x c)) where
@@ -342,16 +406,19 @@ module _ (old new : KvSight) (x : Xid) (c : Call) (w : is_work c ≡ false) (h :
   abbrev turn : Turn
   turn = turn_for old.store x c
 
-  is_row : (turn.code, turn.to) ≡ row_of c ws
-  is_row = row_as (state_of old.store x) c ws (presumption_of b)
+  abbrev row : Code × BranchState
+  row = row_for (sight_of old) x c
 
-  listed : Contains (branch_rows (state_of old.store x) c) (row_of c ws)
+  is_row : (turn.code, turn.to) ≡ row
+  is_row = row_as (state_of old.store x) c ws b (known_of old.store x)
+
+  listed : Contains (branch_rows (state_of old.store x) c) row
   listed = subst (Contains (branch_rows (state_of old.store x) c)) is_row due
 
   is_written : written_for (sight_of old) x c ≡ recorded turn.entry turn.is_forced b ws
-  is_written = written_as (state_of old.store x) c ws b w h listed
+  is_written = written_as (state_of old.store x) c ws b (known_of old.store x) w h
 
-  made_row : KvMakes old new x turn → Makes (sight_of old) (sight_of new) x c (row_of c ws)
+  made_row : KvMakes old new x turn → Makes (sight_of old) (sight_of new) x c row
   made_row made =
       record {
         listed = listed;
@@ -359,6 +426,10 @@ module _ (old new : KvSight) (x : Xid) (c : Call) (w : is_work c ≡ false) (h :
         log = log_as old new x turn.is_forced turn.entry made.log ∙ ap (λ rs. wrote old.log.sight rs (logged_under x rs)) (sym is_written);
         own = left_own old.store new.store x turn.to made.keeps ∙ ap (λ (r : Code × BranchState). left_with r.1 ws) is_row;
         others = left_others old.store new.store x turn.to made.keeps;
+        decided = λ to. ap decision_or made.decisions.own
+            ∙ known_as (state_of old.store x) c (wrote_some ws) b (decision_in old.store.decisions x) w h
+            (ap (λ (r : Code × BranchState). r.1) is_row ∙ to);
+        others_decided = λ y apart. ap decision_or (made.decisions.others y apart);
         boot = made.boot;
       }
 
@@ -379,6 +450,7 @@ module _ (old new : KvSight) (x : Xid) (c : Call) (w : is_work c ≡ false) (h :
         });
         tables = same_tables old.store.tables new.store.tables failed.tables;
         writes = λ y. ap (λ u. writes_of u y) failed.writes;
+        decided = λ y. ap (λ t. decision_or (decision_in t y)) failed.decisions;
         boot = failed.boot;
       }
 
@@ -391,7 +463,7 @@ finished old new v x flags answer n (kv.Failed failed is same) = Failed failed i
 finished old new v x flags answer n (kv.Refused works (OffRefused checked) same) = Refused works checked (same_sight old new same)
 finished old new v x flags answer n (kv.Refused works (OffUnlisted c ready_is none off) same) =
     Unlisted works c ready_is
-    (λ listed. none (subst (Contains (branch_rows (state_of old.store x) c)) (sym (row_as (state_of old.store x) c (writes_of old.store.writes x) _)) listed))
+    (λ listed. none (subst (Contains (branch_rows (state_of old.store x) c)) (sym (row_as (state_of old.store x) c (writes_of old.store.writes x) _ _)) listed))
     (off ∙ off_is c (works_as v flags c (passed old.store.tables v x flags c ready_is).by_flags ∙ n)) (same_sight old new same)
   where
     off_is : (c : Call) → is_work c ≡ false → off_row c ≡ code.Proto
@@ -412,7 +484,7 @@ finished old new v x flags answer n (kv.Taken works due is_due taken) =
     by_taken : is_work due.0 ≡ false → has_rows (branch_rows (state_of old.store x) due.0) ≡ true → IsListed old.store x due.0 (turn_for old.store x due.0)
         → KvTakes old new x (turn_for old.store x due.0) answer → Finishes (sight_of old) (sight_of new) v x flags answer
     by_taken w h listed (kv.Made is made) =
-        Made works due.0 is_due.checked (is ∙ ap (λ (r : Code × BranchState). r.0) (row_as (state_of old.store x) due.0 (writes_of old.store.writes x) _))
+        Made works due.0 is_due.checked (is ∙ ap (λ (r : Code × BranchState). r.0) (row_as (state_of old.store x) due.0 (writes_of old.store.writes x) _ _))
         (made_row old new x due.0 w h listed made)
     by_taken w h listed (kv.Broke is failed) = Broke works due.0 is_due.checked is (broke_under old new x due.0 w h listed failed)
     by_taken w h listed (kv.Spent is commits few same) = Limited works (spent_so (has_numbers old.store) few) is (same_sight old new same)

@@ -13,6 +13,8 @@ use Rattle.kv_manager.specs.declared.restart.RestartError.{RestartError}
 use Rattle.kv_manager.specs.declared.restart.RestartError.TheVariants.{Device, Exhausted, Memory, Unfit}
 use Rattle.kv_manager.specs.Resources.{seen_fault, sight_of}
 use Rattle.kv_manager.specs.Restarts.{NotRestarted as KvNotRestarted, RestartFails as KvFails, Restarted, opened}
+use Rattle.kv_core.specs.Stores.{KeySight}
+use Rattle.kv_core.specs.Ends.{known_of}
 use Rattle.kv_manager.specs.Sights.{KvSight}
 use Rattle.kv_manager.proofs.Marks.{agrees_of, boot_next, writes_as}
 use Rattle.kv_manager.proofs.Resources.{same_sight}
@@ -40,6 +42,7 @@ restarted old new keep given made =
       associations = left.tables.associations;
       seats = left.tables.seats;
       writes = λ x. left.promises x ∙ writes_as ls left.seen x left.read;
+      decided = λ x here. left.decided.each x;
       boot = boot;
       log = log_of old.log new.log keep (opened new.boot ∷ []) made.log ∙ ap (λ n. forced_sight (ls ++ boot_record n ∷ []) old.log.sight.failures) boot;
     }
@@ -60,6 +63,7 @@ fails old new keep made =
           (broken old.log new.log keep (opened made.next ∷ []) made.log);
       tables = same_tables old.store.tables new.store.tables (ap (λ s. s.tables) made.store);
       boot = made.boot;
+      decided = λ x. ap (λ (s : KeySight). known_of s x) made.store;
     }
 
 pub not_restarted : (old new : KvSight) (keep : ℕ) (e : RestartError) → KvNotRestarted old new keep e

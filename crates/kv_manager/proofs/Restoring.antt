@@ -21,7 +21,7 @@ use Rattle.kv_store.specs.Pairs.{keys_rise}
 use Rattle.kv_store.specs.Versions.{VersionTable}
 use Rattle.kv_writes.specs.Writes.{WriteTable, writes_of}
 use Rattle.kv_replay.specs.Folds.{AreData, data_of}
-use Rattle.kv_replay.specs.Replays.{HoldPromises, Leaves}
+use Rattle.kv_replay.specs.Replays.{HoldPromises, Leaves, seen_of}
 use Rattle.kv_replay.specs.declared.fault.ReplayError.{ReplayError}
 use Rattle.kv_replay.specs.declared.fault.ReplayError.TheVariants.{Memory, Malformed, Exhausted}
 use Rattle.kv_replay.specs.Replays.{Fails}
@@ -34,12 +34,16 @@ use Rattle.rec_log.specs.Sights.{LogSight, LogState, Restarts, left_by as left_b
 use Rattle.kv_manager.specs.declared.restart.Ready.{Ready}
 use Rattle.kv_manager.specs.declared.restart.RestartError.{RestartError}
 use Rattle.kv_manager.specs.declared.restart.RestartError.TheVariants.{Device, Exhausted as ExhaustedRestart, Memory as MemoryRestart, Unfit}
-use Rattle.kv_core.specs.Stores.{IsTidy, KeySight, Rebuilt, is_let_go}
+use Rattle.xa_heur.specs.Cases.{DecisionTable}
+use Rattle.kv_replay.specs.Decisions.{KnowDecided, decided_in, says_decided}
+use Rattle.kv_core.specs.Stores.{IsTidy, KeySight, Rebuilt, is_decided, is_let_go}
+use Rattle.kv_core.specs.Ends.{known_of}
 use Rattle.kv_manager.specs.Restarts.{FailsToRestart, IsReady, LeavesStore, NotRebuilt, error_of, next_boot, opened}
-use Rattle.kv_manager.specs.Sights.{IsKept, IsLogged, KvSight, logged}
+use Rattle.kv_manager.specs.Sights.{IsKept, IsLogged, KvSight, SaysDecided, logged}
 use Rattle.kv_manager.proofs.Marks.{agrees_of, prepared_mark, state_by}
-use Rattle.kv_manager.proofs.Turns.{data_behind, mark_behind}
-use Rattle.manager_model.specs.Restarting.{mark_at}
+use Rattle.kv_manager.proofs.Turns.{data_behind, decided_behind, mark_behind}
+use Rattle.manager_model.specs.Restarting.{mark_at, marked_state}
+use Rattle.tree_model.specs.Standings.{Decided, Finished, Mark, Promised, ToldOf, Unmarked}
 
 Live : Type 0
 Live = List (Xid × Promise)
@@ -125,18 +129,35 @@ not_held s locks x k kept none = elim (candidates s k s.live) [
         absurd (let never : true ≡ false = sym named ∙ ap (λ z. names_key (promised s z) k) (same_is y x t) ∙ ap (λ ws. names_key ws k) none in cc)
     by_test y named false t = ap (λ b. b || false) t
 
+-- a branch is in S5 whose last record says that an operator decided it
+says_marked : (m : Mark) → is_decided (marked_state m) ≡ says_decided m
+says_marked Unmarked = refl
+says_marked Promised = refl
+says_marked Decided = refl
+says_marked (ToldOf o) = refl
+says_marked Finished = refl
+
 -- what the records leave is tidy
-pub tidy_restored : (s : SeenLog) (t : States) (writes : WriteTable) (locks : LockTable) (versions : VersionTable) → Restored (left_by s) t
-    → ((x : Xid) → writes_of writes x ≡ promised s x) → HoldPromises s locks
-    → IsTidy (record { tables = t; writes = writes; locks = locks; versions = versions })
-tidy_restored s t writes locks versions left promises kept = record {
+pub tidy_restored : (ls : List LogRecord) (s : SeenLog) (t : States) (writes : WriteTable) (locks : LockTable) (versions : VersionTable)
+    (decisions : DecisionTable) → seen_of ls ≡ Some s → Restored (left_by s) t
+    → ((x : Xid) → writes_of writes x ≡ promised s x) → HoldPromises s locks → KnowDecided ls decisions
+    → IsTidy (record { tables = t; writes = writes; locks = locks; versions = versions; decisions = decisions })
+tidy_restored ls s t writes locks versions decisions read left promises kept decided = record {
   held = λ x k named. kept.held x k (ap (λ ws. names_key ws k) (sym (promises x)) ∙ named);
   written = λ x gone. promises x ∙ none x gone;
   free = λ x k gone. not_held s locks x k kept (none x gone);
+  decided = λ x is. decided.known x (sym (says_marked (mark_at ls x)) ∙ ap is_decided (sym ((agrees_of ls s read).states x) ∙ sym (restored_state s t x left)) ∙ is);
 }
   where
     none : (x : Xid) → is_let_go (state_at t x) ≡ true → promised s x ≡ []
     none x gone = none_by_state (found s x) (ap is_let_go (sym (restored_state s t x left)) ∙ gone)
+
+-- and of a decision
+decided_behind_boot : (s : KvSight) (ls : List LogRecord) (boot : ℕ) → s.log.sight.kept.forced ≡ ls ++ opened boot ∷ []
+    → s.log.sight.kept.unforced ≡ [] → (x : Xid) → decided_in (records_of s.log.sight.kept) x ≡ decided_in ls x
+decided_behind_boot s ls boot forced unforced x =
+    ap (λ us. decided_in (s.log.sight.kept.forced ++ us) x) unforced ∙ ap (λ rs. decided_in rs x) (append-nil s.log.sight.kept.forced ∙ forced)
+    ∙ decided_behind ls (opened boot) x
 
 -- a record of a boot changes no data
 logged_behind_boot : (s : KvSight) (ls : List LogRecord) (boot : ℕ) → s.log.sight.kept.forced ≡ ls ++ opened boot ∷ []
@@ -154,8 +175,9 @@ marked_behind_boot s ls boot forced unforced x =
 
 -- a manager that is what the records leave stands with them
 logged_left : (s : KvSight) (ls : List LogRecord) → LeavesStore ls s.store s.boot → logged s ≡ data_of ls
-    → ((x : Xid) → mark_at (records_of s.log.sight.kept) x ≡ mark_at ls x) → IsLogged s
-logged_left s ls left is marks = record {
+    → ((x : Xid) → mark_at (records_of s.log.sight.kept) x ≡ mark_at ls x)
+    → ((x : Xid) → decided_in (records_of s.log.sight.kept) x ≡ decided_in ls x) → IsLogged s
+logged_left s ls left is marks decisions = record {
   are_data = subst (AreData s.store.versions) (sym is) left.stored;
   rise = ap (λ (d : Data). keys_rise d.pairs) is ∙ (lawful_of ls left.seen left.read).tied.rise;
   promises = λ x here. left.promises x
@@ -163,6 +185,11 @@ logged_left s ls left is marks = record {
       ∙ ap (λ (d : Data). promised_of (Foreign x) d.promised) (sym is);
   marked = λ x here. marks x
       ∙ prepared_mark (mark_at ls x) (sym ((agrees_of ls left.seen left.read).states x) ∙ sym (restored_state left.seen s.store.tables x left.tables) ∙ here);
+  decided = λ x here. record {
+    says = ap says_decided (marks x) ∙ sym (says_marked (mark_at ls x))
+        ∙ ap is_decided (sym ((agrees_of ls left.seen left.read).states x) ∙ sym (restored_state left.seen s.store.tables x left.tables) ∙ here);
+    how = left.decided.each x ∙ sym (decisions x);
+  };
 }
 
 -- what the records leave stands with a log of them and of the boot, all of it forced
@@ -171,7 +198,8 @@ kept_left : (s : KvSight) (ls : List LogRecord) → s.log.kind ≡ Manager → L
 kept_left s ls kind left forced unforced =
     record {
       kind = kind;
-      stands = λ _. logged_left s ls left (logged_behind_boot s ls s.boot forced unforced) (marked_behind_boot s ls s.boot forced unforced);
+      stands = λ _. logged_left s ls left (logged_behind_boot s ls s.boot forced unforced) (marked_behind_boot s ls s.boot forced unforced)
+          (decided_behind_boot s ls s.boot forced unforced);
     }
 
 pub kept_restarted : (old log : LogState) (keep : ℕ) (r : Ready) → old.kind ≡ Manager → IsReady (left_by_crash old.sight keep) r
@@ -201,6 +229,7 @@ kept_unstarted s log keep l MemoryRestart kept kind stays = record {
     promises = λ x here. (stands works).promises x here
         ∙ ap (λ (k : LogSight). promised_of (Foreign x) (data_of (records_of k.kept)).promised) (sym stays);
     marked = λ x here. ap (λ (k : LogSight). mark_at (records_of k.kept) x) stays ∙ (stands works).marked x here;
+    decided = λ x here. subst (λ (k : LogSight). SaysDecided (records_of k.kept) x (known_of s.store x)) (sym stays) ((stands works).decided x here);
   };
 }
   where
@@ -215,15 +244,16 @@ kept_unstarted s log keep l ExhaustedRestart kept kind never = absurd never
 
 -- what replays and what is rebuilt of it
 pub left_store : (ls : List LogRecord) (last : Option ℕ) (left : List (Xid × Bool)) (versions : VersionTable) (writes : WriteTable)
-    (locks : LockTable) (listed : List (Xid × Bool)) (s : KeySight) (boot : ℕ) → Leaves ls last left versions writes locks
-    → listed ≡ left → Rebuilt s listed writes locks versions → next_boot last ≡ Some boot → LeavesStore ls s boot
-left_store ls last left versions writes locks listed s boot leaves is rebuilt next = record {
+    (locks : LockTable) (decisions : DecisionTable) (listed : List (Xid × Bool)) (s : KeySight) (boot : ℕ)
+    → Leaves ls last left versions writes locks decisions → listed ≡ left → Rebuilt s listed writes locks versions decisions → next_boot last ≡ Some boot → LeavesStore ls s boot
+left_store ls last left versions writes locks decisions listed s boot leaves is rebuilt next = record {
   seen = leaves.seen;
   read = leaves.read;
   tables = subst (λ l. Restored l s.tables) (is ∙ leaves.in_doubt) rebuilt.tables;
   stored = subst (λ v. AreData v (data_of ls)) (sym rebuilt.data_left) leaves.stored;
   promises = λ x. ap (λ w. writes_of w x) rebuilt.writes_left ∙ leaves.promises x;
   locks_held = subst (HoldPromises leaves.seen) (sym rebuilt.locks_left) leaves.locks_held;
+  decided = subst (KnowDecided ls) (sym rebuilt.decided_left) leaves.decided;
   next = ap next_boot (sym leaves.boots) ∙ next;
 }
 

@@ -19,13 +19,17 @@ use Rattle.kv_store.specs.Pairs.{keys_rise}
 use Rattle.kv_locks.specs.Locks.{LockTable}
 use Rattle.kv_store.specs.Versions.{VersionTable}
 use Rattle.kv_writes.specs.Writes.{WriteTable}
+use Rattle.xa_heur.specs.Cases.{DecisionTable}
+use Rattle.tree_model.specs.Standings.{Decided, Finished, Mark, Promised, ToldOf, Unmarked}
+use Rattle.kv_core.specs.Ends.{known_of}
+use Rattle.kv_replay.specs.Decisions.{says_decided}
 use Rattle.kv_replay.specs.Folds.{AreData, data_of}
 use Rattle.kv_replay.specs.Replays.{Leaves}
 use Rattle.kv_replay.proofs.Lawful.{lawful_of}
 use Rattle.trim_law.specs.Keeping.{KeepsData, is_managers, trim_of, unnamed}
 use Rattle.trim_law.proofs.Trims.{trims_keep_data}
 use Rattle.manager_model.specs.Restarting.{mark_at}
-use Rattle.kv_manager.specs.Sights.{IsKept, IsLogged, KvSight, logged}
+use Rattle.kv_manager.specs.Sights.{IsKept, IsLogged, KvSight, SaysDecided, logged}
 use Rattle.kv_manager.proofs.Turns.{same_data}
 
 -- The records of a manager's log are of no coordinator's case.
@@ -72,8 +76,8 @@ of_data ls rs v count ps are counted is made =
 
 -- the keys of the data rise where records leave a manager
 pub rise_left : (ls : List LogRecord) (boot : Option ℕ) (left : List (Xid × Bool)) (versions : VersionTable) (writes : WriteTable)
-    (locks : LockTable) → Leaves ls boot left versions writes locks → keys_rise (data_of ls).pairs ≡ true
-rise_left ls boot left versions writes locks leaves = (lawful_of ls leaves.seen leaves.read).tied.rise
+    (locks : LockTable) (decisions : DecisionTable) → Leaves ls boot left versions writes locks decisions → keys_rise (data_of ls).pairs ≡ true
+rise_left ls boot left versions writes locks decisions leaves = (lawful_of ls leaves.seen leaves.read).tied.rise
 
 records_behind : (s : KvSight) (log : LogState) (rs : List LogRecord) (n : ℕ) → AreOfData s rs → Trimmed s.log log rs n
     → records_of log.sight.kept ≡ trim_of (records_of s.log.sight.kept)
@@ -81,7 +85,15 @@ records_behind s log rs n of made =
     ap (λ us. log.sight.kept.forced ++ us) made.log.unforced ∙ append-nil log.sight.kept.forced ∙ made.log.forced
     ∙ ap (rec_log.trim_of s.log) of
 
--- the data of the log stand behind a trim, and so do the branches that are prepared
+-- a branch that an operator decided is open
+decided_open : (m : Mark) → says_decided m ≡ true → is_open m ≡ true
+decided_open Unmarked h = absurd (cc)
+decided_open Promised h = refl
+decided_open Decided h = refl
+decided_open (ToldOf o) h = refl
+decided_open Finished h = absurd (cc)
+
+-- the data of the log stand behind a trim, and so do the branches that are prepared or that operators decided
 pub kept_trimmed : (s : KvSight) (log : LogState) (rs : List LogRecord) (n : ℕ) → IsKept s → s.log.sight.failed ≡ false
     → AllByRecursion (IsSound Manager) (records_of s.log.sight.kept) → AreOfData s rs → Trimmed s.log log rs n
     → IsKept (record s { log = log })
@@ -94,6 +106,13 @@ kept_trimmed s log rs n kept works sound of made = record {
     promises = λ x here. stands.promises x here ∙ sym (keeps.promises x (ap is_open (stands.marked x here)))
         ∙ sym (ap (λ ks. promised_of (Foreign x) (data_of ks).promised) is);
     marked = λ x here. ap (λ ks. mark_at ks x) is ∙ keeps.marks x (ap is_open (stands.marked x here)) ∙ stands.marked x here;
+    decided = λ x here.
+        let before = stands.decided x here in
+        let still : is_open (mark_at ls x) ≡ true = decided_open (mark_at ls x) before.says in
+        subst (λ ks. SaysDecided ks x (known_of s.store x)) (sym is) (record {
+          says = ap says_decided (keeps.marks x still) ∙ before.says;
+          how = before.how ∙ sym (keeps.decisions x still);
+        });
   };
 }
   where

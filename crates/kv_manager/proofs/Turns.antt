@@ -1,5 +1,5 @@
 -- What a turn makes of the data and of the promises.
-use Rattle.std.proofs.Common.{◌≡◌, ◌≤◌, ◌<◌, ◌+◌, Bool, true, false, cond, List, [], ◌∷◌, ◌++◌, length, take, append_assoc, fold, map, Some, None, refl, sym, ap, subst, ◌∙◌, arith, rules}
+use Rattle.std.proofs.Common.{◌≡◌, ◌≤◌, ◌<◌, ◌+◌, Bool, true, false, cond, List, [], ◌∷◌, ◌++◌, length, take, append_assoc, fold, map, Some, None, refl, sym, ap, subst, ◌∙◌, arith, rules, Option, ◌⊎◌, inl, inr}
 use Rattle.std.proofs.lemmas.List.{append-nil}
 use Rattle.std.proofs.lemmas.List.Elements.{All-contains, All-from_recursion}
 use Rattle.std.specs.Prelude.{Contains, MatchBool}
@@ -16,13 +16,17 @@ use Rattle.xa_xid.specs.Xids.{XidParts}
 use Rattle.xa_branch.specs.Names.{same}
 use Rattle.xa_branch.specs.Branches.{is_known}
 use Rattle.xa_assoc.proofs.Sound.{same_is}
-use Rattle.xa_states.specs.Answers.{Takes as TakesRow}
-use Rattle.tree_model.specs.declared.names.Presumption.{Presumption}
+use Rattle.xa_states.specs.Answers.{Takes as TakesRow, state_at}
+use Rattle.log_text.specs.Parts.{name_in}
+use Rattle.tree_model.specs.declared.names.Outcome.{Outcome}
+use Rattle.tree_model.specs.declared.names.Outcome.TheVariants.{Aborted as AbortedOutcome, Committed as CommittedOutcome}
+use Rattle.tree_model.specs.declared.records.Branch.{Branch}
 use Rattle.tree_model.specs.declared.records.Branch.TheVariants.{Foreign}
 use Rattle.tree_model.specs.declared.records.LogRecord.{LogRecord}
 use Rattle.tree_model.specs.declared.records.Write.{Write}
 use Rattle.tree_model.specs.Records.{same_branch, same_xid}
-use Rattle.tree_model.specs.Standings.{Finished, Mark, Promised, Unmarked, mark_after, mark_of}
+use Rattle.tree_model.specs.ManagerRows.{is_acknowledged}
+use Rattle.tree_model.specs.Standings.{Decided, Finished, Mark, Promised, ToldOf, Unmarked, mark_after, mark_of}
 use Rattle.tree_model.specs.Store.{Data, commits, stored, stored_after, writes_of as promised_of}
 use Rattle.log_text.proofs.NameReading.{same_xid_is, same_xid_refl}
 use Rattle.log_sound.proofs.CutNames.{name_again}
@@ -33,14 +37,18 @@ use Rattle.kv_store.proofs.Pairs.{writes_pairs}
 use Rattle.kv_store.proofs.Stages.{applies as applies_staged}
 use Rattle.kv_writes.specs.Writes.{AreWrites, Leaves, writes_of}
 use Rattle.kv_turns.specs.declared.entries.Entry.{Entry}
-use Rattle.kv_turns.specs.declared.entries.Entry.TheVariants.{Prepared, Committed, RolledBack, Direct, Forgot}
+use Rattle.kv_turns.specs.declared.entries.Entry.TheVariants.{Prepared, Committed, RolledBack, Direct, HeurCommit, HeurRollback, Told, Forgot}
 use Rattle.kv_turns.specs.declared.turns.Turn.{Turn}
-use Rattle.kv_turns.specs.Turns.{IsEntry, applies, entry_of, entry_record, turn_of}
+use Rattle.kv_turns.specs.Turns.{IsEntry, applies, decide_turn, entry_of, entry_record, presumption_of, silent, tell_turn, turn_of, writes}
 use Rattle.kv_replay.specs.Folds.{AreData, by_xid, data_of}
-use Rattle.kv_core.specs.Stores.{KeySight, state_of}
-use Rattle.kv_core.specs.Ends.{IsListed, LetsGo, PublishesWrites, StagesWrites, TakesTurn, ends, turn_for, wrote_some}
+use Rattle.xa_heur.specs.declared.decision.Decision.{Decision}
+use Rattle.xa_heur.specs.Decisions.{decided_as, decision_after, decision_of, first_told, told_behind}
+use Rattle.xa_heur.specs.Cases.{DecisionTable, Notes, decision_in, decision_or}
+use Rattle.kv_replay.specs.Decisions.{decided_in, says_decided}
+use Rattle.kv_core.specs.Stores.{KeySight, is_decided, is_let_go, state_of}
+use Rattle.kv_core.specs.Ends.{IsListed, IsTurn, LetsGo, OfCall, OfOperator, PublishesWrites, StagesWrites, TakesTurn, known_behind, known_of, wrote_some}
 use Rattle.kv_locks.specs.Locks.{Releases}
-use Rattle.kv_manager.specs.Sights.{IsKept, IsLogged, KvSight, SameManager, logged}
+use Rattle.kv_manager.specs.Sights.{IsKept, IsLogged, KvSight, SameManager, SaysDecided, logged}
 use Rattle.manager_model.specs.Restarting.{mark_at}
 use Rattle.kv_manager.proofs.Keeping.{KeepsPromises, one_data}
 use Rattle.kv_manager.proofs.Marks.{branch_same}
@@ -54,55 +62,81 @@ use Rattle.kv_manager.specs.Turns.{Fails, HasWrites, IsDueTurn, Logs, Makes, Onl
 -- the state to which a record leads
 abbrev pub leads : Entry → BranchState
 leads Prepared = S3
+leads HeurCommit = S5
+leads HeurRollback = S5
+leads (Told o) = S5
 leads _ = S0
 
 some_is : (e f : Entry) → Some e ≡ Some f → e ≡ f
 some_is e f h = cc
 
-pub turn_leads : (s : BranchState) (c : Call) (wrote : Bool) (p : Presumption) (e : Entry)
-    → (turn_of s c wrote p).entry ≡ Some e → (turn_of s c wrote p).to ≡ leads e
-turn_leads s call.Prepare true p e h = ap leads (some_is Prepared e h)
-turn_leads s call.Prepare false p e h = absurd (cc)
-turn_leads s call.Commit wrote p e h = ap leads (some_is Committed e h)
-turn_leads s call.CommitOnePhase true p e h = ap leads (some_is Direct e h)
-turn_leads s call.CommitOnePhase false p e h = absurd (cc)
-turn_leads S0 call.Rollback wrote p e h = absurd (cc)
-turn_leads S1 call.Rollback wrote p e h = absurd (cc)
-turn_leads S2 call.Rollback wrote p e h = absurd (cc)
-turn_leads S3 call.Rollback wrote p e h = ap leads (some_is RolledBack e h)
-turn_leads S4 call.Rollback wrote p e h = absurd (cc)
-turn_leads S5 call.Rollback wrote p e h = absurd (cc)
-turn_leads s _ wrote p e h = ap leads (some_is Forgot e h)
+-- what holds of a turn that has a record, and of one that has none
+module _ (P : Entry → BranchState → Type 0) where
+  abbrev pub HoldsOf : Turn → Type 0
+  HoldsOf turn = (e : Entry) → turn.entry ≡ Some e → P e turn.to
 
-pub silent_ends : (s : BranchState) (c : Call) (wrote : Bool) (p : Presumption)
-    → (turn_of s c wrote p).entry ≡ None → (turn_of s c wrote p).to ≡ S0
-silent_ends s call.Prepare true p h = absurd (cc)
-silent_ends s call.Prepare false p h = refl
-silent_ends s call.Commit wrote p h = refl
-silent_ends s call.CommitOnePhase true p h = absurd (cc)
-silent_ends s call.CommitOnePhase false p h = refl
-silent_ends S0 call.Rollback wrote p h = refl
-silent_ends S1 call.Rollback wrote p h = refl
-silent_ends S2 call.Rollback wrote p h = refl
-silent_ends S3 call.Rollback wrote p h = refl
-silent_ends S4 call.Rollback wrote p h = refl
-silent_ends S5 call.Rollback wrote p h = refl
-silent_ends s _ wrote p h = refl
+  written_so : (f : Entry) (is_forced : Bool) (to : BranchState) → P f to → HoldsOf (writes f is_forced to)
+  written_so f is_forced to h e is = subst (λ g. P g to) (some_is f e is) h
 
-pub turn_has : (s : BranchState) (c : Call) (ws : List Write) (p : Presumption) (e : Entry)
-    → (turn_of s c (wrote_some ws) p).entry ≡ Some e → HasWrites e ws
-turn_has s call.Prepare (w ∷ ws) p e h = subst (λ f. HasWrites f (w ∷ ws)) (some_is Prepared e h) refl
-turn_has s call.Prepare [] p e h = absurd (cc)
-turn_has s call.Commit ws p e h = subst (λ f. HasWrites f ws) (some_is Committed e h) tt
-turn_has s call.CommitOnePhase (w ∷ ws) p e h = subst (λ f. HasWrites f (w ∷ ws)) (some_is Direct e h) refl
-turn_has s call.CommitOnePhase [] p e h = absurd (cc)
-turn_has S0 call.Rollback ws p e h = absurd (cc)
-turn_has S1 call.Rollback ws p e h = absurd (cc)
-turn_has S2 call.Rollback ws p e h = absurd (cc)
-turn_has S3 call.Rollback ws p e h = subst (λ f. HasWrites f ws) (some_is RolledBack e h) tt
-turn_has S4 call.Rollback ws p e h = absurd (cc)
-turn_has S5 call.Rollback ws p e h = absurd (cc)
-turn_has s _ ws p e h = subst (λ f. HasWrites f ws) (some_is Forgot e h) tt
+  silent_so : (a : Code) (to : BranchState) → HoldsOf (silent a to)
+  silent_so a to e is = absurd (cc)
+
+  told_so : (b : Branch) (o : Outcome) (d : Decision) (told : Option Outcome) → P (Told o) S5 → HoldsOf (tell_turn b o d told)
+  told_so b o d None h e is = subst (λ g. P g S5) (some_is (Told o) e is) h
+  told_so b o d (Some t) h e is = absurd (cc)
+
+  -- of each turn that a call takes
+  pub each_call : (s : BranchState) (c : Call) (wrote : Bool) (b : Branch) (d : Decision) → (wrote ≡ true → P Prepared S3)
+      → P Committed S0 → P RolledBack S0 → (wrote ≡ true → P Direct S0) → ((o : Outcome) → P (Told o) S5) → P Forgot S0
+      → HoldsOf (turn_of s c wrote b d)
+  each_call s call.Prepare true b d p c r i t f = written_so Prepared true S3 (p refl)
+  each_call s call.Prepare false b d p c r i t f = silent_so code.RdOnly S0
+  each_call S0 call.Commit wrote b d p c r i t f = written_so Committed (is_acknowledged (presumption_of b) CommittedOutcome) S0 c
+  each_call S1 call.Commit wrote b d p c r i t f = written_so Committed (is_acknowledged (presumption_of b) CommittedOutcome) S0 c
+  each_call S2 call.Commit wrote b d p c r i t f = written_so Committed (is_acknowledged (presumption_of b) CommittedOutcome) S0 c
+  each_call S3 call.Commit wrote b d p c r i t f = written_so Committed (is_acknowledged (presumption_of b) CommittedOutcome) S0 c
+  each_call S4 call.Commit wrote b d p c r i t f = written_so Committed (is_acknowledged (presumption_of b) CommittedOutcome) S0 c
+  each_call S5 call.Commit wrote b d p c r i t f = told_so b CommittedOutcome d d.told (t CommittedOutcome)
+  each_call s call.CommitOnePhase true b d p c r i t f = written_so Direct true S0 (i refl)
+  each_call s call.CommitOnePhase false b d p c r i t f = silent_so code.Ok S0
+  each_call S0 call.Rollback wrote b d p c r i t f = silent_so code.Ok S0
+  each_call S1 call.Rollback wrote b d p c r i t f = silent_so code.Ok S0
+  each_call S2 call.Rollback wrote b d p c r i t f = silent_so code.Ok S0
+  each_call S3 call.Rollback wrote b d p c r i t f = written_so RolledBack (is_acknowledged (presumption_of b) AbortedOutcome) S0 r
+  each_call S4 call.Rollback wrote b d p c r i t f = silent_so code.Ok S0
+  each_call S5 call.Rollback wrote b d p c r i t f = told_so b AbortedOutcome d d.told (t AbortedOutcome)
+  each_call s _ wrote b d p c r i t f = written_so Forgot true S0 f
+
+  -- of an operator's decision
+  pub each_decision : (o : Outcome) → P HeurCommit S5 → P HeurRollback S5 → HoldsOf (decide_turn o)
+  each_decision CommittedOutcome c r e is = subst (λ g. P g S5) (some_is HeurCommit e is) c
+  each_decision AbortedOutcome c r e is = subst (λ g. P g S5) (some_is HeurRollback e is) r
+
+-- a turn without a record ends its branch, or answers by an operator's decision
+silent_told : (b : Branch) (o : Outcome) (d : Decision) (told : Option Outcome) → (tell_turn b o d told).entry ≡ None
+    → (tell_turn b o d told).to ≡ S5
+silent_told b o d None h = absurd (cc)
+silent_told b o d (Some t) h = refl
+
+pub silent_ends : (s : BranchState) (c : Call) (wrote : Bool) (b : Branch) (d : Decision) → (turn_of s c wrote b d).entry ≡ None
+    → ((turn_of s c wrote b d).to ≡ S0) ⊎ (((turn_of s c wrote b d).to ≡ S5) × (s ≡ S5))
+silent_ends s call.Prepare true b d h = absurd (cc)
+silent_ends s call.Prepare false b d h = inl refl
+silent_ends S0 call.Commit wrote b d h = inl refl
+silent_ends S1 call.Commit wrote b d h = inl refl
+silent_ends S2 call.Commit wrote b d h = inl refl
+silent_ends S3 call.Commit wrote b d h = inl refl
+silent_ends S4 call.Commit wrote b d h = inl refl
+silent_ends S5 call.Commit wrote b d h = inr (silent_told b CommittedOutcome d d.told h, refl)
+silent_ends s call.CommitOnePhase true b d h = absurd (cc)
+silent_ends s call.CommitOnePhase false b d h = inl refl
+silent_ends S0 call.Rollback wrote b d h = inl refl
+silent_ends S1 call.Rollback wrote b d h = inl refl
+silent_ends S2 call.Rollback wrote b d h = inl refl
+silent_ends S3 call.Rollback wrote b d h = inl refl
+silent_ends S4 call.Rollback wrote b d h = inl refl
+silent_ends S5 call.Rollback wrote b d h = inr (silent_told b AbortedOutcome d d.told h, refl)
+silent_ends s _ wrote b d h = inl refl
 
 one_at_least : (ws : List Write) → wrote_some ws ≡ true → 1 ≤ length ws
 one_at_least [] h = absurd (cc)
@@ -113,6 +147,9 @@ is_entry Prepared ws has limits = (limits, one_at_least ws has)
 is_entry Committed ws has limits = tt
 is_entry RolledBack ws has limits = tt
 is_entry Direct ws has limits = (limits, one_at_least ws has)
+is_entry HeurCommit ws has limits = tt
+is_entry HeurRollback ws has limits = tt
+is_entry (Told o) ws has limits = tt
 is_entry Forgot ws has limits = tt
 
 all_decided : All (λ (r : Code × BranchState). r.1 ≡ S5) heuristic
@@ -127,21 +164,72 @@ commit_prepared S2 h = absurd (let none = h.1 in omega arith)
 commit_prepared S4 h = absurd (let none = h.1 in omega arith)
 commit_prepared S5 h = absurd (let never : S0 ≡ S5 = All-contains (λ (r : Code × BranchState). r.1 ≡ S5) heuristic (code.Ok, S0) all_decided h in cc)
 
-pub committed_was_prepared : (s : BranchState) (c : Call) (wrote : Bool) (p : Presumption)
-    → (turn_of s c wrote p).entry ≡ Some Committed
-    → Contains (branch_rows s c) ((turn_of s c wrote p).code, (turn_of s c wrote p).to) → s ≡ S3
-committed_was_prepared s call.Prepare true p h listed = absurd (cc)
-committed_was_prepared s call.Prepare false p h listed = absurd (cc)
-committed_was_prepared s call.Commit wrote p h listed = commit_prepared s listed
-committed_was_prepared s call.CommitOnePhase true p h listed = absurd (cc)
-committed_was_prepared s call.CommitOnePhase false p h listed = absurd (cc)
-committed_was_prepared S0 call.Rollback wrote p h listed = absurd (cc)
-committed_was_prepared S1 call.Rollback wrote p h listed = absurd (cc)
-committed_was_prepared S2 call.Rollback wrote p h listed = absurd (cc)
-committed_was_prepared S3 call.Rollback wrote p h listed = refl
-committed_was_prepared S4 call.Rollback wrote p h listed = absurd (cc)
-committed_was_prepared S5 call.Rollback wrote p h listed = absurd (cc)
-committed_was_prepared s _ wrote p h listed = absurd (cc)
+-- it makes what a prepared branch promised data
+abbrev pub settles : Entry → Bool
+settles Committed = true
+settles HeurCommit = true
+settles _ = false
+
+told_settles : (b : Branch) (o : Outcome) (d : Decision) (told : Option Outcome) (e : Entry) → (tell_turn b o d told).entry ≡ Some e
+    → settles e ≡ true → S5 ≡ S3
+told_settles b o d None e h is = absurd (let never : false ≡ true = ap settles (some_is (Told o) e h) ∙ is in cc)
+told_settles b o d (Some t) e h is = absurd (cc)
+
+-- a branch that a call commits was prepared
+pub committed_was_prepared : (s : BranchState) (c : Call) (wrote : Bool) (b : Branch) (d : Decision) (e : Entry)
+    → (turn_of s c wrote b d).entry ≡ Some e → settles e ≡ true
+    → Contains (branch_rows s c) ((turn_of s c wrote b d).code, (turn_of s c wrote b d).to) → s ≡ S3
+committed_was_prepared s call.Prepare true b d e h is listed = absurd (let never : false ≡ true = ap settles (some_is Prepared e h) ∙ is in cc)
+committed_was_prepared s call.Prepare false b d e h is listed = absurd (cc)
+committed_was_prepared S0 call.Commit wrote b d e h is listed = commit_prepared S0 listed
+committed_was_prepared S1 call.Commit wrote b d e h is listed = commit_prepared S1 listed
+committed_was_prepared S2 call.Commit wrote b d e h is listed = commit_prepared S2 listed
+committed_was_prepared S3 call.Commit wrote b d e h is listed = refl
+committed_was_prepared S4 call.Commit wrote b d e h is listed = commit_prepared S4 listed
+committed_was_prepared S5 call.Commit wrote b d e h is listed = told_settles b CommittedOutcome d d.told e h is
+committed_was_prepared s call.CommitOnePhase true b d e h is listed = absurd (let never : false ≡ true = ap settles (some_is Direct e h) ∙ is in cc)
+committed_was_prepared s call.CommitOnePhase false b d e h is listed = absurd (cc)
+committed_was_prepared S0 call.Rollback wrote b d e h is listed = absurd (cc)
+committed_was_prepared S1 call.Rollback wrote b d e h is listed = absurd (cc)
+committed_was_prepared S2 call.Rollback wrote b d e h is listed = absurd (cc)
+committed_was_prepared S3 call.Rollback wrote b d e h is listed = refl
+committed_was_prepared S4 call.Rollback wrote b d e h is listed = absurd (cc)
+committed_was_prepared S5 call.Rollback wrote b d e h is listed = told_settles b AbortedOutcome d d.told e h is
+committed_was_prepared s _ wrote b d e h is listed = absurd (let never : false ≡ true = ap settles (some_is Forgot e h) ∙ is in cc)
+
+-- a branch that is told of an outcome was decided by an operator, and told nothing yet
+abbrev pub IsUntold : BranchState → Decision → Entry → Type 0
+IsUntold s d (Told o) = (s ≡ S5) × (d.told ≡ None)
+IsUntold s d _ = Unit {0}
+
+told_untold : (b : Branch) (o : Outcome) (d : Decision) (told : Option Outcome) (e : Entry) → d.told ≡ told
+    → (tell_turn b o d told).entry ≡ Some e → IsUntold S5 d e
+told_untold b o d None e is h = subst (IsUntold S5 d) (some_is (Told o) e h) (refl, is)
+told_untold b o d (Some t) e is h = absurd (cc)
+
+pub untold : (s : BranchState) (c : Call) (wrote : Bool) (b : Branch) (d : Decision) (e : Entry)
+    → (turn_of s c wrote b d).entry ≡ Some e → IsUntold s d e
+untold s call.Prepare true b d e h = subst (IsUntold s d) (some_is Prepared e h) tt
+untold s call.Prepare false b d e h = absurd (cc)
+untold S0 call.Commit wrote b d e h = subst (IsUntold S0 d) (some_is Committed e h) tt
+untold S1 call.Commit wrote b d e h = subst (IsUntold S1 d) (some_is Committed e h) tt
+untold S2 call.Commit wrote b d e h = subst (IsUntold S2 d) (some_is Committed e h) tt
+untold S3 call.Commit wrote b d e h = subst (IsUntold S3 d) (some_is Committed e h) tt
+untold S4 call.Commit wrote b d e h = subst (IsUntold S4 d) (some_is Committed e h) tt
+untold S5 call.Commit wrote b d e h = told_untold b CommittedOutcome d d.told e refl h
+untold s call.CommitOnePhase true b d e h = subst (IsUntold s d) (some_is Direct e h) tt
+untold s call.CommitOnePhase false b d e h = absurd (cc)
+untold S0 call.Rollback wrote b d e h = absurd (cc)
+untold S1 call.Rollback wrote b d e h = absurd (cc)
+untold S2 call.Rollback wrote b d e h = absurd (cc)
+untold S3 call.Rollback wrote b d e h = subst (IsUntold S3 d) (some_is RolledBack e h) tt
+untold S4 call.Rollback wrote b d e h = absurd (cc)
+untold S5 call.Rollback wrote b d e h = told_untold b AbortedOutcome d d.told e refl h
+untold s _ wrote b d e h = subst (IsUntold s d) (some_is Forgot e h) tt
+
+untold_decision : (s : BranchState) (d : Decision) (o : Outcome) (e : Entry) → (decide_turn o).entry ≡ Some e → IsUntold s d e
+untold_decision s d CommittedOutcome e h = subst (IsUntold s d) (some_is HeurCommit e h) tt
+untold_decision s d AbortedOutcome e h = subst (IsUntold s d) (some_is HeurRollback e h) tt
 
 -- What a record makes of the fold.
 
@@ -164,6 +252,9 @@ entry_by_xid Prepared x ws = ap (λ y. entry_of Prepared (Foreign y) ws) (name_a
 entry_by_xid Committed x ws = ap (λ y. entry_of Committed (Foreign y) ws) (name_again x)
 entry_by_xid RolledBack x ws = ap (λ y. entry_of RolledBack (Foreign y) ws) (name_again x)
 entry_by_xid Direct x ws = ap (λ y. entry_of Direct (Foreign y) ws) (name_again x)
+entry_by_xid HeurCommit x ws = ap (λ y. entry_of HeurCommit (Foreign y) ws) (name_again x)
+entry_by_xid HeurRollback x ws = ap (λ y. entry_of HeurRollback (Foreign y) ws) (name_again x)
+entry_by_xid (Told o) x ws = ap (λ y. entry_of (Told o) (Foreign y) ws) (name_again x)
 entry_by_xid Forgot x ws = ap (λ y. entry_of Forgot (Foreign y) ws) (name_again x)
 
 -- the fold behind a record of a branch
@@ -202,11 +293,70 @@ marks_other m e x y ws apart = by_entry e (branch_same x y ∙ apart)
     by_entry Committed t = ap (λ b. cond b Finished m) t
     by_entry RolledBack t = ap (λ b. cond b Finished m) t
     by_entry Direct t = ap (λ b. cond b Finished m) t
+    by_entry HeurCommit t = ap (λ b. cond b Decided m) t
+    by_entry HeurRollback t = ap (λ b. cond b Decided m) t
+    by_entry (Told o) t = ap (λ b. cond b (ToldOf o) m) t
     by_entry Forgot t = ap (λ b. cond b Finished m) t
 
 marks_own : (m : Mark) (x : Xid) (ws : List Write) → mark_after (Foreign x) m (entry_of Prepared (Foreign x) ws) ≡ Promised
 unfolding same_branch
 marks_own m x ws = ap (λ b. cond b Promised m) (same_xid_refl x)
+
+-- What a record says of an operator's decision.
+
+pub decided_behind : (ls : List LogRecord) (l : LogRecord) (x : Xid)
+    → decided_in (ls ++ l ∷ []) x ≡ decision_after (Foreign x) (decided_in ls x) (by_xid l)
+unfolding decision_of
+decided_behind ls l x = fold_last (decision_after (Foreign x)) by_xid (decided_as AbortedOutcome) ls l
+
+decided_logged : (s s' : KvSight) (e : Entry) (x : Xid) (ws : List Write) (is_forced : Bool) → Writes s.log s'.log (entry_record e x ws) is_forced
+    → (y : Xid) → decided_in (records_of s'.log.sight.kept) y
+    ≡ decision_after (Foreign y) (decided_in (records_of s.log.sight.kept) y) (entry_of e (Foreign x) ws)
+decided_logged s s' e x ws is_forced made y =
+    ap (λ (k : LogSight). decided_in (records_of k.kept) y) made.sight
+    ∙ ap (λ ls. decided_in ls y) (wrote_records s.log.sight (entry_record e x ws) is_forced)
+    ∙ decided_behind (records_of s.log.sight.kept) (entry_record e x ws) y
+    ∙ ap (decision_after (Foreign y) (decided_in (records_of s.log.sight.kept) y)) (entry_by_xid e x ws)
+
+decides_other : (d : Decision) (e : Entry) (x y : Xid) (ws : List Write) → same x y ≡ false
+    → decision_after (Foreign y) d (entry_of e (Foreign x) ws) ≡ d
+decides_other d e x y ws apart = by_entry e (branch_same x y ∙ apart)
+  where
+    by_entry : (e : Entry) → same_branch (Foreign x) (Foreign y) ≡ false → decision_after (Foreign y) d (entry_of e (Foreign x) ws) ≡ d
+    by_entry Prepared t = ap (λ b. cond b (decided_as AbortedOutcome) d) t
+    by_entry Committed t = refl
+    by_entry RolledBack t = refl
+    by_entry Direct t = refl
+    by_entry HeurCommit t = ap (λ b. cond b (decided_as CommittedOutcome) d) t
+    by_entry HeurRollback t = ap (λ b. cond b (decided_as AbortedOutcome) d) t
+    by_entry (Told o) t = ap (λ b. cond b (record { outcome = d.outcome; told = Some o }) d) t
+    by_entry Forgot t = ap (λ b. cond b (decided_as AbortedOutcome) d) t
+
+-- the record of what a branch is told
+abbrev IsTold : Entry → Type 0
+IsTold (Told o) = Unit {0}
+IsTold _ = ⊥
+
+-- a record that leads to S5 says that an operator decided its branch, as it is known then
+decides_own : (m : Mark) (d : Decision) (known : Option Decision) (e : Entry) (x : Xid) (ws : List Write) → leads e ≡ S5 → IsUntold S5 d e
+    → (IsTold e → decision_or known ≡ d)
+    → (says_decided (mark_after (Foreign x) m (entry_of e (Foreign x) ws)) ≡ true)
+    × (decision_or (known_behind (Some e) known) ≡ decision_after (Foreign x) d (entry_of e (Foreign x) ws))
+unfolding same_branch
+decides_own m d known Prepared x ws h n same = absurd (cc)
+decides_own m d known Committed x ws h n same = absurd (cc)
+decides_own m d known RolledBack x ws h n same = absurd (cc)
+decides_own m d known Direct x ws h n same = absurd (cc)
+decides_own m d known Forgot x ws h n same = absurd (cc)
+decides_own m d known HeurCommit x ws h n same =
+    (ap (λ b. says_decided (cond b Decided m)) (same_xid_refl x), sym (ap (λ b. cond b (decided_as CommittedOutcome) d) (same_xid_refl x)))
+decides_own m d known HeurRollback x ws h n same =
+    (ap (λ b. says_decided (cond b Decided m)) (same_xid_refl x), sym (ap (λ b. cond b (decided_as AbortedOutcome) d) (same_xid_refl x)))
+decides_own m d known (Told o) x ws h n same = (
+  ap (λ b. says_decided (cond b (ToldOf o) m)) (same_xid_refl x),
+  ap (told_behind o) (same tt) ∙ ap (λ t. record { outcome = d.outcome; told = first_told o t }) n.1
+      ∙ sym (ap (λ b. cond b (record { outcome = d.outcome; told = Some o }) d) (same_xid_refl x)),
+)
 
 -- a record of another branch changes no promise
 pub promised_other : (d : Data) (e : Entry) (x y : Xid) (ws : List Write) → same x y ≡ false
@@ -223,6 +373,9 @@ promised_other d Prepared x y ws apart = by_test (same_xid x y) refl
 promised_other d Committed x y ws apart = refl
 promised_other d RolledBack x y ws apart = refl
 promised_other d Direct x y ws apart = refl
+promised_other d HeurCommit x y ws apart = refl
+promised_other d HeurRollback x y ws apart = refl
+promised_other d (Told o) x y ws apart = refl
 promised_other d Forgot x y ws apart = refl
 
 pub promised_own : (d : Data) (x : Xid) (ws : List Write) → promised_of (Foreign x) (after_entry d Prepared x ws).promised ≡ ws
@@ -235,6 +388,9 @@ noted_pairs d Prepared x ws h = refl
 noted_pairs d Committed x ws h = absurd (cc)
 noted_pairs d RolledBack x ws h = refl
 noted_pairs d Direct x ws h = absurd (cc)
+noted_pairs d HeurCommit x ws h = absurd (cc)
+noted_pairs d HeurRollback x ws h = refl
+noted_pairs d (Told o) x ws h = refl
 noted_pairs d Forgot x ws h = refl
 
 pub noted_count : (d : Data) (e : Entry) (x : Xid) (ws : List Write) → applies e ≡ false → (after_entry d e x ws).count ≡ d.count
@@ -242,6 +398,9 @@ noted_count d Prepared x ws h = refl
 noted_count d Committed x ws h = absurd (cc)
 noted_count d RolledBack x ws h = refl
 noted_count d Direct x ws h = absurd (cc)
+noted_count d HeurCommit x ws h = absurd (cc)
+noted_count d HeurRollback x ws h = refl
+noted_count d (Told o) x ws h = refl
 noted_count d Forgot x ws h = refl
 
 pub same_data : (v : VersionTable) (d d' : Data) → d'.count ≡ d.count → d'.pairs ≡ d.pairs → AreData v d → AreData v d'
@@ -253,11 +412,14 @@ same_data v d d' count pairs are = record {
 
 -- a record that makes data is a commit of the branch's writes
 pub committed_data : (d : Data) (e : Entry) (x : Xid) (ws : List Write) → applies e ≡ true
-    → (e ≡ Committed → promised_of (Foreign x) d.promised ≡ ws) → after_entry d e x ws ≡ commits ws d
+    → (settles e ≡ true → promised_of (Foreign x) d.promised ≡ ws) → after_entry d e x ws ≡ commits ws d
 committed_data d Prepared x ws h was = absurd (cc)
 committed_data d Committed x ws h was = ap (λ us. commits us d) (was refl)
 committed_data d RolledBack x ws h was = absurd (cc)
 committed_data d Direct x ws h was = refl
+committed_data d HeurCommit x ws h was = ap (λ us. commits us d) (was refl)
+committed_data d HeurRollback x ws h was = absurd (cc)
+committed_data d (Told o) x ws h was = absurd (cc)
 committed_data d Forgot x ws h was = absurd (cc)
 
 pub applies_data : (old new : VersionTable) (d : Data) (ws : List Write) → keys_rise d.pairs ≡ true → AreData old d
@@ -268,6 +430,50 @@ applies_data old new d ws rise are made = record {
   values = λ k. made.next k ∙ ap (written ws k) (are.values k) ∙ sym ((writes_pairs d.pairs ws rise).values k);
 }
 
+-- What a turn that is due is.
+
+pub due_leads : (s : KvSight) (x : Xid) (c : Call) (turn : Turn) (e : Entry) → IsDueTurn s x c turn → turn.entry ≡ Some e → turn.to ≡ leads e
+due_leads s x c turn e due is = by_turn due.due
+  where
+    by_turn : IsTurn s.store x c turn → turn.to ≡ leads e
+    by_turn (OfCall one) =
+        subst (λ (t : Turn). HoldsOf (λ f to. to ≡ leads f) t) (sym one)
+        (each_call (λ f to. to ≡ leads f) (state_of s.store x) c _ _ _ (λ h. refl) refl refl (λ h. refl) (λ o. refl) refl) e is
+    by_turn (OfOperator o here room one) =
+        subst (λ (t : Turn). HoldsOf (λ f to. to ≡ leads f) t) (sym one) (each_decision (λ f to. to ≡ leads f) o refl refl) e is
+
+pub due_has : (s : KvSight) (x : Xid) (c : Call) (turn : Turn) (e : Entry) → IsDueTurn s x c turn → turn.entry ≡ Some e
+    → HasWrites e (writes_of s.store.writes x)
+due_has s x c turn e due is = by_turn due.due
+  where
+    ws : List Write
+    ws = writes_of s.store.writes x
+
+    by_turn : IsTurn s.store x c turn → HasWrites e ws
+    by_turn (OfCall one) =
+        subst (λ (t : Turn). HoldsOf (λ f to. HasWrites f ws) t) (sym one)
+        (each_call (λ f to. HasWrites f ws) (state_of s.store x) c _ _ _ (λ h. h) tt tt (λ h. h) (λ o. tt) tt) e is
+    by_turn (OfOperator o here room one) =
+        subst (λ (t : Turn). HoldsOf (λ f to. HasWrites f ws) t) (sym one) (each_decision (λ f to. HasWrites f ws) o tt tt) e is
+
+due_prepared : (s : KvSight) (x : Xid) (c : Call) (turn : Turn) (e : Entry) → IsDueTurn s x c turn → turn.entry ≡ Some e
+    → settles e ≡ true → state_of s.store x ≡ S3
+due_prepared s x c turn e due is h = by_turn due.due
+  where
+    by_turn : IsTurn s.store x c turn → state_of s.store x ≡ S3
+    by_turn (OfCall one) =
+        committed_was_prepared (state_of s.store x) c _ _ _ e (ap (λ (t : Turn). t.entry) (sym one) ∙ is) h (subst (IsListed s.store x c) one due.listed)
+    by_turn (OfOperator o here room one) = here
+
+due_untold : (s : KvSight) (x : Xid) (c : Call) (turn : Turn) (e : Entry) → IsDueTurn s x c turn → turn.entry ≡ Some e
+    → IsUntold (state_of s.store x) (known_of s.store x) e
+due_untold s x c turn e due is = by_turn due.due
+  where
+    by_turn : IsTurn s.store x c turn → IsUntold (state_of s.store x) (known_of s.store x) e
+    by_turn (OfCall one) = untold (state_of s.store x) c _ _ (known_of s.store x) e (ap (λ (t : Turn). t.entry) (sym one) ∙ is)
+    by_turn (OfOperator o here room one) =
+        untold_decision (state_of s.store x) (known_of s.store x) o e (ap (λ (t : Turn). t.entry) (sym one) ∙ is)
+
 -- What a turn makes of a manager.
 
 leads_prepared : (e : Entry) → leads e ≡ S3 → e ≡ Prepared
@@ -275,11 +481,14 @@ leads_prepared Prepared h = refl
 leads_prepared Committed h = absurd (cc)
 leads_prepared RolledBack h = absurd (cc)
 leads_prepared Direct h = absurd (cc)
+leads_prepared HeurCommit h = absurd (cc)
+leads_prepared HeurRollback h = absurd (cc)
+leads_prepared (Told o) h = absurd (cc)
 leads_prepared Forgot h = absurd (cc)
 
 writes_other : (old new : KeySight) (x y : Xid) (to : BranchState) → LetsGo old new x to → same x y ≡ false
     → writes_of new.writes y ≡ writes_of old.writes y
-writes_other old new x y to goes apart = by_end (ends to) goes
+writes_other old new x y to goes apart = by_end (is_let_go to) goes
   where
     by_end : (b : Bool)
         → MatchBool b (Leaves old.writes new.writes x [] × Releases old.locks new.locks x) ((new.writes ≡ old.writes) × (new.locks ≡ old.locks))
@@ -289,7 +498,7 @@ writes_other old new x y to goes apart = by_end (ends to) goes
 
 writes_kept : (old new : KeySight) (x : Xid) (to : BranchState) → LetsGo old new x to → to ≡ S3 → writes_of new.writes x ≡ writes_of old.writes x
 writes_kept old new x to goes promises =
-    ap (λ w. writes_of w x) (subst (λ b. MatchBool b (Leaves old.writes new.writes x [] × Releases old.locks new.locks x) ((new.writes ≡ old.writes) × (new.locks ≡ old.locks))) (ap ends promises) goes).0
+    ap (λ w. writes_of w x) (subst (λ b. MatchBool b (Leaves old.writes new.writes x [] × Releases old.locks new.locks x) ((new.writes ≡ old.writes) × (new.locks ≡ old.locks))) (ap is_let_go promises) goes).0
 
 -- a branch that is prepared behind a turn has the writes that the log says it promised
 promises_behind : (s s' : KvSight) (x : Xid) (e : Entry) (to : BranchState) → IsLogged s → to ≡ leads e
@@ -337,14 +546,65 @@ marked_behind s s' x e to ws stands is_to row y is = by_test (same x y) refl
         subst (λ z. mark_after (Foreign z) (said z) (entry_of e (Foreign x) ws) ≡ Promised) one (own (ap (state_of s'.store) one ∙ is))
     by_test false t = marks_other (said y) e x y ws t ∙ stands.marked y (sym (row.branch.others y t) ∙ is)
 
-due_leads : (s : KvSight) (x : Xid) (c : Call) (turn : Turn) (e : Entry) → IsDueTurn s x c turn → turn.entry ≡ Some e → turn.to ≡ leads e
-due_leads s x c turn e due is =
-    ap (λ (t : Turn). t.to) due.due ∙ turn_leads (state_of s.store x) c _ _ e (ap (λ (t : Turn). t.entry) (sym due.due) ∙ is)
+-- of each branch that an operator decided the log says so behind a turn
+still_decided : (s s' : KvSight) (x : Xid) (c : Call) (turn : Turn) (e : Entry) → IsLogged s → IsDueTurn s x c turn → turn.entry ≡ Some e
+    → TakesRow s.store.tables s'.store.tables x turn.to
+    → Notes s.store.decisions s'.store.decisions x (known_behind turn.entry (decision_in s.store.decisions x))
+    → Writes s.log s'.log (entry_record e x (writes_of s.store.writes x)) turn.is_forced
+    → (y : Xid) → state_of s'.store y ≡ S5 → SaysDecided (records_of s'.log.sight.kept) y (known_of s'.store y)
+still_decided s s' x c turn e stands due is row notes made y here = by_test (same x y) refl
+  where
+    ws : List Write
+    ws = writes_of s.store.writes x
 
-pub due_has : (s : KvSight) (x : Xid) (c : Call) (turn : Turn) (e : Entry) → IsDueTurn s x c turn → turn.entry ≡ Some e
-    → HasWrites e (writes_of s.store.writes x)
-due_has s x c turn e due is =
-    turn_has (state_of s.store x) c (writes_of s.store.writes x) _ e (ap (λ (t : Turn). t.entry) (sym due.due) ∙ is)
+    by_state : IsUntold (state_of s.store x) (known_of s.store x) e → IsTold e → known_of s.store x ≡ decided_in (records_of s.log.sight.kept) x
+    by_state n t = (stands.decided x (was e n t)).how
+      where
+        was : (e : Entry) → IsUntold (state_of s.store x) (known_of s.store x) e → IsTold e → state_of s.store x ≡ S5
+        was (Told o) n t = n.0
+        was Prepared n t = absurd t
+        was Committed n t = absurd t
+        was RolledBack n t = absurd t
+        was Direct n t = absurd t
+        was HeurCommit n t = absurd t
+        was HeurRollback n t = absurd t
+        was Forgot n t = absurd t
+
+    logs_untold : (e : Entry) → IsUntold (state_of s.store x) (known_of s.store x) e
+        → (IsTold e → known_of s.store x ≡ decided_in (records_of s.log.sight.kept) x) → IsUntold S5 (decided_in (records_of s.log.sight.kept) x) e
+    logs_untold (Told o) n how = (refl, ap (λ (d : Decision). d.told) (sym (how tt)) ∙ n.1)
+    logs_untold Prepared n how = tt
+    logs_untold Committed n how = tt
+    logs_untold RolledBack n how = tt
+    logs_untold Direct n how = tt
+    logs_untold HeurCommit n how = tt
+    logs_untold HeurRollback n how = tt
+    logs_untold Forgot n how = tt
+
+    own : state_of s'.store x ≡ S5 → SaysDecided (records_of s'.log.sight.kept) x (known_of s'.store x)
+    own at =
+        let n : IsUntold (state_of s.store x) (known_of s.store x) e = due_untold s x c turn e due is in
+        let leads_on : leads e ≡ S5 = sym (due_leads s x c turn e due is) ∙ sym row.branch.own ∙ at in
+        let said = decides_own (mark_at (records_of s.log.sight.kept) x) (decided_in (records_of s.log.sight.kept) x) (decision_in s.store.decisions x) e x ws leads_on
+        (logs_untold e n (by_state n)) (by_state n) in
+        record {
+          says = ap says_decided (marked_logged s s' e x ws turn.is_forced made x) ∙ said.0;
+          how = ap decision_or (notes.own ∙ ap (λ o. known_behind o (decision_in s.store.decisions x)) is) ∙ said.1
+              ∙ sym (decided_logged s s' e x ws turn.is_forced made x);
+        }
+
+    by_test : (b : Bool) → same x y ≡ b → SaysDecided (records_of s'.log.sight.kept) y (known_of s'.store y)
+    by_test true t =
+        let one : x ≡ y = same_is x y t in
+        subst (λ z. SaysDecided (records_of s'.log.sight.kept) z (known_of s'.store z)) one (own (ap (state_of s'.store) one ∙ here))
+    by_test false t =
+        let before = stands.decided y (sym (row.branch.others y t) ∙ here) in
+        record {
+          says = ap says_decided (marked_logged s s' e x ws turn.is_forced made y
+              ∙ marks_other (mark_at (records_of s.log.sight.kept) y) e x y ws t) ∙ before.says;
+          how = ap decision_or (notes.others y t) ∙ before.how
+              ∙ sym (decided_logged s s' e x ws turn.is_forced made y ∙ decides_other (decided_in (records_of s.log.sight.kept) y) e x y ws t);
+        }
 
 pub kept_noted : (s s' : KvSight) (x : Xid) (c : Call) (turn : Turn) (e : Entry) → IsKept s → IsDueTurn s x c turn
     → turn.entry ≡ Some e → applies e ≡ false → TakesTurn s.store s'.store x turn
@@ -360,6 +620,7 @@ kept_noted s s' x c turn e kept due is notes takes made = record {
         ∙ ap (λ (d : Data). promised_of (Foreign y) d.promised) (sym behind);
     marked = λ y here. marked_logged s s' e x ws turn.is_forced made y
         ∙ marked_behind s s' x e turn.to ws stands (due_leads s x c turn e due is) takes.tables y here;
+    decided = still_decided s s' x c turn e stands due is takes.tables takes.decisions made;
   };
 }
   where
@@ -377,15 +638,17 @@ pub record Commits (old new : KeySight) (x : Xid) (turn : Turn) : Type 0 where
   pub tables : TakesRow old.tables new.tables x turn.to
   pub keeps : LetsGo old new x turn.to
   pub versions : Applies old.versions new.versions (writes_of old.writes x)
+  pub decisions : Notes old.decisions new.decisions x (known_behind turn.entry (decision_in old.decisions x))
 
 pub commits_by : (a b c d : KeySight) (x : Xid) (turn : Turn) → StagesWrites a b x → PublishesWrites b c → TakesTurn c d x turn
     → Commits a d x turn
 commits_by a b c d x turn staged published takes = record {
   tables = subst (λ t. TakesRow t d.tables x turn.to) (published.tables ∙ staged.tables) takes.tables;
-  keeps = subst (λ w. MatchBool (ends turn.to) (Leaves w d.writes x [] × Releases a.locks d.locks x) ((d.writes ≡ w) × (d.locks ≡ a.locks))) (published.writes ∙ staged.writes)
-      (subst (λ l. MatchBool (ends turn.to) (Leaves c.writes d.writes x [] × Releases l d.locks x) ((d.writes ≡ c.writes) × (d.locks ≡ l))) (published.locks ∙ staged.locks) takes.keeps);
+  keeps = subst (λ w. MatchBool (is_let_go turn.to) (Leaves w d.writes x [] × Releases a.locks d.locks x) ((d.writes ≡ w) × (d.locks ≡ a.locks))) (published.writes ∙ staged.writes)
+      (subst (λ l. MatchBool (is_let_go turn.to) (Leaves c.writes d.writes x [] × Releases l d.locks x) ((d.writes ≡ c.writes) × (d.locks ≡ l))) (published.locks ∙ staged.locks) takes.keeps);
   versions = subst (λ v. Applies a.versions v (writes_of a.writes x)) (sym takes.versions)
       (applies_staged a.versions b.versions c.versions (writes_of a.writes x) staged.versions published.versions);
+  decisions = subst (λ t. Notes t d.decisions x (known_behind turn.entry (decision_in t x))) (published.decisions ∙ staged.decisions) takes.decisions;
 }
 
 pub kept_committed : (s s' : KvSight) (x : Xid) (c : Call) (turn : Turn) (e : Entry) → IsKept s → IsDueTurn s x c turn
@@ -400,6 +663,7 @@ kept_committed s s' x c turn e kept due is makes takes made = record {
         ∙ ap (λ (d : Data). promised_of (Foreign y) d.promised) (sym behind);
     marked = λ y here. marked_logged s s' e x ws turn.is_forced made y
         ∙ marked_behind s s' x e turn.to ws stands (due_leads s x c turn e due is) takes.tables y here;
+    decided = still_decided s s' x c turn e stands due is takes.tables takes.decisions made;
   };
 }
   where
@@ -412,10 +676,8 @@ kept_committed s s' x c turn e kept due is makes takes made = record {
     behind : logged s' ≡ after_entry (logged s) e x ws
     behind = logged_behind s s' e x ws turn.is_forced made
 
-    was : e ≡ Committed → promised_of (Foreign x) (logged s).promised ≡ ws
-    was one =
-        let listed : IsListed s.store x c (turn_for s.store x c) = subst (IsListed s.store x c) due.due due.listed in
-        sym (stands.promises x (committed_was_prepared (state_of s.store x) c _ _ (ap (λ (t : Turn). t.entry) (sym due.due) ∙ is ∙ ap Some one) listed))
+    was : settles e ≡ true → promised_of (Foreign x) (logged s).promised ≡ ws
+    was one = sym (stands.promises x (due_prepared s x c turn e due is one))
 
     committed : logged s' ≡ commits ws (logged s)
     committed = behind ∙ committed_data (logged s) e x ws makes was
@@ -430,11 +692,19 @@ kept_broken s s' ls kept broke = record {
 
 -- From the room that was made first.
 
+-- a turn stays one where neither the tables nor the writes nor the decisions change
+pub turn_same : (a b : KeySight) (x : Xid) (c : Call) (turn : Turn) → b.tables ≡ a.tables → b.writes ≡ a.writes → b.decisions ≡ a.decisions
+    → IsTurn a x c turn → IsTurn b x c turn
+turn_same a b x c turn tables writes decisions (OfCall one) =
+    OfCall (one ∙ sym (λ i. turn_of (state_at (tables i) x) c (wrote_some (writes_of (writes i) x)) (name_in x).1 (decision_or (decision_in (decisions i) x))))
+turn_same a b x c turn tables writes decisions (OfOperator o here room one) =
+    OfOperator o (ap (λ t. state_at t x) tables ∙ here) (subst (λ (t : DecisionTable). 1 ≤ t.room) (sym decisions) room) one
+
 pub due_same : (a b : KvSight) (x : Xid) (c : Call) (turn : Turn) → OnlyRoom a b → IsDueTurn a x c turn → IsDueTurn b x c turn
 due_same a b x c turn room due = record {
   works = ap (λ (k : LogSight). k.failed) room.sight ∙ due.works;
   known = subst (λ (s : KeySight). is_known s.tables.branches.branches x ≡ true) (sym room.store) due.known;
-  due = subst (λ (s : KeySight). turn ≡ turn_for s x c) (sym room.store) due.due;
+  due = subst (λ (s : KeySight). IsTurn s x c turn) (sym room.store) due.due;
   listed = subst (λ (s : KeySight). IsListed s x c turn) (sym room.store) due.listed;
 }
 
@@ -447,6 +717,7 @@ made_committed old s s' x turn e room is makes done made boot = record {
   keeps = commits_old.keeps;
   versions = subst (λ b. MatchBool b (Applies old.store.versions s'.store.versions (writes_of old.store.writes x)) (s'.store.versions ≡ old.store.versions))
       (sym (ap commits_data is ∙ makes)) commits_old.versions;
+  decisions = commits_old.decisions;
   log = subst (λ o. Logs old s' x turn.is_forced o) (sym is)
       (made.sight ∙ ap (λ (k : LogSight). with_record k (entry_record e x (writes_of s.store.writes x)) turn.is_forced) room.sight
       ∙ ap (λ (v : KeySight). with_record old.log.sight (entry_record e x (writes_of v.writes x)) turn.is_forced) room.store);
@@ -458,9 +729,9 @@ made_committed old s s' x turn e room is makes done made boot = record {
 
 pub fails_by : (old s s' : KvSight) (x : Xid) (turn : Turn) (e : Entry) → OnlyRoom old s → turn.entry ≡ Some e
     → Breaks s.log s'.log (entry_record e x (writes_of s.store.writes x) ∷ [])
-    → s'.store.tables ≡ s.store.tables → s'.store.writes ≡ s.store.writes → s'.store.locks ≡ s.store.locks → s'.boot ≡ s.boot
-    → Fails old s' x turn
-fails_by old s s' x turn e room is broke tables writes locks boot = record {
+    → s'.store.tables ≡ s.store.tables → s'.store.writes ≡ s.store.writes → s'.store.locks ≡ s.store.locks
+    → s'.store.decisions ≡ s.store.decisions → s'.boot ≡ s.boot → Fails old s' x turn
+fails_by old s s' x turn e room is broke tables writes locks decisions boot = record {
   entry = e;
   writes_it = is;
   log = subst (λ (v : KeySight). Breaks old.log s'.log (entry_record e x (writes_of v.writes x) ∷ [])) room.store (record {
@@ -476,6 +747,7 @@ fails_by old s s' x turn e room is broke tables writes locks boot = record {
   tables = tables ∙ ap (λ (v : KeySight). v.tables) room.store;
   writes = writes ∙ ap (λ (v : KeySight). v.writes) room.store;
   locks = locks ∙ ap (λ (v : KeySight). v.locks) room.store;
+  decisions = decisions ∙ ap (λ (v : KeySight). v.decisions) room.store;
   boot = boot ∙ room.boot;
 }
   where
@@ -484,18 +756,28 @@ fails_by old s s' x turn e room is broke tables writes locks boot = record {
 
 -- A turn that writes nothing.
 
-pub silent_promises : (old new : KeySight) (x : Xid) (turn : Turn) → TakesTurn old new x turn → turn.to ≡ S0 → KeepsPromises old new
-silent_promises old new x turn takes ended = record {
+-- it ends its branch, or the branch stays as an operator decided it
+abbrev pub StaysDecided : KeySight → Xid → Turn → Type 0
+StaysDecided old x turn = (turn.to ≡ S0) ⊎ ((turn.to ≡ S5) × (state_of old x ≡ S5))
+
+pub silent_promises : (old new : KeySight) (x : Xid) (turn : Turn) → TakesTurn old new x turn → turn.entry ≡ None → StaysDecided old x turn
+    → KeepsPromises old new
+silent_promises old new x turn takes none so = record {
   versions = one_data old.versions new.versions takes.versions;
   prepared = λ y is. prepared y is (same x y) refl;
   writes = λ y is. writes y is (same x y) refl;
+  decided = λ y is. decided y is (same x y) refl;
+  known = λ y is. known y (same x y) refl;
 }
   where
+    here : (y : Xid) (b : BranchState) → state_of new y ≡ b → same x y ≡ true → turn.to ≡ b
+    here y b is t = sym takes.tables.branch.own ∙ ap (state_of new) (same_is x y t) ∙ is
+
     never_own : (y : Xid) → state_of new y ≡ S3 → same x y ≡ true → ⊥
-    never_own y is t =
-        let gone : S0 ≡ S3 = sym ended ∙ sym takes.tables.branch.own ∙ ap (state_of new) (same_is x y t) ∙ is in
-        let never : true ≡ false = ap ends gone in
-        absurd (cc)
+    never_own y is t = elim so [
+      | inl ended ↦ absurd (let never : true ≡ false = ap is_let_go (sym ended ∙ here y S3 is t) in cc)
+      | inr stays ↦ absurd (let never : true ≡ false = ap is_let_go (sym stays.0 ∙ here y S3 is t) in cc)
+    ]
 
     prepared : (y : Xid) → state_of new y ≡ S3 → (b : Bool) → same x y ≡ b → state_of old y ≡ S3
     prepared y is true t = absurd (never_own y is t)
@@ -505,9 +787,32 @@ silent_promises old new x turn takes ended = record {
     writes y is true t = absurd (never_own y is t)
     writes y is false t = writes_other old new x y turn.to takes.keeps t
 
-pub due_ends : (s : KvSight) (x : Xid) (c : Call) (turn : Turn) → IsDueTurn s x c turn → turn.entry ≡ None → turn.to ≡ S0
-due_ends s x c turn due is =
-    ap (λ (t : Turn). t.to) due.due ∙ silent_ends (state_of s.store x) c _ _ (ap (λ (t : Turn). t.entry) (sym due.due) ∙ is)
+    decided : (y : Xid) → state_of new y ≡ S5 → (b : Bool) → same x y ≡ b → state_of old y ≡ S5
+    decided y is true t = elim so [
+      | inl ended ↦ absurd (let never : false ≡ true = ap is_decided (sym ended ∙ here y S5 is t) in cc)
+      | inr stays ↦ ap (state_of old) (sym (same_is x y t)) ∙ stays.1
+    ]
+    decided y is false t = sym (takes.tables.branch.others y t) ∙ is
+
+    known : (y : Xid) (b : Bool) → same x y ≡ b → known_of new y ≡ known_of old y
+    known y true t =
+        let one : x ≡ y = same_is x y t in
+        subst (λ z. known_of new z ≡ known_of old z) one
+        (ap decision_or (takes.decisions.own ∙ ap (λ o. known_behind o (decision_in old.decisions x)) none))
+    known y false t = ap decision_or (takes.decisions.others y t)
+
+pub due_ends : (s : KvSight) (x : Xid) (c : Call) (turn : Turn) → IsDueTurn s x c turn → turn.entry ≡ None → StaysDecided s.store x turn
+due_ends s x c turn due is = by_turn due.due
+  where
+    none_decides : (o : Outcome) → (decide_turn o).entry ≡ None → ⊥
+    none_decides CommittedOutcome h = absurd (cc)
+    none_decides AbortedOutcome h = absurd (cc)
+
+    by_turn : IsTurn s.store x c turn → StaysDecided s.store x turn
+    by_turn (OfCall one) =
+        subst (λ (t : Turn). StaysDecided s.store x t) (sym one)
+        (silent_ends (state_of s.store x) c _ _ _ (ap (λ (t : Turn). t.entry) (sym one) ∙ is))
+    by_turn (OfOperator o here room one) = absurd (none_decides o (ap (λ (t : Turn). t.entry) (sym one) ∙ is))
 
 -- nothing changed
 pub same_self : (s : KvSight) → SameManager s s
@@ -516,6 +821,7 @@ same_self s = record {
   writes = λ x. refl;
   locks = refl;
   versions = record { base = refl; count = refl; is_staged = refl; values = λ n k. refl };
+  decisions = λ x. refl;
   log = refl;
   boot = refl;
 }

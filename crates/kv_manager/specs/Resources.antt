@@ -1,5 +1,9 @@
 -- A key store with a log, as a process sees the resource manager that it drives.
-use Rattle.std.specs.Prelude.{not, if◌then◌else◌, List, ℕ, Option, Some, None}
+use Rattle.std.specs.Prelude.{◌≡◌, not, Bool, true, false, if◌then◌else◌, List, ℕ, Option, Some, None}
+use Rattle.xa_codes.specs.declared.code.Code.{Code}
+use Rattle.xa_codes.specs.declared.code.Code.TheVariants as code
+use Rattle.manager_model.specs.declared.errors.DecideError.{DecideError}
+use Rattle.manager_model.specs.declared.errors.DecideError.TheVariants as decides
 use Rattle.xa_xid.specs.declared.xid.Xid.{Xid}
 use Rattle.xa_manager.specs.declared.errors.WorkError.{WorkError}
 use Rattle.xa_manager.specs.declared.errors.WorkError.TheVariants.{TooLong}
@@ -11,6 +15,7 @@ use Rattle.kv_locks.specs.declared.holders.Mode.TheVariants.{Exclusive, Shared}
 use Rattle.kv_locks.specs.Locks.{blocked_by, holders_of}
 use Rattle.kv_writes.specs.Writes.{writes_of}
 use Rattle.kv_core.specs.Stores.{KeySight, has_numbers}
+use Rattle.kv_core.specs.Ends.{known_of}
 use Rattle.kv_core.specs.Works.{is_too_long, limit_refusal, unless_locked}
 use Rattle.manager_model.specs.declared.errors.RestartError.{RestartError as SeenError}
 use Rattle.manager_model.specs.declared.errors.RestartError.TheVariants as seen
@@ -43,6 +48,7 @@ sight_of s = record {
   spent = not (has_numbers s.store);
   writes = λ x. writes_of s.store.writes x;
   obstacle = λ x op. obstacle_of s.store x op;
+  decided = λ x. known_of s.store x;
 }
 
 -- why it did not restart: where its records leave no manager, nothing changed, as for want of memory
@@ -51,6 +57,18 @@ seen_fault Device = seen.Device
 seen_fault Memory = seen.Memory
 seen_fault Unfit = seen.Memory
 seen_fault Exhausted = seen.Memory
+
+-- a turn of an operator's decision was not taken: the device failed, or no commit more can be counted
+abbrev pub is_refusal : Code → Bool
+is_refusal code.RmFail = true
+is_refusal code.RmErr = true
+is_refusal _ = false
+
+-- why it was not
+abbrev pub IsRefusal : Code → DecideError → Type 0
+IsRefusal answer decides.Device = answer ≡ code.RmFail
+IsRefusal answer decides.Memory = answer ≡ code.RmErr
+IsRefusal answer _ = ⊥
 
 -- why its log was not trimmed, where it was not written
 abbrev pub trim_error : LogError → TrimError

@@ -15,6 +15,7 @@ use Rattle.kv_writes.specs.Writes.{writes_of}
 use Rattle.kv_replay.specs.declared.fault.ReplayError.{ReplayError}
 use Rattle.kv_replay.specs.declared.fault.ReplayError.TheVariants as replays
 use Rattle.kv_replay.specs.Folds.{AreData, data_of}
+use Rattle.kv_replay.specs.Decisions.{KnowDecided}
 use Rattle.kv_replay.specs.Replays.{AreMalformed, CountTooFar, HoldPromises, seen_of}
 use Rattle.kv_core.specs.Stores.{KeySight}
 use Rattle.kv_manager.specs.declared.restart.RestartError.{RestartError}
@@ -40,8 +41,8 @@ abbrev pub opened : ℕ → LogRecord
 opened b = record { entry = Opened b; parent = None }
 
 -- what the records of a log leave: a manager that is not open, with the branches in doubt in the order of
--- their promises, the data that the records make, and of the branches that are prepared their writes and
--- their locks; and the next boot
+-- their promises, the data that the records make, of the branches that are prepared their writes and their
+-- locks, and what operators decided; and the next boot
 pub record LeavesStore (ls : List LogRecord) (s : KeySight) (boot : ℕ) : Type 0 where
   pub seen : SeenLog
   pub read : seen_of ls ≡ Some seen
@@ -49,6 +50,7 @@ pub record LeavesStore (ls : List LogRecord) (s : KeySight) (boot : ℕ) : Type 
   pub stored : AreData s.versions (data_of ls)
   pub promises : (x : Xid) → writes_of s.writes x ≡ promised seen x
   pub locks_held : HoldPromises seen s.locks
+  pub decided : KnowDecided ls s.decisions
   pub next : next_boot seen.boot ≡ Some boot
 
 -- more branches are in doubt than a manager holds, or one of them twice

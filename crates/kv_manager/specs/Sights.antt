@@ -1,6 +1,6 @@
 -- A key store with its log, as an XA manager.
-use Rattle.std.specs.Prelude.{◌≡◌, ℕ, true, false}
-use Rattle.xa_tables.specs.declared.states.BranchState.TheVariants.{S3}
+use Rattle.std.specs.Prelude.{◌≡◌, ℕ, true, false, List}
+use Rattle.xa_tables.specs.declared.states.BranchState.TheVariants.{S3, S5}
 use Rattle.xa_xid.specs.declared.xid.Xid.{Xid}
 use Rattle.tree_model.specs.declared.names.Kind.TheVariants.{Manager}
 use Rattle.tree_model.specs.declared.records.Branch.TheVariants.{Foreign}
@@ -9,11 +9,16 @@ use Rattle.tree_model.specs.Store.{Data, writes_of as promised_of}
 use Rattle.rec_log.specs.Sights.{LogState, records_of}
 use Rattle.kv_store.specs.Pairs.{keys_rise}
 use Rattle.kv_replay.specs.Folds.{AreData, data_of}
+use Rattle.kv_replay.specs.Decisions.{decided_in, says_decided}
 use Rattle.kv_store.specs.Versions.{SameData}
 use Rattle.kv_writes.specs.Writes.{SameWrites, writes_of}
 use Rattle.xa_states.specs.Answers.{Same}
 use Rattle.manager_model.specs.Restarting.{mark_at}
+use Rattle.xa_heur.specs.declared.decision.Decision.{Decision}
+use Rattle.xa_heur.specs.Cases.{SameDecisions}
+use Rattle.tree_model.specs.declared.records.LogRecord.{LogRecord}
 use Rattle.kv_core.specs.Stores.{KeySight, state_of}
+use Rattle.kv_core.specs.Ends.{known_of}
 
 -- what a contract sees: the key store, its log, and how often it opened
 pub record KvSight : Type 0 where
@@ -25,14 +30,22 @@ pub record KvSight : Type 0 where
 abbrev pub logged : KvSight → Data
 logged s = data_of (records_of s.log.sight.kept)
 
+-- a branch's last record says that an operator decided it, and its records that it was decided so, and told this
+pub record SaysDecided (ls : List LogRecord) (x : Xid) (d : Decision) : Type 0 where
+  pub says : says_decided (mark_at ls x) ≡ true
+  pub how : d ≡ decided_in ls x
+
 -- the data are those that the log's records make, their keys rising; each prepared branch has the writes that
--- its record promised, and that is its last record
+-- its record promised, and that is its last record; and of each branch in S5 the decision is the one that its
+-- records say
 pub record IsLogged (s : KvSight) : Type 0 where
   pub are_data : AreData s.store.versions (logged s)
   pub rise : keys_rise (logged s).pairs ≡ true
   pub promises : (x : Xid) → state_of s.store x ≡ S3
       → writes_of s.store.writes x ≡ promised_of (Foreign x) (logged s).promised
   pub marked : (x : Xid) → state_of s.store x ≡ S3 → mark_at (records_of s.log.sight.kept) x ≡ Promised
+  pub decided : (x : Xid) → state_of s.store x ≡ S5
+      → SaysDecided (records_of s.log.sight.kept) x (known_of s.store x)
 
 -- what a manager keeps: the log is a manager's, and while it has not failed the data are those of its records
 pub record IsKept (s : KvSight) : Type 0 where
@@ -45,5 +58,6 @@ pub record SameManager (old new : KvSight) : Type 0 where
   pub writes : SameWrites old.store.writes new.store.writes
   pub locks : new.store.locks ≡ old.store.locks
   pub versions : SameData old.store.versions new.store.versions
+  pub decisions : SameDecisions old.store.decisions new.store.decisions
   pub log : new.log.sight ≡ old.log.sight
   pub boot : new.boot ≡ old.boot

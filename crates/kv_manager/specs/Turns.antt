@@ -19,9 +19,10 @@ use Rattle.kv_turns.specs.Turns.{applies, entry_record}
 use Rattle.kv_writes.specs.Writes.{writes_of}
 use Rattle.xa_manager.specs.declared.errors.WorkError.{WorkError}
 use Rattle.xa_manager.specs.declared.errors.WorkError.TheVariants.{RmFail}
+use Rattle.xa_heur.specs.Cases.{Notes, decision_in}
 use Rattle.kv_core.specs.Stores.{KeySight, has_numbers}
 use Rattle.kv_core.specs.Works.{IsRefused}
-use Rattle.kv_core.specs.Ends.{IsDue, IsListed, IsOff, LetsGo, turn_for, wrote_some}
+use Rattle.kv_core.specs.Ends.{IsDue, IsListed, IsOff, IsTurn, LetsGo, known_behind, wrote_some}
 use Rattle.kv_manager.specs.Sights.{KvSight, SameManager}
 
 -- a log with one record more, forced with all the others or not
@@ -48,6 +49,8 @@ pub record Makes (old new : KvSight) (x : Xid) (turn : Turn) : Type 0 where
   pub versions : MatchBool (commits turn.entry)
       (Applies old.store.versions new.store.versions (writes_of old.store.writes x))
       (new.store.versions ≡ old.store.versions)
+  pub decisions : Notes old.store.decisions new.store.decisions x
+      (known_behind turn.entry (decision_in old.store.decisions x))
   pub log : Logs old new x turn.is_forced turn.entry
   pub boot : new.boot ≡ old.boot
 
@@ -59,6 +62,7 @@ pub record Fails (old new : KvSight) (x : Xid) (turn : Turn) : Type 0 where
   pub tables : new.store.tables ≡ old.store.tables
   pub writes : new.store.writes ≡ old.store.writes
   pub locks : new.store.locks ≡ old.store.locks
+  pub decisions : new.store.decisions ≡ old.store.decisions
   pub boot : new.boot ≡ old.boot
 
 -- what a turn that is due makes of a manager: the branch takes it, or the device fails; or it is a commit
@@ -80,11 +84,11 @@ pub data Finishes (old new : KvSight) (v : Verb) (x : Xid) (flags : ℕ) (answer
   Taken : old.log.sight.failed ≡ false → (due : Call × Turn) → IsDue old.store v x flags due
       → Takes old new x due.1 answer → Finishes old new v x flags answer
 
--- the turn of a call on a known branch, which is a row of the table; the log stands
+-- the turn of a call on a known branch, or of an operator's decision, which is a row of the table; the log stands
 pub record IsDueTurn (s : KvSight) (x : Xid) (c : Call) (turn : Turn) : Type 0 where
   pub works : s.log.sight.failed ≡ false
   pub known : is_known s.store.tables.branches.branches x ≡ true
-  pub due : turn ≡ turn_for s.store x c
+  pub due : IsTurn s.store x c turn
   pub listed : IsListed s.store x c turn
 
 -- a record that has writes has some

@@ -4,11 +4,13 @@ ghost use Rattle.std.specs.Prelude.{◌≡◌, ◌<◌, ◌≤◌, ◌+◌, ◌^
 ghost use Rattle.kv_locks.specs.declared.holders.Mode.TheVariants as mode;
 ghost use Rattle.kv_core.specs.Stores.{MovesTables, state_of};
 ghost use Rattle.kv_core.specs.Works.{Reads, Writes, work_refusal};
-ghost use Rattle.kv_core.specs.Ends.{IsDue};
+ghost use Rattle.kv_core.specs.Ends.{IsDue, known_of};
+ghost use Rattle.xa_heur.specs.Decisions.{decision_at};
+ghost use Rattle.manager_model.specs.Deciding.{Decides, NotDecided};
 ghost use Rattle.xa_states.specs.Answers.{Answers, Closes, Opens, Recovers, Wanted, map_ok};
 ghost use Rattle.xa_states.specs.Ready.{is_work_verb, leaves};
 ghost use Rattle.xa_tables.specs.Calls.{legal};
-ghost use Rattle.kv_manager.specs.Resources.{sight_of};
+ghost use Rattle.kv_manager.specs.Resources.{IsRefusal, is_refusal, sight_of};
 ghost use Rattle.kv_manager.specs.Sights.{IsLogged, SameManager};
 ghost use Rattle.manager_model.specs.Opening.{IsNew};
 ghost use Rattle.std.specs.List.{AllByRecursion};
@@ -28,13 +30,15 @@ use kv_core::KeyStore;
 use kv_turns::{Entry, Turn};
 use log_store::LogStore;
 use log_text::Frame;
+use manager_model::DecideError;
 use rec_log::{LogError, OpenError, RecLog};
 use std::alloc::{AllocError, Global};
 use std::marker::Model;
 use std::{mem, slice};
 use thiserror::Error;
-use tree_model::{Bytes, Kind, LogRecord};
+use tree_model::{Bytes, Kind, LogRecord, Outcome};
 use xa_codes::{Code, Flags};
+use xa_heur::Decision;
 use xa_manager::WorkError;
 use xa_tables::{BranchState, Call, Verb};
 use xa_xid::Xid;
@@ -102,6 +106,18 @@ fn ready_over<L: LogStore>(log: &mut RecLog<L>, alloc: Global) -> Result<Ready, 
     Ok(ready)
 }
 
+/// Whether a branch took the turn of a decision, by what the turn answered.
+fn decided(answer: Code) -> Result<(), DecideError>
+    ensures ok { OnOk result (is_refusal answer ≡ false) }
+    ensures err { IfErr result (IsRefusal answer) }
+{
+    match answer {
+        Code::RmFail => Err(DecideError::Device),
+        Code::RmErr => Err(DecideError::Memory),
+        _ => Ok(()),
+    }
+}
+
 impl<L: LogStore> KvManager<L> {
     /// How often the manager opened.
     pub fn boot(&self) -> u64
@@ -164,6 +180,13 @@ impl<L: LogStore> KvManager<L> {
         ensures { result ≡ state_of self.now.store xid.now }
     {
         self.store.state(xid)
+    }
+
+    /// What an operator decided of a branch, and what it was told since; None where no operator decided it, and behind forget.
+    pub fn decision(&self, xid: &Xid) -> Option<Decision>
+        ensures { result ≡ decision_at (state_of self.now.store xid.now) (known_of self.now.store xid.now) }
+    {
+        self.store.decision(xid)
     }
 
     /// Reads a key for a thread's branch, which holds it from then on, at least shared. RmFail,
@@ -332,7 +355,7 @@ impl<L: LogStore> KvManager<L> {
         }
     }
 
-    /// A branch takes the turn of a call that no check refuses.
+    /// A branch takes the turn of a call that no check refuses, or of an operator's decision.
     fn take(&mut self, xid: &Xid, call: Call, turn: Turn) -> Result<Code, AllocError>
         requires due { IsDueTurn self.old xid.now call turn }
         ensures answer { IfOk result (Takes self.old self.new xid.now turn) }
@@ -373,7 +396,8 @@ impl<L: LogStore> KvManager<L> {
         self.finish(Verb::Prepare, xid, flags)
     }
 
-    /// A prepared branch commits, or with TMONEPHASE one that is not prepared. RmFail as at `prepare`.
+    /// A prepared branch commits, or with TMONEPHASE one that is not prepared. One that an operator decided answers by the
+    /// decision, and the first outcome that it is told is noted. RmFail as at `prepare`.
     pub fn commit(&mut self, _thread: u32, xid: &Xid, flags: Flags) -> Result<Code, AllocError>
         ensures answer { IfOk result (Finishes self.old self.new Verb.Commit xid.now flags.0) }
         ensures err { OnErr result (SameManager self.old self.new) }
@@ -381,7 +405,7 @@ impl<L: LogStore> KvManager<L> {
         self.finish(Verb::Commit, xid, flags)
     }
 
-    /// A branch rolls back. RmFail as at `prepare`.
+    /// A branch rolls back; one that an operator decided as at `commit`. RmFail as at `prepare`.
     pub fn rollback(&mut self, _thread: u32, xid: &Xid, flags: Flags) -> Result<Code, AllocError>
         ensures answer { IfOk result (Finishes self.old self.new Verb.Rollback xid.now flags.0) }
         ensures err { OnErr result (SameManager self.old self.new) }
@@ -395,6 +419,24 @@ impl<L: LogStore> KvManager<L> {
         ensures err { OnErr result (SameManager self.old self.new) }
     {
         self.finish(Verb::Forget, xid, flags)
+    }
+
+    /// An operator decides a prepared branch, without its parent: the decision is forced, and stands until it is forgotten.
+    /// The manager need not be open. Failed, then NotInDoubt: nothing changed. Memory: nothing changed, also where no commit
+    /// more can be counted. Device: it fails now.
+    pub fn decide(&mut self, xid: &Xid, outcome: Outcome) -> Result<(), DecideError>
+        ensures ok { OnOk result (Decides (sight_of self.old) (sight_of self.new) xid.now outcome) }
+        ensures err { IfErr result (NotDecided (sight_of self.old) (sight_of self.new) xid.now outcome) }
+    {
+        if self.has_failed() {
+            return Err(DecideError::Failed);
+        }
+        if self.state(xid) != BranchState::S3 {
+            return Err(DecideError::NotInDoubt);
+        }
+        self.store.reserve_decision()?;
+        let answer = self.take(xid, Call::Commit, Turn::decide(outcome))?;
+        decided(answer)
     }
 
     /// A thread begins work in a branch, or takes it up again. RmFail: the manager has failed.

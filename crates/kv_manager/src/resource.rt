@@ -6,10 +6,11 @@ ghost use Rattle.kv_manager.specs.Resources.{seen_fault};
 use crate::manager::KvManager;
 use crate::restart::RestartError as RestartFault;
 use log_store::LogStore;
-use manager_model::{ResourceManager, RestartError, TrimError};
+use manager_model::{DecideError, ResourceManager, RestartError, TrimError};
 use std::alloc::AllocError;
-use tree_model::{LogRecord, Op};
+use tree_model::{LogRecord, Op, Outcome};
 use xa_codes::{Code, Flags};
+use xa_heur::Decision;
 use xa_manager::WorkError;
 use xa_tables::BranchState;
 use xa_xid::Xid;
@@ -42,6 +43,10 @@ impl<L: LogStore> ResourceManager for KvManager<L> {
         KvManager::state(self, xid)
     }
 
+    fn decision(&self, xid: &Xid) -> Option<Decision> {
+        KvManager::decision(self, xid)
+    }
+
     fn open(&mut self, flags: Flags, migrates: bool) -> Code {
         KvManager::open(self, flags, migrates)
     }
@@ -72,6 +77,10 @@ impl<L: LogStore> ResourceManager for KvManager<L> {
 
     fn forget(&mut self, thread: u32, xid: &Xid, flags: Flags) -> Result<Code, AllocError> {
         KvManager::forget(self, thread, xid, flags)
+    }
+
+    fn decide(&mut self, xid: &Xid, outcome: Outcome) -> Result<(), DecideError> {
+        KvManager::decide(self, xid, outcome)
     }
 
     fn recover(

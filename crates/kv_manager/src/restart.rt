@@ -80,6 +80,7 @@ pub fn rebuilt(records: Vec<LogRecord>, alloc: Global) -> Result<(KeyStore, u64)
         data,
         writes,
         locks,
+        decisions,
     } = match replay(records, alloc) {
         Ok(replayed) => replayed,
         Err(error) => return Err(replay_error(error)),
@@ -87,7 +88,7 @@ pub fn rebuilt(records: Vec<LogRecord>, alloc: Global) -> Result<(KeyStore, u64)
     let Some(boot) = next_boot(boot) else {
         return Err(RestartError::Exhausted);
     };
-    match KeyStore::restored(alloc, left.as_slice(), writes, locks, data)? {
+    match KeyStore::restored(alloc, left.as_slice(), writes, locks, data, decisions)? {
         Ok(store) => Ok((store, boot)),
         Err(_) => Err(RestartError::Unfit),
     }

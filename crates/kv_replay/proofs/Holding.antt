@@ -13,11 +13,12 @@ use Rattle.kv_locks.specs.declared.locks.LockError.TheVariants.{Held}
 use Rattle.kv_locks.specs.Locks.{Gives, LockTable, Refuses, blocked_by, holders_of}
 use Rattle.kv_store.proofs.Order.{bytes_are_same, same_is as key_is, same_itself as key_itself}
 use Rattle.kv_writes.specs.Writes.{Leaves, WriteTable, writes_of}
+use Rattle.tree_model.specs.declared.records.LogRecord.{LogRecord}
 use Rattle.log_order.specs.declared.seen.Promise.{Promise}
 use Rattle.log_order.specs.Orders.{SeenLog, found, is_open, left_by, names_key, opens, promised, promised_by, same}
 use Rattle.kv_replay.specs.declared.fault.ReplayError.{ReplayError}
 use Rattle.kv_replay.specs.declared.fault.ReplayError.TheVariants.{Memory, Malformed, Exhausted}
-use Rattle.kv_replay.specs.Replays.{AreFree, HoldFails, IsOrderly, LocksKeys, RestoreFails, Restores}
+use Rattle.kv_replay.specs.Replays.{AreFree, Fails, HoldFails, IsOrderly, LocksKeys, RestoreFails, Restores, seen_of}
 use Rattle.kv_replay.proofs.Lookups.{Live, apart_turns, same_is, same_itself, true_is_false}
 
 -- the holders of a key that one branch has to itself
@@ -264,3 +265,9 @@ pub restoring_fails : (s : SeenLog) (x : Xid) (e : ReplayError) → HoldFails (p
 restoring_fails s x Memory fails = tt
 restoring_fails s x Malformed fails = record { branch = x; breaks = fails }
 restoring_fails s x Exhausted fails = fails
+
+-- what the open branches cannot hold leaves nothing
+pub restore_fails : (ls : List LogRecord) (s : SeenLog) → seen_of ls ≡ Some s → (e : ReplayError) → RestoreFails s e → Fails ls e
+restore_fails ls s read Memory fails = tt
+restore_fails ls s read Malformed fails = inr (s, read, fails)
+restore_fails ls s read Exhausted fails = absurd fails

@@ -4,3 +4,4 @@ pub mod Lawful
 pub mod Making
 pub mod Passes
 pub mod Holding
+pub mod Noting

@@ -1,2 +1,3 @@
 pub mod Folds
+pub mod Decisions
 pub mod Replays

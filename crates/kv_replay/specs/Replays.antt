@@ -16,6 +16,8 @@ use Rattle.kv_locks.specs.Locks.{LockTable, blocked_by, holders_of}
 use Rattle.kv_writes.specs.Writes.{AreWrites, WriteTable, writes_of}
 use Rattle.kv_store.specs.Pairs.{keys_rise}
 use Rattle.kv_store.specs.Versions.{VersionTable, value_at}
+use Rattle.xa_heur.specs.Cases.{DecisionTable}
+use Rattle.kv_replay.specs.Decisions.{KnowDecided}
 use Rattle.kv_replay.specs.declared.fault.ReplayError.{ReplayError}
 use Rattle.kv_replay.specs.declared.fault.ReplayError.TheVariants.{Memory, Malformed, Exhausted}
 use Rattle.kv_replay.specs.Folds.{AreData, GoBack, base_after, by_xid, data_of}
@@ -36,9 +38,10 @@ pub record HoldPromises (s : SeenLog) (locks : LockTable) : Type 0 where
       → holders_of locks k ≡ record { xid = x; mode = Exclusive } ∷ []
   pub free : (k : List ℕ) → ((x : Xid) → names_key (promised s x) k ≡ false) → holders_of locks k ≡ []
 
--- what the records leave: the data that they make, and of the branches in doubt their writes and locks
+-- what the records leave: the data that they make, of the branches in doubt their writes and locks, and what
+-- operators decided
 pub record Leaves (ls : List LogRecord) (boot : Option ℕ) (left : List (Xid × Bool)) (versions : VersionTable)
-    (writes : WriteTable) (locks : LockTable) : Type 0 where
+    (writes : WriteTable) (locks : LockTable) (decisions : DecisionTable) : Type 0 where
   pub seen : SeenLog
   pub read : seen_of ls ≡ Some seen
   pub boots : boot ≡ seen.boot
@@ -47,6 +50,7 @@ pub record Leaves (ls : List LogRecord) (boot : Option ℕ) (left : List (Xid ×
   pub history : GoBack versions ls
   pub promises : (x : Xid) → writes_of writes x ≡ promised seen x
   pub locks_held : HoldPromises seen locks
+  pub decided : KnowDecided ls decisions
 
 -- an open branch promised what no branch can have written: more than 64 writes, or one that is out of range
 pub record BreaksLimits (s : SeenLog) : Type 0 where

@@ -1,5 +1,5 @@
-//! What the records of a log leave of a key store: the data that they make, and of the branches in doubt their
-//! writes and their locks.
+//! What the records of a log leave of a key store: the data that they make, of the branches in doubt their
+//! writes and their locks, and what operators decided.
 //!
 //! ```text
 //! Opened                   the boot
@@ -7,11 +7,14 @@
 //! Prepared                 the branch is open: it holds its writes and their locks
 //! Committed, HeurCommit    an open branch's writes become data
 //! Direct                   its own writes become data
+//! HeurCommit, HeurRollback an operator decided an open branch
+//! Told, Forgot             what it was told since, and the decision is forgotten
 //! ```
 #![tactic(auto)]
 
 mod data;
 mod fault;
+mod heuristic;
 pub mod law;
 mod promises;
 mod replayed;

@@ -5,6 +5,7 @@ ghost use Rattle.kv_replay.specs.Replays.{Fails, Leaves, Reads};
 
 use crate::data;
 use crate::fault::ReplayError;
+use crate::heuristic::decided;
 use crate::promises::restore;
 use kv_locks::Locks;
 use kv_store::Versions;
@@ -12,6 +13,7 @@ use kv_writes::BranchWrites;
 use log_order::Seen;
 use std::alloc::Global;
 use tree_model::LogRecord;
+use xa_heur::Heuristics;
 use xa_xid::Xid;
 
 /// What the records of a log leave of a key store.
@@ -27,6 +29,8 @@ pub struct Replayed {
     pub writes: BranchWrites,
     /// The keys of these writes, each held exclusively.
     pub locks: Locks,
+    /// What operators decided of branches that are not forgotten, and what these were told since.
+    pub decisions: Heuristics,
 }
 
 /// What all records have said, and the data that they make.
@@ -43,15 +47,16 @@ fn read(records: Vec<LogRecord>, alloc: Global) -> Result<(Seen, Versions), Repl
     Ok((seen, data))
 }
 
-/// What the records of a log leave of a key store. It goes through them once.
+/// What the records of a log leave of a key store. It goes through them twice.
 ///
 /// Malformed: a record may not follow those before it, or a branch that is open behind the last one promised more than
 /// 64 writes, a key that has not 1 to 64 bytes, or a value of more than 256. Exhausted: some records in front count
 /// 2^63 commits or more. With an error the records are gone.
 pub fn replay(records: Vec<LogRecord>, alloc: Global) -> Result<Replayed, ReplayError>
-    ensures ok { IfOk result (λ r. Leaves records.items r.boot r.left.items r.data r.writes r.locks) }
+    ensures ok { IfOk result (λ r. Leaves records.items r.boot r.left.items r.data r.writes r.locks r.decisions) }
     ensures err { IfErr result (Fails records.items) }
 {
+    let decisions = decided(&records, alloc)?;
     let (seen, data) = read(records, alloc)?;
     let left = seen.left()?;
     let (writes, locks) = restore(&seen, &left, alloc)?;
@@ -61,5 +66,6 @@ pub fn replay(records: Vec<LogRecord>, alloc: Global) -> Result<Replayed, Replay
         data,
         writes,
         locks,
+        decisions,
     })
 }

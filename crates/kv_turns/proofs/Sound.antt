@@ -6,7 +6,7 @@ use Rattle.std.specs.Prelude.{List}
 use Rattle.log_text.specs.Parts.{name_in}
 use Rattle.log_sound.specs.Sound.{AreSoundWrites, IsSound, IsSoundName}
 use Rattle.kv_turns.specs.declared.entries.Entry.{Entry}
-use Rattle.kv_turns.specs.declared.entries.Entry.TheVariants.{Prepared, Committed, RolledBack, Direct, Forgot}
+use Rattle.kv_turns.specs.declared.entries.Entry.TheVariants.{Prepared, Committed, RolledBack, Direct, HeurCommit, HeurRollback, Told, Forgot}
 use Rattle.kv_turns.specs.Turns.{AreSome, IsEntry, entry_record}
 
 sound_writes : (ws : List Write) → AreSome ws → AreSoundWrites ws
@@ -18,4 +18,7 @@ sound_entry Prepared x ws name some = (name, sound_writes ws some)
 sound_entry Committed x ws name some = name
 sound_entry RolledBack x ws name some = name
 sound_entry Direct x ws name some = (name, sound_writes ws some)
+sound_entry HeurCommit x ws name some = name
+sound_entry HeurRollback x ws name some = name
+sound_entry (Told o) x ws name some = name
 sound_entry Forgot x ws name some = name

@@ -1,14 +1,15 @@
 -- What a call that finishes a branch makes of it at a key store (C193, chapter 3; the forces of R*).
-use Rattle.std.specs.Prelude.{◌≤◌, ⊤, Bool, true, false, Some, None, List, length}
+use Rattle.std.specs.Prelude.{◌≤◌, ⊤, Bool, true, false, Option, Some, None, List, length}
 use Rattle.xa_codes.specs.declared.code.Code.{Code}
 use Rattle.xa_codes.specs.declared.code.Code.TheVariants as code
 use Rattle.xa_tables.specs.declared.call.Call.{Call}
 use Rattle.xa_tables.specs.declared.call.Call.TheVariants as call
 use Rattle.xa_tables.specs.declared.states.BranchState.{BranchState}
-use Rattle.xa_tables.specs.declared.states.BranchState.TheVariants.{S0, S3}
+use Rattle.xa_tables.specs.declared.states.BranchState.TheVariants.{S0, S3, S5}
 use Rattle.xa_xid.specs.Xids.{XidParts}
 use Rattle.tree_model.specs.declared.names.Presumption.{Presumption}
 use Rattle.tree_model.specs.declared.names.Presumption.TheVariants.{PresumeAbort}
+use Rattle.tree_model.specs.declared.names.Outcome.{Outcome}
 use Rattle.tree_model.specs.declared.names.Outcome.TheVariants.{Committed as CommittedOutcome, Aborted as AbortedOutcome}
 use Rattle.tree_model.specs.declared.records.Branch.{Branch}
 use Rattle.tree_model.specs.declared.records.Branch.TheVariants.{Case as CaseBranch, Foreign}
@@ -17,10 +18,12 @@ use Rattle.tree_model.specs.declared.records.Record.{Record}
 use Rattle.tree_model.specs.declared.records.Record.TheVariants as record_of
 use Rattle.tree_model.specs.declared.records.Write.{Write}
 use Rattle.tree_model.specs.ManagerRows.{is_acknowledged}
+use Rattle.xa_heur.specs.declared.decision.Decision.{Decision}
+use Rattle.xa_heur.specs.Decisions.{heur_code}
 use Rattle.log_text.specs.Parts.{name_in}
 use Rattle.kv_writes.specs.Writes.{AreWrites}
 use Rattle.kv_turns.specs.declared.entries.Entry.{Entry}
-use Rattle.kv_turns.specs.declared.entries.Entry.TheVariants.{Prepared, Committed, RolledBack, Direct, Forgot}
+use Rattle.kv_turns.specs.declared.entries.Entry.TheVariants.{Prepared, Committed, RolledBack, Direct, HeurCommit, HeurRollback, Told, Forgot}
 use Rattle.kv_turns.specs.declared.turns.Turn.{Turn}
 
 -- the presumption of a branch: that of its case; one that is no case's is under Presumed Abort
@@ -43,27 +46,52 @@ abbrev pub prepare_turn : Bool → Turn
 prepare_turn false = silent code.RdOnly S0
 prepare_turn true = writes Prepared true S3
 
--- a prepared branch commits: forced, unless the presumption covers it
-abbrev pub commit_turn : Presumption → Turn
-commit_turn p = writes Committed (is_acknowledged p CommittedOutcome) S0
+-- whether the record of what a decided branch is told is forced: as its outcome would be; of a branch that is
+-- no case's always
+abbrev pub is_told_forced : Branch → Outcome → Bool
+is_told_forced (CaseBranch c) o = is_acknowledged c.txn.presumption o
+is_told_forced (Foreign x) o = true
+
+-- an outcome comes to a branch that an operator decided, which was told this: it answers by the decision, and
+-- the first outcome is noted
+abbrev pub tell_turn : Branch → Outcome → Decision → Option Outcome → Turn
+tell_turn b o d None =
+    record { code = heur_code d.outcome; to = S5; entry = Some (Told o); is_forced = is_told_forced b o }
+tell_turn b o d (Some told) = silent (heur_code d.outcome) S5
+
+-- a prepared branch commits: forced, unless the presumption covers it; one that an operator decided is told
+abbrev pub commit_turn : BranchState → Branch → Decision → Turn
+commit_turn S5 b d = tell_turn b CommittedOutcome d d.told
+commit_turn _ b d = writes Committed (is_acknowledged (presumption_of b) CommittedOutcome) S0
 
 -- a branch commits in one phase
 abbrev pub direct_turn : Bool → Turn
 direct_turn false = silent code.Ok S0
 direct_turn true = writes Direct true S0
 
--- a prepared branch rolls back: forced, unless the presumption covers it; of any other nothing is written
-abbrev pub rollback_turn : BranchState → Presumption → Turn
-rollback_turn S3 p = writes RolledBack (is_acknowledged p AbortedOutcome) S0
-rollback_turn _ p = silent code.Ok S0
+-- a prepared branch rolls back: forced, unless the presumption covers it; one that an operator decided is told;
+-- of any other nothing is written
+abbrev pub rollback_turn : BranchState → Branch → Decision → Turn
+rollback_turn S3 b d = writes RolledBack (is_acknowledged (presumption_of b) AbortedOutcome) S0
+rollback_turn S5 b d = tell_turn b AbortedOutcome d d.told
+rollback_turn _ b d = silent code.Ok S0
 
--- what a call makes of a branch in a state that wrote something or nothing
-abbrev pub turn_of : BranchState → Call → Bool → Presumption → Turn
-turn_of s call.Prepare wrote p = prepare_turn wrote
-turn_of s call.Commit wrote p = commit_turn p
-turn_of s call.CommitOnePhase wrote p = direct_turn wrote
-turn_of s call.Rollback wrote p = rollback_turn s p
-turn_of s _ wrote p = writes Forgot true S0
+-- what a call makes of a branch in a state that wrote something or nothing; in S5 an operator decided it so
+abbrev pub turn_of : BranchState → Call → Bool → Branch → Decision → Turn
+turn_of s call.Prepare wrote b d = prepare_turn wrote
+turn_of s call.Commit wrote b d = commit_turn s b d
+turn_of s call.CommitOnePhase wrote b d = direct_turn wrote
+turn_of s call.Rollback wrote b d = rollback_turn s b d
+turn_of s _ wrote b d = writes Forgot true S0
+
+-- the record of an operator's decision
+abbrev pub heur_entry : Outcome → Entry
+heur_entry CommittedOutcome = HeurCommit
+heur_entry AbortedOutcome = HeurRollback
+
+-- what an operator's decision makes of a prepared branch
+abbrev pub decide_turn : Outcome → Turn
+decide_turn o = record { code = heur_code o; to = S5; entry = Some (heur_entry o); is_forced = true }
 
 -- Records.
 
@@ -71,6 +99,7 @@ turn_of s _ wrote p = writes Forgot true S0
 abbrev pub applies : Entry → Bool
 applies Committed = true
 applies Direct = true
+applies HeurCommit = true
 applies _ = false
 
 -- the record under a name
@@ -79,6 +108,9 @@ entry_of Prepared b ws = record_of.Prepared b ws
 entry_of Committed b ws = record_of.Committed b
 entry_of RolledBack b ws = record_of.RolledBack b
 entry_of Direct b ws = record_of.Direct b ws
+entry_of HeurCommit b ws = record_of.HeurCommit b
+entry_of HeurRollback b ws = record_of.HeurRollback b
+entry_of (Told o) b ws = record_of.Told b o
 entry_of Forgot b ws = record_of.Forgot b
 
 -- the record in a log, under the whole name of an XID

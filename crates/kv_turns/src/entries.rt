@@ -5,15 +5,17 @@ ghost use Rattle.tree_model.specs.declared.names.Kind.TheVariants as kind;
 ghost use Rattle.log_text.specs.Made.{frame_record};
 ghost use Rattle.log_text.specs.Parts.{name_in};
 ghost use Rattle.log_sound.specs.Sound.{IsSound, IsSoundName};
-ghost use Rattle.kv_turns.specs.Turns.{IsEntry, applies, entry_of, entry_record, presumption_of};
+ghost use Rattle.kv_turns.specs.Turns.{IsEntry, applies, entry_of, entry_record, heur_entry, presumption_of};
 
 use log_text::{Frame, name_in};
 use std::alloc::{AllocError, Global};
-use tree_model::{Branch, LogRecord, Presumption, ProcessId, Record, Sequence, Write, Writes};
+use tree_model::{
+    Branch, LogRecord, Outcome, Presumption, ProcessId, Record, Sequence, Write, Writes,
+};
 use xa_xid::Xid;
 
 /// A record of a branch.
-#[derive(Clone, Copy, Debug, PartialEq, Eq)]
+#[derive(Clone, Copy, PartialEq, Eq)]
 pub enum Entry {
     /// The branch promised, with its writes.
     Prepared,
@@ -23,6 +25,12 @@ pub enum Entry {
     RolledBack,
     /// The branch committed in one phase, with its writes.
     Direct,
+    /// An operator decided that a prepared branch commits.
+    HeurCommit,
+    /// An operator decided that a prepared branch rolls back.
+    HeurRollback,
+    /// A branch that an operator decided was told this outcome.
+    Told(Outcome),
     /// An operator's decision may be forgotten.
     Forgot,
 }
@@ -36,11 +44,18 @@ fn name_of(xid: &Xid) -> (Option<ProcessId>, Branch)
     name_in(xid)
 }
 
-/// The presumption of a branch: that of its case. One whose XID is of no case is under Presumed Abort.
-pub fn presumption_of(xid: &Xid) -> Presumption
-    ensures { result ≡ presumption_of (name_in xid.now).1 }
+/// The branch of an XID: a case, or one that is foreign.
+pub fn branch_of(xid: &Xid) -> Branch
+    ensures { result ≡ (name_in xid.now).1 }
 {
-    match name_of(xid).1 {
+    name_of(xid).1
+}
+
+/// The presumption of a branch: that of its case. One whose XID is of no case is under Presumed Abort.
+pub(crate) fn presumption_of(branch: Branch) -> Presumption
+    ensures { result ≡ presumption_of branch }
+{
+    match branch {
         Branch::Case(case) => case.txn.presumption,
         Branch::Foreign(_) => Presumption::PresumeAbort,
     }
@@ -58,11 +73,21 @@ fn copied(writes: &[Write], alloc: Global) -> Result<Writes, AllocError>
 }
 
 impl Entry {
+    /// The record of an operator's decision.
+    pub(crate) fn of_decision(outcome: Outcome) -> Self
+        ensures { result ≡ heur_entry outcome }
+    {
+        match outcome {
+            Outcome::Committed => Entry::HeurCommit,
+            Outcome::Aborted => Entry::HeurRollback,
+        }
+    }
+
     /// Whether it makes the branch's writes data.
     pub fn applies(self) -> bool
         ensures { result ≡ applies self }
     {
-        matches!(self, Entry::Committed | Entry::Direct)
+        matches!(self, Entry::Committed | Entry::Direct | Entry::HeurCommit)
     }
 
     /// The record under this name.
@@ -74,6 +99,9 @@ impl Entry {
             Entry::Committed => Record::Committed(branch),
             Entry::RolledBack => Record::RolledBack(branch),
             Entry::Direct => Record::Direct(branch, copied(writes, alloc)?),
+            Entry::HeurCommit => Record::HeurCommit(branch),
+            Entry::HeurRollback => Record::HeurRollback(branch),
+            Entry::Told(outcome) => Record::Told(branch, outcome),
             Entry::Forgot => Record::Forgot(branch),
         })
     }

@@ -9,14 +9,17 @@
 //! | S2 | commit TMONEPHASE | XA_OK | S0 | Direct, forced |
 //! | S2, S4 | rollback | XA_OK | S0 | |
 //! | S3 | rollback | XA_OK | S0 | RolledBack, forced under Presumed Commit alone |
+//! | S3 | an operator's commit | | S5 | HeurCommit, forced |
+//! | S3 | an operator's rollback | | S5 | HeurRollback, forced |
+//! | S5 | commit, rollback | XA_HEURCOM, XA_HEURRB | S5 | Told, forced as the outcome would be, where nothing was told yet |
 //! | S5 | forget | XA_OK | S0 | Forgot, forced |
 //!
-//! A branch whose XID is of no case is under Presumed Abort. Committed and Direct make the branch's writes data; a branch
-//! that comes to S0 lets its writes and its locks go.
+//! A branch whose XID is of no case is under Presumed Abort, and what it is told is forced. Committed, Direct and
+//! HeurCommit make the branch's writes data; a branch that comes to S0 or S5 lets its writes and its locks go.
 #![tactic(auto)]
 
 mod entries;
 mod turns;
 
-pub use entries::{Entry, presumption_of};
+pub use entries::{Entry, branch_of};
 pub use turns::Turn;

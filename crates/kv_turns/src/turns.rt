@@ -2,15 +2,16 @@
 
 ghost use Rattle.std.specs.Prelude.{◌≡◌};
 ghost use Rattle.tree_model.specs.ManagerRows.{is_acknowledged};
-ghost use Rattle.kv_turns.specs.Turns.{commit_turn, direct_turn, prepare_turn, rollback_turn, silent, turn_of, writes};
+ghost use Rattle.kv_turns.specs.Turns.{commit_turn, decide_turn, direct_turn, is_told_forced, prepare_turn, rollback_turn, silent, tell_turn, turn_of, writes};
 
-use crate::entries::Entry;
-use tree_model::{Outcome, Presumption};
+use crate::entries::{Entry, presumption_of};
+use tree_model::{Branch, Outcome, Presumption};
 use xa_codes::Code;
+use xa_heur::Decision;
 use xa_tables::{BranchState, Call};
 
 /// What a call makes of a branch: its answer, the state behind it, and the record that it writes.
-#[derive(Clone, Copy, Debug, PartialEq, Eq)]
+#[derive(Clone, Copy, PartialEq, Eq)]
 pub struct Turn {
     pub code: Code,
     pub to: BranchState,
@@ -27,6 +28,17 @@ fn is_acknowledged(presumption: Presumption, outcome: Outcome) -> bool
         (Presumption::PresumeAbort, Outcome::Committed)
             | (Presumption::PresumeCommit, Outcome::Aborted)
     )
+}
+
+/// Whether the record of what a decided branch is told is forced: as its outcome would be; of a branch that is no case's
+/// always.
+fn is_told_forced(branch: Branch, outcome: Outcome) -> bool
+    ensures { result ≡ is_told_forced branch outcome }
+{
+    match branch {
+        Branch::Case(case) => is_acknowledged(case.txn.presumption, outcome),
+        Branch::Foreign(_) => true,
+    }
 }
 
 impl Turn {
@@ -62,10 +74,28 @@ impl Turn {
         }
     }
 
-    fn commit(presumption: Presumption) -> Self
-        ensures { result ≡ commit_turn presumption }
+    /// An outcome of a branch that an operator decided: it answers by the decision, and notes the first one.
+    fn tell(branch: Branch, outcome: Outcome, decision: Decision) -> Self
+        ensures { result ≡ tell_turn branch outcome decision decision.told }
     {
-        let is_forced = is_acknowledged(presumption, Outcome::Committed);
+        match decision.told {
+            None => Turn {
+                code: decision.code(),
+                to: BranchState::S5,
+                entry: Some(Entry::Told(outcome)),
+                is_forced: is_told_forced(branch, outcome),
+            },
+            Some(_) => Turn::silent(decision.code(), BranchState::S5),
+        }
+    }
+
+    fn commit(from: BranchState, branch: Branch, decision: Decision) -> Self
+        ensures { result ≡ commit_turn from branch decision }
+    {
+        if from == BranchState::S5 {
+            return Turn::tell(branch, Outcome::Committed, decision);
+        }
+        let is_forced = is_acknowledged(presumption_of(branch), Outcome::Committed);
         Turn::writes(Entry::Committed, is_forced, BranchState::S0)
     }
 
@@ -79,27 +109,48 @@ impl Turn {
         }
     }
 
-    fn rollback(from: BranchState, presumption: Presumption) -> Self
-        ensures { result ≡ rollback_turn from presumption }
+    fn rollback(from: BranchState, branch: Branch, decision: Decision) -> Self
+        ensures { result ≡ rollback_turn from branch decision }
     {
-        if from == BranchState::S3 {
-            let is_forced = is_acknowledged(presumption, Outcome::Aborted);
-            Turn::writes(Entry::RolledBack, is_forced, BranchState::S0)
-        } else {
-            Turn::silent(Code::Ok, BranchState::S0)
+        match from {
+            BranchState::S3 => {
+                let is_forced = is_acknowledged(presumption_of(branch), Outcome::Aborted);
+                Turn::writes(Entry::RolledBack, is_forced, BranchState::S0)
+            }
+            BranchState::S5 => Turn::tell(branch, Outcome::Aborted, decision),
+            _ => Turn::silent(Code::Ok, BranchState::S0),
         }
     }
 
-    /// What a prepare, commit, rollback or forget makes of a branch in this state that wrote something or nothing.
-    pub fn of(from: BranchState, call: Call, wrote: bool, presumption: Presumption) -> Self
-        ensures { result ≡ turn_of from call wrote presumption }
+    /// What a prepare, commit, rollback or forget makes of a branch in this state that wrote something or nothing, and in S5
+    /// was decided so by an operator.
+    pub fn of(
+        from: BranchState,
+        call: Call,
+        wrote: bool,
+        branch: Branch,
+        decision: Decision,
+    ) -> Self
+        ensures { result ≡ turn_of from call wrote branch decision }
     {
         match call {
             Call::Prepare => Turn::prepare(wrote),
-            Call::Commit => Turn::commit(presumption),
+            Call::Commit => Turn::commit(from, branch, decision),
             Call::CommitOnePhase => Turn::direct(wrote),
-            Call::Rollback => Turn::rollback(from, presumption),
+            Call::Rollback => Turn::rollback(from, branch, decision),
             _ => Turn::writes(Entry::Forgot, true, BranchState::S0),
+        }
+    }
+
+    /// What an operator's decision makes of a prepared branch.
+    pub fn decide(outcome: Outcome) -> Self
+        ensures { result ≡ decide_turn outcome }
+    {
+        Turn {
+            code: Decision::new(outcome).code(),
+            to: BranchState::S5,
+            entry: Some(Entry::of_decision(outcome)),
+            is_forced: true,
         }
     }
 }

@@ -7,4 +7,3 @@ pub mod Misses
 pub mod NameLaws
 pub mod LineLaws
 pub mod Faults
-pub mod Admitted

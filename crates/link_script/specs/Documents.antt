@@ -1,5 +1,5 @@
 -- The texts of a tree of processes (TOML).
-use Rattle.std.specs.Prelude.{◌≡◌, ℕ, ◌≤◌, ◌<◌, ◌^◌, List, [], ◌∷◌, length, All, Option, Some, None, true, pos, codes, ◌⊎◌}
+use Rattle.std.specs.Prelude.{◌≡◌, ℕ, ◌≤◌, ◌<◌, ◌^◌, List, [], ◌∷◌, length, All, Option, Some, None, pos, codes, ◌⊎◌}
 use Rattle.std.specs.Char.{IsAsciiAlphabetic}
 use Rattle.toml.specs.Data.{Data, Items, no_items, item, Members, no_members, member, get, integer, string, table, array}
 use Rattle.toml.specs.Parse.{parse_document}

@@ -9,11 +9,10 @@ use Rattle.link_script.specs.declared.script.ScriptFault.{ScriptFault}
 use Rattle.link_script.specs.declared.script.ScriptFault.TheVariants.{Utf8, TreeText, Tree, TooLong, Line}
 use Rattle.link_script.specs.declared.script.ScriptError.{ScriptError}
 use Rattle.link_script.specs.declared.script.ScriptError.TheVariants.{Memory, Fault}
-use Rattle.link_script.specs.declared.stage.Stage.{Stage}
-use Rattle.link_script.specs.Stages.{reading}
 use Rattle.link_script.specs.Documents.{IsTreeText}
 use Rattle.link_script.specs.Rules.{pieces, around_rule}
 use Rattle.script_words.specs.Lines.{asked_in}
+use Rattle.link_script.specs.Events.{event_at}
 use Rattle.link_script.specs.Script.{events_at}
 use Rattle.trace_lines.specs.Trace.{lines_text}
 
@@ -35,16 +34,16 @@ pub record IsFront (bytes : List ℕ) (tree : List TreeEntry) (rule : ℕ)
   pub lines_are : lines ≡ lines_of_parts behind
 
 -- what the lines behind the rule ask for; the first of them is the second behind the tree text
-abbrev pub script_events : Stage → List (List ℕ) → List (List ℕ) → List TreeEntry → Result (List Event) ℕ
-script_events stage fronts behind tree =
-    events_at (reading stage (root_of tree)) (length fronts + 1 + 1) (lines_of_parts behind)
+abbrev pub script_events : List (List ℕ) → List (List ℕ) → List TreeEntry → Result (List Event) ℕ
+script_events fronts behind tree =
+    events_at (event_at (root_of tree)) (length fronts + 1 + 1) (lines_of_parts behind)
 
 -- bytes that are a script of this tree and these events
-abbrev pub IsScript : Stage → List ℕ → List TreeEntry → List Event → Type 0
-IsScript stage bytes tree events =
+abbrev pub IsScript : List ℕ → List TreeEntry → List Event → Type 0
+IsScript bytes tree events =
     (fronts : List (List ℕ)) × (behind : List (List ℕ)) × HasTreeText bytes fronts behind tree
     × IsTree tree
-    × (asked_in (lines_of_parts behind) ≤ 100000) × (script_events stage fronts behind tree ≡ Ok events)
+    × (asked_in (lines_of_parts behind) ≤ 100000) × (script_events fronts behind tree ≡ Ok events)
 
 -- what is wrong with bytes before the lines, each fault where none of those above it is there
 abbrev pub IsFrontFault : List ℕ → ScriptFault → Type 0
@@ -59,20 +58,20 @@ IsFrontFault bytes TooLong = ⊥
 IsFrontFault bytes (Line number) = ⊥
 
 -- what is wrong with bytes, each fault where none of those above it is there
-abbrev pub IsScriptFault : Stage → List ℕ → ScriptFault → Type 0
-IsScriptFault stage bytes TooLong =
+abbrev pub IsScriptFault : List ℕ → ScriptFault → Type 0
+IsScriptFault bytes TooLong =
     (fronts : List (List ℕ)) × (behind : List (List ℕ)) × (tree : List TreeEntry)
     × HasTreeText bytes fronts behind tree × IsTree tree × (100000 < asked_in (lines_of_parts behind))
-IsScriptFault stage bytes (Line number) =
+IsScriptFault bytes (Line number) =
     (fronts : List (List ℕ)) × (behind : List (List ℕ)) × (tree : List TreeEntry)
     × HasTreeText bytes fronts behind tree × IsTree tree × (asked_in (lines_of_parts behind) ≤ 100000)
-    × (script_events stage fronts behind tree ≡ Err number)
-IsScriptFault stage bytes fault = IsFrontFault bytes fault
+    × (script_events fronts behind tree ≡ Err number)
+IsScriptFault bytes fault = IsFrontFault bytes fault
 
 -- memory was refused, or there is this fault
-abbrev pub IsScriptError : Stage → List ℕ → ScriptError → Type 0
-IsScriptError stage bytes Memory = Unit {0}
-IsScriptError stage bytes (Fault fault) = IsScriptFault stage bytes fault
+abbrev pub IsScriptError : List ℕ → ScriptError → Type 0
+IsScriptError bytes Memory = Unit {0}
+IsScriptError bytes (Fault fault) = IsScriptFault bytes fault
 
 -- memory was refused, or there is this fault before the lines
 abbrev pub IsFrontError : List ℕ → ScriptError → Type 0

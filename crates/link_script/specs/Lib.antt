@@ -1,5 +1,4 @@
 pub mod Names
-pub mod Stages
 pub mod Events
 pub mod Spellings
 pub mod Documents

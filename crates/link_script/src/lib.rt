@@ -8,9 +8,7 @@ pub mod law;
 mod lines;
 mod names;
 mod script;
-mod stage;
 
 pub use front::{Front, read_front};
 pub use names::process_of;
 pub use script::{MOST_EVENTS, ScriptError, ScriptFault, read};
-pub use stage::Stage;

@@ -4,11 +4,10 @@ ghost use Rattle.std.specs.Prelude.{◌≡◌, ◌+◌, ◌<◌, ◌≤◌, ◌^
 ghost use Rattle.std.specs.Str.Lines.{lines as lines_in, lines_of_parts};
 ghost use Rattle.link_script.specs.Rules.{pieces, is_rule as is_rule_at, around_rule};
 ghost use Rattle.trace_lines.specs.Trace.{lines_text};
-ghost use Rattle.link_script.specs.Stages.{reading};
 ghost use Rattle.link_script.specs.Script.{events_at, IsLineFault};
+ghost use Rattle.link_script.specs.Events.{event_at};
 
 use crate::event::event_of;
-use crate::stage::Stage;
 use script_words::says_nothing;
 use std::alloc::{AllocError, AllocFailed, Global};
 use tree_model::{Event, ProcessId};
@@ -74,36 +73,23 @@ pub fn around(text: &str) -> Option<(&str, u64, &str)>
     }
 }
 
-/// The event of a line, where it is read.
-fn staged_event(
-    alloc: Global,
-    stage: Stage,
-    root: ProcessId,
-    line: &str,
-) -> Result<Option<Event>, AllocError>
-    ensures { IfOk result (λ event. event ≡ reading stage root line.now) }
-{
-    Ok(stage.only(event_of(alloc, root, line)?))
-}
-
 /// The events of these lines, behind so many lines of the script.
 pub fn events_of(
     alloc: Global,
-    stage: Stage,
     root: ProcessId,
     before: u64,
     lines: &[&str],
 ) -> Result<Vec<Event>, LineError>
     requires { before + length lines.now < 2 ^ 64 }
-    ensures ok { IfOk result (λ v. events_at (reading stage root) (before + 1) (map (λ s. s.now) lines.now) ≡ Ok v.items) }
-    ensures err { IfErr result (λ e. IsLineFault e (events_at (reading stage root) (before + 1) (map (λ s. s.now) lines.now))) }
+    ensures ok { IfOk result (λ v. events_at (event_at root) (before + 1) (map (λ s. s.now) lines.now) ≡ Ok v.items) }
+    ensures err { IfErr result (λ e. IsLineFault e (events_at (event_at root) (before + 1) (map (λ s. s.now) lines.now))) }
 {
     let mut events = Vec::new(alloc);
     for (i, line) in lines.iter().enumerate() {
         if says_nothing(line) {
             continue;
         }
-        match staged_event(alloc, stage, root, line)? {
+        match event_of(alloc, root, line)? {
             Some(event) => events.push(event)?,
             None => return Err(LineError::Line(before + i as u64 + 1)),
         }

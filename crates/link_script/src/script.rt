@@ -5,7 +5,6 @@ ghost use Rattle.link_script.specs.Inputs.{script_fault_number, IsScript, IsScri
 
 use crate::front::read_front;
 use crate::lines::{LineError, events_of};
-use crate::stage::Stage;
 use script_words::count_asked;
 use std::alloc::{AllocError, Global};
 use thiserror::Error;
@@ -70,10 +69,10 @@ impl From<AllocError> for ScriptError {
 }
 
 /// The tree and the events of a script: the tree's text, a line `---`, and a line for each event. Empty lines and lines
-/// that begin with `#` are skipped. What the stage does not read is a fault of its line.
-pub fn read(alloc: Global, stage: Stage, bytes: &[u8]) -> Result<(Tree, Vec<Event>), ScriptError>
-    ensures ok { IfOk result (λ (tree, events). IsScript stage bytes.now tree events.items) }
-    ensures err { IfErr result (λ error. IsScriptError stage bytes.now error) }
+/// that begin with `#` are skipped.
+pub fn read(alloc: Global, bytes: &[u8]) -> Result<(Tree, Vec<Event>), ScriptError>
+    ensures ok { IfOk result (λ (tree, events). IsScript bytes.now tree events.items) }
+    ensures err { IfErr result (λ error. IsScriptError bytes.now error) }
 {
     let front = match read_front(alloc, bytes) {
         Ok(front) => front,
@@ -82,7 +81,7 @@ pub fn read(alloc: Global, stage: Stage, bytes: &[u8]) -> Result<(Tree, Vec<Even
     if count_asked(&front.lines) > MOST_EVENTS {
         return Err(ScriptError::Fault(ScriptFault::TooLong));
     }
-    match events_of(alloc, stage, front.tree.root(), front.rule, &front.lines) {
+    match events_of(alloc, front.tree.root(), front.rule, &front.lines) {
         Ok(events) => Ok((front.tree, events)),
         Err(LineError::Memory) => Err(ScriptError::Memory),
         Err(LineError::Line(number)) => Err(ScriptError::Fault(ScriptFault::Line(number))),

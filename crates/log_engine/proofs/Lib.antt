@@ -1,2 +1,2 @@
-pub mod PlaceLaws
 pub mod Shown
+pub mod Texts

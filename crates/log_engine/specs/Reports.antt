@@ -1,5 +1,5 @@
 -- What is written of a tree and its logs.
-use Rattle.std.specs.Prelude.{◌≡◌, ℕ, ◌==◌, if◌then◌else◌, List, [], ◌∷◌, ◌++◌, codes, Option, Some, None}
+use Rattle.std.specs.Prelude.{◌≡◌, ℕ, ◌==◌, if◌then◌else◌, List, [], ◌++◌, codes, Some, None}
 use Rattle.std.specs.List.{flat_map}
 use Rattle.std.specs.Fmt.{decimal}
 use Rattle.tree_model.specs.declared.names.ProcessId.{ProcessId}
@@ -8,16 +8,15 @@ use Rattle.tree_model.specs.declared.records.Record.{Record}
 use Rattle.tree_model.specs.declared.trees.TreeEntry.{TreeEntry}
 use Rattle.tree_model.specs.Records.{kind_of}
 use Rattle.tree_model.specs.Texts.{kind_word}
-use Rattle.tree_model.specs.Trees.{tree_error_number}
 use Rattle.link_script.specs.declared.script.ScriptFault.{ScriptFault}
-use Rattle.link_script.specs.declared.script.ScriptFault.TheVariants.{Utf8, TreeText, Tree, TooLong, Line}
 use Rattle.logs_script.specs.declared.line.ProcessLog.{ProcessLog}
 use Rattle.logs_script.specs.Logs.{IsLogsFault, IsLogsText, bytes_of}
 use Rattle.log_order.specs.Logs.{LogReading, Whole, Damaged, read_log}
 use Rattle.report_io.specs.declared.status.Status.{Status}
 use Rattle.report_io.specs.declared.status.Status.TheVariants.{Ended, Refused, Stopped}
 use Rattle.log_engine.specs.Lines.{record_words}
-use Rattle.log_engine.specs.Places.{Placed, placed_records}
+use Rattle.log_reading.specs.Faults.{damage_text, fault_text, first_damage}
+use Rattle.log_reading.specs.Places.{Placed, placed_records}
 
 -- the line that comes before the records of a process
 abbrev pub heading_text : ProcessId → List ℕ
@@ -48,38 +47,12 @@ held_text q p bytes = heading_text q ++ records_text (placed_records p bytes) ++
 unfoldable pub shown_text : List TreeEntry → List ProcessLog → List ℕ
 shown_text es logs = flat_map (λ e. held_text e.id e.kind (bytes_of logs e.id)) es
 
--- a log that is damaged, and where
-abbrev pub Damage : Type 0
-Damage = Option (ProcessId × ℕ)
-
--- the damage of a log that was read so, or else that of the others
-abbrev pub damage_or : ProcessId → LogReading → Damage → Damage
-damage_or q (Damaged place) more = Some (q, place)
-damage_or q (Whole ls torn) more = more
-
--- the first log of these processes that is damaged
-unfoldable pub first_damage : List TreeEntry → List ProcessLog → Damage
-first_damage [] logs = None
-first_damage (e ∷ es) logs = damage_or e.id (read_log e.kind (bytes_of logs e.id)) (first_damage es logs)
-
--- the line of a damaged log
-abbrev pub damage_text : ProcessId → ℕ → List ℕ
-damage_text q place = codes "damaged " ++ decimal q.0 ++ codes " " ++ decimal place ++ codes "\n"
-
 -- what is written of logs that were read, by whether one is damaged
 abbrev pub IsShown : Status → List TreeEntry → List ProcessLog → List ℕ → Type 0
 IsShown Ended es logs text = (first_damage es logs ≡ None) × (text ≡ shown_text es logs)
 IsShown Refused es logs text = (q : ProcessId) × (place : ℕ) × (first_damage es logs ≡ Some (q, place))
     × (text ≡ damage_text q place)
 IsShown Stopped es logs text = ⊥
-
--- the line of a refused input
-abbrev pub fault_text : ScriptFault → List ℕ
-fault_text TreeText = codes "error 1\n"
-fault_text (Tree cause) = codes "error 2 " ++ decimal (tree_error_number cause) ++ codes "\n"
-fault_text (Line n) = codes "error 3 " ++ decimal n ++ codes "\n"
-fault_text Utf8 = codes "error 4\n"
-fault_text TooLong = codes "error 5\n"
 
 -- the text is that of the tree and the logs that the input says
 pub record ShowsLogs (status : Status) (input text : List ℕ) : Type 0 where

@@ -2,14 +2,15 @@
 
 ghost use Rattle.std.specs.Prelude.{◌≡◌, ◌++◌, ℕ, List, IfOk, IfErr, OnOk};
 ghost use Rattle.std.specs.Io.KnownBytes.{Appends, Keeps};
-ghost use Rattle.log_engine.specs.Places.{placed_in};
-ghost use Rattle.log_engine.specs.Reports.{IsLogReport, IsShown, damage_text, fault_text, heading_text, held_text, placed_text, records_text, torn_text};
+ghost use Rattle.log_engine.specs.Reports.{IsLogReport, IsShown, heading_text, held_text, placed_text, records_text, torn_text};
+ghost use Rattle.log_reading.specs.Places.{placed_in};
 ghost use Rattle.rec_log.specs.Openings.{IsFound};
 ghost use Rattle.report_io.specs.Streams.{IsInput, WritesFront};
 ghost use Rattle.report_io.specs.declared.status.Status.{Status as AnyStatus};
 
 use crate::lines::push_words;
-use link_script::{ScriptError, ScriptFault};
+use link_script::ScriptError;
+use log_reading::{damaged, refusal};
 use log_text::{HEADER, ReadFault, first_frame, read_record};
 use logs_script::{ProcessLog, bytes_of, read_logs};
 use rec_log::{Found, OpenError, find};
@@ -56,29 +57,6 @@ fn report(alloc: Global, input: &[u8]) -> Result<(Vec<u8>, Status), AllocError>
     }
 }
 
-/// The line of a refused input.
-fn refusal(alloc: Global, fault: ScriptFault) -> Result<Vec<u8>, AllocError>
-    ensures { IfOk result (λ text. text.items ≡ fault_text fault) }
-{
-    let mut out = Vec::new(alloc);
-    match fault {
-        ScriptFault::TreeText => push(&mut out, "error 1\n")?,
-        ScriptFault::Tree(cause) => {
-            push(&mut out, "error 2 ")?;
-            push_number(&mut out, u64::from(cause.number()))?;
-            push(&mut out, "\n")?;
-        }
-        ScriptFault::Line(number) => {
-            push(&mut out, "error 3 ")?;
-            push_number(&mut out, number)?;
-            push(&mut out, "\n")?;
-        }
-        ScriptFault::Utf8 => push(&mut out, "error 4\n")?,
-        ScriptFault::TooLong => push(&mut out, "error 5\n")?,
-    }
-    Ok(out)
-}
-
 /// What the logs of these processes hold; or the line of the first that is damaged.
 fn shown(
     alloc: Global,
@@ -99,19 +77,6 @@ fn shown(
         }
     }
     Ok((out, Status::Ended))
-}
-
-/// The line of a damaged log.
-fn damaged(alloc: Global, process: ProcessId, place: usize) -> Result<Vec<u8>, AllocError>
-    ensures { IfOk result (λ text. text.items ≡ damage_text process place) }
-{
-    let mut out = Vec::new(alloc);
-    push(&mut out, "damaged ")?;
-    push_number(&mut out, u64::from(process.0))?;
-    push(&mut out, " ")?;
-    push_number(&mut out, place as u64)?;
-    push(&mut out, "\n")?;
-    Ok(out)
 }
 
 /// What a sound log holds.

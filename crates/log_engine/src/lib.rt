@@ -2,7 +2,6 @@
 #![tactic(auto)]
 
 mod engine;
-pub mod law;
 mod lines;
 
 pub use engine::run_log;

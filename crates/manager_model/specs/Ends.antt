@@ -1,5 +1,5 @@
 -- The calls that finish a branch, and what they write (C193, chapter 3; the forces of R*).
-use Rattle.std.specs.Prelude.{◌≡◌, ℕ, Bool, true, false, not, if◌then◌else◌, List, [], ◌∷◌, map, Result, Ok, Err, Contains}
+use Rattle.std.specs.Prelude.{◌≡◌, ℕ, Bool, true, false, Option, Some, None, List, [], ◌∷◌, map, Ok, Err, Contains}
 use Rattle.xa_codes.specs.declared.code.Code.{Code}
 use Rattle.xa_codes.specs.declared.code.Code.TheVariants as code
 use Rattle.xa_tables.specs.Calls.{legal}
@@ -9,7 +9,7 @@ use Rattle.xa_tables.specs.declared.call.Call.TheVariants as call
 use Rattle.xa_tables.specs.declared.call.Verb.{Verb}
 use Rattle.xa_tables.specs.declared.call.Verb.TheVariants as verb
 use Rattle.xa_tables.specs.declared.states.BranchState.{BranchState}
-use Rattle.xa_tables.specs.declared.states.BranchState.TheVariants.{S0, S2, S3, S4, S5}
+use Rattle.xa_tables.specs.declared.states.BranchState.TheVariants.{S0, S2, S3, S5}
 use Rattle.xa_xid.specs.declared.xid.Xid.{Xid}
 use Rattle.xa_branch.specs.Names.{same}
 use Rattle.xa_states.specs.Answers.{Same, Takes, state_at}
@@ -17,12 +17,15 @@ use Rattle.xa_states.specs.Ready.{leaves, ready}
 use Rattle.tree_model.specs.declared.names.Kind.TheVariants.{Manager}
 use Rattle.tree_model.specs.declared.names.Presumption.{Presumption}
 use Rattle.tree_model.specs.declared.names.Presumption.TheVariants.{PresumeAbort}
+use Rattle.xa_heur.specs.declared.decision.Decision.{Decision}
+use Rattle.xa_heur.specs.Decisions.{heur_code, told_behind}
+use Rattle.tree_model.specs.declared.names.Outcome.{Outcome}
 use Rattle.tree_model.specs.declared.names.Outcome.TheVariants.{Committed as CommittedOutcome, Aborted as AbortedOutcome}
 use Rattle.tree_model.specs.declared.records.Branch.{Branch}
 use Rattle.tree_model.specs.declared.records.Branch.TheVariants.{Case as CaseBranch, Foreign}
 use Rattle.tree_model.specs.declared.records.LogRecord.{LogRecord}
 use Rattle.tree_model.specs.declared.records.Record.{Record}
-use Rattle.tree_model.specs.declared.records.Record.TheVariants.{Prepared, Committed, RolledBack, Direct, Forgot}
+use Rattle.tree_model.specs.declared.records.Record.TheVariants.{Prepared, Committed, RolledBack, Direct, Told, Forgot}
 use Rattle.tree_model.specs.declared.records.Write.{Write}
 use Rattle.tree_model.specs.ManagerRows.{is_acknowledged}
 use Rattle.tree_model.specs.Nodes.{Written}
@@ -42,10 +45,22 @@ abbrev pub prepare_row : List Write → Code × BranchState
 prepare_row [] = (code.RdOnly, S0)
 prepare_row (w ∷ ws) = (code.Ok, S3)
 
--- what a call answers that finishes a branch with these writes, and the state behind it
-abbrev pub row_of : Call → List Write → Code × BranchState
-row_of call.Prepare ws = prepare_row ws
-row_of _ ws = (code.Ok, S0)
+-- what an outcome meets at a branch in a state, of which an operator decided this: in S5 the decision
+abbrev pub outcome_row : BranchState → Decision → Code × BranchState
+outcome_row S5 d = (heur_code d.outcome, S5)
+outcome_row _ d = (code.Ok, S0)
+
+-- what a call answers that finishes a branch in a state, with these writes and this decision, and the state
+-- behind it
+abbrev pub row_of : Call → BranchState → List Write → Decision → Code × BranchState
+row_of call.Prepare s ws d = prepare_row ws
+row_of call.Commit s ws d = outcome_row s d
+row_of call.Rollback s ws d = outcome_row s d
+row_of _ s ws d = (code.Ok, S0)
+
+-- the same of a branch as it is
+abbrev pub row_for : ManagerSight → Xid → Call → Code × BranchState
+row_for m x c = row_of c (state_at m.tables x) (m.writes x) (m.decided x)
 
 -- The records.
 
@@ -63,21 +78,35 @@ abbrev pub unless_empty : (List Write → Record) → List Write → List Writte
 unless_empty entry [] = []
 unless_empty entry (w ∷ ws) = forced (entry (w ∷ ws))
 
+-- whether the record of what a decided branch was told is forced: as its outcome would be; of a branch that is
+-- no case's always
+abbrev pub is_told_forced : Branch → Outcome → Bool
+is_told_forced (CaseBranch c) o = is_acknowledged c.txn.presumption o
+is_told_forced (Foreign x) o = true
+
+-- the record of the outcome that a decided branch is told; the first one counts
+abbrev pub tells : Branch → Outcome → Option Outcome → List Written
+tells b o None = record { entry = Told b o; is_forced = is_told_forced b o } ∷ []
+tells b o (Some told) = []
+
 -- what a call writes that finishes a branch in a state, under this name: an outcome is forced unless the
--- presumption covers it, and nothing is written of a branch that wrote nothing or promised nothing
-abbrev pub written_by : Call → BranchState → Branch → List Write → List Written
-written_by call.Prepare S2 b ws = unless_empty (Prepared b) ws
-written_by call.CommitOnePhase S2 b ws = unless_empty (Direct b) ws
-written_by call.Commit S3 b ws =
+-- presumption covers it, one that comes behind an operator's decision is noted, and nothing is written of a
+-- branch that wrote nothing or promised nothing
+abbrev pub written_by : Call → BranchState → Branch → List Write → Decision → List Written
+written_by call.Prepare S2 b ws d = unless_empty (Prepared b) ws
+written_by call.CommitOnePhase S2 b ws d = unless_empty (Direct b) ws
+written_by call.Commit S3 b ws d =
     record { entry = Committed b; is_forced = is_acknowledged (presumption_of b) CommittedOutcome } ∷ []
-written_by call.Rollback S3 b ws =
+written_by call.Rollback S3 b ws d =
     record { entry = RolledBack b; is_forced = is_acknowledged (presumption_of b) AbortedOutcome } ∷ []
-written_by call.Forget S5 b ws = forced (Forgot b)
-written_by _ s b ws = []
+written_by call.Commit S5 b ws d = tells b CommittedOutcome d.told
+written_by call.Rollback S5 b ws d = tells b AbortedOutcome d.told
+written_by call.Forget S5 b ws d = forced (Forgot b)
+written_by _ s b ws d = []
 
 -- the same of a branch as it is
 abbrev pub written_for : ManagerSight → Xid → Call → List Written
-written_for m x c = written_by c (state_at m.tables x) (name_in x).1 (m.writes x)
+written_for m x c = written_by c (state_at m.tables x) (name_in x).1 (m.writes x) (m.decided x)
 
 -- the records as a manager's log holds them, under the whole name of an XID
 abbrev pub logged_under : Xid → List Written → List LogRecord
@@ -89,10 +118,21 @@ state_of s = record { kind = Manager; sight = s; room = 0 }
 
 -- The calls.
 
--- what a branch has written that is in this state: nothing once it is ended
+-- what a branch has written that is in this state: nothing once it is ended or decided by an operator
 abbrev pub left_with : BranchState → List Write → List Write
 left_with S0 ws = []
+left_with S5 ws = []
 left_with _ ws = ws
+
+-- what is known of an operator's decision behind a call: an outcome is noted
+abbrev pub decided_behind : Call → Decision → Decision
+decided_behind call.Commit d = told_behind CommittedOutcome d
+decided_behind call.Rollback d = told_behind AbortedOutcome d
+decided_behind _ d = d
+
+-- what operators decided of every branch but this one stays
+abbrev pub OthersStayDecided : ManagerSight → ManagerSight → Xid → Type 0
+OthersStayDecided old new x = (y : Xid) → same x y ≡ false → new.decided y ≡ old.decided y
 
 -- a branch made its row, and its record was written
 pub record Makes (old new : ManagerSight) (x : Xid) (c : Call) (row : Code × BranchState) : Type 0 where
@@ -101,6 +141,8 @@ pub record Makes (old new : ManagerSight) (x : Xid) (c : Call) (row : Code × Br
   pub log : new.log ≡ wrote old.log (written_for old x c) (logged_under x (written_for old x c))
   pub own : new.writes x ≡ left_with row.1 (old.writes x)
   pub others : (y : Xid) → same x y ≡ false → new.writes y ≡ old.writes y
+  pub decided : row.1 ≡ S5 → new.decided x ≡ decided_behind c (old.decided x)
+  pub others_decided : OthersStayDecided old new x
   pub boot : new.boot ≡ old.boot
 
 -- the device failed under the record, and the branch stays
@@ -108,11 +150,12 @@ pub record Fails (old new : ManagerSight) (x : Xid) (c : Call) : Type 0 where
   pub log : Breaks (state_of old.log) (state_of new.log) (logged_under x (written_for old x c))
   pub tables : Same old.tables new.tables
   pub writes : (y : Xid) → new.writes y ≡ old.writes y
+  pub decided : (y : Xid) → new.decided y ≡ old.decided y
   pub boot : new.boot ≡ old.boot
 
 -- what a prepare, commit, rollback or forget answers and does: a failed manager refuses it, then the first
 -- check, then a limit of the manager's own; else its row is made, or the device fails. A row that the table
--- does not have, as of a branch that an operator decided, is not made
+-- does not have is not made
 pub data Finishes (old new : ManagerSight) (v : Verb) (x : Xid) (flags : ℕ) (answer : Code) : Type 0 where
   Failed : old.log.failed ≡ true → answer ≡ code.RmFail → SameManager old new
       → Finishes old new v x flags answer
@@ -121,10 +164,10 @@ pub data Finishes (old new : ManagerSight) (v : Verb) (x : Xid) (flags : ℕ) (a
   Limited : old.log.failed ≡ false → old.spent ≡ true → answer ≡ code.RmErr → SameManager old new
       → Finishes old new v x flags answer
   Unlisted : old.log.failed ≡ false → (c : Call) → ready old.tables v x flags ≡ Ok c
-      → (Contains (branch_rows (state_at old.tables x) c) (row_of c (old.writes x)) → ⊥) → answer ≡ code.Proto
+      → (Contains (branch_rows (state_at old.tables x) c) (row_for old x c) → ⊥) → answer ≡ code.Proto
       → SameManager old new → Finishes old new v x flags answer
   Made : old.log.failed ≡ false → (c : Call) → ready old.tables v x flags ≡ Ok c
-      → answer ≡ (row_of c (old.writes x)).0 → Makes old new x c (row_of c (old.writes x))
+      → answer ≡ (row_for old x c).0 → Makes old new x c (row_for old x c)
       → Finishes old new v x flags answer
   Broke : old.log.failed ≡ false → (c : Call) → ready old.tables v x flags ≡ Ok c → answer ≡ code.RmFail
       → Fails old new x c → Finishes old new v x flags answer

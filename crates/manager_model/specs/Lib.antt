@@ -4,3 +4,4 @@ pub mod Ends
 pub mod Opening
 pub mod Restarting
 pub mod Trimming
+pub mod Deciding

@@ -6,6 +6,8 @@ use Rattle.xa_tables.specs.declared.states.InitState.TheVariants.{R0}
 use Rattle.xa_xid.specs.declared.xid.Xid.{Xid}
 use Rattle.xa_assoc.specs.Associations.{IsBare}
 use Rattle.xa_states.specs.Answers.{Same, state_at}
+use Rattle.xa_heur.specs.declared.decision.Decision.{Decision}
+use Rattle.xa_heur.specs.Decisions.{decision_of}
 use Rattle.tree_model.specs.declared.names.ProcessId.{ProcessId}
 use Rattle.tree_model.specs.declared.records.Branch.{Branch}
 use Rattle.tree_model.specs.declared.records.Branch.TheVariants.{Foreign}
@@ -60,6 +62,10 @@ marked_writes _ ws = []
 abbrev pub writes_left : List LogRecord → Xid → List Write
 writes_left ls x = marked_writes (mark_at ls x) (writes_of (Foreign x) (data_in ls).promised)
 
+-- what an operator decided of a branch by these records, and what it was told since
+abbrev pub decided_at : List LogRecord → Xid → Decision
+decided_at ls x = decision_of (Foreign x) (map by_xid ls)
+
 -- the boot behind those of these records
 abbrev pub next_boot : List LogRecord → ℕ
 next_boot ls = boot_of (map (λ l. l.entry) ls) + 1
@@ -75,8 +81,8 @@ with_boot ls = ls ++ boot_record (next_boot ls) ∷ []
 -- Restart.
 
 -- a manager restarted, after a crash that kept so many unforced bytes: it is not open, each branch is as the
--- records that are left say, without associations and scans, and its log is these records and the next boot,
--- all forced
+-- records that are left say, with what an operator decided of it, without associations and scans, and its log
+-- is these records and the next boot, all forced
 pub record Restarts (old new : ManagerSight) (keep : ℕ) : Type 0 where
   pub closed : new.tables.init ≡ R0
   pub states : (x : Xid) → state_at new.tables x ≡ marked_state (mark_at (left_by old.log keep) x)
@@ -84,6 +90,8 @@ pub record Restarts (old new : ManagerSight) (keep : ℕ) : Type 0 where
   pub associations : IsBare new.tables.associations
   pub seats : new.tables.associations.seats ≡ []
   pub writes : (x : Xid) → new.writes x ≡ writes_left (left_by old.log keep) x
+  pub decided : (x : Xid) → state_at new.tables x ≡ S5
+      → new.decided x ≡ decided_at (left_by old.log keep) x
   pub boot : new.boot ≡ next_boot (left_by old.log keep)
   pub log : new.log ≡ forced_sight (with_boot (left_by old.log keep)) old.log.failures
 
@@ -94,6 +102,7 @@ pub record RestartFails (old new : ManagerSight) (keep : ℕ) : Type 0 where
       (boot_record (next_boot (left_by old.log keep)) ∷ [])
   pub tables : Same old.tables new.tables
   pub boot : new.boot ≡ old.boot
+  pub decided : (x : Xid) → new.decided x ≡ old.decided x
 
 -- why a manager did not restart, and what that leaves
 abbrev pub NotRestarted : ManagerSight → ManagerSight → ℕ → RestartError → Type 0

@@ -4,13 +4,15 @@ use Rattle.xa_xid.specs.declared.xid.Xid.{Xid}
 use Rattle.xa_states.specs.declared.states.States.{States}
 use Rattle.xa_states.specs.Answers.{Same}
 use Rattle.xa_manager.specs.declared.errors.WorkError.{WorkError}
+use Rattle.xa_heur.specs.declared.decision.Decision.{Decision}
 use Rattle.tree_model.specs.declared.messages.Op.{Op}
 use Rattle.tree_model.specs.declared.records.Write.{Write}
 use Rattle.rec_log.specs.Sights.{LogSight}
 
 -- The tables of its calls; its log; how often it opened; whether a limit of its own is met, so that it may
 -- refuse to finish a branch; what each branch has written that is at work or prepared, in order of each key's
--- first write; and why its data are in the way of an operation of a branch.
+-- first write; why its data are in the way of an operation of a branch; and what an operator decided of each
+-- branch in S5, with what it was told since (of any other branch this says nothing).
 pub record ManagerSight : Type 0 where
   pub tables : States
   pub log : LogSight
@@ -18,11 +20,13 @@ pub record ManagerSight : Type 0 where
   pub spent : Bool
   pub writes : Xid → List Write
   pub obstacle : Xid → Op → Option WorkError
+  pub decided : Xid → Decision
 
--- the data stay as they are, and what each branch has written
+-- the data stay as they are, and what each branch has written, and what operators decided
 pub record SameData (old new : ManagerSight) : Type 0 where
   pub writes : (x : Xid) → new.writes x ≡ old.writes x
   pub obstacles : (x : Xid) (op : Op) → new.obstacle x op ≡ old.obstacle x op
+  pub decided : (x : Xid) → new.decided x ≡ old.decided x
 
 -- nothing changes but room
 pub record SameManager (old new : ManagerSight) : Type 0 where

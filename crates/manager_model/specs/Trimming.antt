@@ -1,5 +1,6 @@
 -- A trim of a manager's log.
 use Rattle.std.specs.Prelude.{◌≡◌, ◌<◌, ◌⊎◌, ℕ, true, List, [], ◌++◌, length, map, None}
+use Rattle.xa_xid.specs.declared.xid.Xid.{Xid}
 use Rattle.xa_states.specs.Answers.{Same}
 use Rattle.tree_model.specs.declared.records.LogRecord.{LogRecord}
 use Rattle.tree_model.specs.declared.records.Record.{Record}
@@ -39,6 +40,7 @@ pub record TrimFails (old new : ManagerSight) : Type 0 where
   pub cause : old.log.failures < new.log.failures
   pub tables : Same old.tables new.tables
   pub boot : new.boot ≡ old.boot
+  pub decided : (x : Xid) → new.decided x ≡ old.decided x
 
 -- why a manager's log was not trimmed, and what that leaves
 abbrev pub NotTrimmed : ManagerSight → ManagerSight → TrimError → Type 0

@@ -1,5 +1,5 @@
 -- The work of a thread in the branch that it is active in.
-use Rattle.std.specs.Prelude.{◌≡◌, ℕ, Bool, true, false, if◌then◌else◌, Option, Some, None, List}
+use Rattle.std.specs.Prelude.{◌≡◌, ℕ, false, if◌then◌else◌, Option, Some, None}
 use Rattle.xa_tables.specs.declared.states.BranchState.{BranchState}
 use Rattle.xa_tables.specs.declared.states.BranchState.TheVariants.{S1, S4}
 use Rattle.xa_xid.specs.declared.xid.Xid.{Xid}
@@ -38,6 +38,7 @@ pub record Works (old new : ManagerSight) (t : ℕ) (op : Op) : Type 0 where
   pub tables : Same old.tables new.tables
   pub log : new.log ≡ old.log
   pub boot : new.boot ≡ old.boot
+  pub decided : (y : Xid) → new.decided y ≡ old.decided y
 
 -- an operation was refused, and changed nothing; want of memory comes only where nothing else refuses it
 abbrev pub WorkRefused : ManagerSight → ManagerSight → ℕ → Op → WorkError → Type 0

@@ -4,6 +4,7 @@
 mod errors;
 mod manager;
 
-pub use errors::{RestartError, TrimError};
+pub use errors::{DecideError, RestartError, TrimError};
 pub use manager::ResourceManager;
+pub use xa_heur::Decision;
 pub use xa_manager::WorkError;

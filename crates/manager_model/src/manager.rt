@@ -2,20 +2,23 @@
 
 ghost use Rattle.std.specs.Prelude.{◌≡◌, false, Err, IfErr, IfOk, OnErr, OnOk};
 ghost use Rattle.std.specs.List.{AllByRecursion};
+ghost use Rattle.xa_heur.specs.Decisions.{decision_at};
 ghost use Rattle.xa_states.specs.Answers.{Answers, Closes, Opens, Recovers, Wanted, map_ok, state_at};
 ghost use Rattle.manager_model.specs.Sights.{Calls, ManagerSight, SameManager};
 ghost use Rattle.manager_model.specs.Works.{WorkRefused, Works};
 ghost use Rattle.manager_model.specs.Ends.{Finishes, is_left};
+ghost use Rattle.manager_model.specs.Deciding.{Decides, NotDecided};
 ghost use Rattle.manager_model.specs.Restarting.{NotRestarted, Restarts};
 ghost use Rattle.manager_model.specs.Trimming.{NotTrimmed, Trims};
 ghost use Rattle.rec_log.specs.Sights.{left_by, records_of};
 ghost use Rattle.log_sound.specs.Sound.{IsSound};
 ghost use Rattle.tree_model.specs.declared.names.Kind.TheVariants as kind;
 
-use crate::errors::{RestartError, TrimError};
+use crate::errors::{DecideError, RestartError, TrimError};
 use std::alloc::AllocError;
-use tree_model::{LogRecord, Op};
+use tree_model::{LogRecord, Op, Outcome};
 use xa_codes::{Code, Flags};
+use xa_heur::Decision;
 use xa_manager::WorkError;
 use xa_tables::{BranchState, Verb};
 use xa_xid::Xid;
@@ -36,6 +39,10 @@ pub trait ResourceManager {
     /// The state of a branch: S0 where it is not known.
     fn state(&self, xid: &Xid) -> BranchState
         ensures { result ≡ state_at (sight self.now).tables xid.now };
+
+    /// What an operator decided of a branch, and what it was told since; None where no operator decided it, and behind forget.
+    fn decision(&self, xid: &Xid) -> Option<Decision>
+        ensures { result ≡ decision_at (state_at (sight self.now).tables xid.now) ((sight self.now).decided xid.now) };
 
     /// Opens the manager, which migrates associations or not. RmFail.
     fn open(&mut self, flags: Flags, migrates: bool) -> Code
@@ -67,12 +74,13 @@ pub trait ResourceManager {
         ensures answer { IfOk result (Finishes (sight self.old) (sight self.new) Verb.Prepare xid.now flags.0) }
         ensures err { OnErr result (SameManager (sight self.old) (sight self.new)) };
 
-    /// A prepared branch commits, or with TMONEPHASE one that is not prepared. RmFail, RmErr as at `prepare`.
+    /// A prepared branch commits, or with TMONEPHASE one that is not prepared. One that an operator decided answers by the
+    /// decision, and the first outcome that it is told is noted. RmFail, RmErr as at `prepare`.
     fn commit(&mut self, thread: u32, xid: &Xid, flags: Flags) -> Result<Code, AllocError>
         ensures answer { IfOk result (Finishes (sight self.old) (sight self.new) Verb.Commit xid.now flags.0) }
         ensures err { OnErr result (SameManager (sight self.old) (sight self.new)) };
 
-    /// A branch rolls back. RmFail, RmErr as at `prepare`.
+    /// A branch rolls back; one that an operator decided as at `commit`. RmFail, RmErr as at `prepare`.
     fn rollback(&mut self, thread: u32, xid: &Xid, flags: Flags) -> Result<Code, AllocError>
         ensures answer { IfOk result (Finishes (sight self.old) (sight self.new) Verb.Rollback xid.now flags.0) }
         ensures err { OnErr result (SameManager (sight self.old) (sight self.new)) };
@@ -81,6 +89,13 @@ pub trait ResourceManager {
     fn forget(&mut self, thread: u32, xid: &Xid, flags: Flags) -> Result<Code, AllocError>
         ensures answer { IfOk result (Finishes (sight self.old) (sight self.new) Verb.Forget xid.now flags.0) }
         ensures err { OnErr result (SameManager (sight self.old) (sight self.new)) };
+
+    /// An operator decides a prepared branch, without its parent: the decision is forced, and stands until it is forgotten.
+    /// The manager need not be open. Failed, then NotInDoubt: nothing changed. Memory: nothing changed, also where a limit of
+    /// the manager's own is met. Device: it fails now.
+    fn decide(&mut self, xid: &Xid, outcome: Outcome) -> Result<(), DecideError>
+        ensures ok { OnOk result (Decides (sight self.old) (sight self.new) xid.now outcome) }
+        ensures err { IfErr result (NotDecided (sight self.old) (sight self.new) xid.now outcome) };
 
     /// A scan of the branches in doubt.
     fn recover(

@@ -1,13 +1,14 @@
 //! The program `rstar`: the command line, and standard input and output of the engines.
 #![tactic(auto)]
 
+use audit_engine::run_audit;
 use clap::error::ErrorKind;
 use clap::{Arg, ArgAction, ArgMatches, Command, Error};
 use log_engine::run_log;
 use std::alloc::Global;
 use std::io;
 use std::process::ExitCode;
-use tree_engine::{Failure, Output, run_tree};
+use tree_engine::{Failure, Output, Status, run_tree};
 use xa_engine::run_xa;
 
 /// What a command line asks for.
@@ -19,6 +20,8 @@ enum Request {
     Xa,
     /// What the logs of a tree hold.
     Log,
+    /// How the cases of a tree stand and end by its logs.
+    Audit,
 }
 
 /// What was read of a command line.
@@ -35,19 +38,21 @@ Examples:
   rstar tree --logs < examples/commit.tree
   rstar xa < examples/migrate.xa
   rstar log < examples/commit.logs
+  rstar audit < examples/commit.logs
 
 Exit status: 0 the script was run to its end, 1 it was refused, 2 an event was refused,
-4 reading, writing or memory failed.";
+3 an audit found a mismatch, 4 reading, writing or memory failed.";
 
 /// What `rstar tree --help` says below its usage.
 const TREE_HELP: &str = "\
 In: the processes as TOML, a line ---, and an event a line: begin, join, work, commit,
 abort, ask, deliver, settle, restart P (restart P K: process P crashes, and K bytes of its
-log are kept behind those that are forced), trim P. Out: a line for each log record, message
-and word to the application, 'trim P N' where N records remain, and 'end'; 'refused N E'
-where event N is refused, 'error ..' where the script is. With --logs, where no event is
-refused: the processes, a line ---, and a line 'log P HEX' for the log of each process, as
-'rstar log' reads them.
+log are kept behind those that are forced), trim P; and an operator's acts: heur CASE commit
+or heur CASE rollback (a manager's case in doubt is decided without its parent), and forget
+CASE. Out: a line for each log record, message and word to the application, 'trim P N'
+where N records remain, and 'end'; 'refused N E' where event N is refused, 'error ..' where
+the script is. With --logs, where no event is refused: the processes, a line ---, and a line
+'log P HEX' for the log of each process, as 'rstar log' and 'rstar audit' read them.
 
 Examples: rstar tree < examples/commit.tree
           rstar tree < examples/crash.tree
@@ -58,9 +63,10 @@ const XA_HELP: &str = "\
 In: a line for each call of the XA interface (open, close, start, end, prepare, commit,
 rollback, forget, recover), for each operation of a thread on the data (get, put, del), for
 each restart of the manager (restart, restart K: of the log only K bytes are kept behind
-those that are forced), and for each trim of its log (trim). Out: a line for each answer, and
-'end': a code by its name in XA, '= VALUE', '= none', 'done', 'refused N', 'boot N',
-'trim N'; 'error ..' where the script is refused.
+those that are forced), for each trim of its log (trim), and for each decision of an operator
+(heur XID commit, heur XID rollback). Out: a line for each answer, and 'end': a code by its
+name in XA, '= VALUE', '= none', 'done', 'refused N', 'boot N', 'trim N'; 'error ..' where the
+script is refused.
 
 Examples: rstar xa < examples/migrate.xa
           rstar xa < examples/prepared.xa";
@@ -73,6 +79,20 @@ kind, its name, and what it carries; 'torn N' behind the last where N bytes are 
 'damaged P PLACE' alone where a log is damaged, 'error ..' where the input is refused.
 
 Example: rstar log < examples/commit.logs";
+
+/// What `rstar audit --help` says below its usage.
+const AUDIT_HELP: &str = "\
+In: as 'rstar log' reads it, and 'rstar tree --logs' writes it. Out: a line for each case
+that a log still tells of, process by process: 'CASE OWN OUTCOME'. OWN is how the case stands
+by the records of its own process: commit, abort, collecting, in-doubt, heur-commit or
+heur-rollback. OUTCOME is how its transaction ends: the case's own decision or what it was
+told, or else what its parent's log says, or else what is presumed. ' mismatch' stands behind
+it where an operator decided otherwise. The last line is 'mismatches N'; the status is 3
+where N is above 0. 'damaged P PLACE' alone where a log is damaged, 'error ..' where the
+input is refused.
+
+Examples: rstar audit < examples/commit.logs
+          rstar tree --logs < examples/commit.tree | rstar audit";
 
 /// The words after the program's name, and what help says of them.
 fn grammar<'a>(alloc: Global) -> Result<Command<'a>, Error> {
@@ -91,6 +111,11 @@ fn grammar<'a>(alloc: Global) -> Result<Command<'a>, Error> {
     let log = Command::new(alloc, "log")
         .about("Prints what the logs of a tree hold, one record a line")
         .after_help(LOG_HELP);
+    let audit = Command::new(alloc, "audit")
+        .about(
+            "Tells how the cases of a tree stand and end, and where an operator decided otherwise",
+        )
+        .after_help(AUDIT_HELP);
     let command = Command::new(alloc, "rstar")
         .about(
             "Distributed transactions by the R* commit protocol. Scripts come on standard input.",
@@ -99,7 +124,8 @@ fn grammar<'a>(alloc: Global) -> Result<Command<'a>, Error> {
         .subcommand_required(true)
         .subcommand(tree)?
         .subcommand(xa)?
-        .subcommand(log)?;
+        .subcommand(log)?
+        .subcommand(audit)?;
     Ok(command)
 }
 
@@ -119,9 +145,18 @@ fn read_words<'a>(alloc: Global, words: &'a [String]) -> Result<Asked, Error> {
         Some((name, found)) => Ok(Asked::Request(match name {
             "tree" => Request::Tree(output_of(found)),
             "log" => Request::Log,
+            "audit" => Request::Audit,
             _ => Request::Xa,
         })),
         None => Ok(Asked::Memory),
+    }
+}
+
+/// The exit status of a run that ended so.
+fn number(ended: Result<Status, Failure>) -> Result<u8, Failure> {
+    match ended {
+        Ok(status) => Ok(status.number()),
+        Err(failure) => Err(failure),
     }
 }
 
@@ -129,13 +164,18 @@ fn read_words<'a>(alloc: Global, words: &'a [String]) -> Result<Asked, Error> {
 fn perform(rt: &HostRuntime, request: Request) -> u8 {
     let mut reader = rt.reader();
     let mut writer = io::writer(rt);
+    let alloc = rt.alloc();
     let ended = match request {
-        Request::Tree(output) => run_tree(rt.alloc(), output, &mut reader, &mut writer),
-        Request::Xa => run_xa(rt.alloc(), &mut reader, &mut writer),
-        Request::Log => run_log(rt.alloc(), &mut reader, &mut writer),
+        Request::Tree(output) => number(run_tree(alloc, output, &mut reader, &mut writer)),
+        Request::Xa => number(run_xa(alloc, &mut reader, &mut writer)),
+        Request::Log => number(run_log(alloc, &mut reader, &mut writer)),
+        Request::Audit => match run_audit(alloc, &mut reader, &mut writer) {
+            Ok(ending) => Ok(ending.number()),
+            Err(failure) => Err(failure),
+        },
     };
     match ended {
-        Ok(status) => status.number(),
+        Ok(number) => number,
         Err(Failure::Read | Failure::Memory | Failure::Write) => 4,
     }
 }

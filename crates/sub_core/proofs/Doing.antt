@@ -40,7 +40,7 @@ pub record NotesAt (old new : BranchTable) (c : Case) (w : Branch) : Type 0 wher
   pub branches : Moves old.branches new.branches c (Some w)
   pub tickets : new.tickets ≡ old.tickets
 
-notes_at : (old new : BranchTable) (key : ℕ) (stage : Stage) (c : Case) (b : Branch) → IsAt old key c b → Notes old new key stage
+pub notes_at : (old new : BranchTable) (key : ℕ) (stage : Stage) (c : Case) (b : Branch) → IsAt old key c b → Notes old new key stage
     → NotesAt old new c (record { xid = b.xid; stage = stage })
 notes_at old new key stage c b at r =
     let is : (r.owner, r.branch) ≡ (c, b) = some_same (r.owner, r.branch) (c, b) (sym r.was ∙ at.entry) in
@@ -98,17 +98,17 @@ module _ (s : SubState) (key : ℕ) (c g : Case) (n i : ℕ) (x : Xid) (op : Op)
   pub did_tied : (t : BranchTable) (m : ManagerSight) → Notes s.table t key (Active g i false) → Works s.manager m x op true → IsTied (behind s t m)
   did_tied t m notes w =
       moved_tied s t m c (active x g n false) (Some (active x g i false)) S2 tied at.live
-      (notes_at s.table t key (Active g i false) c (active x g n false) at notes).branches (refl, refl) w.comes
+      (notes_at s.table t key (Active g i false) c (active x g n false) at notes).branches (refl, refl, tt) w.comes
 
   pub spoils_tied : (t : BranchTable) (m : ManagerSight) → Notes s.table t key (Active g n true) → Works s.manager m x op false → IsTied (behind s t m)
   spoils_tied t m notes w =
       moved_tied s t m c (active x g n false) (Some (active x g n true)) S4 tied at.live
-      (notes_at s.table t key (Active g n true) c (active x g n false) at notes).branches (refl, refl) w.comes
+      (notes_at s.table t key (Active g n true) c (active x g n false) at notes).branches (refl, refl, tt) w.comes
 
   pub idles_tied : (m : ManagerSight) → Idles s.manager m x → IsTied (behind s s.table m)
   idles_tied m w =
       moved_tied s s.table m c (active x g n false) (Some (active x g n false)) S2 tied at.live
-      (record { own = at.live; others = λ d apart. refl }) (refl, refl) w.comes
+      (record { own = at.live; others = λ d apart. refl }) (refl, refl, tt) w.comes
 
   pub idles_core : (m : ManagerSight) → Idles s.manager m x → SameCore (core_of s) (core_of (behind s s.table m))
   idles_core m w = record {

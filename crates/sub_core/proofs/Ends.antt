@@ -23,7 +23,7 @@ use Rattle.core_model.specs.Turns.{Handles}
 use Rattle.manager_model.specs.Sights.{ManagerSight}
 use Rattle.manager_model.specs.Ends.{logged_under, state_of, written_by, written_for}
 use Rattle.live_table.specs.Tables.{Moves}
-use Rattle.sub_deeds.specs.Deeds.{NotFinished}
+use Rattle.sub_deeds.specs.Deeds.{NotDone, NotFinished}
 use Rattle.sub_table.specs.declared.branch.Branch.{Branch}
 use Rattle.sub_table.specs.Tables.{BranchTable, Retires, retired_at, ticket_in}
 use Rattle.sub_core.specs.Subordinates.{IsAt, IsGiven, IsNamed, IsTied, NotTurned, SubState, core_of}
@@ -61,47 +61,60 @@ module _ (s : SubState) (c : Case) (x : Xid) (named : IsNamed s.parent c x) (giv
       ap (λ (l : LogRecord). l ∷ map (λ w. record { entry = w.entry; parent = Some s.parent }) ws) here
       ∙ ap (λ (ls : List LogRecord). in_log (Some s.parent) w.entry ∷ ls) (logged_is ws of.1)
 
-  -- the records of a call in the words of the subordinate's row
-  pub under : (st : BranchState) (ws : List Write) (call : Call) (rw : List Written) → state_at s.manager.tables x ≡ st → s.manager.writes x ≡ ws
-      → written_by call st (CaseBranch c) ws ≡ rw → AreOf c rw → (written_for s.manager x call ≡ rw)
-      × (logged_under x (written_for s.manager x call) ≡ logged (core_of s) (entries_written rw))
-  under st ws call rws at writes is of =
-      let written : written_for s.manager x call ≡ rws =
-      ap (λ (q : BranchState). written_by call q (name_in x).1 (s.manager.writes x)) at
-      ∙ ap (λ (n : Name). written_by call st n.1 (s.manager.writes x)) named.reads
-      ∙ ap (λ (vs : List Write). written_by call st (CaseBranch c) vs) writes ∙ is in (
-        written,
-        ap (logged_under x) written
-            ∙ ap (λ (n : Name). map (λ w. record { entry = w.entry; parent = n.0 }) rws) named.reads ∙ logged_is rws of,
-      )
+  -- records of the manager in the words of the subordinate's row
+  pub under : (vs rws : List Written) → vs ≡ rws → AreOf c rws → logged_under x vs ≡ logged (core_of s) (entries_written rws)
+  under vs rws is of =
+      ap (logged_under x) is ∙ ap (λ (n : Name). map (λ w. record { entry = w.entry; parent = n.0 }) rws) named.reads ∙ logged_is rws of
 
-  pub log_is : (m : ManagerSight) (st : BranchState) (ws : List Write) (call : Call) (rw : List Written) → state_at s.manager.tables x ≡ st → s.manager.writes x ≡ ws
-      → written_by call st (CaseBranch c) ws ≡ rw → AreOf c rw
-      → m.log ≡ wrote s.manager.log (written_for s.manager x call) (logged_under x (written_for s.manager x call)) → m.log ≡ log_behind (core_of s) rw
+  pub log_by : (m : ManagerSight) (vs rws : List Written) → vs ≡ rws → AreOf c rws
+      → m.log ≡ wrote s.manager.log vs (logged_under x vs) → m.log ≡ log_behind (core_of s) rws
+  log_by m vs rws is of log =
+      log ∙ ap (λ (v : List Written). wrote s.manager.log v (logged_under x vs)) is
+      ∙ ap (λ (ls : List LogRecord). wrote s.manager.log rws ls) (under vs rws is of)
+
+  -- a piece of work that was not done
+  pub not_done : (m : ManagerSight) (vs : List Written) (row : LeafRow) (e : StepError) → vs ≡ row.written → AreOf c row.written
+      → NotDone s.manager m (logged_under x vs) e → NotTurned s (behind s s.table m) (Handles c row) e
+  not_done m vs row Memory is of h = same_core s m h
+  not_done m vs row Device is of h = (
+    leaf_effect row,
+    refl,
+    record {
+      log = subst (λ (ls : List LogRecord). Breaks (state_of s.manager.log) (state_of m.log) ls) (under vs row.written is of) h.log;
+      place = refl;
+    },
+  )
+  not_done m vs row _ is of h = absurd h
+
+  -- what a call writes, by the state of its branch, and what it has written
+  pub written_is : (st : BranchState) (ws : List Write) (call : Call) (rws : List Written) → state_at s.manager.tables x ≡ st
+      → s.manager.writes x ≡ ws → written_by call st (CaseBranch c) ws (s.manager.decided x) ≡ rws → written_for s.manager x call ≡ rws
+  written_is st ws call rws at writes is =
+      ap (λ (q : BranchState). written_by call q (name_in x).1 (s.manager.writes x) (s.manager.decided x)) at
+      ∙ ap (λ (n : Name). written_by call st n.1 (s.manager.writes x) (s.manager.decided x)) named.reads
+      ∙ ap (λ (vs : List Write). written_by call st (CaseBranch c) vs (s.manager.decided x)) writes ∙ is
+
+  pub log_is : (m : ManagerSight) (st : BranchState) (ws : List Write) (call : Call) (rws : List Written) → state_at s.manager.tables x ≡ st
+      → s.manager.writes x ≡ ws → written_by call st (CaseBranch c) ws (s.manager.decided x) ≡ rws → AreOf c rws
+      → m.log ≡ wrote s.manager.log (written_for s.manager x call) (logged_under x (written_for s.manager x call)) → m.log ≡ log_behind (core_of s) rws
   log_is m st ws call rws at writes is of log =
-      let u = under st ws call rws at writes is of in
-      log ∙ ap (λ (v : List Written). wrote s.manager.log v (logged_under x (written_for s.manager x call))) u.0
-      ∙ ap (λ (ls : List LogRecord). wrote s.manager.log rws ls) u.1
+      log_by m (written_for s.manager x call) rws (written_is st ws call rws at writes is) of log
 
   -- a call that was not made
   pub not_turned : (m : ManagerSight) (st : BranchState) (ws : List Write) (call : Call) (row : LeafRow) (e : StepError) → state_at s.manager.tables x ≡ st
-      → s.manager.writes x ≡ ws → written_by call st (CaseBranch c) ws ≡ row.written → AreOf c row.written → NotFinished s.manager m x call e
-      → NotTurned s (behind s s.table m) (Handles c row) e
-  not_turned m st ws call row Memory at writes is of h = same_core s m h
-  not_turned m st ws call row Device at writes is of h =
-      let u = under st ws call row.written at writes is of in (
-        leaf_effect row,
-        refl,
-        record {
-          log = subst (λ (ls : List LogRecord). Breaks (state_of s.manager.log) (state_of m.log) ls) u.1 h.log;
-          place = refl;
-        },
-      )
-  not_turned m st ws call row _ at writes is of h = absurd h
+      → s.manager.writes x ≡ ws → written_by call st (CaseBranch c) ws (s.manager.decided x) ≡ row.written → AreOf c row.written
+      → NotFinished s.manager m x call e → NotTurned s (behind s s.table m) (Handles c row) e
+  not_turned m st ws call row e at writes is of h =
+      not_done m (written_for s.manager x call) row e (written_is st ws call row.written at writes is) of h
+
+-- the tie behind a piece of work that was not done
+pub none_tied : (s : SubState) (m : ManagerSight) (ls : List LogRecord) (e : StepError) → IsTied s → NotDone s.manager m ls e
+    → IsTied (behind s s.table m)
+none_tied s m ls Memory tied h = same_tied s m tied h
+none_tied s m ls Device tied h = still_tied s m tied h.idle h.states h.decided h.boot
+none_tied s m ls _ tied h = absurd h
 
 -- the tie behind a call that was not made
 pub not_tied : (s : SubState) (m : ManagerSight) (x : Xid) (call : Call) (e : StepError) → IsTied s → NotFinished s.manager m x call e
     → IsTied (behind s s.table m)
-not_tied s m x call Memory tied h = same_tied s m tied h
-not_tied s m x call Device tied h = still_tied s m tied h.idle h.states h.boot
-not_tied s m x call _ tied h = absurd h
+not_tied s m x call e tied h = none_tied s m (logged_under x (written_for s.manager x call)) e tied h

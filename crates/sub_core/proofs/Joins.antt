@@ -4,6 +4,7 @@ use Rattle.xa_xid.specs.declared.xid.Xid.{Xid}
 use Rattle.xa_xid.specs.Xids.{XidParts, null_xid}
 use Rattle.xa_branch.specs.Names.{same}
 use Rattle.xa_states.specs.Answers.{state_at}
+use Rattle.xa_heur.specs.declared.decision.Decision.{Decision}
 use Rattle.tree_model.specs.declared.names.Case.{Case}
 use Rattle.tree_model.specs.declared.names.Presumption.{Presumption}
 use Rattle.tree_model.specs.declared.names.Presumption.TheVariants.{PresumeAbort, PresumeCommit}
@@ -24,7 +25,7 @@ use Rattle.manager_model.specs.Sights.{ManagerSight, SameManager}
 use Rattle.sub_deeds.specs.Deeds.{Begins, HasBegun, starts}
 use Rattle.sub_table.specs.declared.branch.Branch.{Branch}
 use Rattle.sub_table.specs.Tables.{BranchTable, Opens, SameTable, branch_in, kept_view, opened, ticket_in}
-use Rattle.sub_core.specs.Subordinates.{Hears, IsGiven, IsNamed, IsTied, Joins, SubState, Turns, core_of, next_case, shown, stage_state, xid_of}
+use Rattle.sub_core.specs.Subordinates.{AgreesWith, Hears, IsGiven, IsNamed, IsTied, Joins, SubState, Turns, core_of, next_case, shown, stage_state, xid_of}
 use Rattle.sub_core.proofs.Ties.{apart_xids, behind, one, same_tied}
 use Rattle.sub_core.proofs.Rows.{no_view}
 
@@ -124,6 +125,15 @@ module _ (s : SubState) (d : Case) (t : BranchTable) (m : ManagerSight) (x : Xid
       let apart = apart_xids s.parent own c x w.xid named (tied.named c w stood) e (same x w.xid) refl in
       b.comes.others w.xid apart ∙ tied.stands c w stood
 
+  told_at : Begins s.manager m x → (c : Case) (w : Branch) (r : Bool) → same_case own c ≡ r → branch_in t c ≡ Some w
+      → AgreesWith w.stage (m.decided w.xid)
+  told_at b c w true e h =
+      let entry : opened x d ≡ w = some_same (opened x d) w (sym opens.branches.own ∙ ap (branch_in t) (one own c e) ∙ h) in
+      subst (λ (z : Branch). AgreesWith z.stage (m.decided z.xid)) entry tt
+  told_at b c w false e h =
+      let stood = sym (opens.branches.others c e) ∙ h in
+      subst (λ (k : Decision). AgreesWith w.stage k) (sym (b.rest.decided w.xid)) (tied.told c w stood)
+
   given_at : Begins s.manager m x → (c : Case) (w : Branch) (r : Bool) → same_case own c ≡ r → branch_in t c ≡ Some w → IsGiven new c
   given_at b c w true e h =
       subst (λ (q : Case). IsGiven new q) (one own c e) (record { ticket = next_ticket (core_of s); has = refl; before = λ f. omega arith })
@@ -140,6 +150,7 @@ module _ (s : SubState) (d : Case) (t : BranchTable) (m : ManagerSight) (x : Xid
     idle = b.comes.idle;
     named = λ c w h. named_at b c w (same_case own c) refl h;
     stands = λ c w h. stands_at b c w (same_case own c) refl h;
+    told = λ c w h. told_at b c w (same_case own c) refl h;
     given_before = λ c w h. given_at b c w (same_case own c) refl h;
   }
 
@@ -166,6 +177,7 @@ table_tied s t tied same = record {
   idle = tied.idle;
   named = λ c w h. tied.named c w (sym (same.branches c) ∙ h);
   stands = λ c w h. tied.stands c w (sym (same.branches c) ∙ h);
+  told = λ c w h. tied.told c w (sym (same.branches c) ∙ h);
   given_before = λ c w h. let g = tied.given_before c w (sym (same.branches c) ∙ h) in record { ticket = g.ticket; has = g.has; before = g.before };
 }
 

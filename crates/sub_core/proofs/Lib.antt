@@ -5,8 +5,10 @@ pub mod Votes
 pub mod Outcomes
 pub mod Staying
 pub mod Doing
+pub mod Decisions
 pub mod Joins
 pub mod Steps
 pub mod Opened
+pub mod Told
 pub mod Restarted
 pub mod Trimmed

@@ -56,6 +56,7 @@ module _ (old m : ManagerSight) (new : IsNew old) (refuses : Code → Type 0) (a
     idle = idle;
     named = λ c b e. absurd (let f = sym e ∙ bare c in cc);
     stands = λ c b e. absurd (let f = sym e ∙ bare c in cc);
+    told = λ c b e. absurd (let f = sym e ∙ bare c in cc);
     given_before = λ c b e. absurd (let f = sym e ∙ bare c in cc);
   }
     where

@@ -21,12 +21,13 @@ use Rattle.tree_model.specs.Standings.{unknown_branch}
 use Rattle.core_model.specs.Turns.{Handles, Turn, leaf_in}
 use Rattle.core_model.specs.Makes.{retired_by}
 use Rattle.manager_model.specs.Sights.{ManagerSight}
+use Rattle.xa_heur.specs.declared.decision.Decision.{Decision}
 use Rattle.manager_model.specs.Ends.{written_by}
 use Rattle.sub_deeds.specs.Deeds.{Finishes, NotFinished, can_roll_back}
 use Rattle.sub_table.specs.declared.branch.Branch.{Branch}
 use Rattle.sub_table.specs.declared.branch.Stage.{Stage}
-use Rattle.sub_table.specs.declared.branch.Stage.TheVariants.{Active, Prepared}
-use Rattle.sub_table.specs.Tables.{BranchTable, IsGivenFor, IsKept, Retires, branch_in, kept_view, nothing, retired_at, ticket_in}
+use Rattle.sub_table.specs.declared.branch.Stage.TheVariants.{Active, Heuristic, Prepared}
+use Rattle.sub_table.specs.Tables.{BranchTable, IsGivenFor, IsKept, Retires, branch_in, has_promised, kept_view, nothing, retired_at, ticket_in}
 use Rattle.sub_core.specs.Subordinates.{Hears, IsAt, IsTied, NotHeard, NotTurned, OthersWriteNothing, SubState, Turns, Writes, active, core_of, prepared, shown, stage_state, turn_for, xid_of}
 use Rattle.sub_core.proofs.Ties.{behind, moved_tied, one}
 use Rattle.sub_core.proofs.Rows.{handled}
@@ -40,7 +41,7 @@ some_same a b e = cc
 pub record EndsBy (s : SubState) (c : Case) (b : Branch) (message : Message) (call : Call) (row : LeafRow) : Type 0 where
   pub turn : turn_for s message ≡ Handles c row
   pub view : unknown_branch ≡ row.view
-  pub written : written_by call (stage_state b.stage) (CaseBranch c) (s.manager.writes b.xid) ≡ row.written
+  pub written : written_by call (stage_state b.stage) (CaseBranch c) (s.manager.writes b.xid) (s.manager.decided b.xid) ≡ row.written
   pub of : AreOf c row.written
   pub tickets : (k : ℕ) (d : Case) → retired_at c d (ticket_in s.table d) ≡ retired_by (MessageInput k message) d (ticket_in s.table d)
   pub writes : (new : SubState) → OthersWriteNothing s new c → Writes s new message
@@ -80,9 +81,10 @@ pub rollable : (g : Case) (n : ℕ) (p : Bool) → can_roll_back (stage_state (A
 rollable g n true = refl
 rollable g n false = refl
 
-none_written : (g c : Case) (n : ℕ) (p : Bool) (ws : List Write) → written_by call.Rollback (stage_state (Active g n p)) (CaseBranch c) ws ≡ []
-none_written g c n true ws = refl
-none_written g c n false ws = refl
+none_written : (g c : Case) (n : ℕ) (p : Bool) (ws : List Write) (d : Decision)
+    → written_by call.Rollback (stage_state (Active g n p)) (CaseBranch c) ws d ≡ []
+none_written g c n true ws d = refl
+none_written g c n false ws d = refl
 
 pub retired_abort : (k : ℕ) (c d : Case) (o : Option Ticket) → retired_at c d o ≡ retired_by (MessageInput k (Abort c)) d o
 retired_abort k c d None = refl
@@ -92,8 +94,13 @@ pub never_retired : (k : ℕ) (c d : Case) (o : Option Ticket) → o ≡ retired
 never_retired k c d None = refl
 never_retired k c d (Some t) = refl
 
+not_given : (d : Case) (st : Stage) → has_promised st ≡ true → IsGivenFor d st → ⊥
+not_given d (Active g n p) e h = absurd cc
+not_given d Prepared e h = h
+not_given d (Heuristic told) e h = h
+
 -- the ticket of a case that promised is active no longer
-pub untouched : (t : BranchTable) (c : Case) (b : Branch) → IsKept t → branch_in t c ≡ Some b → b.stage ≡ Prepared → (d : Case)
+pub untouched : (t : BranchTable) (c : Case) (b : Branch) → IsKept t → branch_in t c ≡ Some b → has_promised b.stage ≡ true → (d : Case)
     → retired_at c d (ticket_in t d) ≡ ticket_in t d
 untouched t c b kept at stage d = by_ticket (ticket_in t d) refl
   where
@@ -106,7 +113,7 @@ untouched t c b kept at stage d = by_ticket (ticket_in t d) refl
         by_case true is =
             let h = kept.given d k e in
             let entry : b ≡ h.0 = some_same b h.0 (sym at ∙ ap (branch_in t) (sym (one _ c is)) ∙ h.1) in
-            absurd (subst (λ (q : Stage). IsGivenFor d q) (ap (λ (w : Branch). w.stage) (sym entry) ∙ stage) h.2)
+            absurd (not_given d h.0.stage (ap (λ (w : Branch). has_promised w.stage) (sym entry) ∙ stage) h.2)
 
 pub refuse_row : (s : SubState) (key : ℕ) (c g : Case) (n works : ℕ) (p : Bool) (x : Xid) → IsAt s.table key c (active x g n p) → ((n == works) && not p) ≡ false
     → EndsBy s c (active x g n p) (Prepare c works) call.Rollback (replies (leaf_in (core_of s) s.parent c) (No c) unknown_branch)
@@ -117,7 +124,7 @@ refuse_row s key c g n works p x at unfit =
       turn = ap (λ (o : Option Branch). Handles c (on_prepare l works holding (kept_view o) (kept_view o).standing)) at.live
           ∙ ap (λ b. Handles c (if b then active_prepare_holding l holding else replies l (No c) unknown_branch)) unfit;
       view = refl;
-      written = none_written g c n p (s.manager.writes x);
+      written = none_written g c n p (s.manager.writes x) (s.manager.decided x);
       of = tt;
       tickets = λ k d. retired_prepare k works c d (ticket_in s.table d);
       writes = λ new others. others;
@@ -130,7 +137,7 @@ abort_row s key c g n p x at =
     record {
       turn = ap (λ (o : Option Branch). Handles c (on_abort l (kept_view o) (kept_view o).standing)) at.live;
       view = refl;
-      written = none_written g c n p (s.manager.writes x);
+      written = none_written g c n p (s.manager.writes x) (s.manager.decided x);
       of = tt;
       tickets = λ k d. retired_abort k c d (ticket_in s.table d);
       writes = λ new others. others;

@@ -1,5 +1,5 @@
 -- A subordinate behind a restart.
-use Rattle.std.proofs.Common.{◌≡◌, ◌∙◌, ◌+◌, ◌∷◌, ◌++◌, [], ℕ, true, false, List, Some, None, refl, sym, ap, subst, arith}
+use Rattle.std.proofs.Common.{◌≡◌, ◌∙◌, ◌+◌, ◌∷◌, ◌++◌, [], ℕ, true, false, List, map, Some, None, refl, sym, ap, subst, arith}
 use Rattle.xa_codes.specs.declared.code.Code.{Code}
 use Rattle.xa_tables.specs.declared.states.BranchState.{BranchState}
 use Rattle.xa_xid.specs.declared.xid.Xid.{Xid}
@@ -7,7 +7,7 @@ use Rattle.xa_branch.specs.Branches.{BranchList, state_in}
 use Rattle.xa_states.specs.Answers.{Opens, state_at}
 use Rattle.tree_model.specs.declared.names.Case.{Case}
 use Rattle.tree_model.specs.declared.messages.Envelope.{Envelope}
-use Rattle.tree_model.specs.declared.records.Branch.TheVariants.{Case as CaseBranch}
+use Rattle.tree_model.specs.declared.records.Branch.TheVariants.{Case as CaseBranch, Foreign}
 use Rattle.tree_model.specs.declared.records.LogRecord.{LogRecord}
 use Rattle.tree_model.specs.declared.records.Record.{Record}
 use Rattle.tree_model.specs.declared.records.Record.TheVariants.{Opened}
@@ -19,23 +19,28 @@ use Rattle.tree_model.specs.LogNames.{below_of, name_xid, own_records}
 use Rattle.tree_model.specs.Branches.{branch_parts}
 use Rattle.tree_model.specs.Records.{boot_of}
 use Rattle.tree_model.specs.Restarts.{recorded_branch}
-use Rattle.tree_model.specs.Standings.{unknown_view}
+use Rattle.tree_model.specs.Standings.{mark_of, unknown_view}
+use Rattle.xa_heur.specs.declared.decision.Decision.{Decision}
 use Rattle.log_text.specs.Parts.{name_in}
 use Rattle.rec_log.specs.Sights.{RestartBreaks, left_by}
 use Rattle.core_model.specs.States.{forced_sight}
 use Rattle.core_model.specs.Restarting.{NotRestarted, Restarts, restarted_log}
 use Rattle.core_model.proofs.Alike.{same_view}
 use Rattle.manager_model.specs.Ends.{state_of}
-use Rattle.manager_model.specs.Restarting.{RestartFails, Restarts as ManagerRestarts, boot_record, mark_at, marked_state, next_boot}
+use Rattle.manager_model.specs.Restarting.{RestartFails, Restarts as ManagerRestarts, boot_record, by_xid, mark_at, marked_state, next_boot}
 use Rattle.manager_model.specs.Sights.{Calls, ManagerSight}
 use Rattle.sub_deeds.specs.Deeds.{IsIdle}
 use Rattle.sub_deeds.proofs.Quiet.{same_idle}
 use Rattle.sub_restart.specs.declared.rebuilt.Rebuilt.{Rebuilt}
-use Rattle.sub_restart.specs.Rebuilt.{IsInDoubt, Rebuilds, leaf}
+use Rattle.sub_restart.specs.Rebuilt.{IsLeft, Rebuilds, leaf}
 use Rattle.sub_restart.proofs.Booting.{boot_branch, boot_last, boot_read, boot_resumes}
 use Rattle.sub_restart.proofs.Marks.{boots_alike, marks_alike}
+use Rattle.sub_restart.proofs.Steps.{left_xid}
+use Rattle.sub_core.proofs.Told.{left_mark, left_state, told_by_mark}
 use Rattle.sub_table.specs.declared.branch.Branch.{Branch}
-use Rattle.sub_core.specs.Subordinates.{IsGiven, IsNamed, IsTied, SubState, core_of, stage_state}
+use Rattle.sub_table.specs.declared.branch.Stage.{Stage}
+use Rattle.sub_table.specs.declared.branch.Stage.TheVariants.{Active, Heuristic, Prepared}
+use Rattle.sub_core.specs.Subordinates.{AgreesWith, IsGiven, IsNamed, IsTied, SubState, core_of, stage_state}
 use Rattle.sub_core.proofs.Joins.{is_real}
 use Rattle.sub_core.proofs.Opened.{bare_quiet}
 use Rattle.sub_core.proofs.Ties.{behind, still_tied}
@@ -82,9 +87,9 @@ module _ (s : SubState) (keep : ℕ) (r : Rebuilt) (mid m : ManagerSight) (refus
   states : (x : Xid) → state_at m.tables x ≡ state_at mid.tables x
   states x = ap (λ (bs : BranchList). state_in bs.branches x) (calls.works up).branches
 
-  named : (c : Case) (b : Branch) → IsInDoubt (leaf s.me s.parent s.tree) s.parent rs r.boot c b → IsNamed s.parent c b.xid
+  named : (c : Case) (b : Branch) → IsLeft (leaf s.me s.parent s.tree) s.parent rs r.boot c b → IsNamed s.parent c b.xid
   named c b d =
-      let is : b.xid ≡ name_xid (Some s.parent) (CaseBranch c) = ap (λ (v : Branch). v.xid) d.kept in
+      let is : b.xid ≡ name_xid (Some s.parent) (CaseBranch c) = left_xid s.parent c b (mark_of (CaseBranch c) rs) d.kept in
       record {
         is = is;
         reads = ap name_in is ∙ d.own.reads;
@@ -92,14 +97,35 @@ module _ (s : SubState) (keep : ℕ) (r : Rebuilt) (mid m : ManagerSight) (refus
             (ap (λ t. branch_parts c.txn (below_of t (Some s.parent))) (sym d.own.given.has) ∙ sym is ∙ e);
       }
 
-  stands : (c : Case) (b : Branch) → IsInDoubt (leaf s.me s.parent s.tree) s.parent rs r.boot c b → state_at m.tables b.xid ≡ stage_state b.stage
-  stands c b d =
-      states b.xid ∙ restarts.states b.xid
-      ∙ ap (λ (x : Xid). marked_state (mark_at (left_by s.manager.log keep) x)) (ap (λ (v : Branch). v.xid) d.kept)
-      ∙ ap marked_state (marks_alike s.me s.parent s.tree c d.own.own d.own.reads (left_by s.manager.log keep) made.reads ∙ d.promised)
-      ∙ ap (λ (v : Branch). stage_state v.stage) (sym d.kept)
+  -- what the records say of a case is what they say of its XID
+  mark_is : (c : Case) (b : Branch) → IsLeft (leaf s.me s.parent s.tree) s.parent rs r.boot c b
+      → mark_at (left_by s.manager.log keep) b.xid ≡ mark_of (CaseBranch c) rs
+  mark_is c b d =
+      ap (λ (x : Xid). mark_at (left_by s.manager.log keep) x) (left_xid s.parent c b (mark_of (CaseBranch c) rs) d.kept)
+      ∙ marks_alike s.me s.parent s.tree c d.own.own d.own.reads (left_by s.manager.log keep) made.reads
 
-  given_by : (c : Case) (b : Branch) → IsInDoubt (leaf s.me s.parent s.tree) s.parent rs r.boot c b → IsGiven reopened c
+  state_is : (c : Case) (b : Branch) → IsLeft (leaf s.me s.parent s.tree) s.parent rs r.boot c b
+      → state_at mid.tables b.xid ≡ stage_state b.stage
+  state_is c b d =
+      restarts.states b.xid ∙ ap marked_state (mark_is c b d) ∙ left_state s.parent c b (mark_of (CaseBranch c) rs) d.kept
+
+  stands : (c : Case) (b : Branch) → IsLeft (leaf s.me s.parent s.tree) s.parent rs r.boot c b → state_at m.tables b.xid ≡ stage_state b.stage
+  stands c b d = states b.xid ∙ state_is c b d
+
+  -- what it was told is what the manager's records say that it was
+  agrees : (c : Case) (b : Branch) → IsLeft (leaf s.me s.parent s.tree) s.parent rs r.boot c b → AgreesWith b.stage (m.decided b.xid)
+  agrees c b d = by_stage b.stage refl
+    where
+      by_stage : (st : Stage) → b.stage ≡ st → AgreesWith st (m.decided b.xid)
+      by_stage (Active g n p) is = tt
+      by_stage Prepared is = tt
+      by_stage (Heuristic told) is =
+          ap (λ (k : Decision). k.told)
+          (calls.rest.decided b.xid ∙ restarts.decided b.xid (state_is c b d ∙ ap stage_state is))
+          ∙ told_by_mark (Foreign b.xid) (map by_xid (left_by s.manager.log keep)) told
+          (mark_is c b d ∙ left_mark s.parent c b (mark_of (CaseBranch c) rs) told d.kept is)
+
+  given_by : (c : Case) (b : Branch) → IsLeft (leaf s.me s.parent s.tree) s.parent rs r.boot c b → IsGiven reopened c
   given_by c b d = record {
     ticket = d.own.given.ticket;
     has = d.own.given.has;
@@ -115,6 +141,7 @@ module _ (s : SubState) (keep : ℕ) (r : Rebuilt) (mid m : ManagerSight) (refus
     idle = idle;
     named = λ c b e. named c b (made.live c b e);
     stands = λ c b e. stands c b (made.live c b e);
+    told = λ c b e. agrees c b (made.live c b e);
     given_before = λ c b e. given_by c b (made.live c b e);
   }
 
@@ -146,7 +173,7 @@ module _ (s : SubState) (keep : ℕ) (r : Rebuilt) (mid m : ManagerSight) (refus
 pub broken_tied : (s : SubState) (m : ManagerSight) (keep : ℕ) → IsTied s → RestartFails s.manager m keep → IsTied (behind s s.table m)
 broken_tied s m keep tied fails =
     still_tied s m tied (same_idle s.manager m fails.tables tied.idle)
-    (λ y. ap (λ (bs : List (Xid × BranchState)). state_in bs y) fails.tables.branches.branches) fails.boot
+    (λ y. ap (λ (bs : List (Xid × BranchState)). state_in bs y) fails.tables.branches.branches) fails.decided fails.boot
 
 pub broken : (s : SubState) (m : ManagerSight) (keep : ℕ) → RestartFails s.manager m keep
     → NotRestarted (core_of s) keep (core_of (behind s s.table m)) error.Device

@@ -4,6 +4,7 @@ use Rattle.std.proofs.lemmas.List.{append-nil}
 use Rattle.xa_xid.specs.declared.xid.Xid.{Xid}
 use Rattle.tree_model.specs.declared.names.Case.{Case}
 use Rattle.tree_model.specs.declared.names.Ticket.{Ticket}
+use Rattle.tree_model.specs.declared.names.Outcome.{Outcome}
 use Rattle.tree_model.specs.declared.names.Outcome.TheVariants.{Committed as CommittedOutcome, Aborted as AbortedOutcome}
 use Rattle.tree_model.specs.declared.messages.Message.{Message}
 use Rattle.tree_model.specs.declared.messages.Message.TheVariants.{Prepare, Commit, Abort, Work}
@@ -20,7 +21,7 @@ use Rattle.core_model.specs.Turns.{Handles, Turn, leaf_in}
 use Rattle.core_model.specs.Makes.{retired_by}
 use Rattle.sub_table.specs.declared.branch.Branch.{Branch}
 use Rattle.sub_table.specs.Tables.{BranchTable, IsKept, branch_in, kept_view, retired_at, ticket_in, view_in}
-use Rattle.sub_core.specs.Subordinates.{Hears, IsAt, SubState, Turns, Writes, active, core_of, prepared, shown, takes_work, turn_for, xid_of}
+use Rattle.sub_core.specs.Subordinates.{Hears, IsAt, SubState, Turns, Writes, active, core_of, decided, prepared, shown, takes_work, turn_for, xid_of}
 use Rattle.sub_core.proofs.Ties.{one}
 use Rattle.sub_core.proofs.Rows.{handled}
 use Rattle.sub_core.proofs.Outcomes.{never_retired, retired_abort, untouched}
@@ -102,6 +103,19 @@ module _ (s : SubState) (c : Case) (kept : IsKept s.table) where
         writes = λ y apart. refl;
       }
 
+  pub prepare_decided : (n key : ℕ) (x : Xid) (told : Option Outcome) → IsAt s.table key c (decided x told)
+      → Stays s c (Prepare c n) (promised_prepare (leaf_in (core_of s) s.parent c) (view_in s.table c))
+  prepare_decided n key x told at =
+      let l : Leaf = leaf_in (core_of s) s.parent c in
+      let holding = held_writes (s.manager.writes (xid_of s c)) in
+      record {
+        turn = ap (λ (o : Option Branch). Handles c (on_prepare l n holding (view_in s.table c) (kept_view o).standing)) at.live;
+        view = refl;
+        written = refl;
+        tickets = λ k d. sym (untouched s.table c (decided x told) kept at.live refl d) ∙ retired_prepare k n c d (ticket_in s.table d);
+        writes = λ y apart. refl;
+      }
+
   pub commit_unknown : branch_in s.table c ≡ None
       → Stays s c (Commit c) (unknown_outcome (leaf_in (core_of s) s.parent c) CommittedOutcome (view_in s.table c))
   commit_unknown none =
@@ -148,6 +162,16 @@ module _ (s : SubState) (c : Case) (kept : IsKept s.table) where
 
   pub work_prepared : (i : ℕ) (op : Op) (key : ℕ) (x : Xid) → IsAt s.table key c (prepared x) → Stays s c (Work c i op) (unmoved (view_in s.table c))
   work_prepared i op key x at = record {
+    turn = ap (λ (o : Option Branch). Handles c (on_work i (is_none (s.manager.obstacle (xid_of s c) op)) (view_in s.table c) (kept_view o).standing)) at.live;
+    view = refl;
+    written = refl;
+    tickets = λ k d. never_worked k i op c d (ticket_in s.table d);
+    writes = passed s c i op (ap (λ (o : Option Branch). takes_work o i) at.live);
+  }
+
+  pub work_decided : (i : ℕ) (op : Op) (key : ℕ) (x : Xid) (told : Option Outcome) → IsAt s.table key c (decided x told)
+      → Stays s c (Work c i op) (unmoved (view_in s.table c))
+  work_decided i op key x told at = record {
     turn = ap (λ (o : Option Branch). Handles c (on_work i (is_none (s.manager.obstacle (xid_of s c) op)) (view_in s.table c) (kept_view o).standing)) at.live;
     view = refl;
     written = refl;

@@ -17,17 +17,20 @@ use Rattle.tree_model.specs.declared.events.StepError.TheVariants.{Memory, Devic
 use Rattle.tree_model.specs.Names.{same_txn}
 use Rattle.tree_model.specs.Nodes.{DataAnswer}
 use Rattle.tree_model.specs.CoordinatorRows.{post}
-use Rattle.tree_model.specs.ManagerRows.{untold_ask}
+use Rattle.tree_model.specs.ManagerRows.{Leaf, untold_ask}
 use Rattle.tree_model.specs.Reactions.{act_is_listed, sends_only}
 use Rattle.core_model.specs.Turns.{Finds, Handles, Refuses, Says, Turn, asked_by, asked_in, leaf_ask_turn, leaf_in, reacted, turn_of, up_turn}
-use Rattle.core_model.specs.Makes.{Makes, NotMade, retired_by}
+use Rattle.core_model.specs.Makes.{Makes, NotMade}
 use Rattle.sub_table.specs.declared.branch.Branch.{Branch}
-use Rattle.sub_table.specs.Tables.{branch_in, kept_view, ticket_in, view_in}
-use Rattle.sub_core.specs.Subordinates.{Hears, NotHeard, NotTurned, SubState, Turns, Writes, core_of, prepared, shown, turn_for}
+use Rattle.sub_table.specs.declared.branch.Stage.{Stage}
+use Rattle.sub_table.specs.declared.branch.Stage.TheVariants.{Active, Heuristic, Prepared}
+use Rattle.sub_table.specs.Tables.{awaits, branch_in, kept_view, stage_view, ticket_in}
+use Rattle.sub_core.specs.Subordinates.{Hears, NotHeard, NotTurned, SubState, Turns, Writes, core_of, shown, turn_for}
 use Rattle.sub_core.specs.Steps.{Acts, Leaves, NotActed, data_answer, is_refusal, turn_at}
 use Rattle.sub_core.proofs.Joins.{stays_core}
 use Rattle.sub_core.proofs.Rows.{handled}
 use Rattle.sub_core.proofs.Staying.{no_record}
+use Rattle.sub_core.proofs.Decisions.{no_retire}
 
 -- Acts.
 
@@ -43,22 +46,40 @@ refuses s turn NotInDoubt is ok = (stays_core s, is)
 refuses s turn NothingToForget is ok = (stays_core s, is)
 refuses s turn NoSuch is ok = (stays_core s, is)
 
--- an ask ends the time of no ticket
-no_retire : (c d : Case) (o : Option Ticket) → o ≡ retired_by (ActInput (Ask c)) d o
-no_retire c d None = refl
-no_retire c d (Some t) = refl
+-- an ask of a case at a stage
+asks_at : (l : Leaf) (st : Stage) → awaits st ≡ true → leaf_ask_turn l (stage_view st) (stage_view st).standing ≡ Handles l.own (untold_ask l (stage_view st))
+asks_at l (Active g n p) h = absurd cc
+asks_at l Prepared h = refl
+asks_at l (Heuristic None) h = refl
+asks_at l (Heuristic (Some o)) h = absurd cc
 
--- a case in doubt is asked about
-pub asked : (s : SubState) (c : Case) (b : Branch) → Some b ≡ branch_in s.table c → b.stage ≡ (prepared b.xid).stage
-    → Acts s (Ask c) (shown [] (post s.me s.parent (Inquire c) ∷ []))
+not_asks_at : (l : Leaf) (st : Stage) → awaits st ≡ false → leaf_ask_turn l (stage_view st) (stage_view st).standing ≡ Refuses NotInDoubt
+not_asks_at l (Active g n p) h = refl
+not_asks_at l Prepared h = absurd cc
+not_asks_at l (Heuristic None) h = absurd cc
+not_asks_at l (Heuristic (Some o)) h = refl
+
+-- a case that awaits its outcome is asked about
+pub asked : (s : SubState) (c : Case) (b : Branch) → Some b ≡ branch_in s.table c → awaits b.stage ≡ true
+    → Acts s s (Ask c) (shown [] (post s.me s.parent (Inquire c) ∷ []))
 asked s c b at is =
-    let v = view_in s.table c in
-    let turn : turn_at s (Ask c) ≡ Handles c (untold_ask (leaf_in (core_of s) s.parent c) v) =
-    ap (λ (o : Option Branch). leaf_ask_turn (leaf_in (core_of s) s.parent c) v (kept_view o).standing) (sym at)
-    ∙ ap (λ st. leaf_ask_turn (leaf_in (core_of s) s.parent c) v (kept_view (Some (record { xid = b.xid; stage = st }))).standing) is in
-    subst (λ (t : Turn). Turns s s (ActInput (Ask c)) t (shown [] (post s.me s.parent (Inquire c) ∷ []))) (sym turn)
-    (handled s s.table s.manager (ActInput (Ask c)) c (untold_ask (leaf_in (core_of s) s.parent c) v) (no_record s.manager.log) refl (λ d apart. refl)
-    (λ d. no_retire c d (ticket_in s.table d)) refl)
+    let l : Leaf = leaf_in (core_of s) s.parent c in
+    let turn : turn_at s (Ask c) ≡ Handles c (untold_ask l (stage_view b.stage)) =
+    ap (λ (o : Option Branch). leaf_ask_turn l (kept_view o) (kept_view o).standing) (sym at) ∙ asks_at l b.stage is in
+    record {
+      turns = subst (λ (t : Turn). Turns s s (ActInput (Ask c)) t (shown [] (post s.me s.parent (Inquire c) ∷ []))) (sym turn)
+          (handled s s.table s.manager (ActInput (Ask c)) c (untold_ask l (stage_view b.stage)) (no_record s.manager.log) (ap kept_view (sym at))
+          (λ d apart. refl) (λ d. no_retire (Ask c) d (ticket_in s.table d)) refl);
+      writes = λ y. refl;
+    }
+
+-- and any other is not
+pub not_asked : (s : SubState) (c : Case) (b : Branch) → Some b ≡ branch_in s.table c → awaits b.stage ≡ false
+    → NotActed s s (Ask c) NotInDoubt
+not_asked s c b at is =
+    let l : Leaf = leaf_in (core_of s) s.parent c in
+    refuses s (turn_at s (Ask c)) NotInDoubt
+    (ap (λ (o : Option Branch). leaf_ask_turn l (kept_view o) (kept_view o).standing) (sym at) ∙ not_asks_at l b.stage is) refl
 
 -- Which turn an input meets.
 
@@ -118,15 +139,19 @@ not_made old new a i turn NoSuch is t = record { same = t.0; found = None; finds
 
 -- Results.
 
-pub act_ok : (s : SubState) (a : Act) (r : Result Reaction StepError) → act_is_listed s.tree (ActInput a) ≡ true → s.manager.log.failed ≡ false
-    → IfOk r (Acts s a) → IfOk r (Makes (core_of s) (core_of s) (data_answer s (ActInput a)) (ActInput a))
-act_ok s a (Ok reaction) listed works acts = made s s _ (ActInput a) (turn_at s a) reaction (up s _ (ActInput a) listed works) acts
-act_ok s a (Err e) listed works acts = acts
+pub act_ok : (s t : SubState) (a : Act) (r : Result Reaction StepError) → act_is_listed s.tree (ActInput a) ≡ true → s.manager.log.failed ≡ false
+    → IfOk r (Acts s t a) → IfOk r (Makes (core_of s) (core_of t) (data_answer s (ActInput a)) (ActInput a))
+act_ok s t a (Ok reaction) listed works acts = made s t _ (ActInput a) (turn_at s a) reaction (up s _ (ActInput a) listed works) acts.turns
+act_ok s t a (Err e) listed works acts = acts
 
-pub act_err : (s : SubState) (a : Act) (r : Result Reaction StepError) → act_is_listed s.tree (ActInput a) ≡ true → s.manager.log.failed ≡ false
-    → IfErr r (NotActed s a) → IfErr r (NotMade (core_of s) (core_of s) (data_answer s (ActInput a)) (ActInput a))
-act_err s a (Ok reaction) listed works acts = acts
-act_err s a (Err e) listed works acts = not_made s s _ (ActInput a) (turn_at s a) e (up s _ (ActInput a) listed works) acts
+pub act_writes : (s t : SubState) (a : Act) (r : Result Reaction StepError) → IfOk r (Acts s t a) → OnOk r (Leaves (ActInput a) s t)
+act_writes s t a (Ok reaction) acts = acts.writes
+act_writes s t a (Err e) acts = acts
+
+pub act_err : (s t : SubState) (a : Act) (r : Result Reaction StepError) → act_is_listed s.tree (ActInput a) ≡ true → s.manager.log.failed ≡ false
+    → IfErr r (NotActed s t a) → IfErr r (NotMade (core_of s) (core_of t) (data_answer s (ActInput a)) (ActInput a))
+act_err s t a (Ok reaction) listed works acts = acts
+act_err s t a (Err e) listed works acts = not_made s t _ (ActInput a) (turn_at s a) e (up s _ (ActInput a) listed works) acts
 
 pub hear_ok : (old new : SubState) (k : ℕ) (m : Message) (r : Result Reaction StepError) → old.manager.log.failed ≡ false → IfOk r (Hears old new m)
     → IfOk r (Makes (core_of old) (core_of new) (data_answer old (MessageInput k m)) (MessageInput k m))

@@ -6,6 +6,7 @@ use Rattle.xa_branch.specs.Names.{same}
 use Rattle.xa_branch.specs.Branches.{state_in}
 use Rattle.xa_assoc.proofs.Sound.{same_is}
 use Rattle.xa_states.specs.Answers.{state_at}
+use Rattle.xa_heur.specs.declared.decision.Decision.{Decision}
 use Rattle.tree_model.specs.declared.names.Case.{Case}
 use Rattle.tree_model.specs.declared.names.ProcessId.{ProcessId}
 use Rattle.tree_model.specs.declared.records.Branch.TheVariants.{Case as CaseBranch}
@@ -19,7 +20,7 @@ use Rattle.sub_deeds.specs.Deeds.{Comes, IsIdle}
 use Rattle.sub_deeds.proofs.Quiet.{same_idle}
 use Rattle.sub_table.specs.declared.branch.Branch.{Branch}
 use Rattle.sub_table.specs.Tables.{BranchTable, branch_in}
-use Rattle.sub_core.specs.Subordinates.{IsGiven, IsNamed, IsTied, SubState, stage_state}
+use Rattle.sub_core.specs.Subordinates.{AgreesWith, IsGiven, IsNamed, IsTied, SubState, stage_state}
 
 -- a subordinate with another table and another manager
 abbrev pub behind : SubState → BranchTable → ManagerSight → SubState
@@ -45,14 +46,14 @@ apart_xids p c d x y a b apart true e =
     let is = one_case p c d x a (subst (λ (z : Xid). IsNamed p d z) (sym (same_is x y e)) b) in
     absurd (let f : same_case c d ≡ true = ap (same_case c) (sym is) ∙ same_case-itself c in let g : true ≡ false = sym f ∙ apart in cc)
 
--- what is kept of a branch behind a move fits its state at the manager
-abbrev pub Fits : Option Branch → Branch → BranchState → Type 0
-Fits None b st = Unit {0}
-Fits (Some w) b st = (w.xid ≡ b.xid) × (stage_state w.stage ≡ st)
+-- what is kept of a branch behind a move fits its state at the manager, and what an operator decided of it
+abbrev pub Fits : Option Branch → Branch → BranchState → Decision → Type 0
+Fits None b st d = Unit {0}
+Fits (Some w) b st d = (w.xid ≡ b.xid) × (stage_state w.stage ≡ st) × AgreesWith w.stage d
 
 -- one branch moved, here and at the manager
 module _ (s : SubState) (t : BranchTable) (m : ManagerSight) (owner : Case) (b : Branch) (v : Option Branch) (st : BranchState) (tied : IsTied s)
-    (at : branch_in s.table owner ≡ Some b) (moves : Moves s.table.branches t.branches owner v) (fits : Fits v b st) (comes : Comes s.manager m b.xid st) where
+    (at : branch_in s.table owner ≡ Some b) (moves : Moves s.table.branches t.branches owner v) (fits : Fits v b st (m.decided b.xid)) (comes : Comes s.manager m b.xid st) where
   owner_named : IsNamed s.parent owner b.xid
   owner_named = tied.named owner b at
 
@@ -60,7 +61,7 @@ module _ (s : SubState) (t : BranchTable) (m : ManagerSight) (owner : Case) (b :
   named_at None is c w true e h = absurd (let f = sym is ∙ sym moves.own ∙ ap (branch_in t) (one owner c e) ∙ h in cc)
   named_at (Some q) is c w true e h =
       let entry : q ≡ w = some_same q w (sym is ∙ sym moves.own ∙ ap (branch_in t) (one owner c e) ∙ h) in
-      let fit : Fits (Some q) b st = subst (λ (o : Option Branch). Fits o b st) is fits in
+      let fit : Fits (Some q) b st (m.decided b.xid) = subst (λ (o : Option Branch). Fits o b st (m.decided b.xid)) is fits in
       subst (λ (d : Case). IsNamed s.parent d w.xid) (one owner c e)
       (subst (λ (x : Xid). IsNamed s.parent owner x) (sym fit.0 ∙ ap (λ (z : Branch). z.xid) entry) owner_named)
   named_at o is c w false e h = tied.named c w (sym (moves.others c e) ∙ h)
@@ -70,13 +71,26 @@ module _ (s : SubState) (t : BranchTable) (m : ManagerSight) (owner : Case) (b :
   stands_at None is c w true e h = absurd (let f = sym is ∙ sym moves.own ∙ ap (branch_in t) (one owner c e) ∙ h in cc)
   stands_at (Some q) is c w true e h =
       let entry : q ≡ w = some_same q w (sym is ∙ sym moves.own ∙ ap (branch_in t) (one owner c e) ∙ h) in
-      let fit : Fits (Some q) b st = subst (λ (o : Option Branch). Fits o b st) is fits in
+      let fit : Fits (Some q) b st (m.decided b.xid) = subst (λ (o : Option Branch). Fits o b st (m.decided b.xid)) is fits in
       ap (λ (x : Xid). state_at m.tables x) (ap (λ (z : Branch). z.xid) (sym entry) ∙ fit.0) ∙ comes.own ∙ sym fit.1
       ∙ ap (λ (z : Branch). stage_state z.stage) entry
   stands_at o is c w false e h =
       let stood = sym (moves.others c e) ∙ h in
       let apart = apart_xids s.parent owner c b.xid w.xid owner_named (tied.named c w stood) e (same b.xid w.xid) refl in
       comes.others w.xid apart ∙ tied.stands c w stood
+
+  told_at : (o : Option Branch) → v ≡ o → (c : Case) (w : Branch) (r : Bool) → same_case owner c ≡ r → branch_in t c ≡ Some w
+      → AgreesWith w.stage (m.decided w.xid)
+  told_at None is c w true e h = absurd (let f = sym is ∙ sym moves.own ∙ ap (branch_in t) (one owner c e) ∙ h in cc)
+  told_at (Some q) is c w true e h =
+      let entry : q ≡ w = some_same q w (sym is ∙ sym moves.own ∙ ap (branch_in t) (one owner c e) ∙ h) in
+      let fit : Fits (Some q) b st (m.decided b.xid) = subst (λ (o : Option Branch). Fits o b st (m.decided b.xid)) is fits in
+      subst (λ (z : Branch). AgreesWith z.stage (m.decided z.xid)) entry
+      (subst (λ (x : Xid). AgreesWith q.stage (m.decided x)) (sym fit.0) fit.2)
+  told_at o is c w false e h =
+      let stood = sym (moves.others c e) ∙ h in
+      let apart = apart_xids s.parent owner c b.xid w.xid owner_named (tied.named c w stood) e (same b.xid w.xid) refl in
+      subst (λ (d : Decision). AgreesWith w.stage d) (sym (comes.others_decided w.xid apart)) (tied.told c w stood)
 
   given_at : (o : Option Branch) → v ≡ o → (c : Case) (w : Branch) (r : Bool) → same_case owner c ≡ r → branch_in t c ≡ Some w → IsGiven s c
   given_at o is c w true e h = subst (λ (d : Case). IsGiven s d) (one owner c e) (tied.given_before owner b at)
@@ -90,20 +104,22 @@ module _ (s : SubState) (t : BranchTable) (m : ManagerSight) (owner : Case) (b :
     idle = comes.idle;
     named = λ c w h. named_at v refl c w (same_case owner c) refl h;
     stands = λ c w h. stands_at v refl c w (same_case owner c) refl h;
+    told = λ c w h. told_at v refl c w (same_case owner c) refl h;
     given_before = λ c w h. same_given c (given_at v refl c w (same_case owner c) refl h);
   }
 
 -- no branch moved
 pub still_tied : (s : SubState) (m : ManagerSight) → IsTied s → IsIdle m → ((y : Xid) → state_at m.tables y ≡ state_at s.manager.tables y)
-    → m.boot ≡ s.manager.boot → IsTied (behind s s.table m)
-still_tied s m tied idle states boot = record {
+    → ((y : Xid) → m.decided y ≡ s.manager.decided y) → m.boot ≡ s.manager.boot → IsTied (behind s s.table m)
+still_tied s m tied idle states decided boot = record {
   idle = idle;
   named = λ c w h. tied.named c w h;
   stands = λ c w h. states w.xid ∙ tied.stands c w h;
+  told = λ c w h. subst (λ (d : Decision). AgreesWith w.stage d) (sym (decided w.xid)) (tied.told c w h);
   given_before = λ c w h. let g = tied.given_before c w h in record { ticket = g.ticket; has = g.has; before = λ e. g.before (e ∙ boot) };
 }
 
 pub same_tied : (s : SubState) (m : ManagerSight) → IsTied s → SameManager s.manager m → IsTied (behind s s.table m)
 same_tied s m tied stays =
     still_tied s m tied (same_idle s.manager m stays.tables tied.idle)
-    (λ y. ap (λ (bs : List (Xid × BranchState)). state_in bs y) stays.tables.branches.branches) stays.boot
+    (λ y. ap (λ (bs : List (Xid × BranchState)). state_in bs y) stays.tables.branches.branches) stays.rest.decided stays.boot

@@ -26,7 +26,8 @@ use Rattle.tree_model.specs.Standings.{unknown_branch}
 use Rattle.core_model.specs.Turns.{Handles, Turn, leaf_in}
 use Rattle.core_model.specs.Makes.{retired_by}
 use Rattle.manager_model.specs.Sights.{ManagerSight}
-use Rattle.manager_model.specs.Ends.{row_of, written_by}
+use Rattle.xa_heur.specs.declared.decision.Decision.{Decision}
+use Rattle.manager_model.specs.Ends.{prepare_row, written_by}
 use Rattle.sub_deeds.specs.Deeds.{Finishes, NotFinished, vote_of}
 use Rattle.sub_table.specs.declared.branch.Branch.{Branch}
 use Rattle.sub_table.specs.Tables.{BranchTable, Retires, kept_view, nothing, promised, retired_at, ticket_in}
@@ -43,10 +44,10 @@ pub retired_prepare : (k n : ℕ) (c d : Case) (o : Option Ticket) → retired_a
 retired_prepare k n c d None = refl
 retired_prepare k n c d (Some t) = refl
 
-held_record : (c : Case) (l : Leaf) (ws : List Write) → l.own ≡ c
-    → written_by call.Prepare S2 (CaseBranch c) ws ≡ (active_prepare_holding l (held_writes ws)).written
-held_record c l [] is = refl
-held_record c l (w ∷ ws) is = ap (λ (d : Case). forced (PreparedRecord (CaseBranch d) (w ∷ ws))) (sym is)
+held_record : (c : Case) (l : Leaf) (ws : List Write) (d : Decision) → l.own ≡ c
+    → written_by call.Prepare S2 (CaseBranch c) ws d ≡ (active_prepare_holding l (held_writes ws)).written
+held_record c l [] d is = refl
+held_record c l (w ∷ ws) d is = ap (λ (d : Case). forced (PreparedRecord (CaseBranch d) (w ∷ ws))) (sym is)
 
 held_of : (c : Case) (l : Leaf) (ws : List Write) → l.own ≡ c → AreOf c (active_prepare_holding l (held_writes ws)).written
 held_of c l [] is = tt
@@ -64,7 +65,7 @@ some_written : (ws : List Write) → Yes ≡ vote_of ws → ws ≢ []
 some_written [] e f = absurd cc
 some_written (w ∷ ws) e f = absurd cc
 
-yes_state : (ws : List Write) → Yes ≡ vote_of ws → S3 ≡ (row_of call.Prepare ws).1
+yes_state : (ws : List Write) → Yes ≡ vote_of ws → S3 ≡ (prepare_row ws).1
 yes_state [] e = absurd cc
 yes_state (w ∷ ws) e = refl
 
@@ -84,7 +85,7 @@ module _ (s : SubState) (key : ℕ) (c g : Case) (n : ℕ) (x : Xid) (tied : IsT
       let l : Leaf = leaf_in (core_of s) s.parent c in
       subst (λ (t : Turn). NotTurned s (behind s s.table m) t e) (sym turn_is)
       (not_turned s c x (tied.named c _ at.live) (tied.given_before c _ at.live) m S2 (s.manager.writes (xid_of s c)) call.Prepare (row s c) e
-      (tied.stands c _ at.live) writes_is (held_record c l (s.manager.writes (xid_of s c)) refl) (held_of c l (s.manager.writes (xid_of s c)) refl) h)
+      (tied.stands c _ at.live) writes_is (held_record c l (s.manager.writes (xid_of s c)) (s.manager.decided x) refl) (held_of c l (s.manager.writes (xid_of s c)) refl) h)
 
   voted : (t : BranchTable) (m : ManagerSight) (v : Option Branch) → RetiresAt s.table t c v → kept_view v ≡ (row s c).view
       → Finishes s.manager m x call.Prepare → Hears s (behind s t m) (Prepare c n) (shown (row s c).written (row s c).messages)
@@ -96,7 +97,7 @@ module _ (s : SubState) (key : ℕ) (c g : Case) (n : ℕ) (x : Xid) (tied : IsT
             subst (λ (turn : Turn). Turns s (behind s t m) (MessageInput k (Prepare c n)) turn (shown (row s c).written (row s c).messages)) (sym turn_is)
             (handled s t m (MessageInput k (Prepare c n)) c (row s c)
             (log_is s c x (tied.named c _ at.live) (tied.given_before c _ at.live) m S2 ws call.Prepare (row s c).written (tied.stands c _ at.live) writes_is
-            (held_record c l ws refl) (held_of c l ws refl) f.log)
+            (held_record c l ws (s.manager.decided x) refl) (held_of c l ws refl) f.log)
             (ap kept_view r.branches.own ∙ view) (λ d apart. ap kept_view (r.branches.others d apart))
             (λ d. r.tickets d ∙ retired_prepare k n c d (ticket_in s.table d)) f.comes.boot);
         writes = λ y apart. f.others y (ap (λ (z : Xid). same z y) (tied.named c _ at.live).is ∙ apart);
@@ -150,7 +151,7 @@ module _ (s : SubState) (key : ℕ) (c g : Case) (n : ℕ) (x : Xid) (tied : IsT
       → IsTied (behind s t m)
   yes_tied t m r vote f =
       moved_tied s t m c (active x g n false) (promised (active x g n false)) _ tied at.live
-      (retires_at s.table t key promised c (active x g n false) at r).branches (refl, yes_state (s.manager.writes x) vote) f.comes
+      (retires_at s.table t key promised c (active x g n false) at r).branches (refl, yes_state (s.manager.writes x) vote, tt) f.comes
 
 -- a vote that is not READ
 pub yes_of : (ws : List Write) (v : Vote) → v ≡ vote_of ws → v ≢ Read → Yes ≡ vote_of ws

@@ -1,11 +1,12 @@
 -- A subordinate: a process below a parent, with a resource manager.
 use Rattle.std.specs.Prelude.{◌≡◌, ◌≢◌, ◌≤◌, ◌+◌, ◌==◌, ◌&&◌, not, ℕ, Bool, true, false, is_none, if◌then◌else◌, Option, Some, None, List, [], ◌∷◌, map}
 use Rattle.xa_tables.specs.declared.states.BranchState.{BranchState}
-use Rattle.xa_tables.specs.declared.states.BranchState.TheVariants.{S2, S3, S4}
+use Rattle.xa_tables.specs.declared.states.BranchState.TheVariants.{S2, S3, S4, S5}
 use Rattle.xa_xid.specs.declared.xid.Xid.{Xid}
 use Rattle.xa_xid.specs.Xids.{XidParts, null_xid}
 use Rattle.xa_branch.specs.Names.{same}
 use Rattle.xa_states.specs.Answers.{state_at}
+use Rattle.xa_heur.specs.declared.decision.Decision.{Decision}
 use Rattle.tree_model.specs.declared.names.Case.{Case}
 use Rattle.tree_model.specs.declared.names.ProcessId.{ProcessId}
 use Rattle.tree_model.specs.declared.names.Ticket.{Ticket}
@@ -22,8 +23,10 @@ use Rattle.tree_model.specs.declared.events.Reaction.{Reaction}
 use Rattle.tree_model.specs.declared.events.StepError.{StepError}
 use Rattle.tree_model.specs.declared.events.StepError.TheVariants.{Device, Memory}
 use Rattle.tree_model.specs.declared.records.RecordKind.{RecordKind}
+use Rattle.tree_model.specs.declared.records.RecordKind.TheVariants.{HeurCommit, HeurRollback}
 use Rattle.tree_model.specs.declared.records.Subject.TheVariants.{Case as OfCase}
 use Rattle.tree_model.specs.declared.names.Outcome.{Outcome}
+use Rattle.tree_model.specs.declared.names.Outcome.TheVariants.{Committed, Aborted}
 use Rattle.tree_model.specs.ManagerRows.{is_acknowledged}
 use Rattle.tree_model.specs.CoordinatorRows.{post}
 use Rattle.tree_model.specs.Names.{child_case}
@@ -40,7 +43,7 @@ use Rattle.manager_model.specs.Sights.{ManagerSight}
 use Rattle.sub_deeds.specs.Deeds.{IsIdle, Wrote, starts}
 use Rattle.sub_table.specs.declared.branch.Branch.{Branch}
 use Rattle.sub_table.specs.declared.branch.Stage.{Stage}
-use Rattle.sub_table.specs.declared.branch.Stage.TheVariants.{Active, Prepared}
+use Rattle.sub_table.specs.declared.branch.Stage.TheVariants.{Active, Heuristic, Prepared}
 use Rattle.live_table.specs.Tables.{entry_at}
 use Rattle.sub_table.specs.Tables.{BranchTable, branch_in, ticket_in, view_in}
 
@@ -118,6 +121,12 @@ abbrev pub stage_state : Stage → BranchState
 stage_state (Active d done false) = S2
 stage_state (Active d done true) = S4
 stage_state Prepared = S3
+stage_state (Heuristic told) = S5
+
+-- the manager's decision of a branch was told what the stage says
+abbrev pub AgreesWith : Stage → Decision → Type 0
+AgreesWith (Heuristic told) d = d.told ≡ told
+AgreesWith _ d = Unit {0}
 
 -- an XID is that of a case below this parent, and reads as its name
 pub record IsNamed (p : ProcessId) (c : Case) (x : Xid) : Type 0 where
@@ -131,12 +140,15 @@ pub record IsGiven (s : SubState) (c : Case) : Type 0 where
   pub has : c.ticket ≡ Some ticket
   pub before : ticket.boot ≡ s.manager.boot → ticket.number ≤ s.given
 
--- the manager is idle, and each live branch stands there as the subordinate keeps it, under its case's XID
+-- the manager is idle, and each live branch stands there as the subordinate keeps it, under its case's XID,
+-- with what it was told behind an operator's decision
 pub record IsTied (s : SubState) : Type 0 where
   pub idle : IsIdle s.manager
   pub named : (c : Case) (b : Branch) → branch_in s.table c ≡ Some b → IsNamed s.parent c b.xid
   pub stands : (c : Case) (b : Branch) → branch_in s.table c ≡ Some b
       → state_at s.manager.tables b.xid ≡ stage_state b.stage
+  pub told : (c : Case) (b : Branch) → branch_in s.table c ≡ Some b
+      → AgreesWith b.stage (s.manager.decided b.xid)
   pub given_before : (c : Case) (b : Branch) → branch_in s.table c ≡ Some b → IsGiven s c
 
 -- Turns.
@@ -163,7 +175,7 @@ turn_for s m = manager_turn (core_of s) s.parent (answer_for s m) m
 -- a branch at this stage takes the work with this number
 abbrev pub stage_takes : Stage → ℕ → Bool
 stage_takes (Active d done spoiled) i = (i == done + 1) && not spoiled
-stage_takes Prepared i = false
+stage_takes _ i = false
 
 -- a case of which this is kept takes the work with this number
 abbrev pub takes_work : Option Branch → ℕ → Bool
@@ -229,6 +241,22 @@ logged_reply kind c forced from to m =
       kept = None;
     }
 
+-- the reaction that shows one forced record of a case, and no message
+abbrev pub logged_alone : RecordKind → Case → Reaction
+logged_alone kind c =
+    record {
+      begun = None;
+      written = record { kind = kind; subject = OfCase c; forced = true } ∷ [];
+      told = None;
+      messages = [];
+      kept = None;
+    }
+
+-- the kind of the record of an operator's decision
+abbrev pub decision_kind : Outcome → RecordKind
+decision_kind Committed = HeurCommit
+decision_kind Aborted = HeurRollback
+
 -- the acknowledgement of an outcome, unless the presumption covers it
 abbrev pub acknowledged : ProcessId → ProcessId → Case → Outcome → List Envelope
 acknowledged from to c o = if is_acknowledged c.txn.presumption o then post from to (Ack c o) ∷ [] else []
@@ -261,3 +289,7 @@ active x g done spoiled = record { xid = x; stage = Active g done spoiled }
 -- a branch that promised
 abbrev pub prepared : Xid → Branch
 prepared x = record { xid = x; stage = Prepared }
+
+-- a branch that an operator decided, and that was told this since
+abbrev pub decided : Xid → Option Outcome → Branch
+decided x told = record { xid = x; stage = Heuristic told }

@@ -1,12 +1,11 @@
-//! The acts: a manager has no children, and no operator's decisions yet.
+//! The acts: a manager has no children; its operator decides, and forgets.
 
 ghost use Rattle.std.specs.Prelude.{◌≡◌, false, true, IfErr, IfOk};
-ghost use Rattle.core_model.specs.Turns.{Refuses, childless_turn, forget_turn};
-ghost use Rattle.tree_model.specs.ManagerRows.{Leaf};
+ghost use Rattle.core_model.specs.Turns.{Refuses, childless_turn};
 ghost use Rattle.tree_model.specs.declared.events.Act.TheVariants as act;
 ghost use Rattle.sub_table.specs.Tables.{branch_in, kept_view};
 ghost use Rattle.sub_core.specs.Subordinates.{seen};
-ghost use Rattle.sub_core.specs.Steps.{Acts, NotActed, is_decided, is_refusal};
+ghost use Rattle.sub_core.specs.Steps.{Acts, NotActed, is_refusal};
 
 use crate::replies::reply;
 use crate::subordinate::{Subordinate, find_branch};
@@ -24,20 +23,7 @@ fn childless(branch: Option<Branch>) -> StepError
         Some(branch) => match branch.stage {
             Stage::Active { .. } => StepError::NotAChild,
             Stage::Prepared => StepError::Closed,
-        },
-    }
-}
-
-/// Why nothing is forgotten, by what is kept of the case: no operator has decided it.
-fn nothing_to_forget(branch: Option<Branch>) -> StepError
-    ensures is { (l : Leaf) → forget_turn l (kept_view branch).standing ≡ Refuses result }
-    ensures refusal { is_refusal result ≡ true }
-{
-    match branch {
-        None => StepError::UnknownTxn,
-        Some(branch) => match branch.stage {
-            Stage::Active { .. } => StepError::NothingToForget,
-            Stage::Prepared => StepError::NothingToForget,
+            Stage::Heuristic { .. } => StepError::Closed,
         },
     }
 }
@@ -51,31 +37,30 @@ impl<M: ResourceManager> Subordinate<M> {
         Some(branch)
     }
 
-    /// A question to the parent about a case in doubt. UnknownTxn: the case is not live. NotInDoubt: it did not promise.
-    /// Memory. Nothing changed.
+    /// A question to the parent about a case in doubt, or about one that an operator decided and that was not told. UnknownTxn:
+    /// the case is not live. NotInDoubt: it did not promise, or was told. Memory. Nothing changed.
     fn ask(&self, case: Case) -> Result<Reaction, StepError>
-        ensures ok { IfOk result (Acts (seen M.sight self.now) (act.Ask case)) }
-        ensures err { IfErr result (NotActed (seen M.sight self.now) (act.Ask case)) }
+        ensures ok { IfOk result (Acts (seen M.sight self.now) (seen M.sight self.now) (act.Ask case)) }
+        ensures err { IfErr result (NotActed (seen M.sight self.now) (seen M.sight self.now) (act.Ask case)) }
     {
         let Some(branch) = self.branch(&case) else {
             return Err(StepError::UnknownTxn);
         };
-        match branch.stage {
-            Stage::Active { .. } => Err(StepError::NotInDoubt),
-            Stage::Prepared => {
-                let inquiry = Message::Inquire(case);
-                Ok(reply(self.me, self.parent, inquiry, self.alloc)?)
-            }
+        if !branch.stage.awaits() {
+            return Err(StepError::NotInDoubt);
         }
+        let inquiry = Message::Inquire(case);
+        Ok(reply(self.me, self.parent, inquiry, self.alloc)?)
     }
 
-    /// An act. A case in doubt is asked about; any other act is refused, and nothing changed: NoSuch, as no transaction
-    /// begins here; UnknownTxn, where the case is not live, and at each commit and abort; NotAChild, or Closed once the
-    /// branch promised; NotInDoubt; NothingToForget. Memory: nothing changed.
-    pub(crate) fn act(&self, act: &Act) -> Result<Reaction, StepError>
-        requires undecided { is_decided act.now ≡ false }
-        ensures ok { IfOk result (Acts (seen M.sight self.now) act.now) }
-        ensures err { IfErr result (NotActed (seen M.sight self.now) act.now) }
+    /// An act. A case in doubt is asked about, and decided by an operator; one that is decided is asked about until it was
+    /// told, and forgotten. Any other act is refused, and nothing changed: NoSuch, as no transaction begins here; UnknownTxn,
+    /// where the case is not live, and at each commit and abort; NotAChild, or Closed once the branch promised; NotInDoubt;
+    /// NothingToForget. Memory: nothing changed. Device, of a decision and of what is forgotten: it fails now.
+    pub(crate) fn act(&mut self, act: &Act) -> Result<Reaction, StepError>
+        requires up { (M.sight self.old.manager).log.failed ≡ false }
+        ensures ok { IfOk result (Acts (seen M.sight self.old) (seen M.sight self.new) act.now) }
+        ensures err { IfErr result (NotActed (seen M.sight self.old) (seen M.sight self.new) act.now) }
     {
         match act {
             Act::Begin(_) => Err(StepError::NoSuch),
@@ -83,8 +68,8 @@ impl<M: ResourceManager> Subordinate<M> {
             Act::Work(case, _, _) => Err(childless(self.branch(case))),
             Act::Commit(_) | Act::Abort(_) => Err(StepError::UnknownTxn),
             Act::Ask(case) => self.ask(*case),
-            Act::Forget(case) => Err(nothing_to_forget(self.branch(case))),
-            Act::Decide(_, _) => unreachable!(),
+            Act::Decide(case, outcome) => self.decide(*case, *outcome),
+            Act::Forget(case) => self.forget(*case),
         }
     }
 }

@@ -48,7 +48,7 @@ fn acknowledgement(
 }
 
 /// The record of an outcome, and its acknowledgement.
-fn ends_by(
+pub(crate) fn ends_by(
     me: ProcessId,
     parent: ProcessId,
     case: Case,

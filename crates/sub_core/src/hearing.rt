@@ -12,7 +12,7 @@ use sub_table::Stage;
 use tree_model::{Case, Message, Outcome, Reaction, StepError};
 
 impl<M: ResourceManager> Subordinate<M> {
-    /// PREPARE: an Active case votes, one in doubt says YES again, and of any other nothing is known.
+    /// PREPARE: an Active case votes, one that promised says YES again, and of any other nothing is known.
     pub fn prepare(&mut self, case: Case, works: u64) -> Result<Reaction, StepError>
         requires up { (M.sight self.old.manager).log.failed ≡ false }
         ensures ok { IfOk result (Hears (seen M.sight self.old) (seen M.sight self.new) (message.Prepare case works)) }
@@ -23,6 +23,9 @@ impl<M: ResourceManager> Subordinate<M> {
         };
         match branch.stage {
             Stage::Prepared => Ok(reply(self.me, self.parent, Message::Yes(case), self.alloc)?),
+            Stage::Heuristic { .. } => {
+                Ok(reply(self.me, self.parent, Message::Yes(case), self.alloc)?)
+            }
             Stage::Active { done, spoiled, .. } => {
                 if done == works && !spoiled {
                     self.vote_with(key, case, works, branch.xid)
@@ -33,7 +36,8 @@ impl<M: ResourceManager> Subordinate<M> {
         }
     }
 
-    /// COMMIT: a case in doubt commits, and of one that is not known the outcome is acknowledged.
+    /// COMMIT: a case in doubt commits, one that an operator decided notes the first outcome, and of one that is not known the
+    /// outcome is acknowledged.
     pub fn commit(&mut self, case: Case) -> Result<Reaction, StepError>
         requires up { (M.sight self.old.manager).log.failed ≡ false }
         ensures ok { IfOk result (Hears (seen M.sight self.old) (seen M.sight self.new) (message.Commit case)) }
@@ -44,11 +48,15 @@ impl<M: ResourceManager> Subordinate<M> {
         };
         match branch.stage {
             Stage::Prepared => self.commit_prepared(key, case, branch.xid),
+            Stage::Heuristic { told } => {
+                self.tell_heuristic(key, case, branch.xid, told, Outcome::Committed)
+            }
             Stage::Active { .. } => Ok(silence(self.alloc)),
         }
     }
 
-    /// ABORT: an Active case is rolled back, and so is one in doubt; of one that is not known the outcome is acknowledged.
+    /// ABORT: an Active case is rolled back, and so is one in doubt; one that an operator decided notes the first outcome; of one
+    /// that is not known the outcome is acknowledged.
     pub fn abort(&mut self, case: Case) -> Result<Reaction, StepError>
         requires up { (M.sight self.old.manager).log.failed ≡ false }
         ensures ok { IfOk result (Hears (seen M.sight self.old) (seen M.sight self.new) (message.Abort case)) }
@@ -59,6 +67,9 @@ impl<M: ResourceManager> Subordinate<M> {
         };
         match branch.stage {
             Stage::Prepared => self.abort_prepared(key, case, branch.xid),
+            Stage::Heuristic { told } => {
+                self.tell_heuristic(key, case, branch.xid, told, Outcome::Aborted)
+            }
             Stage::Active { .. } => self.abort_active(key, case, branch.xid),
         }
     }

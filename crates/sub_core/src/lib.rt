@@ -1,7 +1,8 @@
-//! A process below a parent, with a resource manager: it works, votes, and obeys (R*).
+//! A process below a parent, with a resource manager: it works, votes, and obeys (R*), or its operator decides.
 #![tactic(auto)]
 
 mod acting;
+mod deciding;
 mod ending;
 mod hearing;
 mod joining;
@@ -12,5 +13,4 @@ mod subordinate;
 mod voting;
 mod works;
 
-pub use stepping::is_decision;
 pub use subordinate::Subordinate;

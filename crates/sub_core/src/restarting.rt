@@ -1,4 +1,4 @@
-//! Restart: what a crash left of the log stands, and the cases in doubt ask for their outcomes. And trim.
+//! Restart: what a crash left of the log stands, and the cases that were not told their outcomes ask. And trim.
 
 ghost use Rattle.std.specs.Prelude.{◌≡◌, ◌∷◌, [], true, IfErr, IfOk, OnOk};
 ghost use Rattle.core_model.specs.Restarting.{NotRestarted, NotTrimmed, Restarts, Trims};
@@ -43,10 +43,10 @@ impl<M: ResourceManager> Subordinate<M> {
         }
     }
 
-    /// Restarts behind a crash that keeps so many of the log's unforced bytes: each case in doubt asks for its outcome. All
-    /// memory is taken before the crash. Memory: nothing changed, also where the records that are left are none that a run
-    /// makes: those of no manager, or with a ticket of a boot to come, or of a case that an operator decided. Device: it has
-    /// failed until it is restarted.
+    /// Restarts behind a crash that keeps so many of the log's unforced bytes: each case in doubt asks for its outcome, and so
+    /// does one that an operator decided and that was not told. All memory is taken before the crash. Memory: nothing changed,
+    /// also where the records that are left are none that a run makes: those of no manager, or with a ticket of a boot to come.
+    /// Device: it has failed until it is restarted.
     pub fn restart(&mut self, keep: usize) -> Result<Reaction, StepError>
         ensures ok { IfOk result (Restarts (state M.sight self.old) keep (state M.sight self.new)) }
         ensures writes { OnOk result (LeavesPromises (seen M.sight self.old) keep (seen M.sight self.new)) }

@@ -5,22 +5,12 @@ ghost use Rattle.tree_model.specs.Reactions.{act_is_listed};
 ghost use Rattle.core_model.specs.States.{HasNumbers};
 ghost use Rattle.core_model.specs.Makes.{Makes, NotMade};
 ghost use Rattle.sub_core.specs.Subordinates.{Hears, NotHeard, seen};
-ghost use Rattle.sub_core.specs.Steps.{Leaves, data_answer, is_decision, state};
+ghost use Rattle.sub_core.specs.Steps.{Leaves, data_answer, state};
 
 use crate::replies::silence;
 use crate::subordinate::Subordinate;
 use manager_model::ResourceManager;
 use tree_model::{Act, Input, Message, Reaction, StepError, Tree};
-
-/// Whether the input is an operator's decision, which no subordinate takes yet.
-pub fn is_decision(input: &Input) -> bool
-    ensures { result ≡ is_decision input.now }
-{
-    match input {
-        Input::Act(Act::Decide(_, _)) => true,
-        _ => false,
-    }
-}
 
 /// Whether the child that an act names is listed; a message names none.
 fn is_listed(tree: &Tree, input: &Input) -> bool
@@ -52,12 +42,11 @@ impl<M: ResourceManager> Subordinate<M> {
         }
     }
 
-    /// Handles an input, which is no operator's decision. The refusals of the reaction table, as `StepError` says them,
+    /// Handles an input. The refusals of the reaction table, as `StepError` says them,
     /// change nothing, nor does Memory. Device: the device failed under the record of the input, which stands or not, and the
     /// subordinate answers Failed until its restart.
     pub fn step(&mut self, input: &Input) -> Result<Reaction, StepError>
         requires numbers { HasNumbers (state M.sight self.old) }
-        requires undecided { is_decision input.now ≡ false }
         ensures ok { IfOk result (Makes (state M.sight self.old) (state M.sight self.new) (data_answer (seen M.sight self.old) input.now) input.now) }
         ensures writes { OnOk result (Leaves input.now (seen M.sight self.old) (seen M.sight self.new)) }
         ensures err { IfErr result (NotMade (state M.sight self.old) (state M.sight self.new) (data_answer (seen M.sight self.old) input.now) input.now) }

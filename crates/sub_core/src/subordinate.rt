@@ -98,6 +98,7 @@ impl<M: ResourceManager> Subordinate<M> {
             Some((_, branch)) => match branch.stage {
                 Stage::Active { .. } => Standing::Active,
                 Stage::Prepared => Standing::Prepared,
+                Stage::Heuristic { .. } => Standing::Heuristic,
             },
         }
     }

@@ -61,6 +61,7 @@ impl<M: ResourceManager> Subordinate<M> {
         };
         match branch.stage {
             Stage::Prepared => Ok(silence(self.alloc)),
+            Stage::Heuristic { .. } => Ok(silence(self.alloc)),
             Stage::Active {
                 given_for,
                 done,

@@ -2,3 +2,4 @@ pub mod Quiet
 pub mod Ends
 pub mod Turning
 pub mod Works
+pub mod Deciding

@@ -179,15 +179,16 @@ walks_end base mid new x succeeds answer work h =
 
 -- a thread at work in a branch ends its work
 pub ended : (base mid new : ManagerSight) (x : Xid) (succeeds : Bool) (flags : ℕ) (answer : Code) → mid.log.failed ≡ false
-    → IsAtWork base.tables mid.tables x → x ≢ null_xid → mid.boot ≡ base.boot → legal verb.End flags ≡ Ok (end_call succeeds)
+    → IsAtWork base.tables mid.tables x → x ≢ null_xid → mid.boot ≡ base.boot → ((y : Xid) → mid.decided y ≡ base.decided y) → legal verb.End flags ≡ Ok (end_call succeeds)
     → Calls mid new (answer ≡ code.RmFail) (λ m n. Answers any m n verb.End 0 x flags answer) → Comes base new x (left_after succeeds)
-ended base mid new x succeeds flags answer up work named boot is calls =
+ended base mid new x succeeds flags answer up work named boot decided is calls =
     let w = walks_end base.tables mid.tables new.tables x succeeds answer work
     (ends_of succeeds mid.tables new.tables x flags answer is work.opened named (calls.works up)) in
     let quiet = quiet_again base.tables.associations mid.tables.associations new.tables.associations 0 x work.quiet work.begins w.association in
     record {
       own = w.branch.own ∙ left_is succeeds new.tables x quiet;
       others = λ y apart. w.branch.others y apart ∙ work.others y apart;
+      others_decided = λ y apart. calls.rest.decided y ∙ decided y;
       idle = record { opened = w.init ∙ work.opened; quiet = quiet };
       boot = calls.boot ∙ boot;
     }
@@ -198,6 +199,7 @@ rest_through : (base mid new : ManagerSight) → SameData base mid → SameData 
 rest_through base mid new f g = record {
   writes = λ x. g.writes x ∙ f.writes x;
   obstacles = λ x op. g.obstacles x op ∙ f.obstacles x op;
+  decided = λ x. g.decided x ∙ f.decided x;
 }
 
 -- a branch began
@@ -209,7 +211,7 @@ has_begun old mid new x start end up idle named starting ok ending =
     let still = ap (λ (l : LogSight). l.failed) starting.log ∙ up in (
       work.0,
       record {
-        comes = ended old mid new x true 0x0400_0000 end still work.1 named starting.boot refl ending;
+        comes = ended old mid new x true 0x0400_0000 end still work.1 named starting.boot starting.rest.decided refl ending;
         log = ending.log ∙ starting.log;
         rest = rest_through old mid new starting.rest ending.rest;
       },
@@ -264,7 +266,8 @@ module _ (old mid back new : ManagerSight) (x : Xid) (op : Op) (start : Code) (u
       record {
         allowed = ap is_none (sym in_way ∙ does.allowed);
         comes = ended old back new x true 0x0400_0000 end (still_up back does.log)
-            (same_work old.tables mid.tables back.tables x does.tables at_work) named (does.boot ∙ starting.boot) refl ending;
+            (same_work old.tables mid.tables back.tables x does.tables at_work) named (does.boot ∙ starting.boot)
+            (λ y. does.decided y ∙ starting.rest.decided y) refl ending;
         log = ending.log ∙ does.log ∙ starting.log;
         wrote = record {
           own = ending.rest.writes x ∙ wrote_at does ∙ ap (λ (ws : List Write). op_writes ws op) (starting.rest.writes x);
@@ -280,7 +283,8 @@ module _ (old mid back new : ManagerSight) (x : Xid) (op : Op) (start : Code) (u
       record {
         allowed = ap is_none (sym in_way ∙ why.0);
         comes = ended old back new x false 0x2000_0000 end (still_up back why.1.log)
-            (same_work old.tables mid.tables back.tables x why.1.tables at_work) named (why.1.boot ∙ starting.boot) refl ending;
+            (same_work old.tables mid.tables back.tables x why.1.tables at_work) named (why.1.boot ∙ starting.boot)
+            (λ y. why.1.rest.decided y ∙ starting.rest.decided y) refl ending;
         log = ending.log ∙ why.1.log ∙ starting.log;
         wrote = record {
           own = ending.rest.writes x ∙ why.1.rest.writes x ∙ starting.rest.writes x;
@@ -292,7 +296,8 @@ module _ (old mid back new : ManagerSight) (x : Xid) (op : Op) (start : Code) (u
       → Calls back new (end ≡ code.RmFail) (λ m n. Answers any m n verb.End 0 x 0x0400_0000 end) → Idles old new x
   wanting end stays ending = record {
     comes = ended old back new x true 0x0400_0000 end (still_up back stays.log)
-        (same_work old.tables mid.tables back.tables x stays.tables at_work) named (stays.boot ∙ starting.boot) refl ending;
+        (same_work old.tables mid.tables back.tables x stays.tables at_work) named (stays.boot ∙ starting.boot)
+        (λ y. stays.rest.decided y ∙ starting.rest.decided y) refl ending;
     log = ending.log ∙ stays.log ∙ starting.log;
     writes = λ y. ending.rest.writes y ∙ stays.rest.writes y ∙ starting.rest.writes y;
   }

@@ -4,12 +4,17 @@ use Rattle.std.specs.Prelude.{◌≡◌, Bool, true, false, is_none, is_ok, if�
 use Rattle.xa_tables.specs.declared.call.Call.{Call}
 use Rattle.xa_tables.specs.declared.states.InitState.TheVariants.{R1}
 use Rattle.xa_tables.specs.declared.states.BranchState.{BranchState}
-use Rattle.xa_tables.specs.declared.states.BranchState.TheVariants.{S2, S3, S4}
+use Rattle.xa_tables.specs.declared.call.Call.TheVariants.{Commit, Rollback}
+use Rattle.xa_tables.specs.declared.states.BranchState.TheVariants.{S2, S3, S4, S5}
 use Rattle.xa_xid.specs.declared.xid.Xid.{Xid}
 use Rattle.xa_assoc.specs.Associations.{AssocList, moved_of}
 use Rattle.xa_branch.specs.Names.{same}
 use Rattle.xa_states.specs.Answers.{start_reaction, state_at}
+use Rattle.xa_heur.specs.Decisions.{decided_as}
+use Rattle.tree_model.specs.declared.names.Outcome.{Outcome}
+use Rattle.tree_model.specs.declared.names.Outcome.TheVariants.{Committed, Aborted}
 use Rattle.tree_model.specs.declared.messages.Op.{Op}
+use Rattle.tree_model.specs.declared.records.LogRecord.{LogRecord}
 use Rattle.tree_model.specs.declared.records.Write.{Write}
 use Rattle.tree_model.specs.declared.events.StepError.{StepError}
 use Rattle.tree_model.specs.declared.events.StepError.TheVariants.{Device, Memory}
@@ -17,7 +22,8 @@ use Rattle.tree_model.specs.Plays.{op_writes}
 use Rattle.rec_log.specs.Sights.{Breaks}
 use Rattle.core_model.specs.States.{wrote}
 use Rattle.manager_model.specs.Sights.{ManagerSight, SameData, SameManager}
-use Rattle.manager_model.specs.Ends.{logged_under, row_of, state_of, written_for}
+use Rattle.manager_model.specs.Deciding.{decision_writes}
+use Rattle.manager_model.specs.Ends.{OthersStayDecided, decided_behind, logged_under, row_for, state_of, written_for}
 use Rattle.tree_model.specs.declared.standings.Vote.{Vote}
 use Rattle.tree_model.specs.declared.standings.Vote.TheVariants.{Yes, Read}
 
@@ -32,10 +38,11 @@ pub record IsIdle (m : ManagerSight) : Type 0 where
   pub opened : m.tables.init ≡ R1
   pub quiet : IsQuiet m.tables.associations
 
--- one branch came to a state, and no other moved
+-- one branch came to a state, and no other moved, nor what an operator decided of another
 pub record Comes (old new : ManagerSight) (x : Xid) (s : BranchState) : Type 0 where
   pub own : state_at new.tables x ≡ s
   pub others : (y : Xid) → same x y ≡ false → state_at new.tables y ≡ state_at old.tables y
+  pub others_decided : OthersStayDecided old new x
   pub idle : IsIdle new
   pub boot : new.boot ≡ old.boot
 
@@ -76,17 +83,31 @@ pub record Idles (old new : ManagerSight) (x : Xid) : Type 0 where
 
 -- Ends.
 
--- a call made its row of a branch, and its record stands in the log
+-- a call made its row of a branch, and its record stands in the log; of a branch that an operator decided the
+-- first outcome is noted
 pub record Finishes (old new : ManagerSight) (x : Xid) (c : Call) : Type 0 where
-  pub comes : Comes old new x (row_of c (old.writes x)).1
+  pub comes : Comes old new x (row_for old x c).1
   pub log : new.log ≡ wrote old.log (written_for old x c) (logged_under x (written_for old x c))
   pub others : (y : Xid) → same x y ≡ false → new.writes y ≡ old.writes y
+  pub decided : (row_for old x c).1 ≡ S5 → new.decided x ≡ decided_behind c (old.decided x)
+
+-- the call by which a branch learns an outcome
+abbrev pub outcome_call : Outcome → Call
+outcome_call Committed = Commit
+outcome_call Aborted = Rollback
+
+-- a branch in this state can be committed by a subordinate: it promised, though an operator decided it since
+abbrev pub can_commit : BranchState → Bool
+can_commit S3 = true
+can_commit S5 = true
+can_commit _ = false
 
 -- a branch in this state can be rolled back by a subordinate
 abbrev pub can_roll_back : BranchState → Bool
 can_roll_back S2 = true
 can_roll_back S3 = true
 can_roll_back S4 = true
+can_roll_back S5 = true
 can_roll_back _ = false
 
 -- the vote of a branch that is asked to promise: one that wrote nothing has only read
@@ -94,16 +115,34 @@ abbrev pub vote_of : List Write → Vote
 vote_of [] = Read
 vote_of (w ∷ ws) = Yes
 
--- a call did not make its row: for memory nothing changed; or the device failed under its record, and the
--- branches stay
-pub record BreaksUnder (old new : ManagerSight) (x : Xid) (c : Call) : Type 0 where
-  pub log : Breaks (state_of old.log) (state_of new.log) (logged_under x (written_for old x c))
+-- the device failed under these records, and the branches stay, with what operators decided of them
+pub record BreaksUnder (old new : ManagerSight) (ls : List LogRecord) : Type 0 where
+  pub log : Breaks (state_of old.log) (state_of new.log) ls
   pub states : (y : Xid) → state_at new.tables y ≡ state_at old.tables y
+  pub decided : (y : Xid) → new.decided y ≡ old.decided y
   pub idle : IsIdle new
   pub boot : new.boot ≡ old.boot
 
+-- why a piece of work was not done that writes these records: for memory nothing changed; or the device
+-- failed
+abbrev pub NotDone : ManagerSight → ManagerSight → List LogRecord → StepError → Type 0
+NotDone old new ls Memory = SameManager old new
+NotDone old new ls Device = BreaksUnder old new ls
+NotDone old new ls e = ⊥
+
 -- why a call did not make its row
 abbrev pub NotFinished : ManagerSight → ManagerSight → Xid → Call → StepError → Type 0
-NotFinished old new x c Memory = SameManager old new
-NotFinished old new x c Device = BreaksUnder old new x c
-NotFinished old new x c e = ⊥
+NotFinished old new x c e = NotDone old new (logged_under x (written_for old x c)) e
+
+-- Decisions.
+
+-- an operator decided a prepared branch: the decision is forced, and the branch has let its writes go
+pub record Decides (old new : ManagerSight) (x : Xid) (o : Outcome) : Type 0 where
+  pub comes : Comes old new x S5
+  pub log : new.log ≡ wrote old.log (decision_writes x o) (logged_under x (decision_writes x o))
+  pub wrote : Wrote old new x []
+  pub decided : new.decided x ≡ decided_as o
+
+-- why a branch was not decided
+abbrev pub NotDecided : ManagerSight → ManagerSight → Xid → Outcome → StepError → Type 0
+NotDecided old new x o e = NotDone old new (logged_under x (decision_writes x o)) e

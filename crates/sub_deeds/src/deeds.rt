@@ -6,11 +6,11 @@ ghost use Rattle.xa_tables.specs.declared.states.BranchState.TheVariants as stat
 ghost use Rattle.xa_xid.specs.Xids.{null_xid};
 ghost use Rattle.xa_states.specs.Answers.{state_at};
 ghost use Rattle.manager_model.specs.Sights.{SameManager};
-ghost use Rattle.sub_deeds.specs.Deeds.{Finishes, HasBegun, Idles, IsIdle, NotFinished, Works, can_roll_back, vote_of};
+ghost use Rattle.sub_deeds.specs.Deeds.{Decides, Finishes, HasBegun, Idles, IsIdle, NotDecided, NotFinished, Works, can_commit, can_roll_back, outcome_call, vote_of};
 
-use manager_model::{ResourceManager, WorkError};
+use manager_model::{DecideError, ResourceManager, WorkError};
 use std::alloc::AllocError;
-use tree_model::{Op, StepError, Vote};
+use tree_model::{Op, Outcome, StepError, Vote};
 use xa_codes::{Code, Flags};
 use xa_xid::Xid;
 
@@ -78,12 +78,13 @@ pub fn promise<M: ResourceManager>(manager: &mut M, xid: &Xid) -> Result<Vote, S
     }
 }
 
-/// A prepared branch commits. The errors are those of `promise`.
+/// A prepared branch commits; one that an operator decided notes the outcome if it is the first, and stays. The errors are those
+/// of `promise`.
 pub fn commit<M: ResourceManager>(manager: &mut M, xid: &Xid) -> Result<(), StepError>
     requires idle { IsIdle (M.sight manager.old) }
     requires up { (M.sight manager.old).log.failed ≡ false }
     requires named { xid.now ≢ null_xid }
-    requires state { state_at (M.sight manager.old).tables xid.now ≡ state.S3 }
+    requires state { can_commit (state_at (M.sight manager.old).tables xid.now) ≡ true }
     ensures ok { OnOk result (Finishes (M.sight manager.old) (M.sight manager.new) xid.now call.Commit) }
     ensures err { IfErr result (NotFinished (M.sight manager.old) (M.sight manager.new) xid.now call.Commit) }
 {
@@ -94,7 +95,8 @@ pub fn commit<M: ResourceManager>(manager: &mut M, xid: &Xid) -> Result<(), Step
     }
 }
 
-/// A branch that is idle, spoiled or prepared rolls back. The errors are those of `promise`.
+/// A branch that is idle, spoiled or prepared rolls back; one that an operator decided notes the outcome if it is the first, and
+/// stays. The errors are those of `promise`.
 pub fn roll_back<M: ResourceManager>(manager: &mut M, xid: &Xid) -> Result<(), StepError>
     requires idle { IsIdle (M.sight manager.old) }
     requires up { (M.sight manager.old).log.failed ≡ false }
@@ -104,6 +106,63 @@ pub fn roll_back<M: ResourceManager>(manager: &mut M, xid: &Xid) -> Result<(), S
     ensures err { IfErr result (NotFinished (M.sight manager.old) (M.sight manager.new) xid.now call.Rollback) }
 {
     match manager.rollback(THREAD, xid, Flags::TMNOFLAGS)? {
+        Code::RmFail => Err(StepError::Device),
+        Code::RmErr => Err(StepError::Memory),
+        _ => Ok(()),
+    }
+}
+
+/// A branch that an operator decided is told an outcome; the first one is noted, and the branch stays. The errors are those of
+/// `promise`.
+pub fn tell<M: ResourceManager>(
+    manager: &mut M,
+    xid: &Xid,
+    outcome: Outcome,
+) -> Result<(), StepError>
+    requires idle { IsIdle (M.sight manager.old) }
+    requires up { (M.sight manager.old).log.failed ≡ false }
+    requires named { xid.now ≢ null_xid }
+    requires state { state_at (M.sight manager.old).tables xid.now ≡ state.S5 }
+    ensures ok { OnOk result (Finishes (M.sight manager.old) (M.sight manager.new) xid.now (outcome_call outcome)) }
+    ensures err { IfErr result (NotFinished (M.sight manager.old) (M.sight manager.new) xid.now (outcome_call outcome)) }
+{
+    match outcome {
+        Outcome::Committed => commit(manager, xid),
+        Outcome::Aborted => roll_back(manager, xid),
+    }
+}
+
+/// An operator decides a prepared branch. The errors are those of `promise`.
+pub fn decide<M: ResourceManager>(
+    manager: &mut M,
+    xid: &Xid,
+    outcome: Outcome,
+) -> Result<(), StepError>
+    requires idle { IsIdle (M.sight manager.old) }
+    requires up { (M.sight manager.old).log.failed ≡ false }
+    requires state { state_at (M.sight manager.old).tables xid.now ≡ state.S3 }
+    ensures ok { OnOk result (Decides (M.sight manager.old) (M.sight manager.new) xid.now outcome) }
+    ensures err { IfErr result (NotDecided (M.sight manager.old) (M.sight manager.new) xid.now outcome) }
+{
+    match manager.decide(xid, outcome) {
+        Ok(()) => Ok(()),
+        Err(DecideError::Device) => Err(StepError::Device),
+        Err(DecideError::Memory | DecideError::Failed | DecideError::NotInDoubt) => {
+            Err(StepError::Memory)
+        }
+    }
+}
+
+/// A branch that an operator decided is forgotten. The errors are those of `promise`.
+pub fn forget<M: ResourceManager>(manager: &mut M, xid: &Xid) -> Result<(), StepError>
+    requires idle { IsIdle (M.sight manager.old) }
+    requires up { (M.sight manager.old).log.failed ≡ false }
+    requires named { xid.now ≢ null_xid }
+    requires state { state_at (M.sight manager.old).tables xid.now ≡ state.S5 }
+    ensures ok { OnOk result (Finishes (M.sight manager.old) (M.sight manager.new) xid.now call.Forget) }
+    ensures err { IfErr result (NotFinished (M.sight manager.old) (M.sight manager.new) xid.now call.Forget) }
+{
+    match manager.forget(THREAD, xid, Flags::TMNOFLAGS)? {
         Code::RmFail => Err(StepError::Device),
         Code::RmErr => Err(StepError::Memory),
         _ => Ok(()),

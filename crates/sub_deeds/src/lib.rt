@@ -3,4 +3,4 @@
 
 mod deeds;
 
-pub use deeds::{begin, commit, promise, roll_back, work};
+pub use deeds::{begin, commit, decide, forget, promise, roll_back, tell, work};

@@ -1,5 +1,5 @@
 -- A case of the process's own is marked in its log as it reads it.
-use Rattle.std.proofs.Common.{◌≡◌, ◌∙◌, ℕ, Bool, true, false, cond, Option, Some, None, List, [], ◌∷◌, ◌++◌, map, fold, refl, sym, ap, subst, arith}
+use Rattle.std.proofs.Common.{◌≡◌, ◌∙◌, ℕ, Bool, true, false, cond, Option, Some, None, List, [], ◌∷◌, ◌++◌, map, fold, refl, sym, ap, arith}
 use Rattle.std.proofs.lemmas.Grind.{common_steps, fold-append}
 use Rattle.std.specs.List.{AllByRecursion}
 use Rattle.xa_xid.specs.declared.xid.Xid.{Xid}
@@ -11,9 +11,9 @@ use Rattle.tree_model.specs.declared.records.LogRecord.{LogRecord}
 use Rattle.tree_model.specs.declared.records.Record.{Record}
 use Rattle.tree_model.specs.declared.records.Record.TheVariants.{Opened, Collecting, Prepare, Commit, Abort, End, Prepared, Committed, RolledBack, Direct, HeurCommit, HeurRollback, Told, Forgot, Base, Pair}
 use Rattle.tree_model.specs.declared.trees.TreeEntry.{TreeEntry}
-use Rattle.tree_model.specs.LogNames.{foreign_to, is_own, name_xid, own_by, own_records, renamed, same_parent}
+use Rattle.tree_model.specs.LogNames.{foreign_to, is_own, name_xid, own_records, renamed, same_parent}
 use Rattle.tree_model.specs.Names.{same_case}
-use Rattle.tree_model.specs.Nodes.{AtLeaf, Place}
+use Rattle.tree_model.specs.Nodes.{AtLeaf}
 use Rattle.tree_model.specs.Records.{boot_after, boot_of, branch_case, record_branch, record_case, same_branch, same_xid}
 use Rattle.tree_model.specs.Standings.{Decided, Finished, Mark, Promised, ToldOf, Unmarked, mark_after, mark_of}
 use Rattle.tree_model.proofs.NameTests.{case_tells, process_tells}

@@ -1,61 +1,50 @@
 -- What the cases of a log leave of a subordinate.
-use Rattle.std.proofs.Common.{◌≡◌, ◌∙◌, ◌≤◌, ◌<◌, ◌+◌, ◌^◌, ℕ, Bool, true, false, cond, Option, Some, None, List, [], ◌∷◌, ◌++◌, refl, sym, ap, subst, arith}
+use Rattle.std.proofs.Common.{◌≡◌, ◌∙◌, ◌≤◌, ◌<◌, ◌+◌, ◌^◌, List, [], ◌∷◌, ◌++◌, refl, sym, ap}
 use Rattle.std.specs.List.{flat_map}
 use Rattle.tree_model.specs.declared.names.Case.{Case}
 use Rattle.tree_model.specs.declared.names.ProcessId.{ProcessId}
 use Rattle.tree_model.specs.declared.messages.Envelope.{Envelope}
 use Rattle.tree_model.specs.declared.records.Branch.TheVariants.{Case as CaseBranch}
 use Rattle.tree_model.specs.declared.records.LogRecord.{LogRecord}
-use Rattle.tree_model.specs.declared.records.Record.{Record}
 use Rattle.tree_model.specs.LogNames.{own_records}
 use Rattle.tree_model.specs.Memory.{fresh_memory}
 use Rattle.tree_model.specs.Nodes.{Place}
-use Rattle.tree_model.specs.Records.{cases_in}
 use Rattle.tree_model.specs.Restarts.{inquires_by, manager_resumes, recorded_branch}
 use Rattle.tree_model.specs.Standings.{Decided, Finished, Mark, Promised, ToldOf, Unmarked, mark_of, marked_branch}
-use Rattle.sub_table.specs.declared.branch.Branch.{Branch}
-use Rattle.sub_table.specs.Tables.{branch_in, kept_view, view_in}
+use Rattle.sub_table.specs.Tables.{kept_view, view_in}
 use Rattle.sub_restart.specs.declared.cases.Cases.{Cases}
-use Rattle.sub_restart.specs.declared.rebuilt.Rebuilt.{Rebuilt}
-use Rattle.sub_restart.specs.Rebuilt.{IsInDoubt, Leaves, Rebuilds, asks, asks_by, branch_left, in_doubt, is_plain}
+use Rattle.sub_restart.specs.Rebuilt.{Leaves, Rebuilds, asks, asks_by, branch_left}
 use Rattle.sub_restart.proofs.Steps.{more_own}
 
--- how a case stands that no operator decided
-view_left : (p : ProcessId) (c : Case) (m : Mark) → is_plain m ≡ true → kept_view (branch_left p c m) ≡ marked_branch fresh_memory m
-view_left p c Unmarked h = refl
-view_left p c Promised h = refl
-view_left p c Finished h = refl
-view_left p c Decided h = absurd (cc)
-view_left p c (ToldOf o) h = absurd (cc)
+-- how a case stands
+view_left : (p : ProcessId) (c : Case) (m : Mark) → kept_view (branch_left p c m) ≡ marked_branch fresh_memory m
+view_left p c Unmarked = refl
+view_left p c Promised = refl
+view_left p c Finished = refl
+view_left p c Decided = refl
+view_left p c (ToldOf o) = refl
 
 -- what is asked about it
-asked_left : (me p : ProcessId) (c : Case) (m : Mark) → is_plain m ≡ true
+asked_left : (me p : ProcessId) (c : Case) (m : Mark)
     → asks_by me p c (branch_left p c m) ≡ inquires_by me p c (marked_branch fresh_memory m) (marked_branch fresh_memory m).standing
-asked_left me p c Unmarked h = refl
-asked_left me p c Promised h = refl
-asked_left me p c Finished h = refl
-asked_left me p c Decided h = absurd (cc)
-asked_left me p c (ToldOf o) h = absurd (cc)
+asked_left me p c Unmarked = refl
+asked_left me p c Promised = refl
+asked_left me p c Finished = refl
+asked_left me p c Decided = refl
+asked_left me p c (ToldOf o) = refl
 
 pub same_flat : (f g : Case → List Envelope) → ((c : Case) → f c ≡ g c) → (cs : List Case) → flat_map f cs ≡ flat_map g cs
 same_flat f g same [] = refl
 same_flat f g same (c ∷ cs) = λ i. same c i ++ same_flat f g same cs i
 
-in_doubt_by : (p : ProcessId) (c : Case) (b : Branch) (m : Mark) → branch_left p c m ≡ Some b → (b ≡ in_doubt p c) × (m ≡ Promised)
-in_doubt_by p c b Promised e = (cc, refl)
-in_doubt_by p c b Unmarked e = absurd (cc)
-in_doubt_by p c b Finished e = absurd (cc)
-in_doubt_by p c b Decided e = absurd (cc)
-in_doubt_by p c b (ToldOf o) e = absurd (cc)
-
 module _ (place : Place) (p : ProcessId) (ls : List LogRecord) (s : Cases) (left : Leaves place p ls s) where
   view_of : (c : Case) → view_in s.branches c ≡ recorded_branch (own_records place ls) c
   unfolding recorded_branch
-  view_of c = ap kept_view (left.branches c) ∙ view_left p c (mark_of (CaseBranch c) (own_records place ls)) (left.plain c)
+  view_of c = ap kept_view (left.branches c) ∙ view_left p c (mark_of (CaseBranch c) (own_records place ls))
 
   asked : (c : Case) → asks place.me p s.branches c ≡ manager_resumes place.me p (own_records place ls) c
   unfolding recorded_branch
-  asked c = ap (asks_by place.me p c) (left.branches c) ∙ asked_left place.me p c (mark_of (CaseBranch c) (own_records place ls)) (left.plain c)
+  asked c = ap (asks_by place.me p c) (left.branches c) ∙ asked_left place.me p c (mark_of (CaseBranch c) (own_records place ls))
 
   pub rebuilds : (messages : List Envelope) → messages ≡ flat_map (asks place.me p s.branches) s.order.keys → s.newest ≤ s.boot → s.boot + 1 < 2 ^ 63
       → Rebuilds place p ls (record { branches = s.branches; messages = messages; boot = s.boot })
@@ -65,10 +54,9 @@ module _ (place : Place) (p : ProcessId) (ls : List LogRecord) (s : Cases) (left
     room = room;
     tickets = left.tickets;
     views = view_of;
-    live = λ c b e. let kept = in_doubt_by p c b (mark_of (CaseBranch c) (own_records place ls)) (sym (left.branches c) ∙ e) in record {
+    live = λ c b e. record {
       own = more_own place p s.newest s.boot c within (left.live c b e);
-      kept = kept.0;
-      promised = kept.1;
+      kept = sym (left.branches c) ∙ e;
     };
     messages = sent ∙ same_flat (asks place.me p s.branches) (manager_resumes place.me p (own_records place ls)) asked s.order.keys
         ∙ ap (flat_map (manager_resumes place.me p (own_records place ls))) left.order;

@@ -3,6 +3,7 @@ use Rattle.std.proofs.Common.{◌≡◌, ◌∙◌, ◌≤◌, ℕ, Bool, true, 
 use Rattle.std.proofs.lemmas.Grind.{common_steps, fold-append}
 use Rattle.std.specs.List.{AllByRecursion}
 use Rattle.tree_model.specs.declared.names.Case.{Case}
+use Rattle.tree_model.specs.declared.names.Outcome.{Outcome}
 use Rattle.tree_model.specs.declared.names.ProcessId.{ProcessId}
 use Rattle.tree_model.specs.declared.records.Branch.{Branch as AnyBranch}
 use Rattle.tree_model.specs.declared.records.Branch.TheVariants.{Case as CaseBranch, Foreign}
@@ -10,17 +11,18 @@ use Rattle.tree_model.specs.declared.records.LogRecord.{LogRecord}
 use Rattle.tree_model.specs.declared.records.Record.{Record}
 use Rattle.tree_model.specs.declared.records.Record.TheVariants.{Opened, Collecting, Prepare, Commit, Abort, End, Prepared as PreparedRecord, Committed, RolledBack, Direct, HeurCommit, HeurRollback, Told, Forgot, Base, Pair}
 use Rattle.tree_model.specs.declared.trees.TreeEntry.{TreeEntry}
-use Rattle.tree_model.specs.LogNames.{is_own, own_records, same_parent}
+use Rattle.tree_model.specs.LogNames.{is_own, name_xid, own_records, same_parent}
 use Rattle.tree_model.specs.Names.{same_case}
 use Rattle.tree_model.proofs.NameTests.{case_tells, process_tells}
 use Rattle.tree_model.specs.Nodes.{Place}
-use Rattle.tree_model.specs.Records.{boot_after, boot_of, cases_in, has_case, with_case, with_record}
-use Rattle.tree_model.specs.Standings.{Decided, Finished, Mark, Promised, ToldOf, mark_after, mark_of}
+use Rattle.tree_model.specs.Records.{boot_after, boot_of, cases_in, with_case, with_record}
+use Rattle.tree_model.specs.Standings.{Decided, Finished, Mark, Promised, ToldOf, Unmarked, mark_after, mark_of}
 use Rattle.live_table.specs.Tables.{live_value}
 use Rattle.sub_table.specs.declared.branch.Branch.{Branch}
-use Rattle.sub_table.specs.Tables.{BranchTable, branch_in, ticket_in}
+use Rattle.sub_table.specs.declared.branch.Stage.TheVariants.{Heuristic, Prepared}
+use Rattle.sub_table.specs.Tables.{branch_in, ticket_in}
 use Rattle.sub_restart.specs.declared.cases.Cases.{Cases}
-use Rattle.sub_restart.specs.Rebuilt.{AddsCase, Ends, EndsBy, IsGivenBy, IsOwn, Leaves, NameReads, NoTickets, Promises, PromisesBy, ReadsBack, Takes, branch_left, in_doubt, is_plain, leaf, own_case}
+use Rattle.sub_restart.specs.Rebuilt.{DecidesBy, DecidesCase, Ends, EndsBy, IsGivenBy, IsOwn, Leaves, NameReads, Promises, PromisesBy, ReadsBack, Takes, branch_left, kept_at, leaf, own_case}
 use Rattle.sub_restart.proofs.Reading.{One, is_it, one_base, one_committed, one_committed_so, one_direct, one_forgot, one_opened, one_pair, one_prepared, one_rolled_back, one_rolled_back_so, one_told, own_append}
 
 one : (c d : Case) → same_case c d ≡ true → c ≡ d
@@ -63,10 +65,9 @@ module _ (place : Place) (p : ProcessId) (ls : List LogRecord) (l : LogRecord) (
       → new.order.keys ≡ with_case old.order.keys o → ((d : Case) → ticket_in new.branches d ≡ None)
       → ((c : Case) → branch_in new.branches c
       ≡ cond (is_it o c) (branch_left p c (x (mark_of (CaseBranch c) (own_records place ls)))) (branch_in old.branches c))
-      → ((c : Case) → is_it o c ≡ true → (m : Mark) → is_plain (x m) ≡ true)
       → ((c : Case) (b : Branch) → branch_in new.branches c ≡ Some b → IsOwn place p new.newest c)
       → Leaves place p (ls ++ l ∷ []) new
-  leaves_more old new left back boot order tickets branches plain live = record {
+  leaves_more old new left back boot order tickets branches live = record {
     reads = all_more ReadsBack ls l left.reads back;
     boot = boot ∙ ap (λ n. boot_after n l.entry) left.boot ∙ sym (reads.boot (boot_of (own_records place ls)))
         ∙ sym (boot_more (own_records place ls) reads.read) ∙ ap boot_of (sym behind);
@@ -74,7 +75,6 @@ module _ (place : Place) (p : ProcessId) (ls : List LogRecord) (l : LogRecord) (
         ∙ sym (cases_more (own_records place ls) reads.read) ∙ ap cases_in (sym behind);
     tickets = tickets;
     branches = λ c. branches c ∙ by_branch c (is_it o c) ∙ ap (branch_left p c) (sym (marked c));
-    plain = λ c. ap is_plain (marked c) ∙ by_mark c (is_it o c) refl;
     live = live;
   }
     where
@@ -84,10 +84,24 @@ module _ (place : Place) (p : ProcessId) (ls : List LogRecord) (l : LogRecord) (
       by_branch c true = refl
       by_branch c false = left.branches c
 
-      by_mark : (c : Case) (t : Bool) → is_it o c ≡ t
-          → is_plain (cond t (x (mark_of (CaseBranch c) (own_records place ls))) (mark_of (CaseBranch c) (own_records place ls))) ≡ true
-      by_mark c true e = plain c e (mark_of (CaseBranch c) (own_records place ls))
-      by_mark c false e = left.plain c
+-- What an operator decided.
+
+-- the mark of a case that was told this since
+abbrev pub mark_told : Option Outcome → Mark
+mark_told None = Decided
+mark_told (Some o) = ToldOf o
+
+left_told : (p : ProcessId) (c : Case) (told : Option Outcome) → Some (kept_at p c (Heuristic told)) ≡ branch_left p c (mark_told told)
+left_told p c None = refl
+left_told p c (Some o) = refl
+
+-- a case is kept under its own XID
+pub left_xid : (p : ProcessId) (c : Case) (b : Branch) (m : Mark) → branch_left p c m ≡ Some b → b.xid ≡ name_xid (Some p) (CaseBranch c)
+left_xid p c b Unmarked e = absurd (cc)
+left_xid p c b Finished e = absurd (cc)
+left_xid p c b Promised e = ap (λ (v : Branch). v.xid) (sym (some_same (kept_at p c Prepared) b e))
+left_xid p c b Decided e = ap (λ (v : Branch). v.xid) (sym (some_same (kept_at p c (Heuristic None)) b e))
+left_xid p c b (ToldOf o) e = ap (λ (v : Branch). v.xid) (sym (some_same (kept_at p c (Heuristic (Some o))) b e))
 
 -- What is live.
 
@@ -125,7 +139,7 @@ module _ (me p : ProcessId) (tree : List TreeEntry) (ls : List LogRecord) (old :
       → Leaves (leaf me p tree) p (ls ++ l ∷ []) new
   stays l new x reads back branches order newest boot =
       leaves_more (leaf me p tree) p ls l None x reads old new left back boot (ap (λ s. s.keys) order)
-      (λ d. ap (λ t. ticket_in t d) branches ∙ left.tickets d) (λ c. ap (λ t. branch_in t c) branches) (λ c e. absurd (cc))
+      (λ d. ap (λ t. ticket_in t d) branches ∙ left.tickets d) (λ c. ap (λ t. branch_in t c) branches)
       (λ c b e. subst (λ n. IsOwn (leaf me p tree) p n c) (sym newest) (left.live c b (ap (λ t. branch_in t c) (sym branches) ∙ e)))
 
   quiet : (l : LogRecord) (new : Cases) (x : Mark → Mark) → One (leaf me p tree) l None x → ReadsBack l
@@ -149,12 +163,12 @@ module _ (me p : ProcessId) (tree : List TreeEntry) (ls : List LogRecord) (old :
       (makes.boot ∙ ap (λ s. s.boot) adds.0 ∙ sym boot) (ap (λ s. s.keys) makes.order ∙ adds.1)
       (λ d. ap (λ ts. ticket_in (record { tickets = ts; branches = new.branches.branches }) d) makes.tickets
       ∙ ap (λ s. ticket_in s.branches d) adds.0 ∙ left.tickets d)
-      (λ d. by_case d (same_case c d) refl adds.0 makes) (λ d e m. refl)
+      (λ d. by_case d (same_case c d) refl adds.0 makes)
       (λ d v e. by_live d v (same_case c d) refl adds.0 makes mine named e)
     where
       by_case : (d : Case) (t : Bool) → same_case c d ≡ t → made.0 ≡ record old { order = made.0.order } → Promises made.0 new p c
-          → branch_in new.branches d ≡ cond t (Some (in_doubt p d)) (branch_in old.branches d)
-      by_case d true e adds makes = ap (branch_in new.branches) (sym (one c d e)) ∙ makes.branches.own ∙ ap (λ k. Some (in_doubt p k)) (one c d e)
+          → branch_in new.branches d ≡ cond t (Some (kept_at p d Prepared)) (branch_in old.branches d)
+      by_case d true e adds makes = ap (branch_in new.branches) (sym (one c d e)) ∙ makes.branches.own ∙ ap (λ k. Some (kept_at p k Prepared)) (one c d e)
       by_case d false e adds makes = makes.branches.others d e ∙ ap (λ s. branch_in s.branches d) adds
 
       by_live : (d : Case) (v : Branch) (t : Bool) → same_case c d ≡ t → made.0 ≡ record old { order = made.0.order } → Promises made.0 new p c
@@ -177,7 +191,7 @@ module _ (me p : ProcessId) (tree : List TreeEntry) (ls : List LogRecord) (old :
       leaves_more (leaf me p tree) p ls l (Some c) (λ m. Finished) reads old new left back
       (makes.boot ∙ ap (λ s. s.boot) adds.0 ∙ sym boot) (ap (λ s. s.keys) makes.order ∙ adds.1)
       (makes.tickets (λ d. ap (λ s. ticket_in s.branches d) adds.0 ∙ left.tickets d))
-      (λ d. by_case d (same_case c d) refl adds.0 makes) (λ d e m. refl)
+      (λ d. by_case d (same_case c d) refl adds.0 makes)
       (λ d v e. by_live d v (same_case c d) refl adds.0 makes e)
     where
       by_case : (d : Case) (t : Bool) → same_case c d ≡ t → made.0 ≡ record old { order = made.0.order } → Ends made.0 new c
@@ -192,10 +206,43 @@ module _ (me p : ProcessId) (tree : List TreeEntry) (ls : List LogRecord) (old :
           subst (λ n. IsOwn (leaf me p tree) p n d) (ap (λ s. s.newest) (sym adds) ∙ sym makes.newest)
           (left.live d v (sym (makes.branches.others d e ∙ ap (λ s. branch_in s.branches d) adds) ∙ at))
 
-  decided : (l : LogRecord) (new : Cases) (o : Option Case) (x : Mark → Mark) → One (leaf me p tree) l o x → o ≡ None → ReadsBack l
-      → boot_after old.boot l.entry ≡ old.boot → new ≡ old → Leaves (leaf me p tree) p (ls ++ l ∷ []) new
-  decided l new None x reads none back boot is = quiet l new x reads back boot is
-  decided l new (Some c) x reads none back boot is = absurd (cc)
+  -- a record of a case of the process's own that an operator decided
+  decided : (l : LogRecord) (new : Cases) (told : Option Outcome) (o : Option Case) → One (leaf me p tree) l o (λ m. mark_told told)
+      → ReadsBack l → boot_after old.boot l.entry ≡ old.boot → DecidesBy old new told o → Leaves (leaf me p tree) p (ls ++ l ∷ []) new
+  decided l new told None reads back boot made = quiet l new (λ m. mark_told told) reads back boot made
+  decided l new told (Some c) reads back boot made =
+      let adds = made.1 in
+      let makes = made.2 in
+      leaves_more (leaf me p tree) p ls l (Some c) (λ m. mark_told told) reads old new left back
+      (makes.boot ∙ ap (λ s. s.boot) adds.0 ∙ sym boot) (ap (λ s. s.keys) makes.order ∙ adds.1)
+      (λ d. ap (λ ts. ticket_in (record { tickets = ts; branches = new.branches.branches }) d) makes.tickets
+      ∙ ap (λ s. ticket_in s.branches d) adds.0 ∙ left.tickets d)
+      (λ d. by_case d (same_case c d) refl adds.0 makes)
+      (λ d v e. by_live d v (same_case c d) refl adds.0 makes e)
+    where
+      stood : made.0 ≡ record old { order = made.0.order } → (m : DecidesCase made.0 new c told) → branch_in old.branches c ≡ Some m.branch
+      stood adds m = ap (λ s. branch_in s.branches c) (sym adds) ∙ m.was
+
+      xid_is : made.0 ≡ record old { order = made.0.order } → (m : DecidesCase made.0 new c told)
+          → m.branch.xid ≡ name_xid (Some p) (CaseBranch c)
+      xid_is adds m = left_xid p c m.branch (mark_of (CaseBranch c) (own_records (leaf me p tree) ls)) (sym (left.branches c) ∙ stood adds m)
+
+      by_case : (d : Case) (t : Bool) → same_case c d ≡ t → made.0 ≡ record old { order = made.0.order } → DecidesCase made.0 new c told
+          → branch_in new.branches d ≡ cond t (branch_left p d (mark_told told)) (branch_in old.branches d)
+      by_case d true e adds makes =
+          ap (branch_in new.branches) (sym (one c d e)) ∙ makes.branches.own
+          ∙ ap (λ y. Some (record { xid = y; stage = Heuristic told })) (xid_is adds makes)
+          ∙ ap (λ k. Some (kept_at p k (Heuristic told))) (one c d e) ∙ left_told p d told
+      by_case d false e adds makes = makes.branches.others d e ∙ ap (λ s. branch_in s.branches d) adds
+
+      by_live : (d : Case) (v : Branch) (t : Bool) → same_case c d ≡ t → made.0 ≡ record old { order = made.0.order } → DecidesCase made.0 new c told
+          → branch_in new.branches d ≡ Some v → IsOwn (leaf me p tree) p new.newest d
+      by_live d v true e adds makes at =
+          subst (λ k. IsOwn (leaf me p tree) p new.newest k) (one c d e)
+          (subst (λ n. IsOwn (leaf me p tree) p n c) (ap (λ s. s.newest) (sym adds) ∙ sym makes.newest) (left.live c makes.branch (stood adds makes)))
+      by_live d v false e adds makes at =
+          subst (λ n. IsOwn (leaf me p tree) p n d) (ap (λ s. s.newest) (sym adds) ∙ sym makes.newest)
+          (left.live d v (sym (makes.branches.others d e ∙ ap (λ s. branch_in s.branches d) adds) ∙ at))
 
   by_entry : (new : Cases) (q : Option ProcessId) (r : Record) → Takes (leaf me p tree) p old new (record { entry = r; parent = q })
       → Leaves (leaf me p tree) p (ls ++ record { entry = r; parent = q } ∷ []) new
@@ -211,11 +258,11 @@ module _ (me p : ProcessId) (tree : List TreeEntry) (ls : List LogRecord) (old :
   by_entry new q (Direct b ws) made = ended _ new new (own_case (leaf me p tree) q b) (one_direct me p tree q b ws) made.0 refl made.1
   by_entry new q (Forgot b) made = ended _ new new (own_case (leaf me p tree) q b) (one_forgot me p tree q b) made.0 refl made.1
   by_entry new q (HeurCommit b) made =
-      decided _ new (own_case (leaf me p tree) q b) (λ m. Decided) (one_committed_so me p tree q b) made.1 made.0 refl made.2
+      decided _ new None (own_case (leaf me p tree) q b) (one_committed_so me p tree q b) made.0 refl made.1
   by_entry new q (HeurRollback b) made =
-      decided _ new (own_case (leaf me p tree) q b) (λ m. Decided) (one_rolled_back_so me p tree q b) made.1 made.0 refl made.2
+      decided _ new None (own_case (leaf me p tree) q b) (one_rolled_back_so me p tree q b) made.0 refl made.1
   by_entry new q (Told b o) made =
-      decided _ new (own_case (leaf me p tree) q b) (λ m. ToldOf o) (one_told me p tree q b o) made.1 made.0 refl made.2
+      decided _ new (Some o) (own_case (leaf me p tree) q b) (one_told me p tree q b o) made.0 refl made.1
   by_entry new q (Collecting c ts) made = absurd made
   by_entry new q (Prepare c ts) made = absurd made
   by_entry new q (Commit c ts) made = absurd made
@@ -235,6 +282,5 @@ nothing_left place p s order tickets branches boot = record {
   order = order;
   tickets = λ d. ap (λ ts. live_value ts d) tickets;
   branches = λ c. ap (λ bs. live_value bs c) branches;
-  plain = λ c. refl;
   live = λ c b e. absurd (let none = ap (λ bs. live_value bs c) branches in cc);
 }

@@ -2,6 +2,7 @@
 use Rattle.std.specs.Prelude.{◌≡◌, ◌≤◌, ◌<◌, ◌+◌, ◌^◌, ⊤, ℕ, Bool, true, false, if◌then◌else◌, Option, Some, None, List, [], ◌∷◌}
 use Rattle.std.specs.List.{AllByRecursion, flat_map}
 use Rattle.tree_model.specs.declared.names.Case.{Case}
+use Rattle.tree_model.specs.declared.names.Outcome.{Outcome}
 use Rattle.tree_model.specs.declared.names.ProcessId.{ProcessId}
 use Rattle.tree_model.specs.declared.names.Ticket.{Ticket}
 use Rattle.tree_model.specs.declared.messages.Envelope.{Envelope}
@@ -15,14 +16,15 @@ use Rattle.tree_model.specs.declared.trees.TreeEntry.{TreeEntry}
 use Rattle.tree_model.specs.CoordinatorRows.{post}
 use Rattle.tree_model.specs.LogNames.{is_own, name_xid, own_records}
 use Rattle.tree_model.specs.Nodes.{AtLeaf, Place}
-use Rattle.tree_model.specs.Records.{boot_after, boot_of, cases_in, record_branch, with_case}
+use Rattle.tree_model.specs.Records.{boot_of, cases_in, record_branch, with_case}
 use Rattle.tree_model.specs.Restarts.{manager_resumes, recorded_branch}
-use Rattle.tree_model.specs.Standings.{Mark, Unmarked, Promised, Finished, mark_of}
+use Rattle.tree_model.specs.Standings.{Decided, Mark, Promised, ToldOf, mark_of}
 use Rattle.log_text.specs.Parts.{name_in}
 use Rattle.live_table.specs.Tables.{Moves}
 use Rattle.sub_table.specs.declared.branch.Branch.{Branch}
-use Rattle.sub_table.specs.declared.branch.Stage.TheVariants.{Prepared}
-use Rattle.sub_table.specs.Tables.{BranchTable, branch_in, ticket_in, view_in}
+use Rattle.sub_table.specs.declared.branch.Stage.{Stage}
+use Rattle.sub_table.specs.declared.branch.Stage.TheVariants.{Heuristic, Prepared}
+use Rattle.sub_table.specs.Tables.{BranchTable, awaits, branch_in, ticket_in, view_in}
 use Rattle.sub_restart.specs.declared.names.Saying.{Saying}
 use Rattle.sub_restart.specs.declared.names.Saying.TheVariants.{Nothing, Boot, Promises as PromisesOf, Ends as EndsOf, Decides, Coordinates}
 use Rattle.sub_restart.specs.declared.cases.Cases.{Cases}
@@ -60,30 +62,25 @@ saying_of (Committed b) = EndsOf b
 saying_of (RolledBack b) = EndsOf b
 saying_of (Direct b ws) = EndsOf b
 saying_of (Forgot b) = EndsOf b
-saying_of (HeurCommit b) = Decides b
-saying_of (HeurRollback b) = Decides b
-saying_of (Told b o) = Decides b
+saying_of (HeurCommit b) = Decides b None
+saying_of (HeurRollback b) = Decides b None
+saying_of (Told b o) = Decides b (Some o)
 saying_of (Base n) = Nothing
 saying_of (Pair k v) = Nothing
 saying_of _ = Coordinates
 
 -- What is kept of the cases.
 
--- a case that promised, as it is kept
-abbrev pub in_doubt : ProcessId → Case → Branch
-in_doubt p c = record { xid = name_xid (Some p) (CaseBranch c); stage = Prepared }
+-- a case at this stage, as it is kept
+abbrev pub kept_at : ProcessId → Case → Stage → Branch
+kept_at p c s = record { xid = name_xid (Some p) (CaseBranch c); stage = s }
 
 -- what is kept of a case by what its last record says
 abbrev pub branch_left : ProcessId → Case → Mark → Option Branch
-branch_left p c Promised = Some (in_doubt p c)
+branch_left p c Promised = Some (kept_at p c Prepared)
+branch_left p c Decided = Some (kept_at p c (Heuristic None))
+branch_left p c (ToldOf o) = Some (kept_at p c (Heuristic (Some o)))
 branch_left p c _ = None
-
--- no operator decided the case
-abbrev pub is_plain : Mark → Bool
-is_plain Unmarked = true
-is_plain Promised = true
-is_plain Finished = true
-is_plain _ = false
 
 -- a case has a ticket of a boot that is at most this
 pub record IsGivenBy (boot : ℕ) (c : Case) : Type 0 where
@@ -105,7 +102,6 @@ pub record Leaves (place : Place) (p : ProcessId) (ls : List LogRecord) (s : Cas
   pub tickets : (d : Case) → ticket_in s.branches d ≡ None
   pub branches : (c : Case)
       → branch_in s.branches c ≡ branch_left p c (mark_of (CaseBranch c) (own_records place ls))
-  pub plain : (c : Case) → is_plain (mark_of (CaseBranch c) (own_records place ls)) ≡ true
   pub live : (c : Case) (b : Branch) → branch_in s.branches c ≡ Some b → IsOwn place p s.newest c
 
 -- One record more.
@@ -119,10 +115,21 @@ AddsCase old new c =
 pub record Promises (old new : Cases) (p : ProcessId) (c : Case) : Type 0 where
   pub boot : new.boot ≡ old.boot
   pub order : new.order ≡ old.order
-  pub branches : Moves old.branches.branches new.branches.branches c (Some (in_doubt p c))
+  pub branches : Moves old.branches.branches new.branches.branches c (Some (kept_at p c Prepared))
   pub tickets : new.branches.tickets ≡ old.branches.tickets
   pub given : IsGivenBy new.newest c
   pub grows : old.newest ≤ new.newest
+
+-- an operator decided the case, which promised, and it was told this outcome since
+pub record DecidesCase (old new : Cases) (c : Case) (told : Option Outcome) : Type 0 where
+  pub boot : new.boot ≡ old.boot
+  pub order : new.order ≡ old.order
+  pub branch : Branch
+  pub was : branch_in old.branches c ≡ Some branch
+  pub branches : Moves old.branches.branches new.branches.branches c
+      (Some (record { xid = branch.xid; stage = Heuristic told }))
+  pub tickets : new.branches.tickets ≡ old.branches.tickets
+  pub newest : new.newest ≡ old.newest
 
 -- no ticket is active, where none was
 abbrev pub NoTickets : BranchTable → BranchTable → Type 0
@@ -141,6 +148,11 @@ abbrev pub PromisesBy : Cases → Cases → ProcessId → Option Case → Type 0
 PromisesBy old new p None = new ≡ old
 PromisesBy old new p (Some c) = (mid : Cases) × AddsCase old mid c × Promises mid new p c
 
+-- the same of one that an operator decided
+abbrev pub DecidesBy : Cases → Cases → Option Outcome → Option Case → Type 0
+DecidesBy old new told None = new ≡ old
+DecidesBy old new told (Some c) = (mid : Cases) × AddsCase old mid c × DecidesCase mid new c told
+
 -- the same of one that is finished
 abbrev pub EndsBy : Cases → Cases → Option Case → Type 0
 EndsBy old new None = new ≡ old
@@ -152,7 +164,7 @@ TakesBy place p old new q Nothing = new ≡ old
 TakesBy place p old new q (Boot n) = new ≡ record old { boot = n }
 TakesBy place p old new q (PromisesOf b) = NameReads q b × PromisesBy old new p (own_case place q b)
 TakesBy place p old new q (EndsOf b) = NameReads q b × EndsBy old new (own_case place q b)
-TakesBy place p old new q (Decides b) = NameReads q b × (own_case place q b ≡ None) × (new ≡ old)
+TakesBy place p old new q (Decides b told) = NameReads q b × DecidesBy old new told (own_case place q b)
 TakesBy place p old new q Coordinates = ⊥
 
 -- one record was read more
@@ -161,24 +173,27 @@ Takes place p old new l = TakesBy place p old new l.parent (saying_of l.entry)
 
 -- What is rebuilt.
 
--- an inquiry of a case, where it is live
+-- a case of which this is kept asks for its outcome
+abbrev pub is_asked : Option Branch → Bool
+is_asked None = false
+is_asked (Some b) = awaits b.stage
+
+-- an inquiry of a case, where it asks for its outcome
 abbrev pub asks_by : ProcessId → ProcessId → Case → Option Branch → List Envelope
-asks_by me p c None = []
-asks_by me p c (Some b) = post me p (Inquire c) ∷ []
+asks_by me p c o = if is_asked o then post me p (Inquire c) ∷ [] else []
 
 -- the same of a case in a table
 abbrev pub asks : ProcessId → ProcessId → BranchTable → Case → List Envelope
 asks me p t c = asks_by me p c (branch_in t c)
 
--- a case that is live is in doubt by its records, and kept so
-pub record IsInDoubt (place : Place) (p : ProcessId) (rs : List Record) (boot : ℕ) (c : Case)
+-- a case that is live is in doubt by its records, or decided by an operator, and kept so
+pub record IsLeft (place : Place) (p : ProcessId) (rs : List Record) (boot : ℕ) (c : Case)
     (b : Branch) : Type 0 where
   pub own : IsOwn place p boot c
-  pub kept : b ≡ in_doubt p c
-  pub promised : mark_of (CaseBranch c) rs ≡ Promised
+  pub kept : branch_left p c (mark_of (CaseBranch c) rs) ≡ Some b
 
--- what the records of a log leave: each case stands as the process reads them, those in doubt are asked
--- about, and the last boot is that of the last Opened
+-- what the records of a log leave: each case stands as the process reads them, those that were not told their
+-- outcome are asked about, and the last boot is that of the last Opened
 pub record Rebuilds (place : Place) (p : ProcessId) (ls : List LogRecord) (r : Rebuilt) : Type 0 where
   pub reads : AllByRecursion ReadsBack ls
   pub boot : r.boot ≡ boot_of (own_records place ls)
@@ -186,6 +201,6 @@ pub record Rebuilds (place : Place) (p : ProcessId) (ls : List LogRecord) (r : R
   pub tickets : (d : Case) → ticket_in r.branches d ≡ None
   pub views : (c : Case) → view_in r.branches c ≡ recorded_branch (own_records place ls) c
   pub live : (c : Case) (b : Branch) → branch_in r.branches c ≡ Some b
-      → IsInDoubt place p (own_records place ls) r.boot c b
+      → IsLeft place p (own_records place ls) r.boot c b
   pub messages : r.messages
       ≡ flat_map (manager_resumes place.me p (own_records place ls)) (cases_in (own_records place ls))

@@ -1,14 +1,14 @@
 //! The cases of the records that were read so far.
 
 ghost use Rattle.std.specs.Prelude.{◌≡◌, [], OnOk};
-ghost use Rattle.sub_restart.specs.Rebuilt.{AddsCase, Ends, Promises, Takes, leaf};
+ghost use Rattle.sub_restart.specs.Rebuilt.{AddsCase, DecidesCase, Ends, Promises, Takes, leaf};
 
 use crate::names::{RebuildError, Saying, own_case, saying_of};
 use indexmap::IndexSet;
 use log_text::name_xid;
 use std::alloc::{AllocError, Global};
-use sub_table::Branches;
-use tree_model::{Branch, Case, LogRecord, ProcessId, Tree};
+use sub_table::{Branches, Stage};
+use tree_model::{Branch, Case, LogRecord, Outcome, ProcessId, Tree};
 
 /// The live branches, the process's own cases in order of their first records, the last boot, and the newest boot of a ticket
 /// of a branch that promised.
@@ -62,6 +62,25 @@ impl Cases {
         Ok(())
     }
 
+    /// An operator decided the case, and it was told this outcome since. Unfit: it did not promise.
+    fn decide(&mut self, case: &Case, told: Option<Outcome>) -> Result<(), RebuildError>
+        ensures { OnOk result (DecidesCase self.old self.new case.now told) }
+    {
+        let Some(key) = self.branches.find(case) else {
+            return Err(RebuildError::Unfit);
+        };
+        let Some(branch) = self.branches.get(key) else {
+            return Err(RebuildError::Unfit);
+        };
+        match branch.stage {
+            Stage::Active { .. } => Err(RebuildError::Unfit),
+            Stage::Prepared | Stage::Heuristic { .. } => {
+                self.branches.decide(key, told);
+                Ok(())
+            }
+        }
+    }
+
     /// The case is finished.
     fn end(&mut self, case: &Case)
         ensures { Ends self.old self.new case.now }
@@ -71,8 +90,8 @@ impl Cases {
         }
     }
 
-    /// One record more. Unfit: it is of a coordinator's case, or an operator decided a case of the process's own; or it names a
-    /// branch whose XID reads as another name; or the case has promised already.
+    /// One record more. Unfit: it is of a coordinator's case; or it names a branch whose XID reads as another name; or a case
+    /// promised that has done so already, or was decided that did not promise.
     pub(crate) fn take(
         &mut self,
         me: ProcessId,
@@ -102,10 +121,13 @@ impl Cases {
                 }
                 Ok(())
             }
-            Saying::Decides(branch) => match own_case(me, parent, tree, next.parent, branch)? {
-                None => Ok(()),
-                Some(_) => Err(RebuildError::Unfit),
-            },
+            Saying::Decides(branch, told) => {
+                if let Some(case) = own_case(me, parent, tree, next.parent, branch)? {
+                    self.note(case)?;
+                    self.decide(&case, told)?;
+                }
+                Ok(())
+            }
             Saying::Coordinates => Err(RebuildError::Unfit),
         }
     }

@@ -7,7 +7,7 @@ ghost use Rattle.sub_restart.specs.Rebuilt.{NameReads, leaf, own_case, saying_of
 use log_text::{name_in, name_xid};
 use std::alloc::AllocError;
 use thiserror::Error;
-use tree_model::{Branch, Case, ProcessId, Record, Tree};
+use tree_model::{Branch, Case, Outcome, ProcessId, Record, Tree};
 use xa_xid::Xid;
 
 /// Why nothing was rebuilt.
@@ -38,8 +38,8 @@ pub(crate) enum Saying {
     Promises(Branch),
     /// The branch is finished.
     Ends(Branch),
-    /// An operator decided the branch, or it was told the outcome behind that.
-    Decides(Branch),
+    /// An operator decided the branch, and it was told this outcome since.
+    Decides(Branch, Option<Outcome>),
     /// Something of a coordinator's case.
     Coordinates,
 }
@@ -60,9 +60,8 @@ pub(crate) fn saying_of(entry: &Record) -> Saying
         | Record::RolledBack(branch)
         | Record::Direct(branch, _)
         | Record::Forgot(branch) => Saying::Ends(*branch),
-        Record::HeurCommit(branch) | Record::HeurRollback(branch) | Record::Told(branch, _) => {
-            Saying::Decides(*branch)
-        }
+        Record::HeurCommit(branch) | Record::HeurRollback(branch) => Saying::Decides(*branch, None),
+        Record::Told(branch, outcome) => Saying::Decides(*branch, Some(*outcome)),
         Record::Base(_) | Record::Pair(..) => Saying::Nothing,
     }
 }

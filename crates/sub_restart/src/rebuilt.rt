@@ -2,7 +2,8 @@
 
 ghost use Rattle.std.specs.Prelude.{◌≡◌, IfOk};
 ghost use Rattle.std.specs.List.{flat_map};
-ghost use Rattle.sub_restart.specs.Rebuilt.{Leaves, Rebuilds, asks, leaf};
+ghost use Rattle.sub_table.specs.Tables.{branch_in};
+ghost use Rattle.sub_restart.specs.Rebuilt.{Leaves, Rebuilds, asks, is_asked, leaf};
 
 use crate::cases::Cases;
 use crate::names::RebuildError;
@@ -13,8 +14,8 @@ use tree_model::{Case, Envelope, Envelopes, LogRecord, Message, ProcessId, Seque
 /// The last boot that another can follow.
 const LAST_BOOT: u64 = (1 << 63) - 2;
 
-/// What the records of a log leave of a subordinate: its live branches, all in doubt; an inquiry for each of them, in order of
-/// the cases' first records; and the last boot.
+/// What the records of a log leave of a subordinate: its live branches, in doubt or decided by an operator; an inquiry for each
+/// of them that was not told its outcome, in order of the cases' first records; and the last boot.
 #[derive(Drop)]
 pub struct Rebuilt {
     pub branches: Branches,
@@ -39,7 +40,20 @@ fn read(
     Ok(cases)
 }
 
-/// An inquiry for each of these cases that is live.
+/// Whether a live case asks for its outcome: it is in doubt, or an operator decided it and it was not told.
+fn asks(branches: &Branches, case: &Case) -> bool
+    ensures { result ≡ is_asked (branch_in branches.now case.now) }
+{
+    let Some(key) = branches.find(case) else {
+        return false;
+    };
+    match branches.get(key) {
+        None => false,
+        Some(branch) => branch.stage.awaits(),
+    }
+}
+
+/// An inquiry for each of these cases that asks for its outcome.
 fn inquiries(
     me: ProcessId,
     parent: ProcessId,
@@ -51,7 +65,7 @@ fn inquiries(
 {
     let mut messages = Sequence::new(alloc);
     for case in cases {
-        if branches.find(case).is_some() {
+        if asks(branches, case) {
             messages.push(Envelope {
                 from: me,
                 to: parent,
@@ -62,8 +76,8 @@ fn inquiries(
     Ok(messages)
 }
 
-/// What these records leave. Unfit: no run of a subordinate makes such records. So a case that an operator decided is refused,
-/// as no call of a manager decides one; and a boot behind which none comes, and a ticket of a later boot.
+/// What these records leave. Unfit: no run of a subordinate makes such records. So a boot behind which none comes is refused,
+/// and a ticket of a later boot.
 pub fn rebuild(
     me: ProcessId,
     parent: ProcessId,

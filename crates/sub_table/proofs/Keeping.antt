@@ -2,6 +2,7 @@
 use Rattle.std.proofs.Common.{◌≡◌, ◌∙◌, ℕ, Bool, true, false, Option, None, Some, List, [], refl, sym, ap, subst, if◌then◌else◌}
 use Rattle.xa_xid.specs.declared.xid.Xid.{Xid}
 use Rattle.tree_model.specs.declared.names.Case.{Case}
+use Rattle.tree_model.specs.declared.names.Outcome.{Outcome}
 use Rattle.tree_model.specs.declared.names.Ticket.{Ticket}
 use Rattle.tree_model.specs.Names.{child_case, same_case}
 use Rattle.tree_model.proofs.NameTests.{case_tells}
@@ -10,8 +11,8 @@ use Rattle.live_table.specs.Lends.{rewritten, with_value}
 use Rattle.live_table.proofs.Writes.{Moves-changed, Updates-set, apart_changed, apart_inserted, apart_removed, live_at, same_case-itself}
 use Rattle.sub_table.specs.declared.branch.Branch.{Branch}
 use Rattle.sub_table.specs.declared.branch.Stage.{Stage}
-use Rattle.sub_table.specs.declared.branch.Stage.TheVariants.{Active, Prepared}
-use Rattle.sub_table.specs.Tables.{BranchTable, HasTicket, IsGivenFor, IsKept, Notes, Opens, Retires, branch_in, nothing, promised, retired_at, ticket_in}
+use Rattle.sub_table.specs.declared.branch.Stage.TheVariants.{Active, Heuristic, Prepared}
+use Rattle.sub_table.specs.Tables.{BranchTable, HasTicket, IsGivenFor, IsKept, Notes, Opens, Retires, branch_in, has_promised, nothing, promised, retired_at, ticket_in}
 
 abbrev pub Tickets : Type 0
 Tickets = List (Option (Case × Ticket))
@@ -35,11 +36,13 @@ some_same a b e = cc
 given_one : (d e : Case) (s : Stage) → IsGivenFor d s → IsGivenFor e s → d ≡ e
 given_one d e (Active g done spoiled) h k = h ∙ sym k
 given_one d e Prepared h k = absurd h
+given_one d e (Heuristic told) h k = absurd h
 
 ticket_with : (ts us : Tickets) (c : Case) (s : Stage) → ((d : Case) (k : Ticket) → live_value ts d ≡ Some k → child_case d.txn k ≡ c → live_value us d ≡ Some k)
     → HasTicket ts c s → HasTicket us c s
 ticket_with ts us c (Active d done spoiled) moves h = (h.0, moves d h.0 h.1 h.2, h.2)
 ticket_with ts us c Prepared moves h = tt
+ticket_with ts us c (Heuristic told) moves h = tt
 
 -- a case is opened
 module _ (old new : BranchTable) (d0 : Case) (t : Ticket) (x : Xid) (kept : IsKept old) (fresh : branch_in old (child_case d0.txn t) ≡ None)
@@ -106,6 +109,7 @@ module _ (old new : BranchTable) (key : ℕ) (g : Case) (done : ℕ) (spoiled : 
   ticket_noted (Active e n p) is h =
       (h.0, ap (λ (ts : Tickets). live_value ts g) notes.tickets ∙ ap (live_value old.tickets) is ∙ h.1, ap (λ (d : Case). child_case d.txn h.0) is ∙ h.2)
   ticket_noted Prepared is h = absurd is
+  ticket_noted (Heuristic told) is h = absurd is
 
   active_noted : (c : Case) (v : Branch) (b : Bool) → same_case notes.owner c ≡ b → branch_in new c ≡ Some v → HasTicket new.tickets c v.stage
   active_noted c v true is e =
@@ -128,12 +132,17 @@ module _ (old new : BranchTable) (key : ℕ) (g : Case) (done : ℕ) (spoiled : 
 -- what is not Active
 abbrev pub IsInactive : Option Branch → Type 0
 IsInactive None = Unit {0}
-IsInactive (Some b) = b.stage ≡ Prepared
+IsInactive (Some b) = has_promised b.stage ≡ true
+
+needs_no_ticket : (ts : Tickets) (c : Case) (s : Stage) → has_promised s ≡ true → HasTicket ts c s
+needs_no_ticket ts c (Active d done spoiled) h = absurd cc
+needs_no_ticket ts c Prepared h = tt
+needs_no_ticket ts c (Heuristic told) h = tt
 
 -- the ticket of a stage was taken out
 abbrev pub Dropped : Tickets → Tickets → Stage → Type 0
 Dropped ts us (Active g done spoiled) = Moves ts us g None
-Dropped ts us Prepared = us ≡ ts
+Dropped ts us _ = us ≡ ts
 
 -- a case ends, or is Active no longer
 module _ (old : BranchTable) (us : Tickets) (owner : Case) (branch : Branch) (kept : IsKept old) (at : branch_in old owner ≡ Some branch) where
@@ -158,6 +167,8 @@ module _ (old : BranchTable) (us : Tickets) (owner : Case) (branch : Branch) (ke
       → live_value us d ≡ retired_at owner d (ticket_in old d)
   by_stage Prepared stage drops h d =
       ap (λ (ts : Tickets). live_value ts d) drops ∙ remains Prepared stage d (ticket_in old d) refl (λ is. is)
+  by_stage (Heuristic told) stage drops h d =
+      ap (λ (ts : Tickets). live_value ts d) drops ∙ remains (Heuristic told) stage d (ticket_in old d) refl (λ is. is)
   by_stage (Active g n p) stage drops h d = by_case (same_case g d) refl
     where
       by_case : (b : Bool) → same_case g d ≡ b → live_value us d ≡ retired_at owner d (ticket_in old d)
@@ -201,7 +212,7 @@ module _ (old : BranchTable) (us : Tickets) (owner : Case) (branch : Branch) (ke
       active_at c w None inactive true is own e = absurd (let f = sym own ∙ ap (live_value bs) (one owner c is) ∙ e in cc)
       active_at c w (Some q) inactive true is own e =
           let same_one : q ≡ w = some_same q w (sym own ∙ ap (live_value bs) (one owner c is) ∙ e) in
-          subst (λ (s : Stage). HasTicket us c s) (sym inactive ∙ ap (λ (z : Branch). z.stage) same_one) tt
+          needs_no_ticket us c w.stage (ap (λ (z : Branch). has_promised z.stage) (sym same_one) ∙ inactive)
       active_at c w o inactive false apart own e =
           ticket_with old.tickets us c w.stage
           (λ d k there child. retired drops d ∙ ap (retired_at owner d) there
@@ -228,8 +239,15 @@ ticket_there ts bs key c b g n p kept entry stage none =
 pub dropped : (ts us : Tickets) (s : Stage) (g : Case) (n : ℕ) (p : Bool) → s ≡ Active g n p → Moves ts us g None → Dropped ts us s
 dropped ts us s g n p stage moves = subst (λ (q : Stage). Dropped ts us q) (sym stage) moves
 
-pub none_dropped : (ts : Tickets) (s : Stage) → s ≡ Prepared → Dropped ts ts s
-none_dropped ts s stage = subst (λ (q : Stage). Dropped ts ts q) (sym stage) refl
+not_active : (s : Stage) → has_promised s ≡ true → (g : Case) (n : ℕ) (p : Bool) → s ≡ Active g n p → ⊥
+not_active (Active d done spoiled) h g n p e = absurd cc
+not_active Prepared h g n p e = absurd cc
+not_active (Heuristic told) h g n p e = absurd cc
+
+pub none_dropped : (ts : Tickets) (s : Stage) → ((g : Case) (n : ℕ) (p : Bool) → s ≡ Active g n p → ⊥) → Dropped ts ts s
+none_dropped ts (Active g n p) h = absurd (h g n p refl)
+none_dropped ts Prepared h = refl
+none_dropped ts (Heuristic told) h = refl
 
 module _ (ts us : Tickets) (bs : Slots) (key : ℕ) (c : Case) (b : Branch) (kept : IsKept (table ts bs)) (entry : entry_at bs key ≡ Some (c, b)) where
   at : live_value bs c ≡ Some b
@@ -262,6 +280,18 @@ module _ (ts us : Tickets) (bs : Slots) (key : ℕ) (c : Case) (b : Branch) (kep
         noted_kept (table ts bs) (table ts (with_value bs key w)) key g done spoiled kept notes at given
             (apart_changed bs (with_value bs key w) key c b w entry (updates w) kept.apart),
         notes,
+      )
+
+  -- an operator decided a branch that promised
+  pub decides : (told : Option Outcome) → has_promised b.stage ≡ true
+      → IsKept (table ts (with_value bs key (record { xid = b.xid; stage = Heuristic told })))
+      × Notes (table ts bs) (table ts (with_value bs key (record { xid = b.xid; stage = Heuristic told }))) key (Heuristic told)
+  decides told promised =
+      let w : Branch = record { xid = b.xid; stage = Heuristic told } in
+      let moves = Moves-changed bs (with_value bs key w) key c b w entry (updates w) kept.apart in (
+        retired_kept (table ts bs) ts c b kept at (with_value bs key w) (Some w) refl moves
+            (apart_changed bs (with_value bs key w) key c b w entry (updates w) kept.apart) (none_dropped ts b.stage (not_active b.stage promised)),
+        record { owner = c; branch = b; was = entry; branches = moves; tickets = refl },
       )
 
 -- a branch is live no longer

@@ -1,16 +1,16 @@
 -- The live branches of a subordinate, and the tickets that it gave for cases of its parent and that are
 -- active.
-use Rattle.std.specs.Prelude.{◌≡◌, ℕ, false, if◌then◌else◌, Option, Some, None, List}
+use Rattle.std.specs.Prelude.{◌≡◌, ℕ, Bool, true, false, is_none, if◌then◌else◌, Option, Some, None, List}
 use Rattle.xa_xid.specs.declared.xid.Xid.{Xid}
 use Rattle.tree_model.specs.declared.names.Case.{Case}
 use Rattle.tree_model.specs.declared.names.Ticket.{Ticket}
-use Rattle.tree_model.specs.declared.standings.Standing.TheVariants.{Active as ActiveStanding, Prepared as PreparedStanding}
+use Rattle.tree_model.specs.declared.standings.Standing.TheVariants.{Active as ActiveStanding, Heuristic as HeuristicStanding, Prepared as PreparedStanding}
 use Rattle.tree_model.specs.Names.{child_case, same_case}
 use Rattle.tree_model.specs.Standings.{ManagerView, standing_branch, unknown_branch}
 use Rattle.live_table.specs.Tables.{AreApart, Moves, entry_at, live_value}
 use Rattle.sub_table.specs.declared.branch.Branch.{Branch}
 use Rattle.sub_table.specs.declared.branch.Stage.{Stage}
-use Rattle.sub_table.specs.declared.branch.Stage.TheVariants.{Active, Prepared}
+use Rattle.sub_table.specs.declared.branch.Stage.TheVariants.{Active, Heuristic, Prepared}
 
 -- what a contract sees: the live branches by case, and by the parent's case the active ticket that was given
 -- for it
@@ -31,6 +31,7 @@ abbrev pub stage_view : Stage → ManagerView
 stage_view (Active d done spoiled) =
     record { standing = ActiveStanding; done = done; spoiled = spoiled; told = None }
 stage_view Prepared = standing_branch PreparedStanding None
+stage_view (Heuristic told) = standing_branch HeuristicStanding told
 
 -- how a case stands by what is kept of it; where nothing is, it is Unknown
 abbrev pub kept_view : Option Branch → ManagerView
@@ -41,16 +42,28 @@ kept_view (Some b) = stage_view b.stage
 abbrev pub view_in : BranchTable → Case → ManagerView
 view_in t c = kept_view (branch_in t c)
 
+-- a branch at this stage asks its parent for the outcome: it is in doubt, or an operator decided it and it
+-- was not told
+abbrev pub awaits : Stage → Bool
+awaits (Active d done spoiled) = false
+awaits Prepared = true
+awaits (Heuristic told) = is_none told
+
 -- the branch is Active, by a ticket that was given for the parent's case
 abbrev pub IsGivenFor : Case → Stage → Type 0
 IsGivenFor d (Active e done spoiled) = d ≡ e
-IsGivenFor d Prepared = ⊥
+IsGivenFor d _ = ⊥
 
 -- an Active case has the active ticket that was given for the parent's case
 abbrev pub HasTicket : List (Option (Case × Ticket)) → Case → Stage → Type 0
 HasTicket tickets c (Active d done spoiled) = (t : Ticket) × (live_value tickets d ≡ Some t)
     × (child_case d.txn t ≡ c)
-HasTicket tickets c Prepared = Unit {0}
+HasTicket tickets c _ = Unit {0}
+
+-- the branch promised: it awaits the outcome, or an operator decided it since
+abbrev pub has_promised : Stage → Bool
+has_promised (Active d done spoiled) = false
+has_promised _ = true
 
 -- what the table keeps: each case has one key at most, the case of each active ticket is live and Active, and
 -- each Active case has an active ticket

@@ -1,6 +1,9 @@
 //! What a subordinate keeps of a live branch.
 
-use tree_model::Case;
+ghost use Rattle.std.specs.Prelude.{◌≡◌};
+ghost use Rattle.sub_table.specs.Tables.{awaits};
+
+use tree_model::{Case, Outcome};
 use xa_xid::Xid;
 
 /// How far a live branch has come.
@@ -15,6 +18,19 @@ pub enum Stage {
     },
     /// It promised, and awaits the outcome.
     Prepared,
+    /// An operator decided it; the outcome that it was told since, if it was told one.
+    Heuristic {
+        told: Option<Outcome>,
+    },
+}
+
+impl Stage {
+    /// Whether the branch asks its parent for the outcome: it is in doubt, or an operator decided it and it was not told.
+    pub fn awaits(self) -> bool
+        ensures { result ≡ awaits self }
+    {
+        matches!(self, Stage::Prepared | Stage::Heuristic { told: None })
+    }
 }
 
 /// A live branch, by the XID that its manager knows it by.

@@ -1,17 +1,17 @@
 //! The live branches by case, and the active tickets by the parent's case.
 
-ghost use Rattle.std.specs.Prelude.{◌≡◌, ◌≢◌, [], None, Some, IfOk, IsSome, OnErr, OnOk};
+ghost use Rattle.std.specs.Prelude.{◌≡◌, ◌≢◌, [], true, None, Some, IfOk, IsSome, OnErr, OnOk};
 ghost use Rattle.live_table.specs.Tables.{Finds, Moves, entry_at, live_count, live_value, value_at};
 ghost use Rattle.tree_model.specs.Names.{child_case};
 ghost use Rattle.sub_table.specs.declared.branch.Branch.{Branch as AnyBranch};
 ghost use Rattle.sub_table.specs.declared.branch.Stage.TheVariants as stage;
-ghost use Rattle.sub_table.specs.Tables.{IsGivenFor, IsKept, Notes, Opens, Restores, Retires, SameTable, branch_in, nothing, opened, promised, ticket_in};
+ghost use Rattle.sub_table.specs.Tables.{IsGivenFor, IsKept, Notes, Opens, Restores, Retires, SameTable, branch_in, has_promised, nothing, opened, promised, ticket_in};
 
 use crate::branch::{Branch, Stage};
 use live_table::LiveTable;
 use std::alloc::{AllocError, Global};
 use std::marker::Model;
-use tree_model::{Case, Ticket};
+use tree_model::{Case, Outcome, Ticket};
 use xa_xid::Xid;
 
 /// The live branches, and the active tickets.
@@ -159,6 +159,19 @@ impl Branches {
             if let Stage::Active { given_for, .. } = stage {
                 drop_ticket(&mut self.tickets, &given_for);
             }
+        }
+    }
+
+    /// An operator decided a branch that promised, and it was told this outcome since. It takes no memory.
+    pub fn decide(&mut self, key: usize, told: Option<Outcome>)
+        requires { (b : AnyBranch) × (value_at self.old.branches key ≡ Some b) × (has_promised b.stage ≡ true) }
+        ensures { Notes self.old self.new key (stage.Heuristic told) }
+    {
+        match self.branches.get_mut(key) {
+            Some(branch) => {
+                branch.stage = Stage::Heuristic { told };
+            }
+            None => unreachable!(),
         }
     }
 

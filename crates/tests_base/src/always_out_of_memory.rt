@@ -1,6 +1,6 @@
 //! Each public call of these layers once, with ample memory: none of them answers want of memory.
 
-use link_script::{Stage, read};
+use link_script::read;
 use std::alloc::{AllocError, Global};
 use std::test::Fail;
 use trace_lines::case_text;
@@ -53,7 +53,7 @@ fn put(alloc: Global) -> Result<Op, AllocError> {
 fn a_script_is_read(rt: HostRuntime) -> Result<(), Fail> {
     let alloc = rt.alloc();
     let script = b"[[process]]\nid = 1\nkind = \"coordinator\"\n---\nbegin pa\n".as_slice();
-    let (tree, events) = read(alloc, Stage::Run, script).ok().ok_or("a script")?;
+    let (tree, events) = read(alloc, script).ok().ok_or("a script")?;
     assert_eq!(rt; tree.entries().len(), 1);
     assert!(rt;
         matches!(

@@ -2,7 +2,7 @@
 
 ghost use Rattle.std.specs.Prelude.{◌≡◌, IfOk, length};
 
-use link_script::{ScriptError, ScriptFault, Stage, read};
+use link_script::{ScriptError, ScriptFault, read};
 use std::alloc::{AllocError, Global};
 use std::test::Fail;
 use trace_lines::{case_text, push_entry, trace_text};
@@ -19,9 +19,7 @@ fn each_form_of_event(rt: HostRuntime) -> Result<(), Fail> {
     let script = format!(in rt.alloc();
         "{TREE}---\r\n# remark\n\nbegin pa\njoin a1.1 2\nwork a1.1 2 put x 1\nwork c1.2@2.1.1 3 get x\nwork a1.1 2 del x\ncommit a1.1\nabort c1.1\nask a1.1@2.1.1\ndeliver 7\nsettle\nrestart 2\nrestart 2 9\ntrim 1\nheur a1.1@2.1.1 rollback\nforget a1.1@2.1.1"
     )?;
-    let (tree, events) = read(rt.alloc(), Stage::Whole, script.as_bytes())
-        .ok()
-        .ok_or("a script")?;
+    let (tree, events) = read(rt.alloc(), script.as_bytes()).ok().ok_or("a script")?;
     assert_eq!(rt; tree.entries().len(), 2);
     for entry in tree.entries() {
         assert!(rt; (entry.kind == Kind::Manager) == entry.parent.is_some());
@@ -40,7 +38,7 @@ fn each_form_of_event(rt: HostRuntime) -> Result<(), Fail> {
 
 /// What is wrong with a script.
 fn fault_of(alloc: Global, script: &str) -> Option<ScriptFault> {
-    match read(alloc, Stage::Whole, script.as_bytes()) {
+    match read(alloc, script.as_bytes()) {
         Err(ScriptError::Fault(fault)) => Some(fault),
         _ => None,
     }
@@ -102,9 +100,7 @@ fn the_first_line_of_no_event(rt: HostRuntime) -> Result<(), Fail> {
 
 #[test]
 fn a_script_that_is_not_utf8(rt: HostRuntime) {
-    assert!(rt;
-        read(rt.alloc(), Stage::Whole, b"\xff").err() == Some(ScriptError::Fault(ScriptFault::Utf8))
-    );
+    assert!(rt; read(rt.alloc(), b"\xff").err() == Some(ScriptError::Fault(ScriptFault::Utf8)));
 }
 
 /// A case at process 2.

@@ -6,8 +6,8 @@ use rand::rngs::SmallRng;
 use rand::seq::IndexedRandom;
 use std::alloc::{AllocError, Global};
 use tree_model::{
-    Act, Bytes, Case, Event, Kind, MOST_LEVELS, MOST_PROCESSES, Op, Presumption, ProcessId, Tree,
-    TreeEntry, Txn,
+    Act, Bytes, Case, Event, Kind, MOST_LEVELS, MOST_PROCESSES, Op, Outcome, Presumption,
+    ProcessId, Tree, TreeEntry, Txn,
 };
 
 /// The root of each tree.
@@ -18,6 +18,9 @@ const RECENT_TXNS: usize = 2;
 
 /// Most questions, and the acts below the root, are of so many of the last cases.
 const RECENT_CASES: usize = 24;
+
+/// Most acts of operators are of so many of the last cases that promised.
+const RECENT_PROMISES: usize = 4;
 
 /// Most deliveries are of so many of the last messages.
 const RECENT_MESSAGES: u64 = 40;
@@ -198,6 +201,16 @@ fn act(
     })
 }
 
+/// An operator's act: a decision of one of the last cases that promised, mostly, or that it is forgotten.
+fn operators_act(rng: &mut SmallRng, history: &History) -> Option<Act> {
+    let case = chosen(rng, &history.promised, RECENT_PROMISES)?;
+    Some(match below(rng, 5) {
+        0..=1 => Act::Decide(case, Outcome::Committed),
+        2..=3 => Act::Decide(case, Outcome::Aborted),
+        _ => Act::Forget(case),
+    })
+}
+
 /// A message's number: mostly the next in order of sending, and few of these are lost; else one of the last,
 /// which may have been delivered before; sometimes any at all.
 fn message(rng: &mut SmallRng, history: &mut History) -> u64 {
@@ -237,7 +250,11 @@ pub(crate) fn event(
 ) -> Result<Event, AllocError> {
     Ok(match below(rng, 1000) {
         0..=299 => Event::Act(act(alloc, rng, tree, history)?),
-        300..=974 => Event::Deliver(message(rng, history)),
+        300..=944 => Event::Deliver(message(rng, history)),
+        945..=974 => match operators_act(rng, history) {
+            Some(act) => Event::Act(act),
+            None => Event::Settle,
+        },
         975..=979 => Event::Restart(process(rng, tree), kept(rng)),
         _ => Event::Trim(process(rng, tree)),
     })

@@ -2,7 +2,7 @@
 
 use std::alloc::{AllocError, Global};
 use std::collections::{HashMap, HashSet};
-use tree_model::{Case, LogRecord, Outcome, RecordKind, Txn};
+use tree_model::{Case, LogRecord, Outcome, Record, RecordKind, Txn};
 
 /// The end of each transaction that has one so far.
 #[derive(Drop)]
@@ -25,6 +25,14 @@ impl Ends {
             .values()
             .filter(|end| **end == outcome)
             .count()
+    }
+
+    /// Whether an operator's decision goes against the transaction's outcome: abort, where nothing says that it committed.
+    pub(crate) fn is_mismatch(&self, txn: Txn, decision: Outcome) -> bool {
+        match self.outcomes.get(&txn) {
+            Some(outcome) => *outcome != decision,
+            None => decision != Outcome::Aborted,
+        }
     }
 
     /// Notes how a transaction ended. False: it ended otherwise before.
@@ -53,11 +61,21 @@ impl Ends {
         }
     }
 
+    /// Notes the outcome that a branch was told which an operator had decided. False: its transaction ended otherwise before.
+    fn note_told(&mut self, entry: &Record) -> Result<bool, AllocError> {
+        match (entry, entry.case()) {
+            (Record::Told(_, outcome), Some(case)) => self.note(case.txn, *outcome),
+            _ => Ok(true),
+        }
+    }
+
     /// Notes each record of a log. False: some transaction ended otherwise before.
     pub(crate) fn note_log(&mut self, log: &[LogRecord]) -> Result<bool, AllocError> {
         for record in log {
             if let Some(case) = record.entry.case() {
-                if !self.note_record(record.entry.kind(), case)? {
+                if !self.note_told(&record.entry)?
+                    || !self.note_record(record.entry.kind(), case)?
+                {
                     return Ok(false);
                 }
             }
@@ -79,14 +97,37 @@ fn outcome(kind: RecordKind) -> Option<Outcome> {
     }
 }
 
-/// Adds the cases that are in doubt by a log: promised, and neither decided nor forgotten behind that.
+/// Whether a case stays in doubt behind a record of it: an operator's decision is not its transaction's outcome.
+fn leaves_doubt(kind: RecordKind) -> bool {
+    matches!(kind, RecordKind::HeurCommit | RecordKind::HeurRollback)
+}
+
+/// Adds the cases that are in doubt by a log: promised, and neither decided, nor told the outcome, nor forgotten behind that.
 pub(crate) fn add_doubts(doubts: &mut Vec<Case>, log: &[LogRecord]) -> Result<(), AllocError> {
     for record in log {
         if let Some(case) = record.entry.case() {
             if is_promise(record.entry.kind()) {
                 doubts.push(case)?;
-            } else {
+            } else if !leaves_doubt(record.entry.kind()) {
                 doubts.retain(|doubt| *doubt != case);
+            }
+        }
+    }
+    Ok(())
+}
+
+/// Adds the branches that an operator decided and did not forget, by a log, each with the decision.
+pub(crate) fn add_decisions(
+    decisions: &mut Vec<(Case, Outcome)>,
+    log: &[LogRecord],
+) -> Result<(), AllocError> {
+    for record in log {
+        if let Some(case) = record.entry.case() {
+            match record.entry {
+                Record::HeurCommit(_) => decisions.push((case, Outcome::Committed))?,
+                Record::HeurRollback(_) => decisions.push((case, Outcome::Aborted))?,
+                Record::Forgot(_) => decisions.retain(|decision| decision.0 != case),
+                _ => {}
             }
         }
     }

@@ -1,8 +1,10 @@
 //! What a run has brought so far.
 
 use crate::ends::Ends;
+use log_store::MemoryStore;
 use std::alloc::{AllocError, Global};
-use tree_model::{Case, Conclusion, Entry, Message, Outcome, Reaction, Subject, Told, Txn};
+use tree_model::{Case, Conclusion, Message, Outcome, Reaction, RecordKind, Subject, Told, Txn};
+use tree_world::World;
 
 /// The transactions and cases of a run, the number of its messages, and how its transactions ended.
 #[derive(Drop)]
@@ -15,6 +17,8 @@ pub(crate) struct History {
     pub txns: Vec<Txn>,
     /// The cases below the root, each once.
     pub cases: Vec<Case>,
+    /// The managers' cases that promised, in order.
+    pub promised: Vec<Case>,
     pub ends: Ends,
 }
 
@@ -26,19 +30,20 @@ impl History {
             passed: 0,
             txns: Vec::new(alloc),
             cases: Vec::new(alloc),
+            promised: Vec::new(alloc),
             ends: Ends::new(alloc),
         }
     }
 
-    /// Reads the steps that are new in a trace. False: a transaction ended in two ways.
-    pub(crate) fn read(&mut self, trace: &[Entry]) -> Result<bool, AllocError> {
+    /// Reads the steps that are new in a world. False: a transaction ended in two ways.
+    pub(crate) fn read(&mut self, world: &World<MemoryStore>) -> Result<bool, AllocError> {
         let mut agree = true;
-        if let Some(entries) = trace.get(self.read..) {
-            for entry in entries {
+        for place in self.read..world.made() {
+            if let Some(entry) = world.entry(place)? {
                 agree &= self.note(&entry.reaction)?;
             }
         }
-        self.read = trace.len();
+        self.read = world.made();
         Ok(agree)
     }
 
@@ -54,6 +59,9 @@ impl History {
         for logged in reaction.written.as_slice() {
             if let Subject::Case(case) = logged.subject {
                 agree &= self.ends.note_record(logged.kind, case)?;
+                if matches!(logged.kind, RecordKind::Prepared) {
+                    self.promised.push(case)?;
+                }
             }
         }
         Ok(agree)

@@ -1,16 +1,20 @@
 //! A random run, and what must hold of it at each step and in the end.
 
+ghost use Rattle.tree_model.specs.Trees.{IsTree};
+
 use crate::chance::{event, tree};
-use crate::ends::add_doubts;
+use crate::ends::{add_decisions, add_doubts};
 use crate::history::History;
 use log_store::MemoryStore;
+use logs_script::ProcessLog;
 use rand::SeedableRng;
 use rand::rngs::SmallRng;
 use std::alloc::{AllocError, Global};
 use std::test::Fail;
 use thiserror::Error;
-use tree_model::{Act, Case, Event, Outcome, ProcessId, StepError};
-use tree_world::{World, is_run_event};
+use tree_audit::{AuditError, audit};
+use tree_model::{Act, Bytes, Case, Event, Outcome, ProcessId, StepError, Tree};
+use tree_world::World;
 
 /// The events of a run before all is settled.
 const EVENTS: usize = 10_000;
@@ -42,6 +46,10 @@ enum Trouble {
     InDoubt,
     #[error("a case stays live")]
     Live,
+    #[error("a log is damaged")]
+    Damaged,
+    #[error("the audit finds other mismatches")]
+    Audit,
 }
 
 impl From<AllocError> for Trouble {
@@ -60,6 +68,17 @@ fn unless(holds: bool, trouble: Trouble) -> Result<(), Trouble> {
     if holds { Ok(()) } else { Err(trouble) }
 }
 
+/// How many mismatches an audit of these logs finds.
+fn mismatches_in(alloc: Global, tree: &Tree, logs: &[ProcessLog]) -> Result<usize, Trouble>
+    requires { IsTree tree.now }
+{
+    match audit(alloc, tree, logs) {
+        Ok(report) => Ok(report.mismatches),
+        Err(AuditError::Memory) => Err(Trouble::Memory),
+        Err(AuditError::Damaged(..)) => Err(Trouble::Damaged),
+    }
+}
+
 /// A run, with its tree and what it has brought so far.
 #[derive(Drop)]
 struct Run {
@@ -71,6 +90,8 @@ struct Run {
     loses: bool,
     /// How many events were tried.
     tried: usize,
+    /// How many decisions of operators went against their transactions' outcomes.
+    mismatches: usize,
 }
 
 impl Run {
@@ -86,6 +107,7 @@ impl Run {
             history: History::new(alloc),
             loses: seed % 2 == 0,
             tried: 0,
+            mismatches: 0,
         })
     }
 
@@ -93,9 +115,6 @@ impl Run {
     /// here.
     fn make(&mut self, event: &Event) -> Result<(), Trouble> {
         self.tried = self.tried.saturating_add(1);
-        if !is_run_event(event) {
-            return Ok(());
-        }
         match self.world.apply(event) {
             Ok(())
             | Err(
@@ -108,10 +127,7 @@ impl Run {
             ) => {}
             Err(refusal) => return Err(Trouble::Refused(refusal)),
         }
-        unless(
-            self.history.read(self.world.trace())?,
-            Trouble::Disagreement,
-        )
+        unless(self.history.read(&self.world)?, Trouble::Disagreement)
     }
 
     /// The events of chance.
@@ -180,6 +196,49 @@ impl Run {
         unless(self.doubts()?.is_empty(), Trouble::InDoubt)
     }
 
+    /// The branches that operators decided, each with the decision.
+    fn decisions(&self) -> Result<Vec<(Case, Outcome)>, AllocError> {
+        let mut decisions = Vec::new(self.alloc);
+        for log in &self.world.logs()? {
+            add_decisions(&mut decisions, log)?;
+        }
+        Ok(decisions)
+    }
+
+    /// The bytes of every process's log.
+    fn logs(&self) -> Result<Vec<ProcessLog>, AllocError> {
+        let mut logs = Vec::new(self.alloc);
+        for process in self.processes()? {
+            let bytes = Bytes::from_vec(self.world.log_text(process)?);
+            logs.push(ProcessLog { process, bytes })?;
+        }
+        Ok(logs)
+    }
+
+    /// How many mismatches an audit of the logs finds.
+    fn audited(&self) -> Result<usize, Trouble> {
+        let logs = self.logs()?;
+        let tree = self.world.tree();
+        match tree.check() {
+            Ok(()) => mismatches_in(self.alloc, tree, &logs),
+            Err(_) => Err(Trouble::Damaged),
+        }
+    }
+
+    /// Forgets each decision of an operator, behind an audit that finds just those that went against the outcome. How many of them went against the outcome.
+    fn forget_all(&mut self) -> Result<usize, Trouble> {
+        let mut mismatches = 0;
+        let audited = self.audited()?;
+        for (case, decision) in self.decisions()? {
+            if self.history.ends.is_mismatch(case.txn, decision) {
+                mismatches = usize::saturating_add(mismatches, 1);
+            }
+            self.make(&Event::Act(Act::Forget(case)))?;
+        }
+        unless(audited == mismatches, Trouble::Audit)?;
+        Ok(mismatches)
+    }
+
     /// Where each message is lost that came before the restarts, no case is live any more.
     fn rests(&self) -> Result<(), Trouble> {
         for entry in self.world.tree().entries() {
@@ -193,12 +252,14 @@ impl Run {
     fn make_all(&mut self) -> Result<(), Trouble> {
         self.play()?;
         self.settle()?;
+        self.mismatches = self.forget_all()?;
         self.rests()
     }
 }
 
 #[test]
 fn processes_agree(rt: HostRuntime) -> Result<(), Fail> {
+    let mut mismatches: usize = 0;
     for seed in SEEDS {
         let mut run = Run::open(rt.alloc(), seed)?;
         let made = run.make_all();
@@ -210,6 +271,8 @@ fn processes_agree(rt: HostRuntime) -> Result<(), Fail> {
             let ended = run.history.ends.count(outcome);
             assert!(rt; ended >= LEAST_ENDS, "seed {seed}: only {ended} ended so");
         }
+        mismatches = mismatches.saturating_add(run.mismatches);
     }
+    assert!(rt; mismatches > 0, "no decision went against an outcome");
     Ok(())
 }

@@ -4,7 +4,7 @@ use kv_manager::KvManager;
 use log_store::MemoryStore;
 use std::alloc::{AllocError, Global};
 use std::test::Fail;
-use sub_core::{Subordinate, is_decision};
+use sub_core::Subordinate;
 use tree_model::{
     Bytes, Case, Input, Kind, Message, Op, Presumption, ProcessId, Reaction, Ticket, Tree,
     TreeEntry, Txn,
@@ -62,7 +62,7 @@ pub(crate) fn opened(alloc: Global) -> Result<Player, Fail> {
 /// What a message led to, which was not refused.
 pub(crate) fn heard(player: &mut Player, message: Message) -> Result<Reaction, Fail> {
     let input = Input::Message(1, message);
-    if !player.has_numbers() || is_decision(&input) {
+    if !player.has_numbers() {
         return Err(Fail::from("a message that can be heard"));
     }
     match player.step(&input) {

@@ -2,14 +2,6 @@
 #![tactic(auto)]
 
 #[cfg(test)]
-mod cascades;
-#[cfg(test)]
-mod logs;
-#[cfg(test)]
-mod restarts;
-#[cfg(test)]
-mod running;
-#[cfg(test)]
 mod trees;
 #[cfg(test)]
 mod worlds;

@@ -4,8 +4,8 @@ use log_store::MemoryStore;
 use std::alloc::{AllocError, Global};
 use std::test::Fail;
 use tree_model::{
-    Act, Bytes, Case, Event, Kind, LogRecord, Op, Presumption, ProcessId, RecordKind, Tree,
-    TreeEntry, Txn,
+    Act, Bytes, Case, Event, Happening, Input, Kind, LogRecord, Message, Op, Presumption,
+    ProcessId, RecordKind, Tree, TreeEntry, Txn,
 };
 use tree_world::World;
 
@@ -84,11 +84,26 @@ fn a_world_makes_an_event(rt: HostRuntime) -> Result<(), Fail> {
     Ok(())
 }
 
+/// Whether the fourth step of the committed world is the delivery of the second message, as it was sent.
+fn handles_second_message(world: &World<MemoryStore>) -> Result<bool, AllocError> {
+    Ok(match world.entry(3)? {
+        Some(entry) => {
+            entry.step.process == ROOT
+                && matches!(
+                    entry.step.happening,
+                    Happening::Input(Input::Message(2, Message::Joined(_, _)))
+                )
+        }
+        None => false,
+    })
+}
+
 #[test]
 fn a_world_runs(rt: HostRuntime) -> Result<(), Fail> {
     let world = committed_world(rt.alloc())?;
     assert_eq!(rt; world.sent()?.len(), 8);
-    assert_eq!(rt; world.trace().len(), 12);
+    assert_eq!(rt; world.made(), 12);
+    assert!(rt; handles_second_message(&world)?);
     Ok(())
 }
 

@@ -8,14 +8,8 @@ mod numbers;
 #[cfg(test)]
 mod xa_parts;
 #[cfg(test)]
-mod xa_random;
-#[cfg(test)]
 mod xa_rows;
 #[cfg(test)]
 mod xa_steps;
-#[cfg(test)]
-mod xa_store;
-#[cfg(test)]
-mod xa_walks;
 #[cfg(test)]
 mod xids;

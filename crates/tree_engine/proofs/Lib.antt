@@ -1,2 +1,3 @@
 pub mod LogsLeft
+pub mod Traces
 pub mod TreeReports

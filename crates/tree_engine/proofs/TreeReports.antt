@@ -1,53 +1,18 @@
 -- What is written of a tree script.
-use Rattle.std.proofs.Common.{◌≡◌, ◌∙◌, ap, sym, subst, ℕ, Bool, true, false, All, Some, None, List, [], ◌∷◌, Result, Ok, Err, IfOk, refl}
-use Rattle.std.specs.List.{list_all}
-use Rattle.std.proofs.lemmas.Bool.{and_parts}
-use Rattle.std.proofs.lemmas.List.Elements.{All-cons, All-nil}
+use Rattle.std.proofs.Common.{◌≡◌, sym, ℕ, Some, None, List, Result, Ok, Err, IfOk}
 use Rattle.tree_model.specs.declared.trees.TreeEntry.{TreeEntry}
-use Rattle.tree_model.specs.declared.events.Act.{Act}
-use Rattle.tree_model.specs.declared.events.Act.TheVariants.{Begin, Join, Work, Commit, Abort, Ask, Decide, Forget}
 use Rattle.tree_model.specs.declared.events.Event.{Event}
-use Rattle.tree_model.specs.declared.events.Event.TheVariants.{Act as ActOf, Deliver, Settle, Restart, Trim}
 use Rattle.tree_model.specs.World.{Made, World}
 use Rattle.tree_model.specs.Trees.{IsTree}
 use Rattle.world_law.specs.Refusals.{IsForItself, LeadsTo, Refusal}
 use Rattle.world_law.specs.Runs.{IsOpened}
 use Rattle.world_law.proofs.Whole.{run_of}
-use Rattle.world_law.specs.Worlds.{WorldState, is_run_event}
-use Rattle.link_script.specs.declared.stage.Stage.TheVariants.{Run}
+use Rattle.world_law.specs.Worlds.{WorldState}
 use Rattle.link_script.specs.Inputs.{IsScript}
-use Rattle.link_script.specs.Stages.{admits}
-use Rattle.link_script.proofs.Admitted.{AreAdmitted, read_events_are_admitted}
 use Rattle.report_io.specs.declared.status.Status.{Status}
 use Rattle.report_io.specs.declared.status.Status.TheVariants.{Ended, Refused, Stopped}
 use Rattle.tree_engine.specs.declared.tree.Output.{Output}
 use Rattle.tree_engine.specs.Trees.{IsTreeReport, KeepsHeadline, Plays, RunsOver, RunsScript, Saying, Tells, ending}
-
--- an event that is read is one that a tree makes
-of_run : (e : Event) → admits Run e ≡ true → is_run_event e ≡ true
-of_run (ActOf (Begin p)) h = refl
-of_run (ActOf (Join c q)) h = refl
-of_run (ActOf (Work c q op)) h = refl
-of_run (ActOf (Commit x)) h = refl
-of_run (ActOf (Abort x)) h = refl
-of_run (ActOf (Ask c)) h = refl
-of_run (ActOf (Decide c o)) h = h
-of_run (ActOf (Forget c)) h = h
-of_run (Deliver k) h = refl
-of_run Settle h = refl
-of_run (Restart q k) h = h
-of_run (Trim q) h = h
-
-all_of_run : (es : List Event) → AreAdmitted Run es → All (λ e. is_run_event e ≡ true) es
-all_of_run [] h = All-nil (λ e. is_run_event e ≡ true)
-all_of_run (e ∷ es) h =
-    let both = and_parts (admits Run e) (list_all (admits Run) es) h in
-    All-cons (λ e. is_run_event e ≡ true) e es (of_run e both.0) (all_of_run es both.1)
-
--- the events of a script are those that a tree makes
-pub run_events : (input : List ℕ) (tree : List TreeEntry) (events : List Event) → IsScript Run input tree events
-    → All (λ e. is_run_event e ≡ true) events
-run_events input tree events script = all_of_run events (read_events_are_admitted Run _ _ _ events script.5)
 
 ends_so : (Holds : Saying) (output : Output) (refusal : Refusal) (status : Status) (input text : List ℕ)
     → status ≡ ending refusal → RunsScript Holds output status input text → IsTreeReport Holds output status input text
@@ -67,7 +32,7 @@ played tree start end events refusal is opens leads itself = record {
 -- what is told of a script's run is the report of the script
 pub reported : {A E : Type 0} (text_of : A × Status → List ℕ) (output : Output) (input : List ℕ) (tree : List TreeEntry)
     (events : List Event) (refusal : Refusal) (end : WorldState) (made : Result (A × Status) E)
-    → IsScript Run input tree events → Plays tree events refusal end
+    → IsScript input tree events → Plays tree events refusal end
     → IfOk made (λ r. Tells output end refusal (text_of r)) → IfOk made (λ r. r.1 ≡ ending refusal)
     → IfOk made (λ r. IsTreeReport KeepsHeadline output r.1 input (text_of r))
 reported text_of output input tree events refusal end (Err e) script plays text status = text

@@ -1,18 +1,18 @@
 -- What a tree script's run writes.
-use Rattle.std.specs.Prelude.{◌≡◌, ◌+◌, ◌<◌, ◌^◌, ℕ, Option, Some, None, List, [], ◌∷◌, ◌++◌, codes}
+use Rattle.std.specs.Prelude.{◌≡◌, ◌+◌, ◌<◌, ◌^◌, ℕ, Option, Some, None, List, [], ◌∷◌, ◌++◌, codes, length}
 use Rattle.std.specs.List.{flat_map}
 use Rattle.std.specs.Fmt.{decimal}
 use Rattle.tree_model.specs.declared.trees.TreeEntry.{TreeEntry}
+use Rattle.tree_model.specs.declared.events.Entry.{Entry}
 use Rattle.tree_model.specs.declared.events.Event.{Event}
 use Rattle.tree_model.specs.Errors.{step_error_number}
 use Rattle.tree_model.specs.Outcomes.{Agreement, ByOperatorAlone, CommitRule, Headline, StandingMismatches, TrueAnswers}
 use Rattle.tree_model.specs.Trees.{tree_error_number}
 use Rattle.tree_model.specs.World.{Made, World}
-use Rattle.link_script.specs.declared.stage.Stage.TheVariants.{Run}
 use Rattle.link_script.specs.declared.script.ScriptFault.{ScriptFault}
 use Rattle.link_script.specs.declared.script.ScriptFault.TheVariants.{Utf8, TreeText, Tree, TooLong, Line}
 use Rattle.link_script.specs.Inputs.{IsScript, IsScriptFault}
-use Rattle.trace_lines.specs.Trace.{entries_text}
+use Rattle.trace_lines.specs.Trace.{entries_text, entry_text}
 use Rattle.report_io.specs.declared.status.Status.{Status}
 use Rattle.report_io.specs.declared.status.Status.TheVariants.{Ended, Refused, Stopped}
 use Rattle.world_law.specs.Refusals.{IsRunOf, LeadsTo, Refusal, RefusesIn}
@@ -34,6 +34,13 @@ opened_text tree = flat_map (λ e. opening_text e.id.0) tree
 -- the trace of a run, up to where it has come: the lines of its processes' opening, and those of its steps
 abbrev pub trace_of : WorldState → List ℕ
 trace_of w = opened_text w.tree ++ entries_text 0 w.entries
+
+-- the lines of a step, if there is one, were added behind so many messages, and then so many are sent
+abbrev pub AddsStep : Option Entry → List ℕ → List ℕ → ℕ → Option ℕ → Type 0
+AddsStep None old new sent None = new ≡ old
+AddsStep (Some e) old new sent (Some next) =
+    (next ≡ sent + length e.reaction.messages) × (new ≡ old ++ entry_text sent e)
+AddsStep _ old new sent next = ⊥
 
 -- the last line of a run that was refused an event, by the event's number from 1 and the refusal's
 abbrev pub refused_text : ℕ → ℕ → List ℕ
@@ -106,13 +113,13 @@ pub record RunsScript (Holds : Saying) (output : Output) (status : Status)
     (input text : List ℕ) : Type 0 where
   pub tree : List TreeEntry
   pub events : List Event
-  pub script : IsScript Run input tree events
+  pub script : IsScript input tree events
   pub runs : RunsOver Holds output tree events status text
 
 -- the text is the line of the fault that is there
 pub record RefusesScript (input text : List ℕ) : Type 0 where
   pub fault : ScriptFault
-  pub there : IsScriptFault Run input fault
+  pub there : IsScriptFault input fault
   pub line : text ≡ fault_text fault
 
 -- what is written of an input, by how the run ends

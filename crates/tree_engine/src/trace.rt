@@ -1,9 +1,9 @@
 //! The trace of a run.
 
-ghost use Rattle.std.specs.Prelude.{◌≡◌, ◌++◌, IfErr, IfOk, OnOk, string_bytes};
-ghost use Rattle.trace_lines.specs.Trace.{entries_text};
+ghost use Rattle.std.specs.Prelude.{◌≡◌, ◌+◌, ◌++◌, IfErr, IfOk, OnOk, length, slice_get, string_bytes};
+ghost use Rattle.trace_lines.specs.Trace.{entries_text, entry_text};
 ghost use Rattle.tree_world.specs.Worlds.{state};
-ghost use Rattle.tree_engine.specs.Trees.{IsNumbered, ending, last_line, opened_text, opening_text, refused_text, trace_of};
+ghost use Rattle.tree_engine.specs.Trees.{AddsStep, IsNumbered, ending, last_line, opened_text, opening_text, refused_text, trace_of};
 
 use crate::tree::Refusal;
 use log_store::MemoryStore;
@@ -26,7 +26,7 @@ pub(crate) fn trace(
 {
     let mut out = Vec::new(alloc);
     push_opened(alloc, &mut out, world.tree().entries())?;
-    push_entries(&mut out, world.trace())?;
+    push_entries(&mut out, world)?;
     match refusal {
         None => {
             out.extend_from_slice(b"end\n")?;
@@ -72,17 +72,53 @@ fn opening_line(alloc: Global, process: u64) -> Result<String, AllocError>
     Ok(line)
 }
 
-/// The lines of a run's steps. A run of 2^64 messages is taken for want of memory.
-fn push_entries(out: &mut Vec<u8>, entries: &[Entry]) -> Result<(), Failure>
-    ensures text { OnOk result (out.new.items ≡ out.old.items ++ entries_text 0 entries.now) }
+/// Lets go of a step.
+fn discard(_entry: Entry) {}
+
+/// The lines of a step, behind so many messages. How many were sent with its own. 2^64 messages are taken for want of memory.
+fn push_step(out: &mut Vec<u8>, sent: u64, entry: &Entry) -> Result<u64, Failure>
+    ensures sent { IfOk result (λ next. next ≡ sent + length entry.now.reaction.messages) }
+    ensures text { OnOk result (out.new.items ≡ out.old.items ++ entry_text sent entry.now) }
+    ensures memory { IfErr result (λ e. e ≡ Failure.Memory) }
+{
+    let Some(next) = sent.checked_add(entry.reaction.messages.len() as u64) else {
+        return Err(Failure::Memory);
+    };
+    push_entry(out, sent, entry)?;
+    Ok(next)
+}
+
+/// The same of the step at a place; None, where so many were not made.
+fn push_place(
+    out: &mut Vec<u8>,
+    world: &World<MemoryStore>,
+    place: usize,
+    sent: u64,
+) -> Result<Option<u64>, Failure>
+    ensures text { IfOk result (AddsStep (slice_get (state world.now).entries place) out.old.items out.new.items sent) }
+    ensures memory { IfErr result (λ e. e ≡ Failure.Memory) }
+{
+    let Some(entry) = world.entry(place)? else {
+        return Ok(None);
+    };
+    let pushed = push_step(out, sent, &entry);
+    discard(entry);
+    match pushed {
+        Ok(next) => Ok(Some(next)),
+        Err(failure) => Err(failure),
+    }
+}
+
+/// The lines of a run's steps.
+fn push_entries(out: &mut Vec<u8>, world: &World<MemoryStore>) -> Result<(), Failure>
+    ensures text { OnOk result (out.new.items ≡ out.old.items ++ entries_text 0 (state world.now).entries) }
     ensures memory { IfErr result (λ e. e ≡ Failure.Memory) }
 {
     let mut sent: u64 = 0;
-    for entry in entries {
-        let Some(next) = sent.checked_add(entry.reaction.messages.len() as u64) else {
-            return Err(Failure::Memory);
+    for place in 0..world.made() {
+        let Some(next) = push_place(out, world, place, sent)? else {
+            return Ok(());
         };
-        push_entry(out, sent, entry)?;
         sent = next;
     }
     Ok(())

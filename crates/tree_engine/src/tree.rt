@@ -1,18 +1,17 @@
 //! The engine of tree scripts.
 
-ghost use Rattle.std.specs.Prelude.{◌≡◌, ℕ, true, All, List, IfErr, IfOk, string_bytes};
+ghost use Rattle.std.specs.Prelude.{◌≡◌, ℕ, List, IfErr, IfOk, string_bytes};
 ghost use Rattle.std.specs.Io.KnownBytes.{Appends, Keeps};
 ghost use Rattle.tree_model.specs.Trees.{IsTree};
 ghost use Rattle.report_io.specs.declared.status.Status.{Status as AnyStatus};
 ghost use Rattle.report_io.specs.Streams.{IsInput, WritesFront};
 ghost use Rattle.world_law.specs.Runs.{IsOpened};
-ghost use Rattle.world_law.specs.Worlds.{is_run_event};
 ghost use Rattle.tree_world.specs.Worlds.{state};
 ghost use Rattle.tree_engine.specs.Trees.{Agrees, AnswersTruly, Consents, IsByOperatorsAlone, IsNumbered, IsOne, IsTreeReport, KeepsHeadline, KeepsMismatches, Plays, Tells, ending, fault_text};
 
 use crate::logs::left_text;
 use crate::trace::trace;
-use link_script::{ScriptError, ScriptFault, Stage, read};
+use link_script::{ScriptError, ScriptFault, read};
 use log_store::MemoryStore;
 use report_io::{Failure, Status, read_all, write_all};
 use std::alloc::{AllocError, Global};
@@ -83,7 +82,7 @@ fn report(alloc: Global, output: Output, input: &[u8]) -> Result<(Vec<u8>, Statu
     ensures report { IfOk result (λ r. IsTreeReport KeepsHeadline output r.1 input.now r.0.items) }
     ensures memory { IfErr result (λ e. e ≡ Failure.Memory) }
 {
-    match read(alloc, Stage::Run, input) {
+    match read(alloc, input) {
         Ok((tree, events)) => {
             let (world, refusal) = play(alloc, tree, &events)?;
             told(alloc, output, &world, refusal)
@@ -141,8 +140,7 @@ fn play(
     tree: Tree,
     events: &[Event],
 ) -> Result<(World<MemoryStore>, Refusal), Failure>
-    requires tree { IsTree tree }
-    requires run { All (λ e. is_run_event e ≡ true) events.now }
+    requires { IsTree tree }
     ensures plays { IfOk result (λ r. Plays tree events.now r.1 (state r.0)) }
     ensures numbered { IfOk result (λ r. IsNumbered r.1) }
     ensures memory { IfErr result (λ e. e ≡ Failure.Memory) }

@@ -1,16 +1,11 @@
 -- What stays of a world's state, and an error that is passed on.
 use Rattle.std.proofs.Common.{◌≡◌, sym, subst, refl, true, false, Option, List, Result, Ok, Err, IfErr, IsErrAnd}
 use Rattle.tree_model.specs.declared.names.ProcessId.{ProcessId}
-use Rattle.tree_model.specs.declared.events.Act.{Act}
-use Rattle.tree_model.specs.declared.events.Act.TheVariants.{Begin, Join, Work, Commit, Abort, Ask, Decide, Forget}
-use Rattle.tree_model.specs.declared.events.Event.TheVariants.{Act as ActOf}
-use Rattle.tree_model.specs.declared.events.Input.TheVariants.{Act as ActInput}
 use Rattle.tree_model.specs.declared.events.StepError.{StepError}
 use Rattle.tree_model.specs.declared.trees.TreeEntry.{TreeEntry}
 use Rattle.core_model.specs.States.{CoreState}
-use Rattle.world_law.specs.Worlds.{Same, WorldState, is_run_event}
-use Rattle.sub_core.specs.Steps.{is_decision}
-use Rattle.tree_world.specs.Journals.{JournalState, Keeps}
+use Rattle.world_law.specs.Worlds.{Same, WorldState}
+use Rattle.world_journal.specs.Journals.{JournalState, Keeps}
 use Rattle.tree_world.proofs.Steps.{same_as_it_is}
 
 -- a state of these parts
@@ -33,14 +28,3 @@ pub passed_on : (r : Result (Unit {0}) StepError) (e : StepError) (P : StepError
     → IsErrAnd r (λ y. y ≡ e) → P e → IfErr r P
 passed_on (Ok x) e P is p = tt
 passed_on (Err y) e P is p = subst P (sym is) p
-
--- an event that is made at this stage is no operator's decision
-pub undecided : (a : Act) → is_run_event (ActOf a) ≡ true → is_decision (ActInput a) ≡ false
-undecided (Decide c o) h = absurd (cc)
-undecided (Begin p) h = refl
-undecided (Join c q) h = refl
-undecided (Work c q op) h = refl
-undecided (Commit x) h = refl
-undecided (Abort x) h = refl
-undecided (Ask c) h = refl
-undecided (Forget c) h = refl

@@ -1,9 +1,7 @@
 pub mod EmptyLogs
 pub mod Handling
-pub mod Journals
 pub mod Logs
 pub mod OpenNodes
-pub mod OpenPlaces
 pub mod Processes
 pub mod Restarted
 pub mod Running

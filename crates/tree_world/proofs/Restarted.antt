@@ -15,7 +15,7 @@ use Rattle.world_law.specs.Worlds.{HasFailed, Same, WorldState, step_entry, unde
 use Rattle.tree_world.specs.declared.node.Node.{Node}
 use Rattle.tree_world.specs.Nodes.{MovesAt, SameNodes, core_of, node_in, nodes_at}
 use Rattle.tree_world.specs.Restarts.{NoRestart, NoRestartAt, NoTrim, NoTrimAt, RestartsAt, RestartsNode, TrimsAt, TrimsNode}
-use Rattle.tree_world.specs.Journals.{JournalState, Keeps}
+use Rattle.world_journal.specs.Journals.{JournalState, Keeps}
 use Rattle.tree_world.proofs.Handling.{world}
 use Rattle.tree_world.proofs.Steps.{moves_at, same_nodes}
 

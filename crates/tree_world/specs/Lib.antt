@@ -1,4 +1,3 @@
-pub mod Journals
 pub mod Nodes
 pub mod Openings
 pub mod Restarts

@@ -1,8 +1,6 @@
 //! A tree that runs: its processes, the messages between them, and the journal of their steps.
 #![tactic(auto)]
 
-mod journal;
-mod marks;
 mod node;
 mod nodes;
 mod opening;
@@ -11,4 +9,4 @@ mod world;
 
 pub use node::Node;
 pub use opening::OpenError;
-pub use world::{World, is_run_event};
+pub use world::World;

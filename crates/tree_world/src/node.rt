@@ -5,7 +5,7 @@ ghost use Rattle.rec_log.specs.Sights.{records_of};
 ghost use Rattle.core_model.specs.States.{HasNumbers};
 ghost use Rattle.coord_core.specs.States.{state as coordinator_state};
 ghost use Rattle.kv_manager.specs.Resources.{sight_of};
-ghost use Rattle.sub_core.specs.Steps.{is_decision, state as manager_state};
+ghost use Rattle.sub_core.specs.Steps.{state as manager_state};
 ghost use Rattle.world_law.specs.Worlds.{HandlesInput};
 ghost use Rattle.tree_world.specs.Nodes.{NotHandled, SpellsLog, core_of, live_at};
 
@@ -77,13 +77,12 @@ impl<L: LogStore> Node<L> {
         }
     }
 
-    /// Handles an input, which is no operator's decision. The refusals of the reaction table, as `StepError` says them,
+    /// Handles an input. The refusals of the reaction table, as `StepError` says them,
     /// change nothing, nor does Memory.
     /// Device: the device failed under the record of the input, which stands or not, and the process answers Failed until
     /// its restart.
     pub fn step(&mut self, input: &Input) -> Result<Reaction, StepError>
         requires numbers { HasNumbers (core_of self.old) }
-        requires undecided { is_decision input.now ≡ false }
         ensures ok { IfOk result (HandlesInput (core_of self.old) (core_of self.new) input.now) }
         ensures err { IfErr result (NotHandled (core_of self.old) (core_of self.new) input.now) }
     {
@@ -95,7 +94,6 @@ impl<L: LogStore> Node<L> {
 
     /// The same, and Memory where no numbers are left, by which nothing changed.
     pub(crate) fn handle(&mut self, input: &Input) -> Result<Reaction, StepError>
-        requires { is_decision input.now ≡ false }
         ensures ok { IfOk result (HandlesInput (core_of self.old) (core_of self.new) input.now) }
         ensures err { IfErr result (NotHandled (core_of self.old) (core_of self.new) input.now) }
     {
@@ -131,7 +129,6 @@ fn step_manager<L: LogStore>(
     input: &Input,
 ) -> Result<Reaction, StepError>
     requires numbers { HasNumbers (manager_state sight_of manager.old) }
-    requires undecided { is_decision input.now ≡ false }
     ensures ok { IfOk result (HandlesInput (manager_state sight_of manager.old) (manager_state sight_of manager.new) input.now) }
     ensures err { IfErr result (NotHandled (manager_state sight_of manager.old) (manager_state sight_of manager.new) input.now) }
 {

@@ -1,7 +1,6 @@
 //! The processes of a tree.
 
 ghost use Rattle.std.specs.Prelude.{◌≡◌, false, IfErr, IfOk, option_map};
-ghost use Rattle.sub_core.specs.Steps.{is_decision};
 ghost use Rattle.tree_world.specs.Nodes.{NoStepAt, SpellsLogBy, StepsAt, live_at, log_by, node_in, nodes_at};
 ghost use Rattle.tree_world.specs.Restarts.{NoRestartAt, NoTrimAt, RestartsAt, TrimsAt};
 
@@ -20,7 +19,6 @@ pub(crate) struct Nodes<L: LogStore> {
 impl<L: LogStore> Nodes<L> {
     /// A process handles an input. NoSuch: there is no such process. Memory also comes where its numbers are used up.
     pub(crate) fn step(&mut self, process: ProcessId, input: &Input) -> Result<Reaction, StepError>
-        requires { is_decision input.now ≡ false }
         ensures ok { IfOk result (StepsAt (nodes_at self.old.nodes.entries) (nodes_at self.new.nodes.entries) process input.now) }
         ensures err { IfErr result (NoStepAt (nodes_at self.old.nodes.entries) (nodes_at self.new.nodes.entries) process input.now) }
     {

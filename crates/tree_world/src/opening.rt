@@ -13,7 +13,6 @@ ghost use Rattle.tree_world.specs.Openings.{AreOpened, OpenedAs, OpenedAt};
 ghost use Rattle.tree_world.specs.Nodes.{core_of, nodes_at};
 ghost use Rattle.tree_world.specs.Worlds.{state};
 
-use crate::journal::Journal;
 use crate::node::Node;
 use crate::nodes::Nodes;
 use crate::world::World;
@@ -26,6 +25,7 @@ use std::alloc::{AllocError, Global};
 use sub_core::Subordinate;
 use thiserror::Error;
 use tree_model::{Kind, ProcessId, StepError, Tree, TreeEntry};
+use world_journal::Journal;
 
 /// Why a process was not opened.
 #[derive(Clone, Copy, Debug, PartialEq, Eq, Error)]

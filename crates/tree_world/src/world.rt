@@ -1,16 +1,14 @@
 //! The tree that runs.
 
-ghost use Rattle.std.specs.Prelude.{◌≡◌, ◌<◌, [], false, true, All, IfErr, IfOk, OnOk, length, map, option_map};
-ghost use Rattle.sub_core.specs.Steps.{is_decision};
+ghost use Rattle.std.specs.Prelude.{◌≡◌, ◌<◌, [], IfErr, IfOk, OnOk, length, map, option_map, slice_get};
 ghost use Rattle.tree_model.specs.Plays.{process_of_act};
 ghost use Rattle.core_law.specs.Steps.{trim_reaction};
-ghost use Rattle.world_law.specs.Worlds.{Applies, Stops, Steps, is_run_event as is_run_event_of};
+ghost use Rattle.world_law.specs.Worlds.{Applies, Stops, Steps};
 ghost use Rattle.world_law.specs.Runs.{Leads, LeadsUntil};
-ghost use Rattle.tree_world.specs.Journals.{IsReady, marked_by};
+ghost use Rattle.world_journal.specs.Journals.{IsReady, IsSent, marked_by};
 ghost use Rattle.tree_world.specs.Nodes.{SpellsLogBy, live_at, node_in};
 ghost use Rattle.tree_world.specs.Worlds.{NotTaken, logs_at, state};
 
-use crate::journal::Journal;
 use crate::nodes::Nodes;
 use log_store::LogStore;
 use std::alloc::{AllocError, Global};
@@ -18,6 +16,7 @@ use tree_model::{
     Act, Entry, Envelope, Event, Happening, Input, LogRecord, ProcessId, Reaction, Sequence,
     StepError, Tree,
 };
+use world_journal::Journal;
 
 /// At most so many messages are delivered by one settle.
 const SETTLE_LIMIT: u32 = 10_000;
@@ -30,17 +29,6 @@ pub struct World<L: LogStore> {
     pub(crate) tree: Tree,
     pub(crate) nodes: Nodes<L>,
     pub(crate) journal: Journal,
-}
-
-/// Whether an event is one of those that a world makes so far: an application's act, a delivery, a restart or a trim; no
-/// operator's act.
-pub fn is_run_event(event: &Event) -> bool
-    ensures { result ≡ is_run_event_of event.now }
-{
-    match event {
-        Event::Act(Act::Decide(..) | Act::Forget(_)) => false,
-        _ => true,
-    }
 }
 
 /// The process of an act: its case's ticket's child, or the root.
@@ -78,11 +66,18 @@ fn trimmed(alloc: Global, remain: u64) -> Reaction
 fn discard(_logs: Vec<Vec<LogRecord>>) {}
 
 impl<L: LogStore> World<L> {
-    /// The steps that were made, each with its reaction.
-    pub fn trace(&self) -> &[Entry]
-        ensures { result.now ≡ (state self.now).entries }
+    /// How many steps were made.
+    pub fn made(&self) -> usize
+        ensures { result ≡ length (state self.now).entries }
     {
-        self.journal.entries()
+        self.journal.len()
+    }
+
+    /// The step at this place, from 0, with its reaction, made anew; None, where so many were not made.
+    pub fn entry(&self, place: usize) -> Result<Option<Entry>, AllocError>
+        ensures { IfOk result (λ found. found ≡ slice_get (state self.now).entries place) }
+    {
+        self.journal.entry(place)
     }
 
     /// The tree.
@@ -142,7 +137,6 @@ impl<L: LogStore> World<L> {
     /// failed under its record, and it answers Failed from then on. Memory: a growth was refused, or a process has no
     /// numbers left.
     pub fn apply(&mut self, event: &Event) -> Result<(), StepError>
-        requires { is_run_event_of event.now ≡ true }
         ensures ok { OnOk result (Applies (state self.old) event.now (state self.new)) }
         ensures err { IfErr result (λ e. Stops (state self.old) event.now e (state self.new)) }
     {
@@ -150,7 +144,6 @@ impl<L: LogStore> World<L> {
     }
 
     fn make(&mut self, event: &Event) -> Result<(), StepError>
-        requires { is_run_event_of event.now ≡ true }
         ensures ok { OnOk result (Applies (state self.old) event.now (state self.new)) }
         ensures err { IfErr result (λ e. Stops (state self.old) event.now e (state self.new)) }
     {
@@ -165,7 +158,6 @@ impl<L: LogStore> World<L> {
 
     /// Makes these events, in order, up to the first that is refused: then how many were made, and why the next was not.
     pub fn run(&mut self, events: &[Event]) -> Result<(), (usize, StepError)>
-        requires { All (λ e. is_run_event_of e ≡ true) events.now }
         ensures ok { OnOk result (Leads (state self.old) events.now (state self.new)) }
         ensures err { IfErr result (λ refusal. LeadsUntil (state self.old) events.now refusal.0 refusal.1 (state self.new)) }
         ensures within { IfErr result (λ refusal. refusal.0 < length events.now) }
@@ -174,7 +166,6 @@ impl<L: LogStore> World<L> {
     }
 
     fn make_all(&mut self, events: &[Event]) -> Result<(), (usize, StepError)>
-        requires { All (λ e. is_run_event_of e ≡ true) events.now }
         ensures ok { OnOk result (Leads (state self.old) events.now (state self.new)) }
         ensures err { IfErr result (λ refusal. LeadsUntil (state self.old) events.now refusal.0 refusal.1 (state self.new)) }
         ensures within { IfErr result (λ refusal. refusal.0 < length events.now) }
@@ -187,10 +178,8 @@ impl<L: LogStore> World<L> {
         Ok(())
     }
 
-    /// What an application asks.
-    #[tactic(auto, using(crate::proofs::Handling::undecided))]
+    /// What an application asks, or an operator.
     fn act(&mut self, act: &Act) -> Result<(), StepError>
-        requires { is_run_event_of (Event.Act act.now) ≡ true }
         ensures ok { OnOk result (Applies (state self.old) (Event.Act act.now) (state self.new)) }
         ensures err { IfErr result (λ e. Stops (state self.old) (Event.Act act.now) e (state self.new)) }
     {
@@ -251,7 +240,7 @@ impl<L: LogStore> World<L> {
     /// A process handles an input, for whose step there is room.
     fn handle(&mut self, process: ProcessId, input: Input) -> Result<(), StepError>
         requires ready { IsReady self.old.journal }
-        requires undecided { is_decision input ≡ false }
+        requires sent { IsSent self.old.journal.net (Happening.Input input) }
         ensures ok { OnOk result (Steps (state self.old) (state self.new) process input (marked_by input (state self.old).delivered)) }
         ensures err { IfErr result (NotTaken (state self.old) (state self.new) process input) }
     {

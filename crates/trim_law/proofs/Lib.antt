@@ -1,3 +1,4 @@
 pub mod Rebasing
 pub mod Promises
+pub mod Deciding
 pub mod Trims

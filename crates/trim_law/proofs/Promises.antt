@@ -26,7 +26,7 @@ use Rattle.trim_law.specs.Keeping.{is_managers, mark_at}
 
 -- Names.
 
-branch_same : (k x : Xid) → same_branch (Foreign k) (Foreign x) ≡ same x k
+pub branch_same : (k x : Xid) → same_branch (Foreign k) (Foreign x) ≡ same x k
 unfolding same_branch
 branch_same k x = by_test (same x k) refl
   where
@@ -76,7 +76,7 @@ marked t true v m s e f = ap (λ b. cond b s (said_so m)) e ∙ sym f
 marked t false v m s e f = ap (λ b. cond b s (said_so m)) e
 
 module _ (x : Xid) where
-  of_name : (q : Option ProcessId) (r : Branch → Record) (b : Branch) → ((c : Branch) → record_case (r c) ≡ branch_case c)
+  pub of_name : (q : Option ProcessId) (r : Branch → Record) (b : Branch) → ((c : Branch) → record_case (r c) ≡ branch_case c)
       → ((c : Branch) → record_branch (r c) ≡ Some c) → is_of x (record { entry = r b; parent = q }) ≡ same x (name_xid q b)
   of_name q r b case branch = ap (is_name x) (named r q b case branch)
 

@@ -4,19 +4,24 @@ use Rattle.std.proofs.lemmas.List.{map-append}
 use Rattle.std.proofs.lemmas.Grind.{fold-append}
 use Rattle.std.specs.List.{AllByRecursion}
 use Rattle.xa_xid.specs.declared.xid.Xid.{Xid}
+use Rattle.xa_heur.specs.declared.decision.Decision.{Decision}
+use Rattle.xa_heur.specs.Decisions.{decided_as, decision_after, decision_of}
+use Rattle.tree_model.specs.declared.names.Outcome.TheVariants.{Aborted}
 use Rattle.tree_model.specs.declared.names.ProcessId.{ProcessId}
 use Rattle.tree_model.specs.declared.records.Branch.TheVariants.{Foreign}
 use Rattle.tree_model.specs.declared.records.LogRecord.{LogRecord}
 use Rattle.tree_model.specs.declared.records.Record.{Record}
-use Rattle.tree_model.specs.declared.records.Record.TheVariants.{Opened}
+use Rattle.tree_model.specs.declared.records.Record.TheVariants.{Base, Opened}
 use Rattle.tree_model.specs.Records.{is_opened, record_branch}
 use Rattle.tree_model.specs.Restarts.{is_open}
 use Rattle.tree_model.specs.Standings.{Mark, Unmarked, mark_after, mark_of}
 use Rattle.tree_model.specs.Store.{Data, base_records, no_data, pair_record, stored, stored_after, writes_of}
 use Rattle.log_trim.specs.Trims.{front_of_trim, last_opened, opened_after, staying}
 use Rattle.kv_store.specs.Pairs.{keys_rise}
+use Rattle.kv_replay.specs.Decisions.{decided_in}
 use Rattle.kv_replay.specs.Folds.{by_xid, data_of, renamed_by}
 use Rattle.trim_law.specs.Keeping.{TrimsKeepData, is_managers, mark_at, trim_of, unnamed}
+use Rattle.trim_law.proofs.Deciding.{decisions_from}
 use Rattle.trim_law.proofs.Promises.{kept_from, live, marks_from}
 use Rattle.trim_law.proofs.Rebasing.{bases_read, rebased}
 
@@ -66,43 +71,63 @@ trimmed_data ls rise =
 
 -- what the records say of a branch
 
-module _ (x : Xid) where
-  abbrev said : Mark → List LogRecord → Mark
-  said m ls = fold (mark_after (Foreign x)) m (map by_xid ls)
+module _ {S : Type 0} (step : S → Record → S)
+    (opened : (s : S) (q : Option ProcessId) (r : Record) → is_opened r ≡ true → step s (renamed_by q (record_branch r) r) ≡ s)
+    (base : (s : S) (n : ℕ) → step s (Base n) ≡ s) (pair : (s : S) (p : List ℕ × List ℕ) → step s (pair_record p) ≡ s) where
+  abbrev said : S → List LogRecord → S
+  said s ls = fold step s (map by_xid ls)
 
-  said_parts : (m : Mark) (xs ys : List LogRecord) → said m (xs ++ ys) ≡ said (said m xs) ys
-  said_parts m xs ys =
-      ap (fold (mark_after (Foreign x)) m) (map-append by_xid xs ys) ∙ fold-append (mark_after (Foreign x)) m (map by_xid xs) (map by_xid ys)
+  said_parts : (s : S) (xs ys : List LogRecord) → said s (xs ++ ys) ≡ said (said s xs) ys
+  said_parts s xs ys = ap (fold step s) (map-append by_xid xs ys) ∙ fold-append step s (map by_xid xs) (map by_xid ys)
 
-  opened_says : (m : Mark) (q : Option ProcessId) (r : Record) → is_opened r ≡ true
-      → mark_after (Foreign x) m (renamed_by q (record_branch r) r) ≡ m
-  opened_says m q (Opened n) h = refl
-  opened_says m q r h = absurd (cc)
+  they_say : (os : List LogRecord) (s : S) → AllByRecursion (λ l. is_opened l.entry ≡ true) os → said s os ≡ s
+  they_say [] s h = refl
+  they_say (l ∷ os) s h = ap (λ n. said n os) (opened s l.parent l.entry h.0) ∙ they_say os s h.1
 
-  they_say : (os : List LogRecord) (m : Mark) → AllByRecursion (λ l. is_opened l.entry ≡ true) os → said m os ≡ m
-  they_say [] m h = refl
-  they_say (l ∷ os) m h = ap (λ n. said n os) (opened_says m l.parent l.entry h.0) ∙ they_say os m h.1
+  pairs_say : (ps : List (List ℕ × List ℕ)) (s : S) → fold step s (map pair_record ps) ≡ s
+  pairs_say [] s = refl
+  pairs_say (p ∷ ps) s = ap (λ n. fold step n (map pair_record ps)) (pair s p) ∙ pairs_say ps s
 
-  pairs_say : (ps : List (List ℕ × List ℕ)) (m : Mark) → fold (mark_after (Foreign x)) m (map pair_record ps) ≡ m
-  pairs_say [] m = refl
-  pairs_say (p ∷ ps) m = pairs_say ps m
+  bases_say : (d : Data) (s : S) → said s (map unnamed (base_records d)) ≡ s
+  bases_say d s =
+      ap (fold step s) (bases_read d) ∙ ap (λ n. fold step n (map pair_record d.pairs)) (base s d.count) ∙ pairs_say d.pairs s
 
-  bases_say : (d : Data) (m : Mark) → said m (map unnamed (base_records d)) ≡ m
-  bases_say d m = ap (fold (mark_after (Foreign x)) m) (bases_read d) ∙ pairs_say d.pairs m
-
-  front_says : (ls : List LogRecord) → said Unmarked (front_of_trim ls) ≡ said Unmarked (staying ls ls)
+  front_says : (ls : List LogRecord) (s : S) → said s (front_of_trim ls) ≡ said s (staying ls ls)
   unfolding front_of_trim last_opened
-  front_says ls =
-      said_parts Unmarked (last_opened ls) (staying ls ls)
-      ∙ ap (λ m. said m (staying ls ls)) (they_say (fold opened_after [] ls) Unmarked (all_opened ls [] tt))
+  front_says ls s =
+      said_parts s (last_opened ls) (staying ls ls)
+      ∙ ap (λ m. said m (staying ls ls)) (they_say (fold opened_after [] ls) s (all_opened ls [] tt))
 
-  trimmed_says : (ls : List LogRecord) → AllByRecursion (λ l. is_managers l.entry ≡ true) ls → is_open (mark_at ls x) ≡ true
+  -- a trimmed log says what stays
+  trimmed_says : (ls : List LogRecord) (s : S) → said s (trim_of ls) ≡ said s (staying ls ls)
+  trimmed_says ls s =
+      said_parts s (front_of_trim ls) (map unnamed (base_records (data_of ls)))
+      ∙ bases_say (data_of ls) (said s (front_of_trim ls)) ∙ front_says ls s
+
+module _ (x : Xid) where
+  opened_marks : (m : Mark) (q : Option ProcessId) (r : Record) → is_opened r ≡ true
+      → mark_after (Foreign x) m (renamed_by q (record_branch r) r) ≡ m
+  opened_marks m q (Opened n) h = refl
+  opened_marks m q r h = absurd (cc)
+
+  opened_decides : (d : Decision) (q : Option ProcessId) (r : Record) → is_opened r ≡ true
+      → decision_after (Foreign x) d (renamed_by q (record_branch r) r) ≡ d
+  opened_decides d q (Opened n) h = refl
+  opened_decides d q r h = absurd (cc)
+
+  trimmed_marks : (ls : List LogRecord) → AllByRecursion (λ l. is_managers l.entry ≡ true) ls → is_open (mark_at ls x) ≡ true
       → mark_at (trim_of ls) x ≡ mark_at ls x
   unfolding mark_of
-  trimmed_says ls managers stands =
-      said_parts Unmarked (front_of_trim ls) (map unnamed (base_records (data_of ls)))
-      ∙ bases_say (data_of ls) (said Unmarked (front_of_trim ls)) ∙ front_says ls
+  trimmed_marks ls managers stands =
+      trimmed_says (mark_after (Foreign x)) opened_marks (λ m n. refl) (λ m p. refl) ls Unmarked
       ∙ marks_from x ls (live x ls managers stands) ls managers Unmarked Unmarked (λ none. refl)
+
+  trimmed_decides : (ls : List LogRecord) → AllByRecursion (λ l. is_managers l.entry ≡ true) ls → is_open (mark_at ls x) ≡ true
+      → decided_in (trim_of ls) x ≡ decided_in ls x
+  unfolding decision_of
+  trimmed_decides ls managers stands =
+      trimmed_says (decision_after (Foreign x)) opened_decides (λ d n. refl) (λ d p. refl) ls (decided_as Aborted)
+      ∙ decisions_from x ls (live x ls managers stands) ls (decided_as Aborted) (decided_as Aborted) (λ none. refl)
 
 pub trims_keep_data : TrimsKeepData
 unfolding stored
@@ -111,5 +136,6 @@ trims_keep_data ls managers rise = record {
   pairs = ap (λ d. d.pairs) (trimmed_data ls rise);
   promises = λ x stands. ap (λ d. writes_of (Foreign x) d.promised) (trimmed_data ls rise)
       ∙ kept_from x ls (live x ls managers stands) ls managers no_data no_data (λ none. refl);
-  marks = λ x stands. trimmed_says x ls managers stands;
+  marks = λ x stands. trimmed_marks x ls managers stands;
+  decisions = λ x stands. trimmed_decides x ls managers stands;
 }

@@ -12,6 +12,7 @@ use Rattle.tree_model.specs.Store.{base_records, writes_of}
 use Rattle.log_trim.specs.Trims.{front_of_trim}
 use Rattle.kv_store.specs.Pairs.{keys_rise}
 use Rattle.kv_replay.specs.Folds.{by_xid, data_of}
+use Rattle.kv_replay.specs.Decisions.{decided_in}
 
 -- a record that can stand in a manager's log: it is of no coordinator's case
 abbrev pub is_managers : Record → Bool
@@ -34,14 +35,15 @@ trim_of ls = front_of_trim ls ++ map unnamed (base_records (data_of ls))
 abbrev pub mark_at : List LogRecord → Xid → Mark
 mark_at ls x = mark_of (Foreign x) (map by_xid ls)
 
--- these records make the same data; each branch that is open by the first has the same writes, and its last
--- record says the same
+-- these records make the same data; each branch that is open by the first has the same writes, its last record
+-- says the same, and so do its records of an operator's decision
 pub record KeepsData (ls ks : List LogRecord) : Type 0 where
   pub count : (data_of ks).count ≡ (data_of ls).count
   pub pairs : (data_of ks).pairs ≡ (data_of ls).pairs
   pub promises : (x : Xid) → is_open (mark_at ls x) ≡ true
       → writes_of (Foreign x) (data_of ks).promised ≡ writes_of (Foreign x) (data_of ls).promised
   pub marks : (x : Xid) → is_open (mark_at ls x) ≡ true → mark_at ks x ≡ mark_at ls x
+  pub decisions : (x : Xid) → is_open (mark_at ls x) ≡ true → decided_in ks x ≡ decided_in ls x
 
 -- a trim of a manager's log keeps its data and its open branches
 abbrev pub TrimsKeepData : Type 0

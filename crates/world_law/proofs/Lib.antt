@@ -5,3 +5,5 @@ pub mod Events
 pub mod Processes
 pub mod Whole
 pub mod Restarts
+pub mod Journals
+pub mod Faults

@@ -2,6 +2,7 @@
 -- model refuses.
 use Rattle.std.proofs.Common.{◌≡◌, ◌∙◌, ap, sym, refl, ℕ, true, false, None, Option, Some, is_some, List}
 use Rattle.tree_model.specs.declared.names.ProcessId.{ProcessId}
+use Rattle.tree_model.specs.declared.events.Entry.{Entry}
 use Rattle.tree_model.specs.declared.events.Happening.TheVariants.{Restart as Restarting, Trim as Trimming}
 use Rattle.tree_model.specs.declared.events.StepError.TheVariants.{Failed, NoSuch}
 use Rattle.tree_model.specs.Nodes.{is_listed, place_of}
@@ -13,34 +14,37 @@ use Rattle.core_law.proofs.Trimming.{trim_done}
 use Rattle.run_law.proofs.Kept.{all_opened, keeps_own, open_fits}
 use Rattle.run_law.proofs.Restarts.{restarts_move, trims_move}
 use Rattle.world_law.specs.Worlds.{HasFailed, RestartsAt, TrimsAt, WorldState}
-use Rattle.world_law.specs.Ties.{Follows, GoesOn}
+use Rattle.world_law.specs.Ties.{Follows, FollowsBy, GoesOnBy}
 use Rattle.world_law.specs.Refusals.{model_refusal, refusal_in}
-use Rattle.world_law.proofs.Steps.{listed_at, move_goes_on}
+use Rattle.world_law.proofs.Steps.{ShowsMoves, entered_goes_on, in_full, listed_at}
+
+module _ (journal : List Made → List Entry) (shows : ShowsMoves journal) (es : List Made) (w : World) (s s' : WorldState)
+    (f : FollowsBy journal es w s) (q : ProcessId) (is_tree : IsTree s.tree) where
+  pub restart_goes_on : (bytes : Option ℕ) → RestartsAt s s' q bytes → GoesOnBy journal es w s'
+  restart_goes_on bytes h =
+      let here = f.follows.nodes q h.before h.moves.stood in
+      let listed = listed_at es w (in_full s es) q h.before f.follows h.moves.stood in
+      let made = restarts_move s.tree w q h.before h.behind here.place here.stands listed
+      (keeps_own s.tree es w is_tree f.follows.is_run q listed) h.keep h.reaction h.restarts in
+      entered_goes_on journal es w s s' f q (restart_of h.before h.keep) no_answer h.before h.behind tt h.moves
+      shows h.reaction s.delivered h.enters made.effect made.left made.makes made.shown
+      (h.restarts.place ∙ here.place) made.stands
+
+  pub trim_goes_on : TrimsAt s s' q → GoesOnBy journal es w s'
+  trim_goes_on h =
+      let here = f.follows.nodes q h.before h.moves.stood in
+      let listed = listed_at es w (in_full s es) q h.before f.follows h.moves.stood in
+      let up : (w.at q).failed ≡ false = sym here.stands.failed ∙ h.works in
+      let made = trims_move s.tree w q h.before h.behind here.place here.stands listed
+      (keeps_own s.tree es w is_tree f.follows.is_run q listed) up (all_opened s.tree es w f.follows.is_run q) h.sound
+      (open_fits s.tree es w f.follows.is_run q up) h.remain h.trims in
+      entered_goes_on journal es w s s' f q Trimming no_answer h.before h.behind tt h.moves
+      shows (trim_reaction h.remain) s.delivered h.enters made.effect made.left made.makes made.shown
+      (h.trims.rest.place ∙ here.place) made.stands
+
+-- Refusals.
 
 module _ (es : List Made) (w : World) (s : WorldState) (f : Follows es w s) where
-  module _ (s' : WorldState) (q : ProcessId) (is_tree : IsTree s.tree) where
-    pub restart_goes_on : (bytes : Option ℕ) → RestartsAt s s' q bytes → GoesOn es w s'
-    restart_goes_on bytes h =
-        let here = f.nodes q h.before h.moves.stood in
-        let listed = listed_at es w s q h.before f h.moves.stood in
-        let made = restarts_move s.tree w q h.before h.behind here.place here.stands listed
-        (keeps_own s.tree es w is_tree f.is_run q listed) h.keep h.reaction h.restarts in
-        move_goes_on es w s s' q (restart_of h.before h.keep) no_answer h.reaction s.delivered h.before h.behind f tt
-        h.moves h.enters made.effect made.left made.makes made.shown (h.restarts.place ∙ here.place) made.stands
-
-    pub trim_goes_on : TrimsAt s s' q → GoesOn es w s'
-    trim_goes_on h =
-        let here = f.nodes q h.before h.moves.stood in
-        let listed = listed_at es w s q h.before f h.moves.stood in
-        let up : (w.at q).failed ≡ false = sym here.stands.failed ∙ h.works in
-        let made = trims_move s.tree w q h.before h.behind here.place here.stands listed
-        (keeps_own s.tree es w is_tree f.is_run q listed) up (all_opened s.tree es w f.is_run q) h.sound
-        (open_fits s.tree es w f.is_run q up) h.remain h.trims in
-        move_goes_on es w s s' q Trimming no_answer (trim_reaction h.remain) s.delivered h.before h.behind f tt
-        h.moves h.enters made.effect made.left made.makes made.shown (h.trims.rest.place ∙ here.place) made.stands
-
-  -- Refusals.
-
   -- no move is made at a process that is not there
   nobody : (m : Move) → s.node_at m.step.process ≡ None → model_refusal s.tree w m ≡ Some NoSuch
   nobody m none =

@@ -1,9 +1,11 @@
 -- A step of a tree that runs is a step of the model's world, where each process steps as the model's does.
-use Rattle.std.proofs.Common.{◌≡◌, ◌∙◌, ap, sym, subst, refl, ◌-◌, ℕ, zero, suc, Bool, true, false, inl, inr, Some, is_some, List, [], ◌∷◌, ◌++◌, arith}
+use Rattle.std.proofs.Common.{◌≡◌, ◌∙◌, ap, sym, subst, refl, ◌-◌, ℕ, zero, suc, Bool, true, false, inl, inr, Option, Some, None, is_some, List, [], ◌∷◌, ◌++◌, arith}
 use Rattle.std.specs.Prelude.{slice_get}
 use Rattle.tree_model.specs.declared.names.ProcessId.{ProcessId}
 use Rattle.tree_model.specs.declared.messages.Envelope.{Envelope}
 use Rattle.tree_model.specs.declared.events.Input.{Input}
+use Rattle.tree_model.specs.declared.events.Entry.{Entry}
+use Rattle.tree_model.specs.declared.events.Fault.{Fault}
 use Rattle.tree_model.specs.declared.events.Happening.{Happening}
 use Rattle.tree_model.specs.declared.events.Happening.TheVariants.{Input as Handles}
 use Rattle.tree_model.specs.declared.events.Reaction.{Reaction}
@@ -20,7 +22,7 @@ use Rattle.core_model.specs.States.{CoreState}
 use Rattle.core_model.specs.Makes.{Makes}
 use Rattle.core_law.specs.Ties.{Stands}
 use Rattle.world_law.specs.Worlds.{Enters, MovesNode, Steps, WorldState, step_entry}
-use Rattle.world_law.specs.Ties.{Follows, GoesOn, StandsAt}
+use Rattle.world_law.specs.Ties.{Follows, FollowsBy, GoesOnBy, StandsAt}
 
 -- the model's process makes the input too and shows the same, and what is kept stands for what that leaves
 pub record MadeSo (tree : List TreeEntry) (w : World) (q : ProcessId) (a : DataAnswer) (i : Input) (new : CoreState) (reaction : Reaction) : Type 0 where
@@ -39,13 +41,17 @@ InputsAsTheModel tree = (es : List Made) (w : World) (q : ProcessId) (old new : 
 
 -- The world behind a move.
 
-abbrev pub made_of : ProcessId → Happening → DataAnswer → Effect → Made
-made_of q h a e = record { move = move_of q h a; effect = e }
+-- a move in which a device fails so, or none does
+abbrev pub move_with : ProcessId → Happening → Option Fault → DataAnswer → Move
+move_with q h fault a = record { step = record { process = q; happening = h; fault = fault }; data_answer = a }
+
+abbrev pub made_with : ProcessId → Happening → Option Fault → DataAnswer → Effect → Made
+made_with q h fault a e = record { move = move_with q h fault a; effect = e }
 
 abbrev pub world_after : World → ProcessId → Node → Effect → World
 world_after w q n e = record { at = put_at q n w.at; net = w.net ++ e.messages }
 
-made_at : (tree : List TreeEntry) (w : World) (m : Move) (e : Effect) (n : Node) → is_listed tree m.step.process ≡ true
+pub made_at : (tree : List TreeEntry) (w : World) (m : Move) (e : Effect) (n : Node) → is_listed tree m.step.process ≡ true
     → node_makes (place_of tree m.step.process) (w.at m.step.process) m ≡ Leaves e n
     → world_makes tree w m ≡ Some (e, world_after w m.step.process n e)
 unfolding world_makes
@@ -60,15 +66,19 @@ put_here q n at = rw (same_self q) refl
 put_there : (q p : ProcessId) (n : Node) (at : ProcessId → Node) → same_process q p ≡ false → put_at q n at p ≡ at p
 put_there q p n at h = rw h refl
 
--- The journal and the net grow by the step.
+-- A journal of a run's moves.
 
-shown_by : (es : List Made) (s s' : WorldState) (q : ProcessId) (h : Happening) (a : DataAnswer) (e : Effect) (reaction : Reaction)
-    → journal_of es ≡ s.entries → reaction ≡ reaction_of e → s'.entries ≡ s.entries ++ step_entry q h reaction ∷ []
-    → journal_of (made_of q h a e ∷ es) ≡ s'.entries
-unfolding journal_of
-shown_by es s s' q h a e reaction before shown grown =
-    ap (λ xs. xs ++ step_entry q h (reaction_of e) ∷ []) before
-    ∙ (ap (λ y. s.entries ++ step_entry q h y ∷ []) (sym shown) ∙ sym grown)
+-- a move in which no device fails is shown behind those before it
+abbrev pub ShowsMoves : (List Made → List Entry) → Type 0
+ShowsMoves journal = (es : List Made) (q : ProcessId) (h : Happening) (a : DataAnswer) (e : Effect)
+    → journal (made_with q h None a e ∷ es) ≡ journal es ++ step_entry q h (reaction_of e) ∷ []
+
+-- one in which a device fails is not shown
+abbrev pub HidesFaults : (List Made → List Entry) → Type 0
+HidesFaults journal = (es : List Made) (q : ProcessId) (h : Happening) (f : Fault) (a : DataAnswer) (e : Effect)
+    → journal (made_with q h (Some f) a e ∷ es) ≡ journal es
+
+-- The net grows by the step.
 
 sent_by : (w : World) (s s' : WorldState) (e : Effect) (reaction : Reaction) → s.net ≡ w.net → reaction ≡ reaction_of e
     → s'.net ≡ s.net ++ reaction.messages → s'.net ≡ w.net ++ e.messages
@@ -115,42 +125,64 @@ listed_after s s' q before behind tree stood left others listed p = elim (same_p
   | inr z ↦ ap is_some (others p z.0) ∙ (listed p ∙ ap (λ t. is_listed t p) (sym tree))
 ]
 
--- a move of the model's world that a process makes too: the run goes on by it
-pub move_goes_on : (es : List Made) (w : World) (s s' : WorldState) (q : ProcessId) (h : Happening) (a : DataAnswer)
-    (reaction : Reaction) (marked : List Bool) (before behind : CoreState) → Follows es w s → Happens w.net q h
-    → MovesNode s s' q before behind → Enters s s' q h reaction marked
-    → (e : Effect) (n : Node) → world_makes s.tree w (move_of q h a) ≡ Some (e, world_after w q n e)
-    → reaction ≡ reaction_of e → behind.place ≡ place_of s.tree q → Stands n behind → GoesOn es w s'
-move_goes_on es w s s' q h a reaction marked before behind f happens moves enters e n step shown place stands =
-    let m = made_of q h a e in
-    let w' = world_after w q n e in
-    record {
-      later = m ∷ [];
-      world = w';
-      leads = subst (λ t. Continues t w (m ∷ []) w') (sym moves.tree) (goes_on [] w m.move e w' stays happens step);
-      follows = record {
-        is_run = subst (λ t. IsRun t (m ∷ es) w') (sym moves.tree) (makes es w m.move e w' f.is_run happens step);
-        shown = shown_by es s s' q h a e reaction f.shown shown enters.entries;
-        net = sent_by w s s' e reaction f.net shown enters.net;
-        nodes = nodes_after es w s s' q n e moves.tree before behind moves.stands moves.others f.nodes place stands;
-        listed = listed_after s s' q before behind moves.tree moves.stood moves.stands moves.others f.listed;
-      };
-    }
-
 -- a process of a tree that stands for a run is one that the tree lists
 pub listed_at : (es : List Made) (w : World) (s : WorldState) (q : ProcessId) (c : CoreState) → Follows es w s
     → s.node_at q ≡ Some c → is_listed s.tree q ≡ true
 listed_at es w s q c f stood = sym (f.listed q) ∙ ap is_some stood
 
-pub step_goes_on : (law : (tree : List TreeEntry) → IsTree tree → InputsAsTheModel tree) (es : List Made) (w : World) (s s' : WorldState)
-    (q : ProcessId) (i : Input) (marked : List Bool) → IsTree s.tree → Follows es w s → InputStands w.net q i → Steps s s' q i marked → GoesOn es w s'
-step_goes_on law es w s s' q i marked is_tree f stands h =
-    let here = f.nodes q h.before h.moves.stood in
-    let listed = listed_at es w s q h.before f h.moves.stood in
+-- the state with every step of these moves in its journal
+abbrev pub in_full : WorldState → List Made → WorldState
+in_full s es = record s { entries = journal_of es }
+
+module _ (journal : List Made → List Entry) (es : List Made) (w : World) (s s' : WorldState) (f : FollowsBy journal es w s)
+    (q : ProcessId) (h : Happening) (a : DataAnswer) (before behind : CoreState) (happens : Happens w.net q h)
+    (moves : MovesNode s s' q before behind) where
+  -- a move of the model's world behind which the process stands as it was left: the run goes on by it
+  pub move_goes_on : (fault : Option Fault) (e : Effect) (n : Node)
+      → world_makes s.tree w (move_with q h fault a) ≡ Some (e, world_after w q n e)
+      → s'.net ≡ w.net ++ e.messages → journal (made_with q h fault a e ∷ es) ≡ s'.entries
+      → behind.place ≡ place_of s.tree q → Stands n behind → GoesOnBy journal es w s'
+  move_goes_on fault e n step net shown place stands =
+      let m = made_with q h fault a e in
+      let w' = world_after w q n e in
+      let old = in_full s es in
+      let new = in_full s' (m ∷ es) in
+      record {
+        later = m ∷ [];
+        world = w';
+        leads = subst (λ t. Continues t w (m ∷ []) w') (sym moves.tree) (goes_on [] w m.move e w' stays happens step);
+        follows = record {
+          follows = record {
+            is_run = subst (λ t. IsRun t (m ∷ es) w') (sym moves.tree) (makes es w m.move e w' f.follows.is_run happens step);
+            shown = refl;
+            net = net;
+            nodes = nodes_after es w old new q n e moves.tree before behind moves.stands moves.others f.follows.nodes place stands;
+            listed = listed_after old new q before behind moves.tree moves.stood moves.stands moves.others f.follows.listed;
+          };
+          shown = shown;
+        };
+      }
+
+  -- one in which no device failed, and which is entered
+  pub entered_goes_on : ShowsMoves journal → (reaction : Reaction) (marked : List Bool) → Enters s s' q h reaction marked
+      → (e : Effect) (n : Node) → world_makes s.tree w (move_with q h None a) ≡ Some (e, world_after w q n e)
+      → reaction ≡ reaction_of e → behind.place ≡ place_of s.tree q → Stands n behind → GoesOnBy journal es w s'
+  entered_goes_on shows reaction marked enters e n step shown =
+      move_goes_on None e n step (sent_by w s s' e reaction f.follows.net shown enters.net)
+      (shows es q h a e ∙ (ap (λ xs. xs ++ step_entry q h (reaction_of e) ∷ []) f.shown
+      ∙ (ap (λ y. s.entries ++ step_entry q h y ∷ []) (sym shown) ∙ sym enters.entries)))
+
+pub step_goes_on : (journal : List Made → List Entry) → ShowsMoves journal
+    → (law : (tree : List TreeEntry) → IsTree tree → InputsAsTheModel tree) (es : List Made) (w : World) (s s' : WorldState)
+    (q : ProcessId) (i : Input) (marked : List Bool) → IsTree s.tree → FollowsBy journal es w s → InputStands w.net q i
+    → Steps s s' q i marked → GoesOnBy journal es w s'
+step_goes_on journal shows law es w s s' q i marked is_tree f stands h =
+    let here = f.follows.nodes q h.before h.moves.stood in
+    let listed = listed_at es w (in_full s es) q h.before f.follows h.moves.stood in
     let made : MadeSo s.tree w q h.handles.answer i h.behind h.reaction =
-    law s.tree is_tree es w q h.before h.behind h.handles.answer i h.reaction f.is_run listed stands here.place here.stands h.handles.makes in
-    move_goes_on es w s s' q (Handles i) h.handles.answer h.reaction marked h.before h.behind f stands h.moves h.enters
-    made.effect made.node
+    law s.tree is_tree es w q h.before h.behind h.handles.answer i h.reaction f.follows.is_run listed stands here.place here.stands h.handles.makes in
+    entered_goes_on journal es w s s' f q (Handles i) h.handles.answer h.before h.behind stands h.moves
+    shows h.reaction marked h.enters made.effect made.node
     (made_at s.tree w (move_of q (Handles i) h.handles.answer) made.effect made.node listed made.makes)
     made.shown made.place made.stands
 

@@ -1,11 +1,12 @@
 -- A tree in which nothing is otherwise stands for the same run.
 use Rattle.std.proofs.Common.{◌≡◌, ◌∙◌, ap, sym, subst, refl, is_some, Option, Some, None, List}
+use Rattle.tree_model.specs.declared.events.Entry.{Entry}
 use Rattle.tree_model.specs.Nodes.{is_listed, place_of}
-use Rattle.tree_model.specs.World.{IsRun, Made, World}
+use Rattle.tree_model.specs.World.{IsRun, Made, World, journal_of}
 use Rattle.core_model.specs.States.{CoreState, SameCore}
 use Rattle.core_law.proofs.Faults.{same_stands}
 use Rattle.world_law.specs.Worlds.{Same, SameNode, WorldState}
-use Rattle.world_law.specs.Ties.{Follows}
+use Rattle.world_law.specs.Ties.{Follows, FollowsBy}
 
 both_are : (o p : Option CoreState) → SameNode o p → is_some p ≡ is_some o
 both_are None None same = refl
@@ -34,4 +35,14 @@ same_follows es w s t f same =
             stands = same_stands (w.at q) b.0 c b.2 here.stands;
           };
       listed = λ q. both_are (s.node_at q) (t.node_at q) (same.nodes q) ∙ (f.listed q ∙ ap (λ z. is_listed z q) (sym same.tree));
+    }
+
+-- and for the same run of which its journal shows so much
+pub same_by : (journal : List Made → List Entry) (es : List Made) (w : World) (s t : WorldState) → FollowsBy journal es w s
+    → Same s t → FollowsBy journal es w t
+same_by journal es w s t f same =
+    record {
+      follows = same_follows es w (record s { entries = journal_of es }) (record t { entries = journal_of es }) f.follows
+          (record { tree = same.tree; nodes = same.nodes; net = same.net; delivered = same.delivered; entries = refl });
+      shown = f.shown ∙ sym same.entries;
     }

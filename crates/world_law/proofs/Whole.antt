@@ -12,15 +12,16 @@ use Rattle.tree_model.specs.declared.trees.TreeEntry.{TreeEntry}
 use Rattle.tree_model.specs.Outcomes.{Headline}
 use Rattle.tree_model.specs.Plays.{process_of_act, sent_as}
 use Rattle.tree_model.specs.Trees.{IsTree, root_of}
-use Rattle.tree_model.specs.World.{IsRun, Made, World, opened_world}
+use Rattle.tree_model.specs.World.{IsRun, Made, World, journal_of, opened_world}
 use Rattle.tree_runs.proofs.Headline as runs
 use Rattle.world_law.specs.Worlds.{NoneDelivered, NotActed, NotDelivered, NotRestartedAt, NotTrimmedAt, RefusesAt, RefusesMessage, Same, Stops, WorldState, least_open}
 use Rattle.world_law.specs.Runs.{IsOpened}
-use Rattle.world_law.specs.Ties.{Follows, IsModelled}
+use Rattle.world_law.specs.Ties.{Follows, FollowsBehindFaults, IsModelled}
 use Rattle.world_law.specs.Refusals.{IsForItself, IsRunOf, LeadsTo, Refusal, RefusesDelivery, RefusesEvent}
 use Rattle.world_law.proofs.Openings.{opened_follows}
 use Rattle.world_law.proofs.Unchanged.{same_follows}
 use Rattle.world_law.proofs.Events.{leads_on, settles_on}
+use Rattle.world_law.proofs.Journals.{by_whole, whole_follows, whole_shows}
 use Rattle.world_law.proofs.Processes.{as_the_model, refused_so}
 use Rattle.world_law.proofs.Restarts.{restart_refused, trim_failed, trim_unknown}
 
@@ -130,8 +131,8 @@ module _ (tree : List TreeEntry) (is_tree : IsTree tree) where
         refuses = subst (λ z. RefusesDelivery z w k (sent_as w.net k) e) is (refused_delivery es w s k e f why.1);
       }
   stopped_so s t Settle e es w is itself f h =
-      let g = settles_on as_the_model tree is_tree h.count s h.before es w is f h.settles in
-      settle_refused h.before t e (least_open 1 h.before.delivered) (g.goes_on_so.later ++ es) g.goes_on_so.world g.tree_stays itself g.goes_on_so.follows h.stops
+      let g = settles_on journal_of whole_shows as_the_model tree is_tree h.count s h.before es w is (by_whole es w s f) h.settles in
+      settle_refused h.before t e (least_open 1 h.before.delivered) (g.goes_on_so.later ++ es) g.goes_on_so.world g.tree_stays itself (whole_follows (g.goes_on_so.later ++ es) g.goes_on_so.world h.before g.goes_on_so.follows) h.stops
   stopped_so s t (Restart q bytes) e es w is itself f h =
       let why = not_restarted s t q bytes e itself h in
       record {
@@ -158,19 +159,23 @@ module _ (tree : List TreeEntry) (is_tree : IsTree tree) where
   pub run_so : (start end : WorldState) (events : List Event) (refusal : Refusal) → IsOpened start tree → LeadsTo start events refusal end → IsForItself refusal
       → IsRunOf tree events refusal end
   run_so start end events None opened leads itself =
-      let g = leads_on as_the_model tree is_tree start end events [] opened_world opened.tree_is (opened_follows tree start opened) leads in
+      let g = leads_on journal_of whole_shows as_the_model tree is_tree start end events [] opened_world opened.tree_is
+      (by_whole [] opened_world start (opened_follows tree start opened)) leads in
+      let follows = whole_follows (g.goes_on_so.later ++ []) g.goes_on_so.world end g.goes_on_so.follows in
       record {
         moves = g.goes_on_so.later ++ [];
         world = g.goes_on_so.world;
         tree_is = g.tree_stays;
-        follows = g.goes_on_so.follows;
-        headline = headline_of end (g.goes_on_so.later ++ []) g.goes_on_so.world g.tree_stays g.goes_on_so.follows;
+        follows = follows;
+        headline = headline_of end (g.goes_on_so.later ++ []) g.goes_on_so.world g.tree_stays follows;
         refuses = tt;
       }
   run_so start end events (Some refused) opened leads itself =
-      let g = leads_on as_the_model tree is_tree start leads.before (take refused.0 events) [] opened_world opened.tree_is (opened_follows tree start opened) leads.leads in
+      let g = leads_on journal_of whole_shows as_the_model tree is_tree start leads.before (take refused.0 events) [] opened_world opened.tree_is
+      (by_whole [] opened_world start (opened_follows tree start opened)) leads.leads in
       let last = stopped_so leads.before end leads.event refused.1 (g.goes_on_so.later ++ []) g.goes_on_so.world g.tree_stays
-      (record { memory = itself.0; device = itself.1 }) g.goes_on_so.follows leads.stops in
+      (record { memory = itself.0; device = itself.1 })
+      (whole_follows (g.goes_on_so.later ++ []) g.goes_on_so.world leads.before g.goes_on_so.follows) leads.stops in
       record {
         moves = last.moves;
         world = last.world;
@@ -186,3 +191,6 @@ run_of tree start end events refusal is_tree opened leads itself = run_so tree i
 
 pub modelled : (s : WorldState) (es : List Made) (w : World) → IsTree s.tree → Follows es w s → IsModelled s
 modelled s es w is_tree f = record { moves = es; world = w; follows = f; headline = headline_of s.tree is_tree s es w refl f }
+
+pub modelled_behind_faults : (s : WorldState) (es : List Made) (w : World) → IsTree s.tree → FollowsBehindFaults es w s → Headline s.tree es w
+modelled_behind_faults s es w is_tree f = runs.headline s.tree is_tree es w f.follows.is_run

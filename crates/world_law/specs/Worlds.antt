@@ -4,7 +4,6 @@ use Rattle.tree_model.specs.declared.names.Case.{Case}
 use Rattle.tree_model.specs.declared.names.ProcessId.{ProcessId}
 use Rattle.tree_model.specs.declared.messages.Envelope.{Envelope}
 use Rattle.tree_model.specs.declared.events.Act.{Act}
-use Rattle.tree_model.specs.declared.events.Act.TheVariants.{Decide, Forget}
 use Rattle.tree_model.specs.declared.events.Input.{Input}
 use Rattle.tree_model.specs.declared.events.Input.TheVariants.{Act as ActInput, Message as MessageInput}
 use Rattle.tree_model.specs.declared.events.Event.{Event}
@@ -108,12 +107,6 @@ pub record TrimsAt (old new : WorldState) (q : ProcessId) : Type 0 where
   pub enters : Enters old new q Trimming (trim_reaction remain) old.delivered
 
 -- Events.
-
--- the event is made at this stage: an application's act, a delivery, a restart or a trim; no operator's act
-abbrev pub is_run_event : Event → Bool
-is_run_event (ActOf (Decide c o)) = false
-is_run_event (ActOf (Forget c)) = false
-is_run_event _ = true
 
 -- the mark of the message with this number is set
 abbrev pub marks : List Bool → ℕ → List Bool

@@ -10,10 +10,12 @@ use Rattle.xa_manager.specs.declared.errors.WorkError.{WorkError}
 use Rattle.xa_manager.specs.declared.errors.WorkError.TheVariants.{Locked}
 use Rattle.kv_manager.specs.declared.restart.RestartError.{RestartError}
 use Rattle.kv_manager.specs.declared.restart.RestartError.TheVariants.{Memory, Device, Unfit, Exhausted}
+use Rattle.manager_model.specs.declared.errors.DecideError.{DecideError}
+use Rattle.manager_model.specs.declared.errors.DecideError.TheVariants as decide_error
 use Rattle.manager_model.specs.declared.errors.TrimError.{TrimError}
 use Rattle.manager_model.specs.declared.errors.TrimError.TheVariants as trim_error
 use Rattle.xa_engine.specs.declared.answer.Answer.{Answer}
-use Rattle.xa_engine.specs.declared.answer.Answer.TheVariants.{Code, Given, Found, Done, Refused, Booted, NotBooted, Trimmed, NotTrimmed}
+use Rattle.xa_engine.specs.declared.answer.Answer.TheVariants.{Code, Given, Found, Done, Refused, Booted, NotBooted, Trimmed, NotTrimmed, NotDecided}
 
 -- a branch behind a space
 abbrev pub branch_text : Xid → List ℕ
@@ -45,6 +47,13 @@ trim_number trim_error.Memory = 0
 trim_number trim_error.Device = 2
 trim_number trim_error.Failed = 5
 
+-- the number of why a branch was not decided; want of memory has none, since no output names it
+abbrev pub decide_number : DecideError → ℕ
+decide_number decide_error.Memory = 0
+decide_number decide_error.Device = 5
+decide_number decide_error.Failed = 5
+decide_number decide_error.NotInDoubt = 7
+
 -- the line of an answer
 abbrev pub answer_text : Answer → List ℕ
 answer_text (Code c) = code_name c ++ 10 ∷ []
@@ -57,3 +66,4 @@ answer_text (Booted n) = codes "boot " ++ decimal n ++ 10 ∷ []
 answer_text (NotBooted e) = codes "refused " ++ decimal (restart_number e) ++ 10 ∷ []
 answer_text (Trimmed n) = codes "trim " ++ decimal n ++ 10 ∷ []
 answer_text (NotTrimmed e) = codes "refused " ++ decimal (trim_number e) ++ 10 ∷ []
+answer_text (NotDecided e) = codes "refused " ++ decimal (decide_number e) ++ 10 ∷ []

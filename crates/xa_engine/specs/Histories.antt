@@ -3,15 +3,15 @@ use Rattle.std.specs.Prelude.{◌≡◌, Bool, List, [], ◌∷◌, Ok, Err}
 use Rattle.xa_tables.specs.declared.call.Verb.{Verb}
 use Rattle.xa_tables.specs.declared.call.Verb.TheVariants as verb
 use Rattle.xa_xid.specs.declared.xid.Xid.{Xid}
-use Rattle.xa_law.specs.Moves.{Move, Open as OpenMove, Close as CloseMove, Branch as BranchMove, Recover as RecoverMove, Work as WorkMove, Restart as RestartMove}
+use Rattle.xa_law.specs.Moves.{Move, Open as OpenMove, Close as CloseMove, Branch as BranchMove, Recover as RecoverMove, Work as WorkMove, Decide as DecideMove, Restart as RestartMove}
 use Rattle.xa_law.specs.Histories.{IsLegalHistory}
 use Rattle.kv_manager.specs.Sights.{KvSight}
 use Rattle.xa_script.specs.declared.request.BranchCall.{BranchCall}
 use Rattle.xa_script.specs.declared.request.BranchCall.TheVariants.{Start, End, Prepare, Commit, Rollback, Forget}
 use Rattle.xa_script.specs.declared.request.Request.{Request}
-use Rattle.xa_script.specs.declared.request.Request.TheVariants.{Open, Close, Branch, Recover, Work, Restart, Trim}
+use Rattle.xa_script.specs.declared.request.Request.TheVariants.{Open, Close, Branch, Recover, Work, Restart, Trim, Decide}
 use Rattle.xa_engine.specs.declared.answer.Answer.{Answer}
-use Rattle.xa_engine.specs.declared.answer.Answer.TheVariants.{Code, Given, Booted, NotBooted, Trimmed, NotTrimmed}
+use Rattle.xa_engine.specs.declared.answer.Answer.TheVariants.{Code, Given, Done, Booted, NotBooted, Trimmed, NotTrimmed, NotDecided}
 
 -- the function of XA that a call on a branch is
 abbrev pub verb_of : BranchCall → Verb
@@ -22,9 +22,9 @@ verb_of Commit = verb.Commit
 verb_of Rollback = verb.Rollback
 verb_of Forget = verb.Forget
 
--- a request with its answer is this move of the tables: a call with its answer, or a restart with the
--- branches that it leaves in doubt; an operation on data, a trim, and a restart that is refused leave them
--- alone
+-- a request with its answer is this move of the tables: a call with its answer, an operator's decision, or a
+-- restart with the branches that it leaves in doubt; an operation on data, a trim, and a decision or a restart
+-- that is refused leave them alone
 abbrev pub Shows : Request → Answer → Move → Type 0
 Shows (Open flags migrates) (Code c) move = move ≡ OpenMove flags.0 migrates c
 Shows (Close flags) (Code c) move = move ≡ CloseMove flags.0 c
@@ -36,6 +36,8 @@ Shows (Restart keep) (Booted n) move = (left : List (Xid × Bool)) × (move ≡ 
 Shows (Restart keep) (NotBooted e) move = move ≡ WorkMove
 Shows Trim (Trimmed n) move = move ≡ WorkMove
 Shows Trim (NotTrimmed e) move = move ≡ WorkMove
+Shows (Decide xid o) Done move = move ≡ DecideMove xid
+Shows (Decide xid o) (NotDecided e) move = move ≡ WorkMove
 Shows _ _ move = ⊥
 
 -- requests with their answers are these moves, one for one

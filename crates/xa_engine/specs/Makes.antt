@@ -19,12 +19,15 @@ use Rattle.kv_manager.specs.Sights.{KvSight}
 use Rattle.kv_manager.specs.Turns.{Calls, Finishes, Refuses}
 use Rattle.kv_manager.specs.Restarts.{NotRestarted, Restarted}
 use Rattle.kv_manager.specs.Resources.{sight_of}
+use Rattle.tree_model.specs.declared.names.Outcome.{Outcome}
+use Rattle.manager_model.specs.Deciding.{Decides as IsDecided, NotDecided}
+use Rattle.manager_model.specs.declared.errors.DecideError.TheVariants as decide_error
 use Rattle.manager_model.specs.Trimming.{NotTrimmed, Trims as TrimsLog}
 use Rattle.manager_model.specs.declared.errors.TrimError.TheVariants as trim_error
 use Rattle.xa_script.specs.declared.request.BranchCall.{BranchCall}
 use Rattle.xa_script.specs.declared.request.BranchCall.TheVariants.{Start, End, Prepare, Commit, Rollback, Forget}
 use Rattle.xa_script.specs.declared.request.Request.{Request}
-use Rattle.xa_script.specs.declared.request.Request.TheVariants.{Open, Close, Branch, Recover, Work, Restart, Trim}
+use Rattle.xa_script.specs.declared.request.Request.TheVariants.{Open, Close, Branch, Recover, Work, Restart, Trim, Decide}
 use Rattle.xa_engine.specs.declared.answer.Answer.{Answer}
 use Rattle.xa_engine.specs.declared.answer.Answer.TheVariants as answer
 
@@ -105,6 +108,13 @@ Trims old new (answer.Trimmed n) = TrimsLog (sight_of old) (sight_of new) n
 Trims old new (answer.NotTrimmed e) = (e ≡ trim_error.Memory → ⊥) × NotTrimmed (sight_of old) (sight_of new) e
 Trims old new _ = ⊥
 
+-- an operator's decision, or why there is none
+abbrev pub Decides : KvSight → KvSight → Xid → Outcome → Answer → Type 0
+Decides old new x o answer.Done = IsDecided (sight_of old) (sight_of new) x o
+Decides old new x o (answer.NotDecided e) =
+    (e ≡ decide_error.Memory → ⊥) × NotDecided (sight_of old) (sight_of new) x o e
+Decides old new x o _ = ⊥
+
 -- a request takes a manager from one state to another, and is answered so
 abbrev pub Makes : KvSight → KvSight → Request → Answer → Type 0
 Makes old new (Open flags migrates) = IsCode (λ c. Moves old new c (λ a b. Opens a b flags.0 migrates c))
@@ -114,3 +124,4 @@ Makes old new (Recover thread count flags) = Scans old new thread count flags.0
 Makes old new (Work thread op) = Works old new thread op
 Makes old new (Restart keep) = Boots old new keep
 Makes old new Trim = Trims old new
+Makes old new (Decide xid o) = Decides old new xid o

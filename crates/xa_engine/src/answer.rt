@@ -2,10 +2,10 @@
 
 ghost use Rattle.std.specs.Prelude.{◌≡◌, ◌++◌, ◌∷◌, [], OnOk, decimal, codes};
 ghost use Rattle.xa_xid.specs.Text.{xid_text};
-ghost use Rattle.xa_engine.specs.Answers.{answer_text, branch_text, given_text, refusal_text, restart_number, trim_number};
+ghost use Rattle.xa_engine.specs.Answers.{answer_text, branch_text, decide_number, given_text, refusal_text, restart_number, trim_number};
 
 use kv_manager::RestartError;
-use manager_model::TrimError;
+use manager_model::{DecideError, TrimError};
 use std::alloc::{AllocError, Global};
 use trace_lines::{push, push_number};
 use tree_model::{Bytes, Sequence};
@@ -21,7 +21,7 @@ pub(crate) enum Answer {
     Given(Sequence<Xid>),
     /// What a thread read at a key.
     Found(Option<Bytes>),
-    /// A thread wrote a key.
+    /// A thread wrote a key, or an operator decided a branch.
     Done,
     /// A thread's work was refused.
     Refused(WorkError),
@@ -33,6 +33,8 @@ pub(crate) enum Answer {
     Trimmed(u64),
     /// The log was not trimmed.
     NotTrimmed(TrimError),
+    /// A branch was not decided.
+    NotDecided(DecideError),
 }
 
 /// The number by which the output names why a manager did not restart; 0 for want of memory, which no output names.
@@ -55,6 +57,17 @@ fn trim_number(error: TrimError) -> u64
         TrimError::Memory => 0,
         TrimError::Device => 2,
         TrimError::Failed => 5,
+    }
+}
+
+/// The number by which the output names why a branch was not decided; 0 for want of memory, which no output names.
+fn decide_number(error: DecideError) -> u64
+    ensures { result ≡ decide_number error }
+{
+    match error {
+        DecideError::Memory => 0,
+        DecideError::Device | DecideError::Failed => 5,
+        DecideError::NotInDoubt => 7,
     }
 }
 
@@ -134,5 +147,6 @@ pub(crate) fn push_answer(
         Answer::NotBooted(error) => push_numbered(out, "refused ", restart_number(*error)),
         Answer::Trimmed(remain) => push_numbered(out, "trim ", *remain),
         Answer::NotTrimmed(error) => push_numbered(out, "refused ", trim_number(*error)),
+        Answer::NotDecided(error) => push_numbered(out, "refused ", decide_number(*error)),
     }
 }

@@ -4,14 +4,14 @@ ghost use Rattle.std.specs.Prelude.{◌≡◌, IfOk, Some, None};
 ghost use Rattle.kv_locks.specs.declared.holders.Mode.TheVariants as mode;
 ghost use Rattle.kv_core.specs.Works.{Reads, Writes, work_refusal};
 ghost use Rattle.kv_manager.specs.Turns.{Calls, Refuses};
-ghost use Rattle.xa_engine.specs.Makes.{Boots, CallsBranch, IsRead, IsRefused, IsWritten, Makes, Scans, Trims, Works};
+ghost use Rattle.xa_engine.specs.Makes.{Boots, CallsBranch, Decides, IsRead, IsRefused, IsWritten, Makes, Scans, Trims, Works};
 
 use crate::answer::Answer;
 use kv_manager::{KvManager, RestartError};
 use log_store::MemoryStore;
-use manager_model::TrimError;
+use manager_model::{DecideError, TrimError};
 use std::alloc::AllocError;
-use tree_model::{Op, Sequence};
+use tree_model::{Op, Outcome, Sequence};
 use xa_codes::{Code, Flags};
 use xa_manager::WorkError;
 use xa_script::{BranchCall, Request};
@@ -41,6 +41,7 @@ pub(crate) fn make(manager: &mut Manager, request: &Request) -> Result<Answer, A
         Request::Work { thread, op } => work(manager, *thread, op),
         Request::Restart { keep } => restart(manager, *keep),
         Request::Trim => trim(manager),
+        Request::Decide { xid, outcome } => decide(manager, xid, *outcome),
     }
 }
 
@@ -145,5 +146,16 @@ fn trim(manager: &mut Manager) -> Result<Answer, AllocError>
         Ok(remain) => Ok(Answer::Trimmed(remain as u64)),
         Err(TrimError::Memory) => Err(AllocError),
         Err(error) => Ok(Answer::NotTrimmed(error)),
+    }
+}
+
+/// An operator's decision.
+fn decide(manager: &mut Manager, xid: &Xid, outcome: Outcome) -> Result<Answer, AllocError>
+    ensures { IfOk result (λ answer. Decides manager.old manager.new xid.now outcome answer) }
+{
+    match manager.decide(xid, outcome) {
+        Ok(()) => Ok(Answer::Done),
+        Err(DecideError::Memory) => Err(AllocError),
+        Err(error) => Ok(Answer::NotDecided(error)),
     }
 }

@@ -7,7 +7,7 @@ use Rattle.xa_xid.specs.declared.xid.Xid.{Xid}
 use Rattle.xa_script.specs.declared.request.Call.{Call}
 use Rattle.xa_script.specs.declared.request.Call.TheVariants as call
 use Rattle.xa_script.specs.declared.request.Request.{Request}
-use Rattle.xa_script.specs.declared.request.Request.TheVariants.{Open, Close, Branch, Recover, Work, Restart, Trim}
+use Rattle.xa_script.specs.declared.request.Request.TheVariants.{Open, Close, Branch, Recover, Work, Restart, Trim, Decide}
 use Rattle.xa_script.specs.Requests.{IsNumber, IsName, IsOpenOf, SpellsOpen, three_at, SpellsBranch, SpellsCall, SpellsRecover}
 
 -- what holds anyway holds where there is nothing
@@ -47,3 +47,4 @@ no_flags_close c rest is none (Recover thread count flags) s = absurd (let e = s
 no_flags_close c rest is none (Work thread op) s = absurd s
 no_flags_close c rest is none (Restart keep) s = absurd (let e = s.0 in cc)
 no_flags_close c rest is none Trim s = absurd s
+no_flags_close c rest is none (Decide xid o) s = absurd (let e = s.0 in cc)

@@ -9,6 +9,8 @@ use Rattle.xa_xid.specs.Words.{cut_at}
 use Rattle.xa_xid.specs.Xids.{IsXid}
 use Rattle.xa_xid.specs.declared.xid.Xid.{Xid}
 use Rattle.tree_model.specs.declared.messages.Op.{Op}
+use Rattle.tree_model.specs.declared.names.Outcome.{Outcome}
+use Rattle.tree_model.specs.declared.names.Outcome.TheVariants.{Aborted, Committed}
 use Rattle.script_words.specs.Steps.{same}
 use Rattle.script_words.specs.Operations.{op_by}
 use Rattle.xa_script.specs.declared.request.BranchCall.TheVariants.{Start, End, Prepare, Commit, Rollback, Forget}
@@ -17,7 +19,7 @@ use Rattle.xa_script.specs.declared.request.Call.TheVariants as call
 use Rattle.xa_script.specs.declared.request.Word.{Word}
 use Rattle.xa_script.specs.declared.request.Word.TheVariants as word
 use Rattle.xa_script.specs.declared.request.Request.{Request}
-use Rattle.xa_script.specs.declared.request.Request.TheVariants.{Open, Close, Branch, Recover, Work, Restart, Trim}
+use Rattle.xa_script.specs.declared.request.Request.TheVariants.{Open, Close, Branch, Recover, Work, Restart, Trim, Decide}
 
 -- what the first word of a line asks for
 abbrev pub word_at : List ℕ → Option Word
@@ -27,6 +29,7 @@ word_at w =
     else if same w (codes "recover") then Some (word.Call call.Recover)
     else if same w (codes "restart") then Some (word.Call call.Restart)
     else if same w (codes "trim") then Some (word.Call call.Trim)
+    else if same w (codes "heur") then Some (word.Call call.Decide)
     else if same w (codes "start") then Some (word.Call (call.Branch Start))
     else if same w (codes "end") then Some (word.Call (call.Branch End))
     else if same w (codes "prepare") then Some (word.Call (call.Branch Prepare))
@@ -89,6 +92,17 @@ SpellsRecover rest thread count flags =
 abbrev pub SpellsKeep : List ℕ → Option ℕ → Type 0
 SpellsKeep rest keep = IsSomeAnd keep (λ n. number_at rest ≡ Some n)
 
+-- the outcome that a word names
+abbrev pub outcome_at : List ℕ → Option Outcome
+outcome_at w =
+    if same w (codes "commit") then Some Committed
+    else if same w (codes "rollback") then Some Aborted
+    else None
+
+-- what stands behind `heur`: the name of a branch, and what an operator decides
+abbrev pub SpellsDecision : List ℕ → Xid → Outcome → Type 0
+SpellsDecision rest xid o = IsSomeAnd (cut_at 32 rest) (λ p. IsName p.0 xid × (outcome_at p.1 ≡ Some o))
+
 -- what stands behind the name of a call spells it
 abbrev pub SpellsCall : Call → List ℕ → Request → Type 0
 SpellsCall c rest (Open flags migrates) = (c ≡ call.Open) × SpellsOpen rest flags.0 migrates
@@ -98,6 +112,7 @@ SpellsCall c rest (Recover thread count flags) = (c ≡ call.Recover) × SpellsR
 SpellsCall c rest (Work thread op) = ⊥
 SpellsCall c rest (Restart keep) = (c ≡ call.Restart) × SpellsKeep rest keep
 SpellsCall c rest Trim = ⊥
+SpellsCall c rest (Decide xid o) = (c ≡ call.Decide) × SpellsDecision rest xid o
 
 -- what stands behind `put`, `get` and `del`: a thread, and the key with its value
 abbrev pub SpellsTask : List ℕ → List ℕ → ℕ → Op → Type 0

@@ -6,13 +6,14 @@ ghost use Rattle.std.specs.List.{All};
 ghost use Rattle.xa_codes.specs.FlagNames.{IsFlagText};
 ghost use Rattle.xa_xid.specs.declared.xid.Xid.{Xid as AnyXid};
 ghost use Rattle.tree_model.specs.declared.messages.Op.{Op as AnyOp};
+ghost use Rattle.tree_model.specs.declared.names.Outcome.{Outcome as AnyOutcome};
 ghost use Rattle.script_words.specs.Operations.{op_view};
 ghost use Rattle.xa_script.specs.declared.request.Request.{Request as AnyRequest};
-ghost use Rattle.xa_script.specs.Requests.{IsAlone, IsInfo, IsNumber, Spells, SpellsBranch, SpellsCall, SpellsOpen, SpellsRecover, SpellsTask, SpellsWork, three_at, word_at};
+ghost use Rattle.xa_script.specs.Requests.{IsAlone, IsInfo, IsNumber, Spells, SpellsBranch, SpellsCall, SpellsDecision, SpellsOpen, SpellsRecover, SpellsTask, SpellsWork, outcome_at, three_at, word_at};
 
 use script_words::{Task, task_by};
 use std::alloc::{AllocError, Global};
-use tree_model::Op;
+use tree_model::{Op, Outcome};
 use xa_codes::Flags;
 use xa_xid::word::cut;
 use xa_xid::{Xid, numeral};
@@ -62,6 +63,11 @@ pub enum Request {
     },
     /// The log is trimmed.
     Trim,
+    /// An operator decides a branch.
+    Decide {
+        xid: Xid,
+        outcome: Outcome,
+    },
 }
 
 /// What the first word of a line asks for.
@@ -72,7 +78,7 @@ enum Word {
     Work,
 }
 
-/// A call of a function, a restart or a trim.
+/// A call of a function, a restart, a trim or an operator's decision.
 #[derive(Clone, Copy, PartialEq, Eq)]
 enum Call {
     Open,
@@ -80,6 +86,7 @@ enum Call {
     Recover,
     Restart,
     Trim,
+    Decide,
     Branch(BranchCall),
 }
 
@@ -93,6 +100,7 @@ fn word_of(word: &str) -> Option<Word>
         "recover" => Some(Word::Call(Call::Recover)),
         "restart" => Some(Word::Call(Call::Restart)),
         "trim" => Some(Word::Call(Call::Trim)),
+        "heur" => Some(Word::Call(Call::Decide)),
         "start" => Some(Word::Call(Call::Branch(BranchCall::Start))),
         "end" => Some(Word::Call(Call::Branch(BranchCall::End))),
         "prepare" => Some(Word::Call(Call::Branch(BranchCall::Prepare))),
@@ -158,6 +166,10 @@ fn call_of(call: Call, rest: &str) -> Option<Request>
             Some(Request::Restart { keep: Some(keep) })
         }
         Call::Trim => None,
+        Call::Decide => {
+            let (xid, outcome) = decision_of(rest)?;
+            Some(Request::Decide { xid, outcome })
+        }
         Call::Branch(call) => {
             let (thread, xid, flags) = branch_of(rest)?;
             Some(Request::Branch {
@@ -252,6 +264,30 @@ fn branch_of(rest: &str) -> Option<(u32, Xid, Flags)>
     };
     let flags = Flags::parse(flags)?;
     Some((thread, xid, flags))
+}
+
+/// The outcome that a word names.
+fn outcome_of(word: &str) -> Option<Outcome>
+    ensures { result ≡ outcome_at word.now }
+{
+    match word {
+        "commit" => Some(Outcome::Committed),
+        "rollback" => Some(Outcome::Aborted),
+        _ => None,
+    }
+}
+
+/// The branch of an operator's decision, and the outcome.
+fn decision_of(rest: &str) -> Option<(Xid, Outcome)>
+    ensures found { IfSome result (λ p. SpellsDecision rest.now p.0 p.1) }
+    ensures none { IfNone result ((xid : AnyXid) (outcome : AnyOutcome) → SpellsDecision rest.now xid outcome → ⊥) }
+{
+    let (xid, word) = cut(rest, ' ')?;
+    let Ok(xid) = Xid::parse(xid) else {
+        return None;
+    };
+    let outcome = outcome_of(word)?;
+    Some((xid, outcome))
 }
 
 /// Whether a word is an information text: 1 to 32 ASCII messages.

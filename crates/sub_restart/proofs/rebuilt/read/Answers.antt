@@ -1,4 +1,4 @@
-use Rattle.std.proofs.Common.{◌∙◌, ◌∷◌, [], ◌++◌, take, ap, sym, subst, length}
+use Rattle.std.proofs.Common.{◌∙◌, ◌∷◌, [], ◌++◌, take, ap, sym, subst}
 use Rattle.std.proofs.lemmas.List.{take_more}
 use Rattle.sub_restart.specs.Rebuilt.{Leaves, leaf}
 use Rattle.sub_restart.proofs.Steps.{nothing_left, taken}

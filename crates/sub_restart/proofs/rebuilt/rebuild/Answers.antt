@@ -1,4 +1,4 @@
-use Rattle.std.proofs.Common.{◌∙◌, ap, arith, ◌+◌, ◌<◌, ◌^◌, ◌≤◌}
+use Rattle.std.proofs.Common.{◌∙◌, ap, arith}
 use Rattle.std.specs.List.{flat_map}
 use Rattle.sub_restart.specs.Rebuilt.{asks, leaf}
 use Rattle.sub_restart.proofs.Rebuilding.{rebuilds}

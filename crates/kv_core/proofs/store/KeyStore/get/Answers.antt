@@ -10,7 +10,7 @@ use Rattle.kv_core.proofs.store.KeyStore.get.Goals as goal
 
 pub invariant_of-self : goal.invariant_of-self
 invariant_of-self c =
-    let s : KeySight = record { tables = c.self.inside.states; writes = c.self.inside.writes; locks = c.self.inside.locks; versions = c.self.inside.versions } in
+    let s : KeySight = record { tables = c.self.inside.states; writes = c.self.inside.writes; locks = c.self.inside.locks; versions = c.self.inside.versions; decisions = c.self.inside.heuristics } in
     let works : at_work s c.args.thread ≡ Some c.in_ok-xid.xid = search rules in
     let allowed : branch_refusal s c.args.key.now None Shared c.in_ok-xid.xid ≡ None = search rules in
     elim c.match-shared.branch [

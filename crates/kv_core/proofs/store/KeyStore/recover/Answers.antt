@@ -1,13 +1,16 @@
-use Rattle.std.proofs.Common.{refl}
-use Rattle.kv_core.specs.Stores.{is_let_go}
+use Rattle.std.proofs.Common.{Bool, refl}
+use Rattle.xa_tables.specs.declared.states.BranchState.{BranchState}
+use Rattle.kv_core.specs.Stores.{is_decided, is_let_go}
 use Rattle.kv_core.proofs.Moves.{Keeps, either_way, recovers_keep, same_keeps}
-use Rattle.kv_core.proofs.Tidy.{tidy_moved}
+use Rattle.kv_core.proofs.Tidy.{tidy_called}
 use Rattle.xa_states.specs.Answers.{Recovers, Same, map_ok}
 use Rattle.kv_core.proofs.store.KeyStore.recover.Goals as goal
 
 pub invariant_of-self : goal.invariant_of-self
 invariant_of-self c =
-    tidy_moved (record { tables = c.self.inside.states; writes = c.self.inside.writes; locks = c.self.inside.locks; versions = c.self.inside.versions })
-    _ c.self.invariant refl refl
-    (either_way (λ answer. Recovers c.self.inside.states c.recover.new.self c.args.thread c.args.count c.args.flags.0 (map_ok answer)) (Same c.self.inside.states c.recover.new.self) (Keeps is_let_go c.self.inside.states c.recover.new.self) c.recover.result c.recover.ensures.answer c.recover.ensures.err
-    (λ answer made. recovers_keep is_let_go _ _ c.args.thread c.args.count c.args.flags.0 (map_ok answer) made) (same_keeps is_let_go _ _))
+    tidy_called (record { tables = c.self.inside.states; writes = c.self.inside.writes; locks = c.self.inside.locks; versions = c.self.inside.versions; decisions = c.self.inside.heuristics })
+    _ c.self.invariant refl refl refl (keeps is_let_go) (keeps is_decided)
+  where
+    keeps : (q : BranchState → Bool) → Keeps q c.self.inside.states c.recover.new.self
+    keeps q = either_way (λ answer. Recovers c.self.inside.states c.recover.new.self c.args.thread c.args.count c.args.flags.0 (map_ok answer)) (Same c.self.inside.states c.recover.new.self) (Keeps q c.self.inside.states c.recover.new.self) c.recover.result c.recover.ensures.answer c.recover.ensures.err
+        (λ answer made. recovers_keep q _ _ c.args.thread c.args.count c.args.flags.0 (map_ok answer) made) (same_keeps q _ _)

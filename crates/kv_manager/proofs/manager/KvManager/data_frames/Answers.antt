@@ -14,7 +14,7 @@ use Rattle.kv_manager.proofs.manager.KvManager.data_frames.Goals as goal
 pub pairs_of-requires-clause-rise : goal.pairs_of-requires-clause-rise
 pairs_of-requires-clause-rise g c =
     ap (λ rs. keys_rise (data_of rs).pairs) (c.deref.ensures.value ∙ c.in_ok-records.ensures ∙ sym c.in_ok-records-2.ensures)
-    ∙ rise_left _ _ _ _ _ _ c.in-Ok.ensures.ok
+    ∙ rise_left _ _ _ _ _ _ _ c.in-Ok.ensures.ok
 
 pub returns-clause-frames : goal.returns-clause-frames
 returns-clause-frames g c =

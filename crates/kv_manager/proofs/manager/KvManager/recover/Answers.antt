@@ -1,5 +1,5 @@
 use Rattle.xa_states.specs.Answers.{Recovers, map_ok}
-use Rattle.kv_core.specs.Stores.{MovesTables, SameStore}
+use Rattle.kv_core.specs.Stores.{MovesTables, SameStore, is_decided}
 use Rattle.kv_core.proofs.Moves.{recovers_keep}
 use Rattle.kv_manager.specs.Sights.{KvSight}
 use Rattle.kv_manager.proofs.Keeping.{KeepsPromises, either_way, is_prepared, kept_by, moved_promises, same_promises}
@@ -12,5 +12,6 @@ invariant_of-self g c =
     (either_way (λ answer. MovesTables c.self.inside.store c.recover.new.self (λ old new. Recovers old new c.args.thread c.args.count c.args.flags.0 (map_ok answer)))
     (λ e. SameStore c.self.inside.store c.recover.new.self)
     (KeepsPromises c.self.inside.store c.recover.new.self) c.recover.result c.recover.ensures.answer c.recover.ensures.err
-    (λ answer made. moved_promises c.self.inside.store c.recover.new.self (recovers_keep is_prepared _ _ c.args.thread c.args.count c.args.flags.0 (map_ok answer) made.tables) made.writes made.versions)
+    (λ answer made. moved_promises c.self.inside.store c.recover.new.self (recovers_keep is_prepared _ _ c.args.thread c.args.count c.args.flags.0 (map_ok answer) made.tables)
+    (recovers_keep is_decided _ _ c.args.thread c.args.count c.args.flags.0 (map_ok answer) made.tables) made.writes made.versions made.decisions)
     (λ e stays. same_promises c.self.inside.store c.recover.new.self stays))

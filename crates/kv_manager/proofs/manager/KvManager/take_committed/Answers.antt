@@ -1,4 +1,4 @@
-use Rattle.std.proofs.Common.{rules, ◌∷◌, [], refl, sym, subst}
+use Rattle.std.proofs.Common.{rules, ◌∷◌, ◌∙◌, [], refl, sym, subst}
 use Rattle.rec_log.specs.Sights.{Breaks}
 use Rattle.kv_turns.specs.Turns.{entry_record}
 use Rattle.kv_writes.specs.Writes.{writes_of}
@@ -7,8 +7,21 @@ use Rattle.kv_core.specs.Ends.{PublishesWrites, SameButData, StagesWrites, Takes
 use Rattle.kv_manager.specs.Sights.{KvSight}
 use Rattle.kv_manager.specs.Turns.{Broke, Made, OnlyRoom}
 use Rattle.kv_manager.proofs.Keeping.{data_only, kept_by}
-use Rattle.kv_manager.proofs.Turns.{commits_by, due_same, fails_by, kept_committed, made_committed}
+use Rattle.kv_manager.proofs.Turns.{commits_by, due_has, due_same, fails_by, kept_committed, made_committed, turn_same}
 use Rattle.kv_manager.proofs.manager.KvManager.take_committed.Goals as goal
+
+pub frame-requires : goal.frame-requires
+frame-requires g c = due_has c.args.self.now c.args.xid.now c.args.call c.args.turn c.args.entry c.requires.due c.requires.entry
+
+pub finish-requires-clause-turn : goal.finish-requires-clause-turn
+finish-requires-clause-turn g c =
+    let s : KvSight = record { store = c.self.inside.store; log = c.self.inside.log; boot = c.self.inside.boot } in
+    let room : OnlyRoom c.args.self.now s = subst (OnlyRoom c.args.self.now) (sym c.self.view_is) c.frame.ensures.stays in
+    let staged : StagesWrites s.store c.stage.new.self c.args.xid.now = search rules in
+    let published : PublishesWrites c.stage.new.self c.publish.new.self = search rules in
+    turn_same s.store c.publish.new.self c.args.xid.now c.args.call c.args.turn (published.tables ∙ staged.tables) (published.writes ∙ staged.writes)
+    (published.decisions ∙ staged.decisions)
+    (due_same c.args.self.now s c.args.xid.now c.args.call c.args.turn room c.requires.due).due
 
 pub invariant_of-self : goal.invariant_of-self
 invariant_of-self g c =
@@ -45,4 +58,4 @@ returns-clause-answer g c =
     let room : OnlyRoom c.args.self.now s = subst (OnlyRoom c.args.self.now) (sym c.self.view_is) c.frame.ensures.stays in
     let staged : StagesWrites s.store c.stage.new.self c.args.xid.now = search rules in
     let broke : Breaks s.log c.write.new.log (entry_record c.args.entry c.args.xid.now (writes_of s.store.writes c.args.xid.now) ∷ []) = search rules in
-    Broke refl (fails_by c.args.self.now s _ c.args.xid.now c.args.turn c.args.entry room c.requires.entry broke staged.tables staged.writes staged.locks refl)
+    Broke refl (fails_by c.args.self.now s _ c.args.xid.now c.args.turn c.args.entry room c.requires.entry broke staged.tables staged.writes staged.locks staged.decisions refl)

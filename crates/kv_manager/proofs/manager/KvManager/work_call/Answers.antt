@@ -4,7 +4,7 @@ use Rattle.xa_tables.specs.declared.states.BranchState.TheVariants.{S0}
 use Rattle.xa_tables.specs.Calls.{legal}
 use Rattle.xa_states.specs.Answers.{Answers, Wanted}
 use Rattle.xa_states.specs.Ready.{leaves}
-use Rattle.kv_core.specs.Stores.{MovesTables, SameStore}
+use Rattle.kv_core.specs.Stores.{MovesTables, SameStore, is_decided}
 use Rattle.kv_core.proofs.Moves.{works_keep}
 use Rattle.kv_manager.specs.Sights.{KvSight}
 use Rattle.kv_manager.specs.Turns.{Calls}
@@ -20,7 +20,8 @@ invariant_of-self g c =
     (KeepsPromises c.self.inside.store c.work_call.new.self) c.work_call.result c.work_call.ensures.answer c.work_call.ensures.err
     (λ answer made. moved_promises c.self.inside.store c.work_call.new.self
     (works_keep is_prepared (λ k. (code.Proto, S0)) _ _ c.args.verb c.args.thread c.args.xid.now c.args.flags.0 answer (record { one = refl; two = refl; four = refl }) c.requires (made (λ k. (code.Proto, S0))).tables)
-    (made (λ k. (code.Proto, S0))).writes (made (λ k. (code.Proto, S0))).versions)
+    (works_keep is_decided (λ k. (code.Proto, S0)) _ _ c.args.verb c.args.thread c.args.xid.now c.args.flags.0 answer (record { one = refl; two = refl; four = refl }) c.requires (made (λ k. (code.Proto, S0))).tables)
+    (made (λ k. (code.Proto, S0))).writes (made (λ k. (code.Proto, S0))).versions (made (λ k. (code.Proto, S0))).decisions)
     (λ e stays. same_promises c.self.inside.store c.work_call.new.self stays.1))
 
 pub returns-clause-answer : goal.returns-clause-answer

@@ -6,9 +6,10 @@ use Rattle.tree_model.specs.Reactions.{act_is_listed}
 use Rattle.core_model.specs.Turns.{Refuses}
 use Rattle.core_model.specs.Makes.{Makes, NotMade}
 use Rattle.sub_core.specs.Subordinates.{SubState, core_of, seen}
-use Rattle.sub_core.specs.Steps.{data_answer}
+use Rattle.std.specs.Prelude.{OnOk}
+use Rattle.sub_core.specs.Steps.{Leaves, data_answer}
 use Rattle.sub_core.proofs.Joins.{stays_core}
-use Rattle.sub_core.proofs.Steps.{act_err, act_ok, has_failed, hear_err, hear_ok, not_made, unlisted}
+use Rattle.sub_core.proofs.Steps.{act_err, act_ok, act_writes, has_failed, hear_err, hear_ok, not_made, unlisted}
 use Rattle.sub_core.proofs.subordinate.Subordinate.step.Goals as goal
 
 pub returns-then-not-is_listed-clause-err : goal.returns-then-not-is_listed-clause-err
@@ -29,18 +30,27 @@ returns-then-has_failed-clause-err g c =
 pub returns-in-Act-clause-ok : goal.returns-in-Act-clause-ok
 returns-in-Act-clause-ok g c =
     let s : SubState = seen g.M.ResourceManager.sight c.args.self.now in
+    let t : SubState = seen g.M.ResourceManager.sight c.act.new.self in
     let listed : act_is_listed s.tree (ActInput c.in-Act.act) ≡ true = search rules in
     let works : s.manager.log.failed ≡ false = search rules in
-    subst (λ (i : Input). IfOk c.act.result (Makes (core_of s) (core_of s) (data_answer s i) i)) (sym c.in-Act.is)
-    (act_ok s c.in-Act.act c.act.result listed works c.act.ensures.ok)
+    subst (λ (i : Input). IfOk c.act.result (Makes (core_of s) (core_of t) (data_answer s i) i)) (sym c.in-Act.is)
+    (act_ok s t c.in-Act.act c.act.result listed works c.act.ensures.ok)
+
+pub returns-in-Act-clause-writes : goal.returns-in-Act-clause-writes
+returns-in-Act-clause-writes g c =
+    let s : SubState = seen g.M.ResourceManager.sight c.args.self.now in
+    let t : SubState = seen g.M.ResourceManager.sight c.act.new.self in
+    subst (λ (i : Input). OnOk c.act.result (Leaves i s t)) (sym c.in-Act.is)
+    (act_writes s t c.in-Act.act c.act.result c.act.ensures.ok)
 
 pub returns-in-Act-clause-err : goal.returns-in-Act-clause-err
 returns-in-Act-clause-err g c =
     let s : SubState = seen g.M.ResourceManager.sight c.args.self.now in
+    let t : SubState = seen g.M.ResourceManager.sight c.act.new.self in
     let listed : act_is_listed s.tree (ActInput c.in-Act.act) ≡ true = search rules in
     let works : s.manager.log.failed ≡ false = search rules in
-    subst (λ (i : Input). IfErr c.act.result (NotMade (core_of s) (core_of s) (data_answer s i) i)) (sym c.in-Act.is)
-    (act_err s c.in-Act.act c.act.result listed works c.act.ensures.err)
+    subst (λ (i : Input). IfErr c.act.result (NotMade (core_of s) (core_of t) (data_answer s i) i)) (sym c.in-Act.is)
+    (act_err s t c.in-Act.act c.act.result listed works c.act.ensures.err)
 
 pub returns-in-Message-clause-ok : goal.returns-in-Message-clause-ok
 returns-in-Message-clause-ok g c =

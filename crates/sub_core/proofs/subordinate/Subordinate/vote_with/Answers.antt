@@ -1,6 +1,7 @@
 use Rattle.std.proofs.Common.{◌∙◌, false, sym, subst}
 use Rattle.tree_model.specs.declared.messages.Message.TheVariants.{Prepare}
 use Rattle.sub_core.specs.Subordinates.{Hears, IsAt, NotHeard, SubState, active, seen}
+use Rattle.xa_tables.specs.declared.call.Call.TheVariants as call
 use Rattle.sub_core.proofs.Ties.{behind}
 use Rattle.sub_core.proofs.Ends.{not_tied}
 use Rattle.manager_model.specs.Sights.{ManagerSight}
@@ -27,7 +28,7 @@ invariant_of-self g c =
       table = c.self.inside.branches;
       manager = g.M.ResourceManager.sight c.self.inside.manager;
     } in
-    not_tied s (g.M.ResourceManager.sight c.promise.new.manager) c.args.xid _ c.in-Err.error c.self.invariant c.in-Err.ensures.err
+    not_tied s (g.M.ResourceManager.sight c.promise.new.manager) c.args.xid call.Prepare c.in-Err.error c.self.invariant c.in-Err.ensures.err
 
 pub returns-in-Err-clause-err : goal.returns-in-Err-clause-err
 returns-in-Err-clause-err g c =

@@ -22,7 +22,7 @@ pub invariant_of-self-in_default-stage : goal.invariant_of-self-in_default-stage
 invariant_of-self-in_default-stage c =
     let found = entry_of c.self.inside.branches c.args.key c.in-Some.branch.now (sym c.in-Some.ensures.value) in
     (promises c.self.inside.tickets c.self.inside.tickets c.self.inside.branches c.args.key found.0 c.in-Some.branch.now c.self.invariant found.1
-    (none_dropped c.self.inside.tickets _ c.in_default-stage.is)).0
+    (none_dropped c.self.inside.tickets _ c.in_default-stage.not-Active)).0
 
 pub returns-in-Active : goal.returns-in-Active
 returns-in-Active c =
@@ -36,4 +36,4 @@ returns-in_default-stage c =
     let found = entry_of c.self.inside.branches c.args.key c.in-Some.branch.now (sym c.in-Some.ensures.value) in
     subst (λ t. Retires t (table c.self.inside.tickets (with_value c.self.inside.branches c.args.key (record { xid = c.in-Some.branch.now.xid; stage = Prepared }))) c.args.key promised) c.self.view_is
     (promises c.self.inside.tickets c.self.inside.tickets c.self.inside.branches c.args.key found.0 c.in-Some.branch.now c.self.invariant found.1
-    (none_dropped c.self.inside.tickets _ c.in_default-stage.is)).1
+    (none_dropped c.self.inside.tickets _ c.in_default-stage.not-Active)).1

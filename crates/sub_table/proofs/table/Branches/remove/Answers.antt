@@ -16,7 +16,7 @@ invariant_of-self c =
 pub invariant_of-self-in_default : goal.invariant_of-self-in_default
 invariant_of-self-in_default c =
     (removes c.self.inside.tickets c.self.inside.tickets c.self.inside.branches c.remove-branch.new.self c.args.key c.remove-branch.result c.self.invariant c.remove-branch.ensures
-    (none_dropped c.self.inside.tickets _ c.in_default.is)).0
+    (none_dropped c.self.inside.tickets _ c.in_default.not-Active)).0
 
 pub returns-in-Active : goal.returns-in-Active
 returns-in-Active c =
@@ -28,4 +28,4 @@ pub returns-in_default : goal.returns-in_default
 returns-in_default c =
     subst (λ t. Retires t (table c.self.inside.tickets c.remove-branch.new.self) c.args.key nothing) c.self.view_is
     (removes c.self.inside.tickets c.self.inside.tickets c.self.inside.branches c.remove-branch.new.self c.args.key c.remove-branch.result c.self.invariant c.remove-branch.ensures
-    (none_dropped c.self.inside.tickets _ c.in_default.is)).1
+    (none_dropped c.self.inside.tickets _ c.in_default.not-Active)).1

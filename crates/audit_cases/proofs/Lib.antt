@@ -1,0 +1,3 @@
+pub mod KindLaws
+pub mod NoteLaws
+mod SayingLaws

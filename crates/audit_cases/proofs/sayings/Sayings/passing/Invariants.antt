@@ -1,0 +1,8 @@
+use Rattle.std.proofs.Common.{◌≡◌, fold}
+use Rattle.std.specs.Option.{option_copied}
+use Rattle.audit_cases.specs.Sayings.{sayings_of, with_entry}
+use Rattle.audit_cases.proofs.sayings.Sayings.passing.Given as goal
+
+abbrev pub invariant-loop-case : goal.invariant-loop-case
+invariant-loop-case l =
+    fold (with_entry (option_copied l.fn.above)) l.sayings l.case-iterator ≡ sayings_of (option_copied l.fn.above) l.fn.notes

@@ -1,0 +1,3 @@
+pub mod Kinds
+pub mod Notes
+pub mod Sayings

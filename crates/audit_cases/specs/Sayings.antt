@@ -1,0 +1,64 @@
+-- What a process says of the cases of its children, by what is noted of its own.
+use Rattle.std.specs.Prelude.{◌≡◌, Bool, ◌&&◌, if◌then◌else◌, is_some, Option, Some, None, unwrap_or, List, [], find, fold}
+use Rattle.std.specs.Map.{lookup}
+use Rattle.indexmap.specs.IndexMap.{insert_entry}
+use Rattle.tree_model.specs.declared.names.Case.{Case}
+use Rattle.tree_model.specs.declared.names.Outcome.{Outcome}
+use Rattle.tree_model.specs.declared.names.Outcome.TheVariants.{Aborted}
+use Rattle.tree_model.specs.declared.names.Ticket.{Ticket}
+use Rattle.tree_model.specs.declared.names.Txn.{Txn}
+use Rattle.tree_model.specs.Names.{child_case, presumed, same_txn}
+use Rattle.tree_model.specs.Records.{in_list}
+use Rattle.tree_auditor.specs.Audits.{decided_or}
+use Rattle.audit_cases.specs.Kinds.{decision_in}
+use Rattle.audit_cases.specs.Notes.{CaseNote, Table, same}
+
+-- the outcomes of the cases of children that a process's own cases name
+abbrev pub Outcomes : Type 0
+Outcomes = List (Case × Outcome)
+
+-- what is said above of a case: by the first case that names it, else by presumption; the root has nobody
+-- above it, and aborts what it has not decided
+abbrev pub said_by : Option Outcomes → Case → Outcome
+said_by None c = Aborted
+said_by (Some s) c = unwrap_or (lookup (same c) s) (presumed c.txn.presumption)
+
+-- the outcome of a case: its own decision, or else what is said above
+abbrev pub outcome_in : Option Outcomes → Case → CaseNote → Outcome
+outcome_in above c n = decided_or (decision_in n.kinds) (said_by above c)
+
+-- the entry's case is of the transaction and names the ticket
+abbrev pub names : Txn → Ticket → Case × CaseNote → Bool
+names x t e = same_txn e.0.txn x && in_list e.1.named t
+
+-- the first case of the transaction that names the ticket
+abbrev pub first_naming : Table → Txn → Ticket → Option (Case × CaseNote)
+first_naming notes x t = find (names x t) notes
+
+-- the outcome of an entry, if there is one
+abbrev pub outcome_at : Option Outcomes → Option (Case × CaseNote) → Option Outcome
+outcome_at above None = None
+outcome_at above (Some e) = Some (outcome_in above e.0 e.1)
+
+-- these are the outcomes of the children's cases: of each what the first case says that names it
+abbrev pub AreSaid : Option Outcomes → Table → Outcomes → Type 0
+AreSaid above notes s = (x : Txn) (t : Ticket)
+    → lookup (same (child_case x t)) s ≡ outcome_at above (first_naming notes x t)
+
+-- The pass.
+
+-- these outcomes with that of a child's case, unless it has one there
+abbrev pub with_first : Outcomes → Case → Outcome → Outcomes
+with_first s c o = if is_some (lookup (same c) s) then s else insert_entry same s c o
+
+-- these outcomes with that of a case of the transaction which names these tickets
+abbrev pub with_named : Txn → Outcome → Outcomes → List Ticket → Outcomes
+with_named x o s ts = fold (λ t u. with_first t (child_case x u) o) s ts
+
+-- these outcomes with that of an entry's case
+abbrev pub with_entry : Option Outcomes → Outcomes → Case × CaseNote → Outcomes
+with_entry above s e = with_named e.0.txn (outcome_in above e.0 e.1) s e.1.named
+
+-- the outcomes of all entries' cases, the first that names a ticket before the others
+abbrev pub sayings_of : Option Outcomes → Table → Outcomes
+sayings_of above notes = fold (with_entry above) [] notes

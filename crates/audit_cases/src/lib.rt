@@ -1,0 +1,16 @@
+//! What the records of a log say of each case to an audit.
+//!
+//! ```text
+//! kinds      which records a case has, how it stands by them, and whether it has a line
+//! notes      one pass over the records of a log: each of the process's cases in order of its first record
+//! sayings    what a process says of the cases of its children: the outcome of its first case that names the ticket
+//! ```
+#![tactic(auto)]
+
+mod kinds;
+mod notes;
+mod sayings;
+
+pub use kinds::{Kinds, Own};
+pub use notes::{Noted, Notes};
+pub use sayings::{Sayings, outcome_of};

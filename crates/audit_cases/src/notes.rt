@@ -1,0 +1,186 @@
+//! One pass over the records of a log.
+
+ghost use Rattle.std.specs.Prelude.{◌≡◌, ◌++◌, [], OnOk, fold};
+ghost use Rattle.tree_model.specs.LogNames.{is_own as is_own_of, own_by, same_parent};
+ghost use Rattle.tree_model.specs.Names.{process_of};
+ghost use Rattle.tree_model.specs.Records.{record_case};
+ghost use Rattle.audit_cases.specs.Notes.{IsRecordAt, no_note, note_after, noted, noted_of, place_at, tickets_in};
+
+use crate::kinds::Kinds;
+use indexmap::IndexMap;
+use std::alloc::{AllocError, Global};
+use std::marker::Model;
+use tree_model::{Case, LogRecord, ProcessId, Record, Ticket, Tree, TreeEntry};
+
+/// What is noted of a case: which records it has, and the tickets that they name.
+#[derive(Drop)]
+pub struct Noted {
+    kinds: Kinds,
+    named: Vec<Ticket>,
+}
+
+impl Model for Noted {
+    ghost use Rattle.audit_cases.specs.Notes.{CaseNote};
+
+    ghost Value = { CaseNote };
+
+    ghost view = { λ n. record { kinds = n.kinds; named = n.named.items } };
+}
+
+/// What is noted of each case of a process, in order of the first records.
+#[derive(Drop)]
+pub struct Notes {
+    alloc: Global,
+    cases: IndexMap<Case, Noted>,
+}
+
+impl Model for Notes {
+    ghost use Rattle.audit_cases.specs.Notes.{Table};
+
+    ghost Value = { Table };
+
+    ghost view = { λ n. n.cases.entries };
+}
+
+/// The tickets that a record names.
+fn tickets_of(record: &Record) -> &[Ticket]
+    ensures { result.now ≡ tickets_in record.now }
+{
+    match record {
+        Record::Collecting(_, tickets)
+        | Record::Prepare(_, tickets)
+        | Record::Commit(_, tickets)
+        | Record::Abort(_, tickets) => tickets.as_slice(),
+        _ => &[],
+    }
+}
+
+impl Noted {
+    /// No records. It takes no memory.
+    fn nothing(alloc: Global) -> Noted
+        ensures { result ≡ no_note }
+    {
+        Noted {
+            kinds: Kinds::none(),
+            named: Vec::new(alloc),
+        }
+    }
+
+    /// One record more of the case.
+    fn note(&mut self, record: &Record) -> Result<(), AllocError>
+        ensures { OnOk result (self.new ≡ note_after self.old record.now) }
+    {
+        self.named.extend_from_slice(tickets_of(record))?;
+        self.kinds.note(record);
+        Ok(())
+    }
+
+    /// Which records it has.
+    pub fn kinds(&self) -> Kinds
+        ensures { result ≡ self.now.kinds }
+    {
+        self.kinds
+    }
+
+    /// The tickets that they name.
+    pub fn named(&self) -> &[Ticket]
+        ensures { result.now ≡ self.now.named }
+    {
+        &self.named
+    }
+}
+
+/// The process where the case stands: its ticket's child, or the root.
+fn process_of(case: &Case) -> ProcessId
+    ensures { result ≡ process_of case.now }
+{
+    match case.ticket {
+        None => case.txn.root,
+        Some(ticket) => ticket.child,
+    }
+}
+
+/// Whether two parents are one, or neither is there.
+#[tactic(auto, unfolding(tree_model::specs::Names::same_process))]
+fn same_parent(one: Option<ProcessId>, other: Option<ProcessId>) -> bool
+    ensures { result ≡ same_parent one other }
+{
+    match (one, other) {
+        (None, None) => true,
+        (Some(one), Some(other)) => one == other,
+        _ => false,
+    }
+}
+
+/// Whether a case that the log names with this parent is the process's own.
+#[tactic(auto, unfolding(tree_model::specs::Names::same_process))]
+fn is_own(tree: &Tree, entry: &TreeEntry, of: Option<ProcessId>, case: &Case) -> bool
+    ensures { result ≡ is_own_of (place_at tree.now entry.now) of case.now }
+{
+    case.txn.root == tree.root()
+        && process_of(case) == entry.id
+        && case.ticket.is_some() == entry.parent.is_some()
+        && same_parent(of, entry.parent)
+}
+
+/// One record more of a case.
+fn note_of(
+    alloc: Global,
+    cases: &mut IndexMap<Case, Noted>,
+    case: Case,
+    record: &Record,
+) -> Result<(), AllocError>
+    ensures { OnOk result (cases.new.entries ≡ noted_of cases.old.entries case record.now) }
+{
+    match cases.get_mut(&case) {
+        Some(note) => note.note(record)?,
+        None => {
+            let mut note = Noted::nothing(alloc);
+            note.note(record)?;
+            let _ = cases.insert(case, note)?;
+        }
+    }
+    Ok(())
+}
+
+impl Notes {
+    /// No records. It takes no memory.
+    pub fn new(alloc: Global) -> Notes
+        ensures { result ≡ [] }
+    {
+        Notes {
+            alloc,
+            cases: IndexMap::new(alloc),
+        }
+    }
+
+    /// One record more of the log of this process, where it is of a case of the process's own; it must be one that a process
+    /// of this kind writes.
+    pub fn take(
+        &mut self,
+        tree: &Tree,
+        entry: &TreeEntry,
+        record: &LogRecord,
+    ) -> Result<(), AllocError>
+        requires { IsRecordAt entry.now.kind record.now.entry }
+        ensures { OnOk result (self.new
+            ≡ fold noted self.old (own_by (place_at tree.now entry.now) record.now (record_case record.now.entry))) }
+    {
+        match record.entry.case() {
+            Some(case) => {
+                if !is_own(tree, entry, record.parent, &case) {
+                    return Ok(());
+                }
+                note_of(self.alloc, &mut self.cases, case, &record.entry)
+            }
+            None => Ok(()),
+        }
+    }
+
+    /// What is noted of each case, in order of the first records.
+    pub fn cases(&self) -> &IndexMap<Case, Noted>
+        ensures { result.now.entries ≡ self.now }
+    {
+        &self.cases
+    }
+}

@@ -1,0 +1,80 @@
+//! The engine of `rstar audit`.
+
+ghost use Rattle.std.specs.Prelude.{◌≡◌, ℕ, List, IfOk, IfErr};
+ghost use Rattle.std.specs.Io.KnownBytes.{Appends, Keeps};
+ghost use Rattle.audit_engine.specs.Audits.{IsAuditReport, IsAudited, ending_by};
+ghost use Rattle.audit_engine.specs.declared.ending.Ending.{Ending as AnyEnding};
+ghost use Rattle.report_io.specs.Streams.{IsInput, WritesFront};
+ghost use Rattle.tree_model.specs.Trees.{IsTree};
+
+use crate::ending::Ending;
+use crate::lines::text_of;
+use link_script::ScriptError;
+use log_reading::{damaged, refusal};
+use logs_script::{ProcessLog, read_logs};
+use report_io::{Failure, read_all, write_all};
+use std::alloc::{AllocError, Global};
+use std::io::{Read, Write};
+use tree_audit::{AuditError, Report, audit};
+use tree_model::Tree;
+
+/// Reads a tree with its logs, audits them, and writes a line for each case that is told of and the number of mismatches; or
+/// one line that says which log is damaged where, or why the input is refused. After a failed read, or where memory is
+/// refused, nothing was written; after a failed write, a beginning of the text.
+pub fn run_audit<R: Read, W: Write>(
+    alloc: Global,
+    reader: &mut R,
+    writer: &mut W,
+) -> Result<Ending, Failure>
+    ensures written { IfOk result (λ ending. (input : List ℕ) × (text : List ℕ)
+        × IsInput (R.remaining reader.old) input × IsAuditReport ending input text
+        × Appends (W.contents writer.old) (W.contents writer.new) text) }
+    ensures cut { IfErr result (λ e. e ≡ Failure.Write → (input : List ℕ) × (text : List ℕ) × (ending : AnyEnding)
+        × IsInput (R.remaining reader.old) input × IsAuditReport ending input text
+        × WritesFront (W.contents writer.old) (W.contents writer.new) text) }
+    ensures unread { IfErr result (λ e. e ≡ Failure.Read → Keeps (W.contents writer.old) (W.contents writer.new)) }
+    ensures memory { IfErr result (λ e. e ≡ Failure.Memory → Keeps (W.contents writer.old) (W.contents writer.new)) }
+{
+    let input = read_all(alloc, reader)?;
+    let (text, ending) = answer(alloc, &input)?;
+    match write_all(writer, &text) {
+        Ok(()) => Ok(ending),
+        Err(failure) => Err(failure),
+    }
+}
+
+/// The answer to an input.
+fn answer(alloc: Global, input: &[u8]) -> Result<(Vec<u8>, Ending), AllocError>
+    ensures { IfOk result (λ r. IsAuditReport r.1 input.now r.0.items) }
+{
+    match read_logs(alloc, input) {
+        Ok((tree, logs)) => audited(alloc, &tree, logs.as_slice()),
+        Err(ScriptError::Fault(fault)) => Ok((refusal(alloc, fault)?, Ending::Refused)),
+        Err(ScriptError::Memory) => Err(AllocError),
+    }
+}
+
+/// What is written of the logs of a tree.
+fn audited(alloc: Global, tree: &Tree, logs: &[ProcessLog]) -> Result<(Vec<u8>, Ending), AllocError>
+    requires { IsTree tree.now }
+    ensures { IfOk result (λ r. IsAudited r.1 tree.now logs.now r.0.items) }
+{
+    match audit(alloc, tree, logs) {
+        Ok(report) => Ok((text_of(alloc, &report)?, ending_of(&report))),
+        Err(AuditError::Damaged(process, place)) => {
+            Ok((damaged(alloc, process, place)?, Ending::Refused))
+        }
+        Err(AuditError::Memory) => Err(AllocError),
+    }
+}
+
+/// How an audit with this report ends.
+fn ending_of(report: &Report) -> Ending
+    ensures { result ≡ ending_by report.now.mismatches }
+{
+    if report.mismatches == 0 {
+        Ending::Agrees
+    } else {
+        Ending::Differs
+    }
+}

@@ -1,0 +1,175 @@
+-- An operator's decision: a turn, for which room was made first.
+use Rattle.std.proofs.Common.{◌≡◌, ◌≢◌, ◌≤◌, ◌<◌, ◌∙◌, Bool, true, false, Option, Some, None, List, [], ◌∷◌, Result, Ok, Err, refl, sym, ap, subst, arith}
+use Rattle.std.specs.Prelude.{Contains, IfErr, OnOk, is_some, unwrap_or}
+use Rattle.std.specs.Map.{lookup}
+use Rattle.xa_codes.specs.declared.code.Code.{Code}
+use Rattle.xa_codes.specs.declared.code.Code.TheVariants as code
+use Rattle.xa_tables.specs.Tables.{branch_rows}
+use Rattle.xa_tables.specs.declared.call.Call.TheVariants as call
+use Rattle.xa_tables.specs.declared.states.BranchState.{BranchState}
+use Rattle.xa_tables.specs.declared.states.BranchState.TheVariants.{S0, S3, S5}
+use Rattle.xa_xid.specs.declared.xid.Xid.{Xid}
+use Rattle.xa_branch.specs.Names.{same}
+use Rattle.xa_branch.specs.Branches.{is_known}
+use Rattle.xa_states.specs.Answers.{Same, Takes as TakesRow}
+use Rattle.xa_heur.specs.declared.decision.Decision.{Decision}
+use Rattle.xa_heur.specs.Decisions.{decided_as, heur_code}
+use Rattle.xa_heur.specs.Cases.{decision_in, decision_or}
+use Rattle.tree_model.specs.declared.names.Outcome.{Outcome}
+use Rattle.tree_model.specs.declared.names.Outcome.TheVariants.{Aborted, Committed}
+use Rattle.log_text.specs.Parts.{name_in}
+use Rattle.rec_log.specs.Sights.{Breaks}
+use Rattle.core_model.specs.States.{wrote}
+use Rattle.manager_model.specs.Sights.{SameManager}
+use Rattle.manager_model.specs.Ends.{logged_under, state_of as state_of_log}
+use Rattle.manager_model.specs.Deciding.{DecideFails, Decides, NotDecided, decision_writes}
+use Rattle.manager_model.specs.declared.errors.DecideError.{DecideError}
+use Rattle.manager_model.specs.declared.errors.DecideError.TheVariants.{Device, Failed, Memory, NotInDoubt}
+use Rattle.kv_store.specs.Versions.{SameData}
+use Rattle.kv_writes.specs.Writes.{writes_of}
+use Rattle.kv_turns.specs.declared.entries.Entry.{Entry}
+use Rattle.kv_turns.specs.declared.turns.Turn.{Turn}
+use Rattle.kv_turns.specs.Turns.{decide_turn, entry_record, heur_entry}
+use Rattle.kv_core.specs.Stores.{KeySight, state_of}
+use Rattle.kv_core.specs.Ends.{IsListed, OfOperator, Reserves, known_behind, known_of}
+use Rattle.kv_manager.specs.Resources.{IsRefusal, is_refusal, sight_of}
+use Rattle.kv_manager.specs.Sights.{KvSight, SameManager as SameKv}
+use Rattle.kv_manager.specs.Turns as kv
+use Rattle.kv_manager.specs.Turns.{Fails as KvFails, IsDueTurn, Makes as KvMakes, Takes as KvTakes}
+use Rattle.kv_manager.proofs.Resources.{same_sight, same_tables}
+
+-- The turn.
+
+listed_row : (o : Outcome) → Contains (branch_rows S3 call.Commit) ((decide_turn o).code, (decide_turn o).to)
+listed_row Committed = (2, omega arith, refl)
+listed_row Aborted = (3, omega arith, refl)
+
+known_by : (o : Option BranchState) → unwrap_or o S0 ≡ S3 → is_some o ≡ true
+known_by None h = absurd (cc)
+known_by (Some s) h = refl
+
+-- a prepared branch can take the turn of a decision, where there is room
+pub can_decide : (s : KvSight) (x : Xid) (o : Outcome) → s.log.sight.failed ≡ false → state_of s.store x ≡ S3 → 1 ≤ s.store.decisions.room
+    → IsDueTurn s x call.Commit (decide_turn o)
+can_decide s x o works here room = record {
+  works = works;
+  known = known_by (lookup (same x) s.store.tables.branches.branches) here;
+  due = OfOperator o here room refl;
+  listed = subst (λ b. Contains (branch_rows b call.Commit) ((decide_turn o).code, (decide_turn o).to)) (sym here) (listed_row o);
+}
+
+-- What it makes of a manager, behind the room that was made.
+
+module _ (old mid new : KvSight) (x : Xid) (o : Outcome) (works : old.log.sight.failed ≡ false) (here : state_of old.store x ≡ S3)
+    (room : Reserves old.store mid.store) (log : mid.log.sight ≡ old.log.sight) (boot : mid.boot ≡ old.boot) where
+  known_same : (y : Xid) → known_of mid.store y ≡ known_of old.store y
+  known_same y = ap (λ (ds : List (Xid × Decision)). decision_or (lookup (same y) ds)) room.decisions
+
+  wrote_as : (o : Outcome) → kv.Logs mid new x true (Some (heur_entry o))
+      → new.log.sight ≡ wrote mid.log.sight (decision_writes x o) (logged_under x (decision_writes x o))
+  wrote_as Committed is = is
+  wrote_as Aborted is = is
+
+  let_go : KvMakes mid new x (decide_turn o) → (writes_of new.store.writes x ≡ [])
+      × ((y : Xid) → same x y ≡ false → writes_of new.store.writes y ≡ writes_of mid.store.writes y)
+  let_go made = (made.keeps.0.own, made.keeps.0.others)
+
+  known_so : (o : Outcome) (known : Option Decision) → decision_or (known_behind (Some (heur_entry o)) known) ≡ decided_as o
+  known_so Committed known = refl
+  known_so Aborted known = refl
+
+  decides : KvMakes mid new x (decide_turn o) → Decides (sight_of old) (sight_of new) x o
+  decides made = record {
+    works = works;
+    prepared = here;
+    tables = subst (λ t. TakesRow t new.store.tables x S5) room.tables made.tables;
+    log = wrote_as o made.log ∙ ap (λ k. wrote k (decision_writes x o) (logged_under x (decision_writes x o))) log;
+    own = (let_go made).0;
+    others = λ y apart. (let_go made).1 y apart ∙ ap (λ w. writes_of w y) room.writes;
+    decided = ap decision_or made.decisions.own ∙ known_so o (decision_in mid.store.decisions x);
+    others_decided = λ y apart. ap decision_or (made.decisions.others y apart) ∙ known_same y;
+    boot = made.boot ∙ boot;
+  }
+
+  some_is : (e f : Entry) → Some e ≡ Some f → e ≡ f
+  some_is e f h = cc
+
+  records_so : (o : Outcome) → entry_record (heur_entry o) x (writes_of mid.store.writes x) ∷ [] ≡ logged_under x (decision_writes x o)
+  records_so Committed = refl
+  records_so Aborted = refl
+
+  fails : KvFails mid new x (decide_turn o) → DecideFails (sight_of old) (sight_of new) x o
+  fails failed = record {
+    works = works;
+    prepared = here;
+    log = subst (λ k. Breaks (state_of_log k) (state_of_log new.log.sight) (logged_under x (decision_writes x o))) log
+        (subst (Breaks (state_of_log mid.log.sight) (state_of_log new.log.sight)) records (record {
+          kind = refl;
+          appended = failed.log.appended;
+          stand = failed.log.stand;
+          no_less = failed.log.no_less;
+          more = failed.log.more;
+          leaves = failed.log.leaves;
+          failed = failed.log.failed;
+          cause = failed.log.cause;
+        }));
+    tables = same_tables old.store.tables new.store.tables (failed.tables ∙ room.tables);
+    writes = λ y. ap (λ u. writes_of u y) (failed.writes ∙ room.writes);
+    decided = λ y. ap (λ t. decision_or (decision_in t y)) failed.decisions ∙ known_same y;
+    boot = failed.boot ∙ boot;
+  }
+    where
+      records : entry_record failed.entry x (writes_of mid.store.writes x) ∷ [] ≡ logged_under x (decision_writes x o)
+      records =
+          ap (λ e. entry_record e x (writes_of mid.store.writes x) ∷ []) (sym (some_is (heur_entry o) failed.entry failed.writes_it)) ∙ records_so o
+
+  stays_same : SameKv mid new → SameKv old new
+  stays_same alike = record {
+    tables = subst (λ t. Same t new.store.tables) room.tables alike.tables;
+    writes = λ y. alike.writes y ∙ ap (λ w. writes_of w y) room.writes;
+    locks = alike.locks ∙ room.locks;
+    versions = subst (λ v. SameData v new.store.versions) room.versions alike.versions;
+    decisions = λ y. alike.decisions y ∙ ap (λ (ds : List (Xid × Decision)). lookup (same y) ds) room.decisions;
+    log = alike.log ∙ log;
+    boot = alike.boot ∙ boot;
+  }
+
+  pub nothing_changed : SameKv mid new → SameManager (sight_of old) (sight_of new)
+  nothing_changed alike = same_sight old new (stays_same alike)
+
+  no_refusal : (o : Outcome) → is_refusal (heur_code o) ≡ false
+  no_refusal Committed = refl
+  no_refusal Aborted = refl
+
+  never : {A : Type 0} → true ≡ false → A
+  never h = absurd (cc)
+
+  other_codes : code.RmFail ≡ code.RmErr → ⊥
+  other_codes h = absurd (cc)
+
+  -- it was decided
+  pub was_decided : (answer : Code) → KvTakes mid new x (decide_turn o) answer → is_refusal answer ≡ false → Decides (sight_of old) (sight_of new) x o
+  was_decided answer (kv.Made is made) h = decides made
+  was_decided answer (kv.Broke is failed) h = never (ap is_refusal (sym is) ∙ h)
+  was_decided answer (kv.Spent is commits few alike) h = never (ap is_refusal (sym is) ∙ h)
+
+  -- or it was not
+  pub was_not : (answer : Code) → KvTakes mid new x (decide_turn o) answer → (e : DecideError) → IsRefusal answer e
+      → NotDecided (sight_of old) (sight_of new) x o e
+  was_not answer (kv.Made is made) Device h = never (ap is_refusal (sym h ∙ is) ∙ no_refusal o)
+  was_not answer (kv.Made is made) Memory h = never (ap is_refusal (sym h ∙ is) ∙ no_refusal o)
+  was_not answer (kv.Made is made) Failed h = absurd h
+  was_not answer (kv.Made is made) NotInDoubt h = absurd h
+  was_not answer (kv.Broke is failed) Device h = fails failed
+  was_not answer (kv.Broke is failed) Memory h = absurd (other_codes (sym is ∙ h))
+  was_not answer (kv.Broke is failed) Failed h = absurd h
+  was_not answer (kv.Broke is failed) NotInDoubt h = absurd h
+  was_not answer (kv.Spent is commits few alike) Device h = absurd (other_codes (sym h ∙ is))
+  was_not answer (kv.Spent is commits few alike) Memory h = nothing_changed alike
+  was_not answer (kv.Spent is commits few alike) Failed h = absurd h
+  was_not answer (kv.Spent is commits few alike) NotInDoubt h = absurd h
+
+-- an error, said of in other words
+pub map_err : {A E : Type 0} (P Q : E → Type 0) (r : Result A E) → ((e : E) → P e → Q e) → IfErr r P → IfErr r Q
+map_err P Q (Ok a) each h = tt
+map_err P Q (Err e) each h = each e h

@@ -1,0 +1,126 @@
+//! Runs the worked rows: for each the script or the logs that it begins with, and the text and the exit status that it must
+//! end with. The folder data/ holds them; standard input lists them, a row a line: PROGRAM NAME STATUS.
+#![tactic(auto)]
+
+use audit_engine::run_audit;
+use log_engine::run_log;
+use std::alloc::Global;
+use std::{fs, io};
+use tree_engine::{Output, run_tree};
+use xa_engine::run_xa;
+
+/// What a row runs.
+#[derive(Clone, Copy)]
+enum Program {
+    /// A tree script, for its trace.
+    Tree,
+    /// A tree script, for the logs that it leaves.
+    Logs,
+    /// An XA script.
+    Xa,
+    /// The logs of a tree, for what they hold.
+    Log,
+    /// The logs of a tree, for how its cases stand and end.
+    Audit,
+}
+
+impl Program {
+    /// The program of a row that begins with this word.
+    fn of(word: &str) -> Option<Self> {
+        match word {
+            "tree" => Some(Program::Tree),
+            "logs" => Some(Program::Logs),
+            "xa" => Some(Program::Xa),
+            "log" => Some(Program::Log),
+            "audit" => Some(Program::Audit),
+            _ => None,
+        }
+    }
+
+    /// How the names of its input and of its output end.
+    fn endings(self) -> (&'static str, &'static str) {
+        match self {
+            Program::Tree => ("tree", "out"),
+            Program::Logs => ("tree", "logs"),
+            Program::Xa => ("xa", "out"),
+            Program::Log | Program::Audit => ("logs", "out"),
+        }
+    }
+
+    /// Runs it on this input: the exit status, and what it writes. No status where it fails.
+    fn run(self, alloc: Global, mut input: &[u8], out: &mut Vec<u8>) -> Option<u8> {
+        let ended = match self {
+            Program::Tree => run_tree(alloc, Output::Trace, &mut input, out),
+            Program::Logs => run_tree(alloc, Output::Logs, &mut input, out),
+            Program::Xa => run_xa(alloc, &mut input, out),
+            Program::Log => run_log(alloc, &mut input, out),
+            Program::Audit => {
+                let ending = run_audit(alloc, &mut input, out).ok()?;
+                return Some(ending.number());
+            }
+        };
+        Some(ended.ok()?.number())
+    }
+}
+
+/// A row: its program, its name, and the exit status that it must end with.
+#[derive(Drop)]
+struct Row<'a> {
+    program: Program,
+    name: &'a str,
+    status: u8,
+}
+
+impl<'a> Row<'a> {
+    /// The row of a line.
+    fn read(line: &'a str) -> Option<Self> {
+        let (word, rest) = line.split_once(' ')?;
+        let (name, status) = rest.split_once(' ')?;
+        Some(Row {
+            program: Program::of(word)?,
+            name,
+            status: status.parse().ok()?,
+        })
+    }
+
+    /// A file of it, whose name ends so.
+    fn file(&self, rt: &HostRuntime, ending: &str) -> io::Result<Vec<u8>> {
+        let name = self.name;
+        let path = format!(in rt.alloc(); "{name}.{ending}")?;
+        fs::read(rt, path.as_str())
+    }
+
+    /// Whether it ends as it must.
+    fn passes(&self, rt: &HostRuntime) -> io::Result<bool> {
+        let (input, output) = self.program.endings();
+        let input = self.file(rt, input)?;
+        let wanted = self.file(rt, output)?;
+        let mut out = Vec::new(rt.alloc());
+        let status = self.program.run(rt.alloc(), input.as_slice(), &mut out);
+        Ok(status == Some(self.status) && out.as_slice() == wanted.as_slice())
+    }
+}
+
+/// Runs the row of a line, and says where it does not end as it must. Answers whether it does.
+fn run_line(rt: &HostRuntime, line: &str) -> io::Result<bool> {
+    let Some(row) = Row::read(line) else {
+        println!(rt; "{line}: no row")?;
+        return Ok(false);
+    };
+    let passes = row.passes(rt)?;
+    if !passes {
+        println!(rt; "{line}: failed")?;
+    }
+    Ok(passes)
+}
+
+fn main(rt: HostRuntime) -> io::Result<()> {
+    let mut passed = 0u64;
+    for line in rt.lines(rt.alloc()) {
+        let line = line?;
+        if run_line(&rt, line.as_str())? {
+            passed = passed.saturating_add(1);
+        }
+    }
+    println!(rt; "{passed} rows passed")
+}

@@ -1,0 +1,199 @@
+//! An operator's decision of a case in doubt, the outcome that comes behind it, and its end.
+
+ghost use Rattle.std.specs.Prelude.{◌≡◌, ℕ, false, None, Some, IfErr, IfOk};
+ghost use Rattle.tree_model.specs.Names.{same_outcome};
+ghost use Rattle.tree_model.specs.CoordinatorRows.{tells_outcome};
+ghost use Rattle.tree_model.specs.declared.events.Act.TheVariants as act;
+ghost use Rattle.xa_xid.specs.declared.xid.Xid.{Xid as AnyXid};
+ghost use Rattle.sub_table.specs.Tables.{IsKept};
+ghost use Rattle.sub_core.specs.Subordinates.{Hears, IsAt, NotHeard, decided, decision_kind, logged_alone, prepared, seen};
+ghost use Rattle.sub_core.specs.Steps.{Acts, NotActed};
+
+use crate::ending::{acknowledges, ends_by};
+use crate::replies::{logged, silence};
+use crate::subordinate::{Subordinate, find_branch};
+use manager_model::ResourceManager;
+use std::alloc::{AllocError, Global};
+use sub_deeds::{decide, forget, tell};
+use sub_table::Stage;
+use tree_model::{Case, Outcome, Reaction, RecordKind, StepError};
+use xa_xid::Xid;
+
+/// The kind of the record of a decision.
+fn decision_kind(outcome: Outcome) -> RecordKind
+    ensures { result ≡ decision_kind outcome }
+{
+    match outcome {
+        Outcome::Committed => RecordKind::HeurCommit,
+        Outcome::Aborted => RecordKind::HeurRollback,
+    }
+}
+
+/// One forced record, and no message.
+fn logged_alone(kind: RecordKind, case: Case, alloc: Global) -> Result<Reaction, AllocError>
+    ensures { IfOk result (λ reaction. reaction ≡ logged_alone kind case) }
+{
+    let written = logged(kind, case, true, alloc)?;
+    Ok(Reaction {
+        written,
+        ..silence(alloc)
+    })
+}
+
+/// Whether two outcomes are one.
+#[tactic(auto, unfolding(tree_model::specs::Names::same_outcome))]
+fn is_same(one: Outcome, other: Outcome) -> bool
+    ensures { result ≡ same_outcome one other }
+{
+    matches!(
+        (one, other),
+        (Outcome::Committed, Outcome::Committed) | (Outcome::Aborted, Outcome::Aborted)
+    )
+}
+
+impl<M: ResourceManager> Subordinate<M> {
+    /// An operator decides a case in doubt, without its parent.
+    fn decide_prepared(
+        &mut self,
+        key: usize,
+        case: Case,
+        xid: Xid,
+        outcome: Outcome,
+    ) -> Result<Reaction, StepError>
+        requires up { (M.sight self.old.manager).log.failed ≡ false }
+        requires at { IsAt self.old.table key case (prepared xid) }
+        ensures ok { IfOk result (Acts (seen M.sight self.old) (seen M.sight self.new) (act.Decide case outcome)) }
+        ensures err { IfErr result (NotActed (seen M.sight self.old) (seen M.sight self.new) (act.Decide case outcome)) }
+    {
+        let reaction = logged_alone(decision_kind(outcome), case, self.alloc)?;
+        match decide(&mut self.manager, &xid, outcome) {
+            Ok(()) => {
+                self.branches.decide(key, None);
+                Ok(reaction)
+            }
+            Err(error) => Err(error),
+        }
+    }
+
+    /// An operator decides a case. UnknownTxn: it is not live. NotInDoubt: it did not promise, or was decided already.
+    pub(crate) fn decide(&mut self, case: Case, outcome: Outcome) -> Result<Reaction, StepError>
+        requires up { (M.sight self.old.manager).log.failed ≡ false }
+        ensures ok { IfOk result (Acts (seen M.sight self.old) (seen M.sight self.new) (act.Decide case outcome)) }
+        ensures err { IfErr result (NotActed (seen M.sight self.old) (seen M.sight self.new) (act.Decide case outcome)) }
+    {
+        let Some((key, branch)) = find_branch(&self.branches, &case) else {
+            return Err(StepError::UnknownTxn);
+        };
+        match branch.stage {
+            Stage::Prepared => self.decide_prepared(key, case, branch.xid, outcome),
+            Stage::Active { .. } => Err(StepError::NotInDoubt),
+            Stage::Heuristic { .. } => Err(StepError::NotInDoubt),
+        }
+    }
+
+    /// The first outcome of a case that an operator decided: it is noted.
+    fn told_first(
+        &mut self,
+        key: usize,
+        case: Case,
+        xid: Xid,
+        outcome: Outcome,
+    ) -> Result<Reaction, StepError>
+        requires up { (M.sight self.old.manager).log.failed ≡ false }
+        requires at { IsAt self.old.table key case (decided xid None) }
+        requires kept { IsKept self.old.table }
+        ensures ok { IfOk result (Hears (seen M.sight self.old) (seen M.sight self.new) (tells_outcome outcome case)) }
+        ensures err { IfErr result (NotHeard (seen M.sight self.old) (seen M.sight self.new) (tells_outcome outcome case)) }
+    {
+        let reaction = ends_by(
+            self.me,
+            self.parent,
+            case,
+            RecordKind::Told,
+            outcome,
+            self.alloc,
+        )?;
+        match tell(&mut self.manager, &xid, outcome) {
+            Ok(()) => {
+                self.branches.decide(key, Some(outcome));
+                Ok(reaction)
+            }
+            Err(error) => Err(error),
+        }
+    }
+
+    /// A further outcome of a case that an operator decided: the same is acknowledged again, the other does nothing.
+    fn told_again(&self, case: Case, told: Outcome, outcome: Outcome) -> Result<Reaction, StepError>
+        requires at { (key : ℕ) × (xid : AnyXid) × IsAt self.now.table key case (decided xid (Some told)) }
+        requires kept { IsKept self.now.table }
+        ensures ok { IfOk result (Hears (seen M.sight self.now) (seen M.sight self.now) (tells_outcome outcome case)) }
+        ensures err { IfErr result (NotHeard (seen M.sight self.now) (seen M.sight self.now) (tells_outcome outcome case)) }
+    {
+        if is_same(told, outcome) {
+            Ok(acknowledges(self.me, self.parent, case, outcome, self.alloc)?)
+        } else {
+            Ok(silence(self.alloc))
+        }
+    }
+
+    /// COMMIT or ABORT of a case that an operator decided.
+    pub(crate) fn tell_heuristic(
+        &mut self,
+        key: usize,
+        case: Case,
+        xid: Xid,
+        told: Option<Outcome>,
+        outcome: Outcome,
+    ) -> Result<Reaction, StepError>
+        requires up { (M.sight self.old.manager).log.failed ≡ false }
+        requires at { IsAt self.old.table key case (decided xid told) }
+        requires kept { IsKept self.old.table }
+        ensures ok { IfOk result (Hears (seen M.sight self.old) (seen M.sight self.new) (tells_outcome outcome case)) }
+        ensures err { IfErr result (NotHeard (seen M.sight self.old) (seen M.sight self.new) (tells_outcome outcome case)) }
+    {
+        match told {
+            None => self.told_first(key, case, xid, outcome),
+            Some(told) => self.told_again(case, told, outcome),
+        }
+    }
+
+    /// What an operator decided of a case is forgotten, and so is the case.
+    fn forget_decided(
+        &mut self,
+        key: usize,
+        case: Case,
+        xid: Xid,
+        told: Option<Outcome>,
+    ) -> Result<Reaction, StepError>
+        requires up { (M.sight self.old.manager).log.failed ≡ false }
+        requires at { IsAt self.old.table key case (decided xid told) }
+        requires kept { IsKept self.old.table }
+        ensures ok { IfOk result (Acts (seen M.sight self.old) (seen M.sight self.new) (act.Forget case)) }
+        ensures err { IfErr result (NotActed (seen M.sight self.old) (seen M.sight self.new) (act.Forget case)) }
+    {
+        let reaction = logged_alone(RecordKind::Forgot, case, self.alloc)?;
+        match forget(&mut self.manager, &xid) {
+            Ok(()) => {
+                self.branches.remove(key);
+                Ok(reaction)
+            }
+            Err(error) => Err(error),
+        }
+    }
+
+    /// An operator forgets a case. UnknownTxn: it is not live. NothingToForget: no operator decided it.
+    pub(crate) fn forget(&mut self, case: Case) -> Result<Reaction, StepError>
+        requires up { (M.sight self.old.manager).log.failed ≡ false }
+        ensures ok { IfOk result (Acts (seen M.sight self.old) (seen M.sight self.new) (act.Forget case)) }
+        ensures err { IfErr result (NotActed (seen M.sight self.old) (seen M.sight self.new) (act.Forget case)) }
+    {
+        let Some((key, branch)) = find_branch(&self.branches, &case) else {
+            return Err(StepError::UnknownTxn);
+        };
+        match branch.stage {
+            Stage::Heuristic { told } => self.forget_decided(key, case, branch.xid, told),
+            Stage::Active { .. } => Err(StepError::NothingToForget),
+            Stage::Prepared => Err(StepError::NothingToForget),
+        }
+    }
+}

@@ -1,0 +1,39 @@
+-- What comes of an operator's decision.
+use Rattle.std.proofs.Common.{◌∙◌, List, sym, ap, subst}
+use Rattle.xa_tables.specs.declared.states.BranchState.{BranchState}
+use Rattle.xa_xid.specs.declared.xid.Xid.{Xid}
+use Rattle.xa_assoc.specs.Associations.{AssocList}
+use Rattle.xa_branch.specs.Branches.{state_in}
+use Rattle.tree_model.specs.declared.names.Outcome.{Outcome}
+use Rattle.tree_model.specs.declared.events.StepError.TheVariants as error
+use Rattle.manager_model.specs.Sights.{ManagerSight}
+use Rattle.manager_model.specs.Deciding.{DecideFails, Decides as DecidesBy}
+use Rattle.sub_deeds.specs.Deeds.{Decides, IsIdle, IsQuiet, NotDecided}
+use Rattle.sub_deeds.proofs.Quiet.{same_idle}
+
+pub decides : (old new : ManagerSight) (x : Xid) (o : Outcome) → IsIdle old → DecidesBy old new x o → Decides old new x o
+decides old new x o idle d = record {
+  comes = record {
+    own = d.tables.branch.own;
+    others = d.tables.branch.others;
+    others_decided = d.others_decided;
+    idle = record {
+      opened = d.tables.init ∙ idle.opened;
+      quiet = subst (λ (a : AssocList). IsQuiet a) (sym d.tables.associations) idle.quiet;
+    };
+    boot = d.boot;
+  };
+  log = d.log;
+  wrote = record { own = d.own; others = d.others };
+  decided = d.decided;
+}
+
+pub not_decided : (old new : ManagerSight) (x : Xid) (o : Outcome) → IsIdle old → DecideFails old new x o
+    → NotDecided old new x o error.Device
+not_decided old new x o idle f = record {
+  log = f.log;
+  states = λ y. ap (λ (bs : List (Xid × BranchState)). state_in bs y) f.tables.branches.branches;
+  decided = f.decided;
+  idle = same_idle old new f.tables idle;
+  boot = f.boot;
+}

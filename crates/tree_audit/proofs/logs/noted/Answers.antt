@@ -1,0 +1,44 @@
+use Rattle.std.proofs.Common.{◌≡◌, ◌∙◌, ◌+◌, ◌-◌, ap, sym, arith, fold, length, map}
+use Rattle.tree_model.specs.LogNames.{own_records}
+use Rattle.log_reading.specs.Places.{placed_in}
+use Rattle.log_reading.proofs.PlaceLaws.{frame_size, goes_on, no_frame, stops}
+use Rattle.audit_cases.specs.Notes.{noted as noted_by_record, place_at}
+use Rattle.tree_audit.proofs.Passes.{is_frames_table, noted_ends, noted_goes_on}
+use Rattle.tree_audit.proofs.RecordsAt.{record_at}
+use Rattle.tree_audit.proofs.logs.noted.Goals as goal
+
+pub take-requires : goal.take-requires
+take-requires c =
+    record_at c.args.entry.now.kind c.in-Some.kind c.in-Some.payload.now c.in-Ok.record c.in-Ok.ensures.ok
+
+pub returns-in-Err-Malformed : goal.returns-in-Err-Malformed
+returns-in-Err-Malformed c =
+    noted_ends c.args.tree.now c.args.entry.now c.loop-kind.notes _ _
+    (stops c.args.entry.now.kind _ c.loop-kind.rest.now _ (sym c.in-Some.ensures)
+    (c.in-Err-Malformed.ensures.err c.in-Err-Malformed.field-0-is))
+    c.loop-kind.invariant.0
+    ∙ is_frames_table c.args.tree.now c.args.entry.now c.args.frames.now
+
+pub loop-kind-preserved : goal.loop-kind-preserved
+loop-kind-preserved c =
+    let size = frame_size c.loop-kind.rest.now _ (sym c.in-Some.ensures) in
+    let within = c.loop-kind.invariant.1 in
+    let next : 5 + (length c.args.frames.now - length c.in-Some.behind.now)
+    ≡ 5 + (length c.args.frames.now - length c.loop-kind.rest.now) + 3 + length c.in-Some.payload.now =
+    omega (arith, size, within) in (
+      ap (λ at. fold noted_by_record c.take.new.self (own_records (place_at c.args.tree.now c.args.entry.now)
+          (map (λ x. x.read) (placed_in c.args.entry.now.kind at 0 c.in-Some.behind.now)))) next
+          ∙ noted_goes_on c.args.tree.now c.args.entry.now c.loop-kind.notes c.take.new.self _ _ c.in-Ok.record _ _
+          c.in_ok-take-in-Ok.ensures
+          (goes_on c.args.entry.now.kind _ c.loop-kind.rest.now _ c.in-Ok.record
+          (sym c.in-Some.ensures) c.in-Ok.ensures.ok)
+          c.loop-kind.invariant.0,
+      omega (arith, size, within),
+    )
+
+pub returns : goal.returns
+returns c =
+    noted_ends c.args.tree.now c.args.entry.now c.loop-kind.notes _ _
+    (no_frame c.args.entry.now.kind _ c.loop-kind.rest.now (sym c.in_default.ensures))
+    c.loop-kind.invariant.0
+    ∙ is_frames_table c.args.tree.now c.args.entry.now c.args.frames.now

@@ -1,0 +1,99 @@
+-- What an audit of the logs of a tree finds.
+use Rattle.std.specs.Prelude.{◌≡◌, ℕ, ⊤, Bool, true, Option, Some, None, List, [], map, filter, find, count_by}
+use Rattle.std.specs.List.{flat_map}
+use Rattle.tree_model.specs.declared.names.Case.{Case}
+use Rattle.tree_model.specs.declared.names.Kind.{Kind}
+use Rattle.tree_model.specs.declared.names.Kind.TheVariants.{Coordinator}
+use Rattle.tree_model.specs.declared.names.Outcome.{Outcome}
+use Rattle.tree_model.specs.declared.names.Outcome.TheVariants.{Committed, Aborted}
+use Rattle.tree_model.specs.declared.names.ProcessId.{ProcessId}
+use Rattle.tree_model.specs.declared.records.LogRecord.{LogRecord}
+use Rattle.tree_model.specs.declared.trees.TreeEntry.{TreeEntry}
+use Rattle.tree_model.specs.LogNames.{own_records}
+use Rattle.tree_model.specs.Names.{process_of, same_process}
+use Rattle.tree_model.specs.Nodes.{place_of}
+use Rattle.tree_model.specs.Records.{cases_in, has, is_decided}
+use Rattle.log_order.specs.Logs.{LogReading, Whole, Damaged, read_log}
+use Rattle.log_reading.specs.Faults.{first_damage}
+use Rattle.logs_script.specs.declared.line.ProcessLog.{ProcessLog}
+use Rattle.logs_script.specs.Logs.{bytes_of}
+use Rattle.tree_auditor.specs.Audits.{Logs, ShowsMismatch, audited, has_line, since_promise}
+use Rattle.audit_cases.specs.Kinds.{own_of}
+use Rattle.tree_audit.specs.declared.report.AuditError.{AuditError}
+use Rattle.tree_audit.specs.declared.report.AuditError.TheVariants as error
+use Rattle.tree_audit.specs.declared.report.Line.{Line}
+use Rattle.tree_audit.specs.declared.report.Report.{Report}
+
+-- What the processes keep.
+
+-- the records of a log that is sound
+abbrev pub whole_records : LogReading → List LogRecord
+whole_records (Whole ls torn) = ls
+whole_records (Damaged place) = []
+
+-- the kind of an entry; a coordinator's where there is none
+abbrev pub entry_kind : Option TreeEntry → Kind
+entry_kind None = Coordinator
+entry_kind (Some e) = e.kind
+
+-- the kind of a process
+abbrev pub kind_in : List TreeEntry → ProcessId → Kind
+kind_in tree q = entry_kind (find (λ e. same_process e.id q) tree)
+
+-- the kept list of each process: the records of its log, as the process reads them
+unfoldable pub kept_lists : List TreeEntry → List ProcessLog → Logs
+kept_lists tree logs q =
+    own_records (place_of tree q) (whole_records (read_log (kind_in tree q) (bytes_of logs q)))
+
+-- The lines.
+
+-- the other outcome
+abbrev pub other : Outcome → Outcome
+other Committed = Aborted
+other Aborted = Committed
+
+-- an operator decided the case against this outcome
+abbrev pub is_against : List TreeEntry → Logs → Case → Outcome → Bool
+is_against tree logs c o = has (is_decided c (other o)) (since_promise c (logs (process_of c)))
+
+-- the line of a case: how it stands by its own records, its outcome, and whether an operator decided
+-- against that
+abbrev pub line_of : List TreeEntry → Logs → Case → Line
+line_of tree logs c = record {
+  case = c;
+  own = own_of c (since_promise c (logs (process_of c)));
+  outcome = audited tree logs c;
+  mismatch = is_against tree logs c (audited tree logs c);
+}
+
+-- the lines of a process's cases, in order of their first records
+abbrev pub lines_at : List TreeEntry → Logs → ProcessId → List Line
+lines_at tree logs q = map (line_of tree logs) (filter (has_line tree logs) (cases_in (logs q)))
+
+-- the lines of all processes, in the order of the tree
+unfoldable pub lines_of : List TreeEntry → Logs → List Line
+lines_of tree logs = flat_map (λ e. lines_at tree logs e.id) tree
+
+-- how many lines show a mismatch
+abbrev pub mismatches_in : List Line → ℕ
+mismatches_in ls = count_by (λ l. l.mismatch) ls
+
+-- What is found.
+
+-- the report of sound logs
+pub record IsReport (tree : List TreeEntry) (logs : List ProcessLog) (r : Report) : Type 0 where
+  pub sound : first_damage tree logs ≡ None
+  pub lines : r.lines.items ≡ lines_of tree (kept_lists tree logs)
+  pub mismatches : r.mismatches ≡ mismatches_in r.lines.items
+
+-- memory was refused, or the log of this process is the first in the order of the tree that is damaged,
+-- at this place
+abbrev pub IsNoReport : List TreeEntry → List ProcessLog → AuditError → Type 0
+IsNoReport tree logs error.Memory = ⊤
+IsNoReport tree logs (error.Damaged q place) = first_damage tree logs ≡ Some (q, place)
+
+-- a line of a case shows a mismatch just where the audit's definition says so, of some decision
+pub record LinesTellMismatches (tree : List TreeEntry) (logs : Logs) : Type 0 where
+  pub shown : (c : Case) → has_line tree logs c ≡ true → (line_of tree logs c).mismatch ≡ true
+      → (o : Outcome) × ShowsMismatch tree logs c o
+  pub told : (c : Case) (o : Outcome) → ShowsMismatch tree logs c o → (line_of tree logs c).mismatch ≡ true

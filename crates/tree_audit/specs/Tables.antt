@@ -1,0 +1,154 @@
+-- What is kept while an audit goes on: of each process what its log says, and of each parent what it says of
+-- its children's cases.
+use Rattle.std.specs.Prelude.{◌≡◌, ⊤, ℕ, Bool, true, false, is_none, is_some, Option, Some, None, option_map, List, [], map, filter, fold}
+use Rattle.std.specs.List.{flat_map, list_all}
+use Rattle.std.specs.Map.{lookup}
+use Rattle.indexmap.specs.IndexMap.{insert_entry}
+use Rattle.tree_model.specs.declared.names.Case.{Case}
+use Rattle.tree_model.specs.declared.names.ProcessId.{ProcessId}
+use Rattle.tree_model.specs.declared.names.Ticket.{Ticket}
+use Rattle.tree_model.specs.declared.names.Txn.{Txn}
+use Rattle.tree_model.specs.declared.records.LogRecord.{LogRecord}
+use Rattle.tree_model.specs.declared.trees.TreeEntry.{TreeEntry}
+use Rattle.tree_model.specs.contracts.names.ProcessIdPartialEq.TheImpl as processes
+use Rattle.tree_model.specs.LogNames.{own_records}
+use Rattle.tree_model.specs.Names.{child_case}
+use Rattle.tree_model.specs.Nodes.{Role, is_listed, role_by}
+use Rattle.tree_model.specs.Records.{cases_in}
+use Rattle.tree_model.specs.Trees.{is_unlisted, level_within}
+use Rattle.log_order.specs.Logs.{Whole, Damaged, read_log}
+use Rattle.log_reading.specs.Places.{placed_in}
+use Rattle.tree_auditor.specs.Audits.{Logs, audited, is_case_at, naming_case}
+use Rattle.audit_cases.specs.Kinds.{decided_in, line_in, own_in}
+use Rattle.audit_cases.specs.Notes.{CaseNote, Table, noted, notes_of, place_at, same}
+use Rattle.audit_cases.specs.Sayings.{AreSaid, Outcomes, outcome_in}
+use Rattle.tree_audit.specs.declared.report.AuditError.{AuditError}
+use Rattle.tree_audit.specs.declared.report.AuditError.TheVariants as error
+use Rattle.tree_audit.specs.declared.report.Line.{Line}
+use Rattle.tree_audit.specs.Reports.{other}
+
+-- two processes are one
+abbrev pub same_id : ProcessId → ProcessId → Bool
+same_id = processes.ghosts.eq
+
+-- What the logs say.
+
+-- what frames say of the cases of a process, record by record
+unfoldable pub frames_table : List TreeEntry → TreeEntry → List ℕ → Table
+frames_table tree e frames =
+    fold noted [] (own_records (place_at tree e) (map (λ x. x.read) (placed_in e.kind 5 0 frames)))
+
+-- the bytes are a sound log, and this is what its records say of the process's cases
+pub record NotesLog (tree : List TreeEntry) (e : TreeEntry) (bytes : List ℕ) (t : Table) : Type 0 where
+  pub records : List LogRecord
+  pub torn : ℕ
+  pub read : read_log e.kind bytes ≡ Whole records torn
+  pub notes : t ≡ notes_of (own_records (place_at tree e) records)
+
+-- memory was refused, or the bytes are the process's log and damaged at this place
+abbrev pub IsDamage : TreeEntry → List ℕ → AuditError → Type 0
+IsDamage e bytes error.Memory = ⊤
+IsDamage e bytes (error.Damaged q place) = (q ≡ e.id) × (read_log e.kind bytes ≡ Damaged place)
+
+-- what is said of each process's cases
+abbrev pub TreeTables : Type 0
+TreeTables = List (ProcessId × Table)
+
+-- what is said of the cases of this process; nothing, where there is no such process
+abbrev pub table_or : Option Table → Table
+table_or None = []
+table_or (Some t) = t
+
+-- this is what the kept lists say of each listed process's cases, and these are its own
+pub record AreNotes (tree : List TreeEntry) (logs : Logs) (ts : TreeTables) : Type 0 where
+  pub tables : (q : ProcessId) → is_listed tree q ≡ true → lookup (same_id q) ts ≡ Some (notes_of (logs q))
+  pub own : (q : ProcessId) → is_listed tree q ≡ true
+      → list_all (is_case_at tree q) (cases_in (logs q)) ≡ true
+
+-- What the parents say.
+
+-- what processes say of their children's cases
+abbrev pub TreeOutcomes : Type 0
+TreeOutcomes = List (ProcessId × Outcomes)
+
+-- the process has said it
+abbrev pub has_said : TreeOutcomes → ProcessId → Bool
+has_said said p = is_some (lookup (same_id p) said)
+
+-- what the parent says, if there is one
+abbrev pub above_of : TreeOutcomes → Option ProcessId → Option Outcomes
+above_of said None = None
+above_of said (Some p) = lookup (same_id p) said
+
+-- the parent has said it, if there is one
+abbrev pub has_above : TreeOutcomes → Option ProcessId → Bool
+has_above said None = true
+has_above said (Some p) = has_said said p
+
+-- what a process says of its children's cases is the audit's outcome of the first of its cases that names
+-- them
+abbrev pub SaysTruly : List TreeEntry → Logs → ProcessId → Outcomes → Type 0
+SaysTruly tree logs p s = (x : Txn) (t : Ticket)
+    → lookup (same (child_case x t)) s ≡ option_map (audited tree logs) (naming_case tree p x t (logs p))
+
+-- each process that said something says it truly
+abbrev pub AllTrue : List TreeEntry → Logs → TreeOutcomes → Type 0
+AllTrue tree logs said = (p : ProcessId) (s : Outcomes) → lookup (same_id p) said ≡ Some s
+    → SaysTruly tree logs p s
+
+-- who has said something before has done so still
+abbrev pub StillSaid : TreeOutcomes → TreeOutcomes → Type 0
+StillSaid old new = (p : ProcessId) → has_said old p ≡ true → has_said new p ≡ true
+
+-- behind what processes said, this one says what it does by its notes, if it has any
+abbrev pub Adds : Option Outcomes → Option Table → ProcessId → TreeOutcomes → TreeOutcomes → Type 0
+Adds above None q old new = new ≡ old
+Adds above (Some t) q old new = (s : Outcomes) × AreSaid above t s × (new ≡ insert_entry same_id old q s)
+
+-- a listed process has now said what it does, where a climb from it ends within so many steps; and all of
+-- that is true
+pub record Says (tree : List TreeEntry) (ts : TreeTables) (q : ProcessId) (steps : ℕ)
+    (old new : TreeOutcomes) : Type 0 where
+  pub still : StillSaid old new
+  pub truly : (logs : Logs) → AreNotes tree logs ts → is_listed tree q ≡ true
+      → is_none (level_within steps tree q) ≡ false → AllTrue tree logs old → AllTrue tree logs new
+  pub said : (logs : Logs) → AreNotes tree logs ts → is_listed tree q ≡ true
+      → is_none (level_within steps tree q) ≡ false → has_said new q ≡ true
+
+-- a parent has now said what it does, if there is one; and all of that is true
+pub record SaysAbove (tree : List TreeEntry) (ts : TreeTables) (o : Option ProcessId)
+    (old new : TreeOutcomes) : Type 0 where
+  pub still : StillSaid old new
+  pub truly : (logs : Logs) → AreNotes tree logs ts → is_unlisted tree o ≡ false → AllTrue tree logs old
+      → AllTrue tree logs new
+  pub said : (logs : Logs) → AreNotes tree logs ts → is_unlisted tree o ≡ false → has_above new o ≡ true
+
+-- the parents of these entries have said what they do; and all of that is true
+pub record SaidFor (tree : List TreeEntry) (ts : TreeTables) (es : List TreeEntry)
+    (outcomes : TreeOutcomes) : Type 0 where
+  pub truly : (logs : Logs) → AreNotes tree logs ts → AllTrue tree logs outcomes
+  pub said : (logs : Logs) → AreNotes tree logs ts → list_all (λ e. has_above outcomes e.parent) es ≡ true
+
+-- The lines.
+
+-- the line of a case of which this is noted, where this is said above
+abbrev pub line_by : Option Outcomes → Case → CaseNote → Line
+line_by above c n = record {
+  case = c;
+  own = own_in n.kinds;
+  outcome = outcome_in above c n;
+  mismatch = decided_in n.kinds (other (outcome_in above c n));
+}
+
+-- the lines of the cases of a process with this role
+abbrev pub lines_in : Role → Option Outcomes → Table → List Line
+lines_in role above t = map (λ e. line_by above e.0 e.1) (filter (λ e. line_in role e.1.kinds) t)
+
+-- the lines of the process of an entry
+abbrev pub entry_lines : TreeTables → TreeOutcomes → TreeEntry → List Line
+entry_lines ts said e =
+    lines_in (role_by e.kind e.parent) (above_of said e.parent) (table_or (lookup (same_id e.id) ts))
+
+-- the lines of the processes of these entries
+unfoldable pub all_lines : TreeTables → TreeOutcomes → List TreeEntry → List Line
+all_lines ts said es = flat_map (entry_lines ts said) es

@@ -1,0 +1,113 @@
+//! The whole of an audit.
+
+ghost use Rattle.std.specs.Prelude.{◌≡◌, ◌++◌, IfOk, IfErr, OnOk};
+ghost use Rattle.std.specs.Option.{option_copied};
+ghost use Rattle.tree_model.specs.Trees.{IsTree};
+ghost use Rattle.tree_audit.specs.Reports.{IsNoReport, IsReport, mismatches_in, other as other_of};
+ghost use Rattle.tree_audit.specs.Tables.{all_lines, entry_lines, line_by, lines_in};
+ghost use Rattle.tree_model.specs.Nodes.{role_by};
+
+use crate::logs::{TreeNotes, all_notes};
+use crate::parents::{TreeSayings, above, all_sayings};
+use crate::report::{AuditError, Line, Report};
+use audit_cases::{Noted, Notes, Sayings, outcome_of};
+use logs_script::ProcessLog;
+use std::alloc::{AllocError, Global};
+use tree_model::{Case, Outcome, Tree, TreeEntry};
+
+/// The other outcome.
+fn other(outcome: Outcome) -> Outcome
+    ensures { result ≡ other_of outcome }
+{
+    match outcome {
+        Outcome::Committed => Outcome::Aborted,
+        Outcome::Aborted => Outcome::Committed,
+    }
+}
+
+/// The line of a case of which this is noted, and this is said above.
+fn line_of(above: Option<&Sayings>, case: &Case, note: &Noted) -> Line
+    ensures { result ≡ line_by (option_copied above.entry) case.now note.now }
+{
+    let outcome = outcome_of(above, case, note);
+    let kinds = note.kinds();
+    Line {
+        case: *case,
+        own: kinds.own(),
+        outcome,
+        mismatch: kinds.is_decided(other(outcome)),
+    }
+}
+
+/// The lines of the cases of a process of which this is noted, where this is said above them.
+fn push_cases(
+    lines: &mut Vec<Line>,
+    entry: &TreeEntry,
+    above: Option<&Sayings>,
+    own: &Notes,
+) -> Result<(), AllocError>
+    ensures { OnOk result (lines.new.items
+        ≡ lines.old.items ++ lines_in (role_by entry.now.kind entry.now.parent) (option_copied above.entry) own.now) }
+{
+    for (case, note) in own.cases() {
+        if note.kinds().has_line(entry.kind, entry.parent) {
+            lines.push(line_of(above, case, note))?;
+        }
+    }
+    Ok(())
+}
+
+/// The lines of a process's cases.
+fn push_lines(
+    lines: &mut Vec<Line>,
+    entry: &TreeEntry,
+    notes: &TreeNotes,
+    said: &TreeSayings,
+) -> Result<(), AllocError>
+    ensures { OnOk result (lines.new.items ≡ lines.old.items ++ entry_lines notes.now.entries said.now.entries entry.now) }
+{
+    match notes.get(&entry.id) {
+        None => Ok(()),
+        Some(own) => push_cases(lines, entry, above(said, entry.parent), own),
+    }
+}
+
+/// The lines of all processes.
+fn lines_of(
+    alloc: Global,
+    tree: &Tree,
+    notes: &TreeNotes,
+    said: &TreeSayings,
+) -> Result<Vec<Line>, AllocError>
+    ensures { IfOk result (λ lines. lines.items ≡ all_lines notes.now.entries said.now.entries tree.now) }
+{
+    let mut lines = Vec::new(alloc);
+    let entries = tree.entries();
+    for entry in entries {
+        push_lines(&mut lines, entry, notes, said)?;
+    }
+    Ok(lines)
+}
+
+fn count_mismatches(lines: &[Line]) -> usize
+    ensures { result ≡ mismatches_in lines.now }
+{
+    lines.iter().filter(|line| line.mismatch).count()
+}
+
+/// Audits the logs of a tree: a line for each case that is still told of, in the order of the tree and of first records, with
+/// how it stands by its own process's records and how its transaction ends. The outcome is the case's own decision or what it
+/// was told; else, at the root, abort; else that of the parent's first case of the transaction that names its ticket; else
+/// what is presumed. Cases that are not their process's own in this tree are left out. Each log is gone through once.
+/// Damaged: the first log in the order of the tree that is.
+pub fn audit(alloc: Global, tree: &Tree, logs: &[ProcessLog]) -> Result<Report, AuditError>
+    requires { IsTree tree.now }
+    ensures ok { IfOk result (λ r. IsReport tree.now logs.now r) }
+    ensures err { IfErr result (λ e. IsNoReport tree.now logs.now e) }
+{
+    let notes = all_notes(alloc, tree, logs)?;
+    let said = all_sayings(alloc, tree, &notes)?;
+    let lines = lines_of(alloc, tree, &notes, &said)?;
+    let mismatches = count_mismatches(&lines);
+    Ok(Report { lines, mismatches })
+}

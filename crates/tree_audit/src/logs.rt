@@ -1,0 +1,88 @@
+//! One pass over each log.
+
+ghost use Rattle.std.specs.Prelude.{◌≡◌, None, IfOk, IfErr, OnOk};
+ghost use Rattle.indexmap.specs.IndexMap.{insert_entry};
+ghost use Rattle.log_reading.specs.Faults.{first_damage};
+ghost use Rattle.tree_model.specs.Trees.{IsTree};
+ghost use Rattle.tree_audit.specs.Reports.{IsNoReport, kept_lists};
+ghost use Rattle.tree_audit.specs.Tables.{AreNotes, IsDamage, NotesLog, frames_table, same_id};
+
+use crate::report::AuditError;
+use audit_cases::Notes;
+use indexmap::IndexMap;
+use log_text::{HEADER, ReadFault, first_frame, read_record};
+use logs_script::{ProcessLog, bytes_of};
+use rec_log::{Found, OpenError, find};
+use std::alloc::{AllocError, Global};
+use tree_model::{ProcessId, Tree, TreeEntry};
+
+/// What is noted of each process's cases.
+pub(crate) type TreeNotes = IndexMap<ProcessId, Notes>;
+
+/// What the frames behind a header say of the process's cases, up to the first that is no record.
+fn noted(alloc: Global, tree: &Tree, entry: &TreeEntry, frames: &[u8]) -> Result<Notes, AllocError>
+    ensures { IfOk result (λ notes. notes ≡ frames_table tree.now entry.now frames.now) }
+{
+    let mut notes = Notes::new(alloc);
+    let mut rest = frames;
+    while let Some((kind, payload, behind)) = first_frame(rest) {
+        match read_record(entry.kind, kind, payload, alloc) {
+            Ok(record) => notes.take(tree, entry, &record)?,
+            Err(ReadFault::Malformed) => return Ok(notes),
+            Err(ReadFault::Memory) => return Err(AllocError),
+        }
+        rest = behind;
+    }
+    Ok(notes)
+}
+
+/// What a process's log says of its cases.
+fn notes_of(
+    alloc: Global,
+    tree: &Tree,
+    entry: &TreeEntry,
+    bytes: &[u8],
+) -> Result<Notes, AuditError>
+    ensures ok { IfOk result (λ notes. NotesLog tree.now entry.now bytes.now notes) }
+    ensures err { IfErr result (λ e. IsDamage entry.now bytes.now e) }
+{
+    match find(entry.kind, bytes, alloc) {
+        Ok(Found::Empty) => Ok(Notes::new(alloc)),
+        Ok(Found::Sound(_)) => {
+            let (_, frames) = bytes.split_at(HEADER.len());
+            Ok(noted(alloc, tree, entry, frames)?)
+        }
+        Err(OpenError::Damaged(place)) => Err(AuditError::Damaged(entry.id, place)),
+        Err(_) => Err(AuditError::Memory),
+    }
+}
+
+/// One process more.
+fn put(notes: &mut TreeNotes, process: ProcessId, new: Notes) -> Result<(), AllocError>
+    ensures { OnOk result (notes.new.entries ≡ insert_entry same_id notes.old.entries process new) }
+{
+    let _ = notes.insert(process, new)?;
+    Ok(())
+}
+
+/// What the log of each process says of its cases. It goes through each log once, and stops at the first that is damaged.
+pub(crate) fn all_notes(
+    alloc: Global,
+    tree: &Tree,
+    logs: &[ProcessLog],
+) -> Result<TreeNotes, AuditError>
+    requires { IsTree tree.now }
+    ensures sound { IfOk result (λ notes. first_damage tree.now logs.now ≡ None) }
+    ensures ok { IfOk result (λ notes. AreNotes tree.now (kept_lists tree.now logs.now) notes.entries) }
+    ensures err { IfErr result (λ e. IsNoReport tree.now logs.now e) }
+{
+    let mut notes = IndexMap::new(alloc);
+    let entries = tree.entries();
+    for entry in entries {
+        match notes_of(alloc, tree, entry, bytes_of(logs, entry.id)) {
+            Ok(new) => put(&mut notes, entry.id, new)?,
+            Err(error) => return Err(error),
+        }
+    }
+    Ok(notes)
+}

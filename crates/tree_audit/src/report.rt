@@ -1,0 +1,45 @@
+//! What an audit finds.
+
+use audit_cases::Own;
+use std::alloc::AllocError;
+use tree_model::{Case, Outcome, ProcessId};
+
+/// What an audit says of a case.
+#[derive(Clone, Copy, PartialEq, Eq)]
+pub struct Line {
+    pub case: Case,
+    /// How the case stands by the records of its own process.
+    pub own: Own,
+    /// How its transaction ends.
+    pub outcome: Outcome,
+    /// Whether an operator decided it the other way.
+    pub mismatch: bool,
+}
+
+/// A line for each case that is told of, in the order of the tree and of first records; and how many show a mismatch.
+#[derive(Drop)]
+pub struct Report {
+    pub lines: Vec<Line>,
+    pub mismatches: usize,
+}
+
+/// Why there is no report.
+#[derive(Clone, Copy, PartialEq, Eq)]
+pub enum AuditError {
+    /// There was no memory.
+    Memory,
+    /// The first damaged log in the order of the tree: its process, and the first byte of the frame that is wrong, 0 for the
+    /// header.
+    Damaged(ProcessId, usize),
+}
+
+impl From<AllocError> for AuditError {
+    ghost use Rattle.tree_audit.specs.declared.report.AuditError.TheVariants.{Memory};
+    ghost use Rattle.std.specs.Prelude.{◌≡◌};
+
+    ghost from_gives = { λ _ e. e ≡ Memory };
+
+    fn from(_e: AllocError) -> AuditError {
+        AuditError::Memory
+    }
+}

@@ -1,0 +1,52 @@
+-- The rest of a run's steps, from one on.
+use Rattle.std.proofs.Common.{◌≡◌, ◌∙◌, ap, sym, ℕ, zero, suc, ◌+◌, ◌≤◌, Option, Some, None, List, [], ◌∷◌, ◌++◌, drop, length, refl, arith}
+use Rattle.std.proofs.lemmas.List.{append-nil, append_assoc}
+use Rattle.std.specs.Prelude.{slice_get}
+use Rattle.tree_model.specs.declared.events.Entry.{Entry}
+use Rattle.trace_lines.specs.Trace.{entries_text, entry_text}
+use Rattle.tree_engine.specs.Trees.{AddsStep}
+
+-- the step at a place and those behind it
+pub dropped_at : (es : List Entry) (k : ℕ) (e : Entry) → slice_get es k ≡ Some e → drop k es ≡ e ∷ drop (k + 1) es
+dropped_at [] k e is = absurd (cc)
+dropped_at (f ∷ es) zero e is = let same : f ≡ e = cc in rw same refl
+dropped_at (f ∷ es) (suc k) e is =
+    let at : suc k + 1 ≡ suc (k + 1) = omega arith in
+    rw at (dropped_at es k e is)
+
+-- none is behind the last
+pub dropped_past : (es : List Entry) (k : ℕ) → slice_get es k ≡ None → drop k es ≡ []
+dropped_past [] zero is = refl
+dropped_past [] (suc k) is = refl
+dropped_past (f ∷ es) zero is = absurd (cc)
+dropped_past (f ∷ es) (suc k) is = dropped_past es k is
+
+pub dropped_all : (es : List Entry) (k : ℕ) → length es ≤ k → drop k es ≡ []
+dropped_all [] zero h = refl
+dropped_all [] (suc k) h = refl
+dropped_all (f ∷ es) zero h = absurd (omega arith)
+dropped_all (f ∷ es) (suc k) h = dropped_all es k (omega arith)
+
+-- the text behind one step more
+pub step_added : (es : List Entry) (k sent next : ℕ) (old new all : List ℕ) (o : Option Entry) → slice_get es k ≡ o
+    → AddsStep o old new sent (Some next) → old ++ entries_text sent (drop k es) ≡ all
+    → new ++ entries_text next (drop (k + 1) es) ≡ all
+step_added es k sent next old new all None is adds so = absurd adds
+step_added es k sent next old new all (Some e) is adds so =
+    ap (λ (xs : List ℕ). xs ++ entries_text next (drop (k + 1) es)) adds.1
+    ∙ append_assoc old (entry_text sent e) (entries_text next (drop (k + 1) es))
+    ∙ ap (λ n. old ++ (entry_text sent e ++ entries_text n (drop (k + 1) es))) adds.0
+    ∙ ap (λ xs. old ++ entries_text sent xs) (sym (dropped_at es k e is)) ∙ so
+
+-- the text where there is no step more
+pub none_added : (es : List Entry) (k sent : ℕ) (old new all : List ℕ) (o : Option Entry) → slice_get es k ≡ o
+    → AddsStep o old new sent None → old ++ entries_text sent (drop k es) ≡ all → new ≡ all
+none_added es k sent old new all (Some e) is adds so = absurd adds
+none_added es k sent old new all None is adds so =
+    adds ∙ sym (append-nil old) ∙ ap (λ xs. old ++ entries_text sent xs) (sym (dropped_past es k is)) ∙ so
+
+-- the text behind the last step
+pub all_added : (es : List Entry) (k sent : ℕ) (old all : List ℕ) → length es ≤ k → old ++ entries_text sent (drop k es) ≡ all
+    → old ≡ all
+all_added es k sent old all past so =
+    sym (append-nil old) ∙ ap (λ xs. old ++ entries_text sent xs) (sym (dropped_all es k past)) ∙ so

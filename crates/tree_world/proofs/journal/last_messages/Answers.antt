@@ -1,6 +1,0 @@
-use Rattle.std.proofs.Common.{rules}
-use Rattle.tree_world.proofs.Journals.{of_last}
-use Rattle.tree_world.proofs.journal.last_messages.Goals as goal
-
-pub returns-in-Some : goal.returns-in-Some
-returns-in-Some c = search (rules, of_last)

@@ -1,0 +1,211 @@
+//! A step as the journal keeps it: what stands elsewhere too is named by its place.
+
+ghost use Rattle.std.specs.Prelude.{◌≡◌, ◌++◌, ◌<◌, IfOk, OnOk, length};
+ghost use Rattle.std.specs.Option.{option_copied};
+ghost use Rattle.std.specs.Vec.{vec_capacity, vec_len};
+ghost use Rattle.world_journal.specs.Journals.{Stock, act_by, aside_by, aside_in, asides_by, cause_by, entry_in, happening_in, is_bare as is_bare_of, message_by, reaction_by};
+
+use std::alloc::{AllocError, Global};
+use tree_model::{
+    Act, Entry, Envelope, Envelopes, Happening, Input, Logged, ProcessId, Reaction, Sequence, Step,
+    Told, Txn,
+};
+
+/// Where a message stands: in the reaction of which step, and which of its messages it is, both from 0.
+#[derive(Clone, Copy)]
+pub(crate) struct Posted {
+    pub(crate) entry: usize,
+    pub(crate) nth: usize,
+}
+
+/// Why a step was made.
+#[derive(Clone, Copy)]
+pub(crate) enum Cause {
+    /// The act at this place of the journal's acts.
+    Act(usize),
+    /// The message with this number.
+    Message(u64),
+    /// A restart that kept so many records behind the forced front.
+    Restart(u64),
+    Trim,
+}
+
+/// What few reactions have.
+#[derive(Clone, Copy)]
+pub(crate) struct Aside {
+    pub(crate) begun: Option<Txn>,
+    pub(crate) told: Option<Told>,
+    pub(crate) kept: Option<u64>,
+}
+
+/// A step with its reaction. It has the messages that it sent, and the number of the one that it handled.
+#[derive(Drop)]
+pub(crate) struct ShortStep {
+    pub(crate) process: ProcessId,
+    pub(crate) cause: Cause,
+    pub(crate) written: Sequence<Logged>,
+    pub(crate) messages: Envelopes,
+    /// The place of what else its reaction has; None, where it has nothing else.
+    pub(crate) aside: Option<usize>,
+}
+
+/// The message with this number, where messages have these names.
+pub(crate) fn message_of<'a>(
+    steps: &'a [ShortStep],
+    posted: &[Posted],
+    number: u64,
+) -> Option<&'a Envelope>
+    ensures { option_copied result ≡ message_by steps.now posted.now number }
+{
+    if number == 0 {
+        return None;
+    }
+    let posted = posted.get((number - 1) as usize)?;
+    let step = steps.get(posted.entry)?;
+    step.messages.as_slice().get(posted.nth)
+}
+
+/// What happened, of a step with this cause, made anew; None, where what it names is not there.
+fn happening_of(
+    alloc: Global,
+    acts: &[Act],
+    steps: &[ShortStep],
+    posted: &[Posted],
+    cause: Cause,
+) -> Result<Option<Happening>, AllocError>
+    ensures { IfOk result (λ found. found ≡ happening_in acts.now steps.now posted.now cause) }
+{
+    Ok(match cause {
+        Cause::Act(place) => match acts.get(place) {
+            None => None,
+            Some(act) => Some(Happening::Input(Input::Act(act.copied(alloc)?))),
+        },
+        Cause::Message(number) => match message_of(steps, posted, number) {
+            None => None,
+            Some(envelope) => {
+                let message = envelope.message.copied(alloc)?;
+                Some(Happening::Input(Input::Message(number, message)))
+            }
+        },
+        Cause::Restart(kept) => Some(Happening::Restart(kept)),
+        Cause::Trim => Some(Happening::Trim),
+    })
+}
+
+/// What few reactions have, where it has this place.
+fn aside_at(asides: &[Aside], place: Option<usize>) -> Option<Aside>
+    ensures { result ≡ aside_in asides.now place }
+{
+    match place {
+        None => Some(Aside {
+            begun: None,
+            told: None,
+            kept: None,
+        }),
+        Some(place) => asides.get(place).copied(),
+    }
+}
+
+/// These messages once more.
+fn copied_messages(alloc: Global, messages: &[Envelope]) -> Result<Envelopes, AllocError>
+    ensures { IfOk result (λ copy. copy ≡ messages.now) }
+{
+    let mut copy = Vec::new(alloc);
+    copy.reserve_exact(messages.len())?;
+    copy_to(alloc, &mut copy, messages)?;
+    Ok(Envelopes::from_vec(copy))
+}
+
+/// Adds copies of these messages.
+pub(crate) fn copy_to(
+    alloc: Global,
+    sent: &mut Vec<Envelope>,
+    messages: &[Envelope],
+) -> Result<(), AllocError>
+    ensures { OnOk result (sent.new.items ≡ sent.old.items ++ messages.now) }
+{
+    for envelope in messages {
+        sent.push(envelope.copied(alloc)?)?;
+    }
+    Ok(())
+}
+
+/// The reaction of a step once more.
+fn reaction_of(alloc: Global, step: &ShortStep, aside: Aside) -> Result<Reaction, AllocError>
+    ensures { IfOk result (λ copy. copy ≡ reaction_by step.now aside) }
+{
+    Ok(Reaction {
+        begun: aside.begun,
+        written: step.written.copied(alloc)?,
+        told: aside.told,
+        messages: copied_messages(alloc, step.messages.as_slice())?,
+        kept: aside.kept,
+    })
+}
+
+/// A step with its reaction, made anew; None, where what it names is not there.
+pub(crate) fn entry_of(
+    alloc: Global,
+    acts: &[Act],
+    asides: &[Aside],
+    steps: &[ShortStep],
+    posted: &[Posted],
+    step: &ShortStep,
+) -> Result<Option<Entry>, AllocError>
+    ensures { IfOk result (λ found. found ≡ entry_in (record { acts = acts.now; asides = asides.now; steps = steps.now; posted = posted.now }) step.now) }
+{
+    let Some(happening) = happening_of(alloc, acts, steps, posted, step.cause)? else {
+        return Ok(None);
+    };
+    let Some(aside) = aside_at(asides, step.aside) else {
+        return Ok(None);
+    };
+    let reaction = reaction_of(alloc, step, aside)?;
+    Ok(Some(Entry {
+        step: Step {
+            process: step.process,
+            happening,
+            fault: None,
+        },
+        reaction,
+    }))
+}
+
+/// Keeps an act, where it was one and there is room: the cause of what happened.
+pub(crate) fn keep_act(acts: &mut Vec<Act>, happening: Happening) -> Cause
+    requires { vec_len acts.old < vec_capacity acts.old }
+    ensures cause { result ≡ cause_by (length acts.old.items) happening }
+    ensures acts { acts.new.items ≡ acts.old.items ++ act_by happening }
+{
+    match happening {
+        Happening::Input(Input::Act(act)) => {
+            let place = acts.len();
+            acts.push_reserved(act);
+            Cause::Act(place)
+        }
+        Happening::Input(Input::Message(number, _)) => Cause::Message(number),
+        Happening::Restart(kept) => Cause::Restart(kept),
+        Happening::Trim => Cause::Trim,
+    }
+}
+
+/// Whether a reaction has nothing of what few have.
+fn is_bare(aside: &Aside) -> bool
+    ensures { result ≡ is_bare_of aside.now.begun aside.now.told aside.now.kept }
+{
+    aside.begun.is_none() && aside.told.is_none() && aside.kept.is_none()
+}
+
+/// Keeps what few reactions have, where it is there and there is room: its place.
+pub(crate) fn keep_aside(asides: &mut Vec<Aside>, aside: Aside) -> Option<usize>
+    requires { vec_len asides.old < vec_capacity asides.old }
+    ensures place { result ≡ aside_by (length asides.old.items) aside }
+    ensures asides { asides.new.items ≡ asides.old.items ++ asides_by aside }
+{
+    if is_bare(&aside) {
+        return None;
+    }
+    let place = asides.len();
+    asides.push_reserved(aside);
+    Some(place)
+}
