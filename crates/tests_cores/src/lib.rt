@@ -7,7 +7,3 @@ mod acts;
 mod faults;
 #[cfg(test)]
 mod players;
-#[cfg(test)]
-mod restarts;
-#[cfg(test)]
-mod rows;

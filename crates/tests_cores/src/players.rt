@@ -1,14 +1,12 @@
-//! A coordinator that is played input by input, and the lines of its trace.
+//! A coordinator that is played input by input.
 
 use coord_core::Coordinator;
 use log_store::{LogStore, MemoryStore};
 use rec_log::RecLog;
 use std::alloc::{AllocError, Global};
 use std::test::Fail;
-use trace_lines::push_entry;
 use tree_model::{
-    Bytes, Case, Entry, Happening, Input, Kind, Op, Presumption, ProcessId, Reaction, Step, Ticket,
-    Tree, TreeEntry, Txn,
+    Bytes, Case, Input, Kind, Op, Presumption, ProcessId, Reaction, Ticket, Tree, TreeEntry, Txn,
 };
 
 /// A process of a tree, without a text for xa_open.
@@ -48,14 +46,6 @@ pub(crate) fn root_case(txn: Txn) -> Case {
     Case { txn, ticket: None }
 }
 
-/// The case of a process below the root, with its first ticket.
-pub(crate) fn child_case(txn: Txn, child: u32) -> Case {
-    Case {
-        txn,
-        ticket: Some(first_ticket(child)),
-    }
-}
-
 fn bytes(alloc: Global, text: &str) -> Result<Bytes, AllocError> {
     Ok(Bytes::from_vec(Vec::from_slice(alloc, text.as_bytes())?))
 }
@@ -93,67 +83,4 @@ pub(crate) fn step<L: LogStore>(
         Ok(reaction) => Ok(reaction),
         Err(_) => Err(Fail::from("a step that is made")),
     }
-}
-
-/// Hands the inputs over one by one, each with the number of messages that were sent before; gives the lines of the trace.
-pub(crate) fn played(
-    alloc: Global,
-    core: &mut Coordinator<MemoryStore>,
-    inputs: Vec<(u32, Input)>,
-) -> Result<Vec<u8>, Fail> {
-    let mut text = Vec::new(alloc);
-    for (sent, input) in inputs {
-        play(core, sent, input, &mut text)?;
-    }
-    Ok(text)
-}
-
-fn play(
-    core: &mut Coordinator<MemoryStore>,
-    sent: u32,
-    input: Input,
-    text: &mut Vec<u8>,
-) -> Result<(), Fail> {
-    let reaction = step(core, &input)?;
-    if reaction.messages.len() > 100 {
-        return Err(Fail::from("few messages"));
-    }
-    let entry = Entry {
-        step: Step {
-            process: core.me(),
-            happening: Happening::Input(input),
-            fault: None,
-        },
-        reaction,
-    };
-    push_entry(text, u64::from(sent), &entry)?;
-    Ok(())
-}
-
-/// Restarts it, keeping so many bytes of its log that were not forced; gives the lines of the trace, before which so many
-/// messages were sent.
-pub(crate) fn restarted(
-    alloc: Global,
-    core: &mut Coordinator<MemoryStore>,
-    sent: u32,
-    keep: usize,
-) -> Result<Vec<u8>, Fail> {
-    let reaction = match core.restart(keep) {
-        Ok(reaction) => reaction,
-        Err(_) => return Err(Fail::from("a restart that is made")),
-    };
-    if reaction.messages.len() > 100 {
-        return Err(Fail::from("few messages"));
-    }
-    let entry = Entry {
-        step: Step {
-            process: core.me(),
-            happening: Happening::Restart(keep as u64),
-            fault: None,
-        },
-        reaction,
-    };
-    let mut text = Vec::new(alloc);
-    push_entry(&mut text, u64::from(sent), &entry)?;
-    Ok(text)
 }
