@@ -54,7 +54,9 @@ fn put(alloc: Global) -> Result<Op, AllocError> {
 
 /// A world that has made nothing.
 fn opened_world(alloc: Global) -> Result<World<MemoryStore>, Fail> {
-    Ok(World::new(alloc, small_tree(alloc)?).ok().ok_or("a world")?)
+    let tree = small_tree(alloc)?;
+    tree.check().ok().ok_or("a tree")?;
+    Ok(World::new(alloc, tree).ok().ok_or("a world")?)
 }
 
 /// A world in which the child has done a write, and it was committed.
