@@ -1,5 +1,5 @@
 -- A tree that stands for a run behind faults stands for one that goes on, however a call on it ends.
-use Rattle.std.proofs.Common.{◌≡◌, refl, sym, subst, ℕ, List, [], ◌++◌, Result, Ok, Err, OnOk, IfErr}
+use Rattle.std.proofs.Common.{refl, sym, subst, ℕ, List, [], ◌++◌, Result, Ok, Err, OnOk, IfErr}
 use Rattle.tree_model.specs.declared.events.Event.{Event}
 use Rattle.tree_model.specs.declared.events.StepError.{StepError}
 use Rattle.tree_model.specs.declared.trees.TreeEntry.{TreeEntry}
@@ -8,7 +8,7 @@ use Rattle.tree_model.specs.Trees.{IsTree}
 use Rattle.tree_model.specs.World.{Made, World, opened_world}
 use Rattle.world_law.specs.Worlds.{Applies, Stops, WorldState}
 use Rattle.world_law.specs.Runs.{IsOpened, Leads, LeadsUntil}
-use Rattle.world_law.specs.Ties.{FollowsBehindFaults, GoesOnBehindFaults, entered_of}
+use Rattle.world_law.specs.Ties.{FollowsBehindFaults, entered_of}
 use Rattle.world_law.specs.Sayings.{IsModelledTree, SaidBehindFaults, Saying}
 use Rattle.world_law.proofs.Events.{GoesOnIn, applied_on, leads_on, leads_until_on, stopped_on}
 use Rattle.world_law.proofs.Journals.{entered_hides, entered_shows, opened_behind_faults}
