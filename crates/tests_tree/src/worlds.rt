@@ -1,13 +1,13 @@
 //! A tree that runs: each public call once, with ample memory: none of them answers want of memory.
 
-use log_store::MemoryStore;
+use log_store::{FaultStore, LogStore, MemoryStore};
 use std::alloc::{AllocError, Global};
 use std::test::Fail;
 use tree_model::{
     Act, Bytes, Case, Event, Happening, Input, Kind, LogRecord, Message, Op, Presumption,
     ProcessId, RecordKind, Tree, TreeEntry, Txn,
 };
-use tree_world::World;
+use tree_world::{OpenError, World};
 
 const ROOT: ProcessId = ProcessId(1);
 
@@ -52,9 +52,26 @@ fn put(alloc: Global) -> Result<Op, AllocError> {
     Ok(Op::Put(bytes(alloc, "x")?, bytes(alloc, "1")?))
 }
 
+/// Why a tree does not open over these stores, if it does not.
+fn refusal_over<L: LogStore + Drop>(
+    alloc: Global,
+    stores: Vec<L>,
+) -> Result<Option<OpenError>, Fail> {
+    let tree = small_tree(alloc)?;
+    tree.check().ok().ok_or("a tree")?;
+    Ok(World::with_stores(alloc, tree, stores).err())
+}
+
+/// A store in memory whose device fails behind so many calls.
+fn failing_store(alloc: Global, calls: u64) -> FaultStore {
+    FaultStore::new(MemoryStore::new(alloc), calls)
+}
+
 /// A world that has made nothing.
 fn opened_world(alloc: Global) -> Result<World<MemoryStore>, Fail> {
-    Ok(World::new(alloc, small_tree(alloc)?).ok().ok_or("a world")?)
+    let tree = small_tree(alloc)?;
+    tree.check().ok().ok_or("a tree")?;
+    Ok(World::new(alloc, tree).ok().ok_or("a world")?)
 }
 
 /// A world in which the child has done a write, and it was committed.
@@ -127,5 +144,38 @@ fn a_world_has_logs(rt: HostRuntime) -> Result<(), Fail> {
                     && is_of(child, [RecordKind::Opened, RecordKind::Prepared, RecordKind::Committed])
         )
     );
+    Ok(())
+}
+
+#[test]
+fn a_world_over_stores(rt: HostRuntime) -> Result<(), Fail> {
+    let alloc = rt.alloc();
+    let stores = vec![in alloc; failing_store(alloc, 100), failing_store(alloc, 100)]?;
+    assert!(rt; refusal_over(alloc, stores)? == None);
+    Ok(())
+}
+
+#[test]
+fn a_process_without_a_store(rt: HostRuntime) -> Result<(), Fail> {
+    let alloc = rt.alloc();
+    let stores = vec![in alloc; MemoryStore::new(alloc)]?;
+    assert!(rt; refusal_over(alloc, stores)? == Some(OpenError::Store(CHILD)));
+    Ok(())
+}
+
+#[test]
+fn a_store_with_bytes(rt: HostRuntime) -> Result<(), Fail> {
+    let alloc = rt.alloc();
+    let full = MemoryStore::from_bytes(Vec::from_slice(alloc, b"x")?);
+    let stores = vec![in alloc; full, MemoryStore::new(alloc)]?;
+    assert!(rt; refusal_over(alloc, stores)? == Some(OpenError::Store(ROOT)));
+    Ok(())
+}
+
+#[test]
+fn a_store_whose_device_fails(rt: HostRuntime) -> Result<(), Fail> {
+    let alloc = rt.alloc();
+    let stores = vec![in alloc; failing_store(alloc, 100), failing_store(alloc, 0)]?;
+    assert!(rt; refusal_over(alloc, stores)? == Some(OpenError::Device(CHILD)));
     Ok(())
 }

@@ -1,12 +1,11 @@
 -- The logs of the processes, one after another.
-use Rattle.std.proofs.Common.{◌≡◌, ◌∙◌, sym, subst, ℕ, ◌+◌, ◌<◌, List, [], ◌∷◌, ◌++◌, length, get_or, take, Result, Ok, Err, IfOk}
+use Rattle.std.proofs.Common.{◌≡◌, sym, subst, ℕ, ◌+◌, ◌<◌, List, [], ◌∷◌, ◌++◌, length, get_or, take}
 use Rattle.std.proofs.lemmas.List.{take_more}
 use Rattle.tree_model.specs.declared.trees.TreeEntry.{TreeEntry}
 use Rattle.logs_script.specs.declared.line.ProcessLog.{ProcessLog}
-use Rattle.logs_script.specs.Trees.{logs_text}
 use Rattle.world_law.specs.Worlds.{WorldState}
 use Rattle.tree_world.specs.Nodes.{SpellsLogBy}
-use Rattle.tree_engine.specs.Logs.{AreLogs, LeavesLogs}
+use Rattle.tree_engine.specs.Logs.{AreLogs}
 
 one_more : (w : WorldState) (es : List TreeEntry) (ls : List ProcessLog) (e : TreeEntry) (l : ProcessLog) → AreLogs w es ls
     → l.process ≡ e.id → SpellsLogBy (w.node_at e.id) l.bytes → AreLogs w (es ++ e ∷ []) (ls ++ l ∷ [])

@@ -1,18 +1,19 @@
 -- What is written of a tree script.
-use Rattle.std.proofs.Common.{◌≡◌, sym, ℕ, Some, None, List, Result, Ok, Err, IfOk}
+use Rattle.std.proofs.Common.{◌≡◌, ℕ, Some, None, List, Result, Ok, Err, IfOk}
 use Rattle.tree_model.specs.declared.trees.TreeEntry.{TreeEntry}
 use Rattle.tree_model.specs.declared.events.Event.{Event}
 use Rattle.tree_model.specs.World.{Made, World}
 use Rattle.tree_model.specs.Trees.{IsTree}
 use Rattle.world_law.specs.Refusals.{IsForItself, LeadsTo, Refusal}
 use Rattle.world_law.specs.Runs.{IsOpened}
+use Rattle.world_law.specs.Sayings.{KeepsHeadline, Saying}
 use Rattle.world_law.proofs.Whole.{run_of}
 use Rattle.world_law.specs.Worlds.{WorldState}
 use Rattle.link_script.specs.Inputs.{IsScript}
 use Rattle.report_io.specs.declared.status.Status.{Status}
 use Rattle.report_io.specs.declared.status.Status.TheVariants.{Ended, Refused, Stopped}
 use Rattle.tree_engine.specs.declared.tree.Output.{Output}
-use Rattle.tree_engine.specs.Trees.{IsTreeReport, KeepsHeadline, Plays, RunsOver, RunsScript, Saying, Tells, ending}
+use Rattle.tree_engine.specs.Trees.{IsTreeReport, Plays, RunsOver, RunsScript, Tells, ending}
 
 ends_so : (Holds : Saying) (output : Output) (refusal : Refusal) (status : Status) (input text : List ℕ)
     → status ≡ ending refusal → RunsScript Holds output status input text → IsTreeReport Holds output status input text

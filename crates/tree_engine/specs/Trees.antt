@@ -6,7 +6,6 @@ use Rattle.tree_model.specs.declared.trees.TreeEntry.{TreeEntry}
 use Rattle.tree_model.specs.declared.events.Entry.{Entry}
 use Rattle.tree_model.specs.declared.events.Event.{Event}
 use Rattle.tree_model.specs.Errors.{step_error_number}
-use Rattle.tree_model.specs.Outcomes.{Agreement, ByOperatorAlone, CommitRule, Headline, StandingMismatches, TrueAnswers}
 use Rattle.tree_model.specs.Trees.{tree_error_number}
 use Rattle.tree_model.specs.World.{Made, World}
 use Rattle.link_script.specs.declared.script.ScriptFault.{ScriptFault}
@@ -17,6 +16,7 @@ use Rattle.report_io.specs.declared.status.Status.{Status}
 use Rattle.report_io.specs.declared.status.Status.TheVariants.{Ended, Refused, Stopped}
 use Rattle.world_law.specs.Refusals.{IsRunOf, LeadsTo, Refusal, RefusesIn}
 use Rattle.world_law.specs.Runs.{IsOpened}
+use Rattle.world_law.specs.Sayings.{Saying}
 use Rattle.world_law.specs.Ties.{Follows}
 use Rattle.world_law.specs.Worlds.{WorldState}
 use Rattle.tree_engine.specs.declared.tree.Output.{Output}
@@ -76,10 +76,6 @@ Tells Logs w None text = LeavesLogs w text
 Tells Logs w (Some refused) text = text ≡ trace_of w ++ last_line (Some refused)
 Tells Trace w refusal text = text ≡ trace_of w ++ last_line refusal
 
--- what is said of a run of the model: of its tree, its moves and the world that they lead to
-abbrev pub Saying : Type 1
-Saying = List TreeEntry → List Made → World → Type 0
-
 -- The text is that of the run of just these events: they led the tree, opened, to a state that stands for a
 -- run of the model, with its journal, its messages and its processes; of this run the saying holds; and the
 -- text tells that state. A refused event is one that the model refuses there by that number.
@@ -127,33 +123,3 @@ abbrev pub IsTreeReport : Saying → Output → Status → List ℕ → List ℕ
 IsTreeReport Holds output Ended input text = RunsScript Holds output Ended input text
 IsTreeReport Holds output Stopped input text = RunsScript Holds output Stopped input text
 IsTreeReport Holds output Refused input text = RefusesScript input text
-
--- What is said of the run.
-
--- that it is one
-abbrev pub IsOne : Saying
-IsOne tree moves w = Unit {0}
-
--- no two processes have ended one transaction differently, except by an operator's decision
-abbrev pub Agrees : Saying
-Agrees tree moves w = Agreement tree w
-
--- commit was decided only where every participant voted yes or read-only
-abbrev pub Consents : Saying
-Consents tree moves w = CommitRule tree moves w
-
--- every answer that found its asker in doubt told the root's outcome
-abbrev pub AnswersTruly : Saying
-AnswersTruly tree moves w = TrueAnswers tree w
-
--- a decision that goes against the outcome stands in its log until it is forgotten
-abbrev pub KeepsMismatches : Saying
-KeepsMismatches tree moves w = StandingMismatches tree w
-
--- an operator's record came from that operator alone
-abbrev pub IsByOperatorsAlone : Saying
-IsByOperatorsAlone tree moves w = ByOperatorAlone moves
-
--- all of these
-abbrev pub KeepsHeadline : Saying
-KeepsHeadline tree moves w = Headline tree moves w

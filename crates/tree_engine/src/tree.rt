@@ -6,8 +6,9 @@ ghost use Rattle.tree_model.specs.Trees.{IsTree};
 ghost use Rattle.report_io.specs.declared.status.Status.{Status as AnyStatus};
 ghost use Rattle.report_io.specs.Streams.{IsInput, WritesFront};
 ghost use Rattle.world_law.specs.Runs.{IsOpened};
+ghost use Rattle.world_law.specs.Sayings.{Agrees, AnswersTruly, Consents, IsByOperatorsAlone, IsOne, KeepsHeadline, KeepsMismatches};
 ghost use Rattle.tree_world.specs.Worlds.{state};
-ghost use Rattle.tree_engine.specs.Trees.{Agrees, AnswersTruly, Consents, IsByOperatorsAlone, IsNumbered, IsOne, IsTreeReport, KeepsHeadline, KeepsMismatches, Plays, Tells, ending, fault_text};
+ghost use Rattle.tree_engine.specs.Trees.{IsNumbered, IsTreeReport, Plays, Tells, ending, fault_text};
 
 use crate::logs::left_text;
 use crate::trace::trace;
@@ -124,6 +125,7 @@ fn refusal_line(alloc: Global, fault: ScriptFault) -> Result<String, AllocError>
 
 /// Opens the tree.
 fn opened(alloc: Global, tree: Tree) -> Result<World<MemoryStore>, Failure>
+    requires { IsTree tree }
     ensures opened { IfOk result (λ world. IsOpened (state world) tree) }
     ensures memory { IfErr result (λ e. e ≡ Failure.Memory) }
 {

@@ -1,5 +1,5 @@
 -- What stays of a world's state, and an error that is passed on.
-use Rattle.std.proofs.Common.{◌≡◌, sym, subst, refl, true, false, Option, List, Result, Ok, Err, IfErr, IsErrAnd}
+use Rattle.std.proofs.Common.{◌≡◌, sym, subst, refl, Option, List, Result, Ok, Err, IfErr, IsErrAnd, OnOk}
 use Rattle.tree_model.specs.declared.names.ProcessId.{ProcessId}
 use Rattle.tree_model.specs.declared.events.StepError.{StepError}
 use Rattle.tree_model.specs.declared.trees.TreeEntry.{TreeEntry}
@@ -28,3 +28,8 @@ pub passed_on : (r : Result (Unit {0}) StepError) (e : StepError) (P : StepError
     → IsErrAnd r (λ y. y ≡ e) → P e → IfErr r P
 passed_on (Ok x) e P is p = tt
 passed_on (Err y) e P is p = subst P (sym is) p
+
+-- where there is an error, nothing is owed of what a success leaves
+pub no_success : (r : Result (Unit {0}) StepError) (P : StepError → Type 0) (Q : Type 0) → IsErrAnd r P → OnOk r Q
+no_success (Ok x) P Q is = absurd is
+no_success (Err e) P Q is = tt

@@ -1,6 +1,7 @@
 pub mod EmptyLogs
 pub mod Handling
 pub mod Logs
+pub mod Modelled
 pub mod OpenNodes
 pub mod Processes
 pub mod Restarted

@@ -8,10 +8,12 @@ use Rattle.tree_model.specs.Names.{same_process}
 use Rattle.tree_model.specs.NameLaws.{same_process_tells}
 use Rattle.tree_model.specs.Nodes.{is_listed, role_by, role_of}
 use Rattle.core_model.specs.States.{CoreState}
-use Rattle.world_law.specs.Runs.{NodeOpened}
+use Rattle.world_law.specs.Runs.{IsOpened, NodeOpened}
+use Rattle.world_journal.specs.Journals.{JournalState}
 use Rattle.tree_world.specs.declared.node.Node.{Node}
 use Rattle.tree_world.specs.Nodes.{core_of}
 use Rattle.tree_world.specs.Openings.{AreOpened, OpenedAs}
+use Rattle.tree_world.proofs.Handling.{world}
 
 listed_more : (es : List TreeEntry) (e : TreeEntry) (q : ProcessId) → is_listed (es ++ e ∷ []) q ≡ (is_listed es q || same_process e.id q)
 unfolding is_listed
@@ -122,3 +124,15 @@ opens_more es i e old new lt is fresh own others h = rw (take_more es i e lt, �
 pub some_core : {L : Type 0} (o : Option (Node L)) → is_some (option_map core_of o) ≡ is_some o
 some_core None = refl
 some_core (Some n) = refl
+
+-- a tree of which every process is open, and that has done nothing
+pub opened_tree : (tree : List TreeEntry) (node_at : ProcessId → Option CoreState) (j : JournalState) → AreOpened tree tree node_at
+    → j.net ≡ [] → j.delivered ≡ [] → j.entries ≡ [] → IsOpened (world tree node_at j) tree
+opened_tree tree node_at j nodes net delivered entries = record {
+  tree_is = refl;
+  nodes = nodes.opened;
+  listed = nodes.listed_are;
+  net = net;
+  delivered = delivered;
+  entries = entries;
+}

@@ -7,18 +7,34 @@ use Rattle.tree_model.specs.declared.events.StepError.{StepError}
 use Rattle.tree_model.specs.declared.events.StepError.TheVariants.{Memory, Device}
 use Rattle.tree_model.specs.declared.trees.TreeEntry.{TreeEntry}
 use Rattle.world_law.specs.Worlds.{DeviceFails, RefusesAt, Same, WorldState}
-use Rattle.tree_world.specs.declared.world.World.{World}
+use Rattle.world_journal.specs.Journals.{JournalState}
+use Rattle.tree_world.specs.declared.node.Node.{Node}
+use Rattle.tree_world.specs.declared.running_tree.RunningTree.{RunningTree}
 use Rattle.tree_world.specs.Nodes.{log_by, nodes_at}
 
--- what the definitions see of a tree that runs
-abbrev pub state : {L : Type 0} → World L → WorldState
+-- what a contract sees of a tree that runs: the tree, its processes by name, and the journal of their steps
+pub record WorldValue (L : Type 0) : Type 0 where
+  pub tree : List TreeEntry
+  pub nodes : List (ProcessId × Node L)
+  pub journal : JournalState
+
+-- what the definitions see of it
+abbrev pub state : {L : Type 0} → WorldValue L → WorldState
 state w = record {
   tree = w.tree;
-  node_at = nodes_at w.nodes.nodes.entries;
+  node_at = nodes_at w.nodes;
   net = w.journal.net;
   delivered = w.journal.delivered;
   entries = w.journal.entries;
 }
+
+-- what a contract sees of what the code keeps
+abbrev pub value_of : {L : Type 0} → RunningTree L → WorldValue L
+value_of w = record { tree = w.tree; nodes = w.nodes.nodes.entries; journal = w.journal }
+
+-- what the definitions see of what the code keeps
+abbrev pub running_state : {L : Type 0} → RunningTree L → WorldState
+running_state w = state (value_of w)
 
 -- the records of these processes
 abbrev pub logs_at : WorldState → List TreeEntry → List (List LogRecord)

@@ -5,6 +5,7 @@ mod node;
 mod nodes;
 mod opening;
 mod restarting;
+mod running_tree;
 mod world;
 
 pub use node::Node;

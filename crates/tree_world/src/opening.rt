@@ -8,6 +8,7 @@ ghost use Rattle.tree_model.specs.declared.names.Kind.TheVariants as kind;
 ghost use Rattle.tree_model.specs.declared.names.ProcessId.{ProcessId as AnyProcess};
 ghost use Rattle.tree_model.specs.Names.{same_process};
 ghost use Rattle.tree_model.specs.Nodes.{Role, role_by};
+ghost use Rattle.tree_model.specs.Trees.{IsTree};
 ghost use Rattle.world_law.specs.Runs.{IsOpened};
 ghost use Rattle.tree_world.specs.Openings.{AreOpened, OpenedAs, OpenedAt};
 ghost use Rattle.tree_world.specs.Nodes.{core_of, nodes_at};
@@ -15,6 +16,7 @@ ghost use Rattle.tree_world.specs.Worlds.{state};
 
 use crate::node::Node;
 use crate::nodes::Nodes;
+use crate::running_tree::RunningTree;
 use crate::world::World;
 use coord_core::Coordinator;
 use indexmap::IndexMap;
@@ -23,22 +25,18 @@ use log_store::{LogStore, MemoryStore};
 use rec_log::{OpenError as LogOpenError, RecLog};
 use std::alloc::{AllocError, Global};
 use sub_core::Subordinate;
-use thiserror::Error;
 use tree_model::{Kind, ProcessId, StepError, Tree, TreeEntry};
 use world_journal::Journal;
 
-/// Why a process was not opened.
-#[derive(Clone, Copy, Debug, PartialEq, Eq, Error)]
+/// Why a tree was not opened.
+#[derive(Clone, Copy, PartialEq, Eq)]
 pub enum OpenError {
     /// A growth was refused.
-    #[error("no memory")]
     Memory,
-    /// The device of a store failed.
-    #[error("a device failed")]
-    Device,
-    /// The bytes in a store are no log of a process that is opened for the first time.
-    #[error("a store is not empty")]
-    Store,
+    /// The device of this process's store failed.
+    Device(ProcessId),
+    /// There is no store for this process, or one in which bytes stand.
+    Store(ProcessId),
 }
 
 impl From<AllocError> for OpenError {
@@ -59,27 +57,27 @@ fn refused<T: Drop>(_left: T, why: OpenError) -> OpenError
     why
 }
 
-fn of_log(error: LogOpenError) -> OpenError {
+fn of_log(me: ProcessId, error: LogOpenError) -> OpenError {
     match error {
         LogOpenError::Memory => OpenError::Memory,
-        LogOpenError::Device => OpenError::Device,
-        LogOpenError::Damaged(_) => OpenError::Store,
+        LogOpenError::Device => OpenError::Device(me),
+        LogOpenError::Damaged(_) => OpenError::Store(me),
     }
 }
 
-fn of_step(error: StepError) -> OpenError {
+fn of_step(me: ProcessId, error: StepError) -> OpenError {
     match error {
         StepError::Memory => OpenError::Memory,
-        _ => OpenError::Device,
+        _ => OpenError::Device(me),
     }
 }
 
-fn of_manager(error: RestoreError) -> OpenError {
+fn of_manager(me: ProcessId, error: RestoreError) -> OpenError {
     match error {
-        RestoreError::Log(error) => of_log(error),
+        RestoreError::Log(error) => of_log(me, error),
         RestoreError::Records(RestartError::Memory) => OpenError::Memory,
-        RestoreError::Records(RestartError::Device) => OpenError::Device,
-        RestoreError::Records(_) => OpenError::Store,
+        RestoreError::Records(RestartError::Device) => OpenError::Device(me),
+        RestoreError::Records(_) => OpenError::Store(me),
     }
 }
 
@@ -110,7 +108,11 @@ fn copied_tree(alloc: Global, tree: &[TreeEntry]) -> Result<Tree, AllocError>
 }
 
 /// An empty log of a coordinator over an empty store.
-fn empty_log<L: LogStore + Drop>(alloc: Global, store: L) -> Result<RecLog<L>, OpenError>
+fn empty_log<L: LogStore + Drop>(
+    alloc: Global,
+    me: ProcessId,
+    store: L,
+) -> Result<RecLog<L>, OpenError>
     requires { L.bytes store ≡ [] }
     ensures kind { IfOk result (λ log. log.kind ≡ kind.Coordinator) }
     ensures works { IfOk result (λ log. log.sight.failed ≡ false) }
@@ -118,7 +120,7 @@ fn empty_log<L: LogStore + Drop>(alloc: Global, store: L) -> Result<RecLog<L>, O
 {
     match RecLog::open(store, Kind::Coordinator, alloc) {
         Ok(log) => Ok(log),
-        Err((error, store)) => Err(refused(store, of_log(error))),
+        Err((error, store)) => Err(refused(store, of_log(me, error))),
     }
 }
 
@@ -133,10 +135,10 @@ fn open_coordinator<L: LogStore + Drop>(
     requires { L.bytes store ≡ [] }
     ensures { IfOk result (λ node. OpenedAt (record { me = me; role = role_by kind.Coordinator parent; tree = tree }) (core_of node)) }
 {
-    let log = empty_log(alloc, store)?;
+    let log = empty_log(alloc, me, store)?;
     match Coordinator::open(alloc, me, parent, tree, log) {
         Ok(coordinator) => Ok(Node::Coordinator(coordinator)),
-        Err((error, log)) => Err(refused(log, of_step(error))),
+        Err((error, log)) => Err(refused(log, of_step(me, error))),
     }
 }
 
@@ -153,7 +155,7 @@ fn open_manager<L: LogStore + Drop>(
 {
     match KvManager::create(store, alloc) {
         Ok(manager) => Ok(Node::Manager(Subordinate::open(alloc, me, parent, tree, manager))),
-        Err((error, store)) => Err(refused(store, of_manager(error))),
+        Err((error, store)) => Err(refused(store, of_manager(me, error))),
     }
 }
 
@@ -188,51 +190,82 @@ fn put_by_name<V: Drop>(
     Ok(())
 }
 
-/// Opens the process of an entry, beside those that are open.
+/// Opens the process of an entry over this store, beside those that are open. Store: there is none, or it has bytes.
 fn open_more<L: LogStore + Drop>(
     alloc: Global,
     tree: &[TreeEntry],
     entry: &TreeEntry,
-    store: L,
+    store: Option<L>,
     nodes: &mut IndexMap<ProcessId, Node<L>>,
 ) -> Result<(), OpenError>
-    requires { L.bytes store ≡ [] }
     ensures own { OnOk result (IsSomeAnd (nodes_at nodes.new.entries entry.now.id) (OpenedAs tree.now entry.now)) }
     ensures others { OnOk result ((q : AnyProcess) → same_process entry.now.id q ≡ false → nodes_at nodes.new.entries q ≡ nodes_at nodes.old.entries q) }
 {
+    let Some(store) = store else {
+        return Err(OpenError::Store(entry.id));
+    };
+    if !store.bytes().is_empty() {
+        return Err(refused(store, OpenError::Store(entry.id)));
+    }
     let node = open_node(alloc, entry, copied_tree(alloc, tree)?, store)?;
     put_by_name(nodes, entry.id, node)?;
     Ok(())
 }
 
-/// Opens every process of the tree over a store in memory. A process that is listed twice is opened as it is listed first.
-fn opened_in_memory(
+/// Opens every process of the tree, each over its store. A process that is listed twice is opened as it is listed first.
+fn opened_over<L: LogStore + Drop>(
     alloc: Global,
     tree: &[TreeEntry],
-) -> Result<IndexMap<ProcessId, Node<MemoryStore>>, OpenError>
+    stores: Vec<L>,
+) -> Result<IndexMap<ProcessId, Node<L>>, OpenError>
     ensures { IfOk result (λ nodes. AreOpened tree.now tree.now (nodes_at nodes.entries)) }
 {
+    let mut stores = stores.into_iter();
     let mut nodes = IndexMap::new(alloc);
     for entry in tree {
         if !nodes.contains_key(&entry.id) {
-            open_more(alloc, tree, entry, MemoryStore::new(alloc), &mut nodes)?;
+            open_more(alloc, tree, entry, stores.next(), &mut nodes)?;
         }
     }
     Ok(nodes)
 }
 
-impl World<MemoryStore> {
-    /// A tree whose processes have opened empty logs in memory: boot 1, forced. A tree text lists each process once; where a
-    /// list does not, the process is as it is listed first. Memory is the only refusal that comes.
-    pub fn new(alloc: Global, tree: Tree) -> Result<World<MemoryStore>, OpenError>
+/// So many stores in memory, without bytes.
+fn memory_stores(alloc: Global, count: usize) -> Result<Vec<MemoryStore>, AllocError> {
+    let mut stores = Vec::new(alloc);
+    for _ in 0..count {
+        stores.push(MemoryStore::new(alloc))?;
+    }
+    Ok(stores)
+}
+
+impl<L: LogStore + Drop> World<L> {
+    /// A tree whose processes have opened empty logs: boot 1, forced. The tree is one that passed its check. Each process
+    /// has a store without bytes, in the order of the tree; those that are left over are let go, and so are all behind a
+    /// refusal.
+    pub fn with_stores(alloc: Global, tree: Tree, stores: Vec<L>) -> Result<World<L>, OpenError>
+        requires { IsTree tree }
         ensures { IfOk result (λ world. IsOpened (state world) tree) }
     {
-        let nodes = opened_in_memory(alloc, tree.entries())?;
+        let nodes = opened_over(alloc, tree.entries(), stores)?;
         Ok(World {
-            alloc,
-            tree,
-            nodes: Nodes { nodes },
-            journal: Journal::new(alloc),
+            running: RunningTree {
+                alloc,
+                tree,
+                nodes: Nodes { nodes },
+                journal: Journal::new(alloc),
+            },
         })
+    }
+}
+
+impl World<MemoryStore> {
+    /// The same over stores in memory. Memory is the only refusal that comes.
+    pub fn new(alloc: Global, tree: Tree) -> Result<World<MemoryStore>, OpenError>
+        requires { IsTree tree }
+        ensures { IfOk result (λ world. IsOpened (state world) tree) }
+    {
+        let stores = memory_stores(alloc, tree.entries().len())?;
+        World::with_stores(alloc, tree, stores)
     }
 }

@@ -1,4 +1,5 @@
 pub mod Worlds
 pub mod Runs
 pub mod Ties
+pub mod Sayings
 pub mod Refusals

@@ -1,5 +1,5 @@
 use Rattle.tree_world.proofs.Restarted.{world_trims}
-use Rattle.tree_world.proofs.world.World.trim.Goals as goal
+use Rattle.tree_world.proofs.running_tree.RunningTree.trim.Goals as goal
 
 pub returns-clause-ok : goal.returns-clause-ok
 returns-clause-ok g c =

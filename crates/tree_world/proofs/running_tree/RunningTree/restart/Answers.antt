@@ -1,5 +1,5 @@
 use Rattle.tree_world.proofs.Restarted.{world_restarts}
-use Rattle.tree_world.proofs.world.World.restart.Goals as goal
+use Rattle.tree_world.proofs.running_tree.RunningTree.restart.Goals as goal
 
 pub returns-clause-ok : goal.returns-clause-ok
 returns-clause-ok g c =

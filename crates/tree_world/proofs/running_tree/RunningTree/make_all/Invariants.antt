@@ -1,0 +1,7 @@
+use Rattle.std.proofs.Common.{take}
+use Rattle.world_law.specs.Runs.{Leads}
+use Rattle.tree_world.specs.Worlds.{running_state}
+use Rattle.tree_world.proofs.running_tree.RunningTree.make_all.Given as goal
+
+abbrev pub invariant-loop-made : goal.invariant-loop-made
+invariant-loop-made g l = Leads (running_state l.initial.self) (take l.made l.events) (running_state l.self)

@@ -1,0 +1,188 @@
+//! How a tree that runs makes each event.
+
+ghost use Rattle.std.specs.Prelude.{◌≡◌, ◌<◌, [], IfErr, IfOk, OnOk, length, map};
+ghost use Rattle.tree_model.specs.Plays.{process_of_act};
+ghost use Rattle.core_law.specs.Steps.{trim_reaction};
+ghost use Rattle.world_law.specs.Worlds.{Applies, Stops, Steps};
+ghost use Rattle.world_law.specs.Runs.{Leads, LeadsUntil};
+ghost use Rattle.world_journal.specs.Journals.{IsReady, IsSent, marked_by};
+ghost use Rattle.tree_world.specs.Worlds.{NotTaken, logs_at, running_state};
+
+use crate::nodes::Nodes;
+use log_store::LogStore;
+use std::alloc::{AllocError, Global};
+use tree_model::{
+    Act, Event, Happening, Input, LogRecord, ProcessId, Reaction, Sequence, StepError, Tree,
+};
+use world_journal::Journal;
+
+/// At most so many messages are delivered by one settle.
+const SETTLE_LIMIT: u32 = 10_000;
+
+/// What a tree that runs keeps: its processes, each with its log in a store, and the journal of their steps.
+#[derive(Drop)]
+pub(crate) struct RunningTree<L: LogStore> {
+    pub(crate) alloc: Global,
+    pub(crate) tree: Tree,
+    pub(crate) nodes: Nodes<L>,
+    pub(crate) journal: Journal,
+}
+
+/// The process of an act: its case's ticket's child, or the root.
+fn process_of(root: ProcessId, act: &Act) -> ProcessId
+    ensures { result ≡ process_of_act root act.now }
+{
+    match act {
+        Act::Begin(_) => root,
+        Act::Join(case, _)
+        | Act::Work(case, _, _)
+        | Act::Ask(case)
+        | Act::Decide(case, _)
+        | Act::Forget(case) => match case.ticket {
+            None => case.txn.root,
+            Some(ticket) => ticket.child,
+        },
+        Act::Commit(txn) | Act::Abort(txn) => txn.root,
+    }
+}
+
+/// What a trim shows: how many records remain. It takes no memory.
+fn trimmed(alloc: Global, remain: u64) -> Reaction
+    ensures { result ≡ trim_reaction remain }
+{
+    Reaction {
+        begun: None,
+        written: Sequence::new(alloc),
+        told: None,
+        messages: Sequence::new(alloc),
+        kept: Some(remain),
+    }
+}
+
+/// Lets go of logs.
+fn discard(_logs: Vec<Vec<LogRecord>>) {}
+
+impl<L: LogStore> RunningTree<L> {
+    /// The records of each process's log, in the order of the tree.
+    pub(crate) fn logs(&self) -> Result<Vec<Vec<LogRecord>>, AllocError>
+        ensures { IfOk result (λ logs. map (λ log. log.items) logs.items ≡ logs_at (running_state self.now) (running_state self.now).tree) }
+    {
+        let mut logs = Vec::new(self.alloc);
+        match self.add_logs(&mut logs) {
+            Ok(()) => Ok(logs),
+            Err(error) => {
+                discard(logs);
+                Err(error)
+            }
+        }
+    }
+
+    /// Adds the records of each process's log to a list that has none.
+    fn add_logs(&self, logs: &mut Vec<Vec<LogRecord>>) -> Result<(), AllocError>
+        requires { logs.old.items ≡ [] }
+        ensures { OnOk result (map (λ log. log.items) logs.new.items ≡ logs_at (running_state self.now) (running_state self.now).tree) }
+    {
+        for entry in self.tree.entries() {
+            logs.push(self.nodes.records(self.alloc, entry.id)?)?;
+        }
+        Ok(())
+    }
+
+    /// Makes an event.
+    pub(crate) fn make(&mut self, event: &Event) -> Result<(), StepError>
+        ensures ok { OnOk result (Applies (running_state self.old) event.now (running_state self.new)) }
+        ensures err { IfErr result (λ e. Stops (running_state self.old) event.now e (running_state self.new)) }
+    {
+        match event {
+            Event::Act(act) => self.act(act),
+            Event::Deliver(number) => self.deliver(*number),
+            Event::Settle => self.settle(),
+            Event::Restart(process, bytes) => self.restart(*process, *bytes),
+            Event::Trim(process) => self.trim(*process),
+        }
+    }
+
+    /// Makes these events, in order, up to the first that is refused.
+    pub(crate) fn make_all(&mut self, events: &[Event]) -> Result<(), (usize, StepError)>
+        ensures ok { OnOk result (Leads (running_state self.old) events.now (running_state self.new)) }
+        ensures err { IfErr result (λ refusal. LeadsUntil (running_state self.old) events.now refusal.0 refusal.1 (running_state self.new)) }
+        ensures within { IfErr result (λ refusal. refusal.0 < length events.now) }
+    {
+        for (made, event) in events.iter().enumerate() {
+            if let Err(refusal) = self.make(event) {
+                return Err((made, refusal));
+            }
+        }
+        Ok(())
+    }
+
+    /// What an application asks, or an operator.
+    fn act(&mut self, act: &Act) -> Result<(), StepError>
+        ensures ok { OnOk result (Applies (running_state self.old) (Event.Act act.now) (running_state self.new)) }
+        ensures err { IfErr result (λ e. Stops (running_state self.old) (Event.Act act.now) e (running_state self.new)) }
+    {
+        let process = process_of(self.tree.root(), act);
+        let input = self.journal.take_act(act)?;
+        self.handle(process, input)
+    }
+
+    /// Delivers the message with this number.
+    fn deliver(&mut self, number: u64) -> Result<(), StepError>
+        ensures ok { OnOk result (Applies (running_state self.old) (Event.Deliver number) (running_state self.new)) }
+        ensures err { IfErr result (λ e. Stops (running_state self.old) (Event.Deliver number) e (running_state self.new)) }
+    {
+        match self.journal.take_message(number)? {
+            None => Err(StepError::NoSuch),
+            Some((to, input)) => self.handle(to, input),
+        }
+    }
+
+    /// Delivers the least numbered message that was not delivered, again and again, at most 10,000 times.
+    fn settle(&mut self) -> Result<(), StepError>
+        ensures ok { OnOk result (Applies (running_state self.old) Event.Settle (running_state self.new)) }
+        ensures err { IfErr result (λ e. Stops (running_state self.old) Event.Settle e (running_state self.new)) }
+    {
+        for _ in 0..SETTLE_LIMIT {
+            let Some(number) = self.journal.least_open()? else {
+                return Ok(());
+            };
+            self.deliver(number)?;
+        }
+        Ok(())
+    }
+
+    /// Restarts a process, which keeps so many bytes behind its forced front; all of them, where no number is given.
+    fn restart(&mut self, process: ProcessId, bytes: Option<u64>) -> Result<(), StepError>
+        ensures ok { OnOk result (Applies (running_state self.old) (Event.Restart process bytes) (running_state self.new)) }
+        ensures err { IfErr result (λ e. Stops (running_state self.old) (Event.Restart process bytes) e (running_state self.new)) }
+    {
+        self.journal.make_room()?;
+        let (kept, reaction) = self.nodes.restart(process, bytes)?;
+        self.journal
+            .enter(process, Happening::Restart(kept), reaction);
+        Ok(())
+    }
+
+    /// Trims the log of a process.
+    fn trim(&mut self, process: ProcessId) -> Result<(), StepError>
+        ensures ok { OnOk result (Applies (running_state self.old) (Event.Trim process) (running_state self.new)) }
+        ensures err { IfErr result (λ e. Stops (running_state self.old) (Event.Trim process) e (running_state self.new)) }
+    {
+        self.journal.make_room()?;
+        let remain = self.nodes.trim(process)?;
+        self.journal
+            .enter(process, Happening::Trim, trimmed(self.alloc, remain));
+        Ok(())
+    }
+
+    /// A process handles an input, for whose step there is room.
+    fn handle(&mut self, process: ProcessId, input: Input) -> Result<(), StepError>
+        requires ready { IsReady self.old.journal }
+        requires sent { IsSent self.old.journal.net (Happening.Input input) }
+        ensures ok { OnOk result (Steps (running_state self.old) (running_state self.new) process input (marked_by input (running_state self.old).delivered)) }
+        ensures err { IfErr result (NotTaken (running_state self.old) (running_state self.new) process input) }
+    {
+        let made = self.nodes.step(process, &input);
+        self.journal.close(process, input, made)
+    }
+}
