@@ -1,5 +1,5 @@
 -- What is written of an audit.
-use Rattle.std.specs.Prelude.{◌≡◌, ℕ, nat_eq, Bool, true, false, if◌then◌else◌, List, [], ◌++◌, codes, Some, None}
+use Rattle.std.specs.Prelude.{◌≡◌, ℕ, nat_eq, Bool, true, false, if◌then◌else◌, List, [], ◌++◌, codes, Some, None, ⊤}
 use Rattle.std.specs.List.{flat_map}
 use Rattle.std.specs.Fmt.{decimal}
 use Rattle.tree_model.specs.declared.names.ProcessId.{ProcessId}
@@ -12,6 +12,7 @@ use Rattle.log_reading.specs.Faults.{damage_text, fault_text, first_damage}
 use Rattle.audit_cases.specs.declared.kinds.Own.{Own}
 use Rattle.audit_cases.specs.declared.kinds.Own.TheVariants as own
 use Rattle.tree_audit.specs.Reports.{kept_lists, lines_of, mismatches_in}
+use Rattle.tree_audit.specs.Truths.{AreTrueOfRuns}
 use Rattle.tree_audit.specs.declared.report.Line.{Line}
 use Rattle.audit_engine.specs.declared.ending.Ending.{Ending}
 use Rattle.audit_engine.specs.declared.ending.Ending.TheVariants as ending
@@ -97,6 +98,22 @@ abbrev pub IsAuditReport : Ending → List ℕ → List ℕ → Type 0
 IsAuditReport ending.Agrees input text = AuditsLogs ending.Agrees input text
 IsAuditReport ending.Differs input text = AuditsLogs ending.Differs input text
 IsAuditReport ending.Refused input text = IsRefusal input text
+
+-- the text is a report of the tree and the logs that the input says, and its lines are true of every run of the
+-- model that left these logs
+pub record ReportsRuns (input text : List ℕ) : Type 0 where
+  pub tree : List TreeEntry
+  pub logs : List ProcessLog
+  pub says : IsLogsText input tree logs
+  pub lines : List Line
+  pub report : text ≡ report_text lines
+  pub true_of_runs : AreTrueOfRuns tree logs lines
+
+-- what is written is true of every run that left the logs, unless a log is damaged or the input was refused
+abbrev pub IsTrueReport : Ending → List ℕ → List ℕ → Type 0
+IsTrueReport ending.Agrees input text = ReportsRuns input text
+IsTrueReport ending.Differs input text = ReportsRuns input text
+IsTrueReport ending.Refused input text = ⊤
 
 -- how an audit with so many mismatches ends
 abbrev pub ending_by : ℕ → Ending

@@ -2,7 +2,7 @@
 
 ghost use Rattle.std.specs.Prelude.{◌≡◌, ℕ, List, IfOk, IfErr};
 ghost use Rattle.std.specs.Io.KnownBytes.{Appends, Keeps};
-ghost use Rattle.audit_engine.specs.Audits.{IsAuditReport, IsAudited, ending_by};
+ghost use Rattle.audit_engine.specs.Audits.{IsAuditReport, IsAudited, IsTrueReport, ending_by};
 ghost use Rattle.audit_engine.specs.declared.ending.Ending.{Ending as AnyEnding};
 ghost use Rattle.report_io.specs.Streams.{IsInput, WritesFront};
 ghost use Rattle.tree_model.specs.Trees.{IsTree};
@@ -19,8 +19,11 @@ use tree_audit::{AuditError, Report, audit};
 use tree_model::Tree;
 
 /// Reads a tree with its logs, audits them, and writes a line for each case that is told of and the number of mismatches; or
-/// one line that says which log is damaged where, or why the input is refused. After a failed read, or where memory is
-/// refused, nothing was written; after a failed write, a beginning of the text.
+/// one line that says which log is damaged where, or why the input is refused.
+///
+/// Where a run of the model left the logs, with no process failed, each outcome is that of its transaction in the run, and the
+/// mismatches that are shown are just those that stand. After a failed read, or where memory is refused, nothing was written;
+/// after a failed write, a beginning of the text.
 pub fn run_audit<R: Read, W: Write>(
     alloc: Global,
     reader: &mut R,
@@ -28,6 +31,9 @@ pub fn run_audit<R: Read, W: Write>(
 ) -> Result<Ending, Failure>
     ensures written { IfOk result (λ ending. (input : List ℕ) × (text : List ℕ)
         × IsInput (R.remaining reader.old) input × IsAuditReport ending input text
+        × Appends (W.contents writer.old) (W.contents writer.new) text) }
+    ensures true_of_runs { IfOk result (λ ending. (input : List ℕ) × (text : List ℕ)
+        × IsInput (R.remaining reader.old) input × IsTrueReport ending input text
         × Appends (W.contents writer.old) (W.contents writer.new) text) }
     ensures cut { IfErr result (λ e. e ≡ Failure.Write → (input : List ℕ) × (text : List ℕ) × (ending : AnyEnding)
         × IsInput (R.remaining reader.old) input × IsAuditReport ending input text

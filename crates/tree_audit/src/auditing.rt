@@ -4,6 +4,7 @@ ghost use Rattle.std.specs.Prelude.{◌≡◌, ◌++◌, IfOk, IfErr, OnOk};
 ghost use Rattle.std.specs.Option.{option_copied};
 ghost use Rattle.tree_model.specs.Trees.{IsTree};
 ghost use Rattle.tree_audit.specs.Reports.{IsNoReport, IsReport, mismatches_in, other as other_of};
+ghost use Rattle.tree_audit.specs.Truths.{AreTrueOfRuns};
 ghost use Rattle.tree_audit.specs.Tables.{all_lines, entry_lines, line_by, lines_in};
 ghost use Rattle.tree_model.specs.Nodes.{role_by};
 
@@ -99,10 +100,13 @@ fn count_mismatches(lines: &[Line]) -> usize
 /// how it stands by its own process's records and how its transaction ends. The outcome is the case's own decision or what it
 /// was told; else, at the root, abort; else that of the parent's first case of the transaction that names its ticket; else
 /// what is presumed. Cases that are not their process's own in this tree are left out. Each log is gone through once.
-/// Damaged: the first log in the order of the tree that is.
+///
+/// Where a run of the model left the logs, with no process failed, each outcome is that of its transaction in the run, and the
+/// mismatches that are shown are just those that stand. Damaged: the first log in the order of the tree that is.
 pub fn audit(alloc: Global, tree: &Tree, logs: &[ProcessLog]) -> Result<Report, AuditError>
     requires { IsTree tree.now }
     ensures ok { IfOk result (λ r. IsReport tree.now logs.now r) }
+    ensures true_of_runs { IfOk result (λ r. AreTrueOfRuns tree.now logs.now r.lines.items) }
     ensures err { IfErr result (λ e. IsNoReport tree.now logs.now e) }
 {
     let notes = all_notes(alloc, tree, logs)?;

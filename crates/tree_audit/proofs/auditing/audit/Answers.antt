@@ -1,6 +1,8 @@
-use Rattle.std.proofs.Common.{◌∙◌, ap}
+use Rattle.std.proofs.Common.{◌∙◌, ap, subst, sym}
 use Rattle.tree_audit.specs.Reports.{kept_lists, mismatches_in}
+use Rattle.tree_audit.specs.Truths.{AreTrueOfRuns}
 use Rattle.tree_audit.proofs.LineLaws.{lines_are}
+use Rattle.tree_audit.proofs.Truths.{true_of_runs}
 use Rattle.tree_audit.proofs.auditing.audit.Goals as goal
 
 pub returns-clause-ok : goal.returns-clause-ok
@@ -11,3 +13,8 @@ returns-clause-ok c = record {
       c.in_ok-notes.ensures.ok c.in_ok-said.said.entries c.in_ok-said.ensures;
   mismatches = c.count_mismatches-mismatches.ensures ∙ ap mismatches_in c.deref.ensures.value;
 }
+
+pub returns-clause-true_of_runs : goal.returns-clause-true_of_runs
+returns-clause-true_of_runs c =
+    subst (AreTrueOfRuns c.args.tree.now c.args.logs.now) (sym (returns-clause-ok c).lines)
+    (true_of_runs c.args.tree.now c.requires c.args.logs.now)
