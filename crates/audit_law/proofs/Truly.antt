@@ -39,6 +39,7 @@ use Rattle.tree_audit.specs.Truths.{AreKeptBehind, AreTrue}
 use Rattle.tree_audit.proofs.TreePlaces.{listed_entry, named_so, not_found, role_if}
 use Rattle.tree_audit.proofs.Truths.{true_of_runs}
 use Rattle.audit_engine.specs.Audits.{AuditsLogs, IsAudited, IsAuditReport, OfInput, OfLog, Reports, TellsDamage, audit_lines, ending_by}
+use Rattle.audit_engine.specs.declared.detail.Detail.{Detail}
 use Rattle.audit_engine.specs.declared.ending.Ending.{Ending}
 use Rattle.audit_engine.specs.declared.ending.Ending.TheVariants as ending
 use Rattle.audit_law.specs.Laws.{AreByteLogs, AuditsOfLeftLogsAreTrue, AuditsTruly, WritesBytes}
@@ -126,10 +127,10 @@ same_damage a b e = cc
 no_damage : {A : Type 0} (d : Damage) (x : ProcessId × ℕ) → d ≡ None → d ≡ Some x → A
 no_damage d x none some = absurd (let both = sym none ∙ some in cc)
 
-module _ (tree : List TreeEntry) (logs : List ProcessLog) (w : World) (text report : List ℕ)
+module _ (d : Detail) (tree : List TreeEntry) (logs : List ProcessLog) (w : World) (text report : List ℕ)
     (says : IsLogsText text tree logs) (lines : TrueLines tree w logs) where
-  reported : (e : Ending) → e ≡ ending_by (mismatches_in (audit_lines tree logs)) → Reports tree logs report
-      → AuditsTruly tree w text e report
+  reported : (e : Ending) → e ≡ ending_by (mismatches_in (audit_lines tree logs)) → Reports d tree logs report
+      → AuditsTruly d tree w text e report
   reported e ends reports = record {
     logs = logs;
     says = says;
@@ -142,7 +143,7 @@ module _ (tree : List TreeEntry) (logs : List ProcessLog) (w : World) (text repo
     damaged = λ q place damage. no_damage (first_damage tree logs) (q, place) reports.sound damage;
   }
 
-  told : (e : Ending) → TellsDamage tree logs report → AuditsTruly tree w text e report
+  told : (e : Ending) → TellsDamage tree logs report → AuditsTruly d tree w text e report
   told e damage = record {
     logs = logs;
     says = says;
@@ -151,17 +152,17 @@ module _ (tree : List TreeEntry) (logs : List ProcessLog) (w : World) (text repo
         (same_damage (damage.0, damage.1) (q, place) (sym damage.2 ∙ there));
   }
 
-  audited : (e : Ending) → IsAudited e tree logs report → AuditsTruly tree w text e report
+  audited : (e : Ending) → IsAudited d e tree logs report → AuditsTruly d tree w text e report
   audited ending.Agrees (reports, ends) = reported ending.Agrees (ap (λ b. if b then ending.Agrees else ending.Differs) (sym ends)) reports
   audited ending.Differs (reports, ends) = reported ending.Differs (ap (λ b. if b then ending.Agrees else ending.Differs) (sym ends)) reports
   audited ending.Refused damage = told ending.Refused damage
 
-  of_logs : (e : Ending) → AuditsLogs e text report → AuditsTruly tree w text e report
+  of_logs : (e : Ending) → AuditsLogs d e text report → AuditsTruly d tree w text e report
   of_logs e a =
       let same = read_in_one_way text a.tree tree a.logs logs a.says says in
-      audited e (subst (λ ms. IsAudited e tree ms report) same.1 (subst (λ fs. IsAudited e fs a.logs report) same.0 a.audits))
+      audited e (subst (λ ms. IsAudited d e tree ms report) same.1 (subst (λ fs. IsAudited d e fs a.logs report) same.0 a.audits))
 
-  of_report : (e : Ending) → IsAuditReport e text report → AuditsTruly tree w text e report
+  of_report : (e : Ending) → IsAuditReport d e text report → AuditsTruly d tree w text e report
   of_report ending.Agrees a = of_logs ending.Agrees a
   of_report ending.Differs a = of_logs ending.Differs a
   of_report ending.Refused (OfLog a) = of_logs ending.Refused a
@@ -175,29 +176,29 @@ script_fits input tree events script =
     let parsed = script.2.tree_text in (table_fits parsed.0 tree parsed.2, script.3)
 
 left_audit : (end : WorldState) → IsTree end.tree → AllByRecursion FitsEntry end.tree → (es : List Made) (w : World)
-    → Follows es w end → NoneFailed es → (text report : List ℕ) (e : Ending) (left : LeavesLogs end text)
-    → AreByteLogs left.logs → IsAuditReport e text report → AuditsTruly end.tree w text e report
-left_audit end t fit es w follows whole text report e left bytes a =
+    → Follows es w end → NoneFailed es → (text report : List ℕ) (d : Detail) (e : Ending) (left : LeavesLogs end text)
+    → AreByteLogs left.logs → IsAuditReport d e text report → AuditsTruly d end.tree w text e report
+left_audit end t fit es w follows whole text report d e left bytes a =
     let fits : FitsTree end.tree = record { entries_fit = fit; is_tree = t } in
     let says = subst (λ x. IsLogsText x end.tree left.logs) (sym left.is)
     (written_is_read end.tree left.logs fits (logs_fit end end.tree left.logs t fit bytes left.are)) in
-    of_report end.tree left.logs w text report says
+    of_report d end.tree left.logs w text report says
     (λ none. true_of_runs end.tree t left.logs es w (left_behind end t es w follows left.logs left.are none whole)) e a
 
 ended : (start end : WorldState) (tree : List TreeEntry) (events : List Event) → IsOpened start tree → IsTree end.tree
     → AllByRecursion FitsEntry end.tree → (es : List Made) (w : World) → Follows es w end
-    → (refusal : Refusal) → LeadsTo start events refusal end → Ended ≡ ending refusal → (text report : List ℕ) (e : Ending)
-    → (tells : Tells Logs end refusal text) → WritesBytes Logs end refusal text tells → IsAuditReport e text report
-    → AuditsTruly end.tree w text e report
-ended start end tree events opens t fit es w follows None leads status text report e tells bytes a =
-    left_audit end t fit es w follows (none_failed tree start end events es opens leads follows.shown) text report e tells bytes a
-ended start end tree events opens t fit es w follows (Some refused) leads status text report e tells bytes a = absurd (cc)
+    → (refusal : Refusal) → LeadsTo start events refusal end → Ended ≡ ending refusal → (text report : List ℕ) (d : Detail) (e : Ending)
+    → (tells : Tells Logs end refusal text) → WritesBytes Logs end refusal text tells → IsAuditReport d e text report
+    → AuditsTruly d end.tree w text e report
+ended start end tree events opens t fit es w follows None leads status text report d e tells bytes a =
+    left_audit end t fit es w follows (none_failed tree start end events es opens leads follows.shown) text report d e tells bytes a
+ended start end tree events opens t fit es w follows (Some refused) leads status text report d e tells bytes a = absurd (cc)
 
 pub audits_true : (Holds : Saying) → AuditsOfLeftLogsAreTrue Holds
-audits_true Holds input text report e script bytes a =
+audits_true Holds input text report d e script bytes a =
     let runs = script.runs in
     let fits = script_fits input script.tree script.events script.script in
-    subst (λ tree. AuditsTruly tree runs.world text e report) runs.tree_is
+    subst (λ tree. AuditsTruly d tree runs.world text e report) runs.tree_is
     (ended runs.start runs.end script.tree script.events runs.opens (subst IsTree (sym runs.tree_is) fits.1)
     (subst (AllByRecursion FitsEntry) (sym runs.tree_is) fits.0) runs.moves runs.world runs.follows runs.refusal runs.leads
-    runs.status_is text report e runs.tells bytes a)
+    runs.status_is text report d e runs.tells bytes a)

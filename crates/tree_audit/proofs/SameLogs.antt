@@ -85,6 +85,7 @@ module _ (tree : List TreeEntry) (t : IsTree tree) (logs kept : Logs)
   line_by c rs o = record {
     case = c;
     own = own_of c (since_promise c rs);
+    decision = own_decision c rs;
     outcome = o;
     mismatch = has (is_decided c (other o)) (since_promise c rs);
   }
