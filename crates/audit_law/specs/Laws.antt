@@ -1,5 +1,5 @@
 -- That the audit of the logs which a run of a tree script leaves is the audit of that run.
-use Rattle.std.specs.Prelude.{◌≡◌, ◌<◌, ⊤, ℕ, All, List, Option, Some, None}
+use Rattle.std.specs.Prelude.{◌≡◌, ◌<◌, ⊤, ℕ, All, List, Some, None}
 use Rattle.std.specs.List.{AllByRecursion}
 use Rattle.tree_model.specs.declared.names.ProcessId.{ProcessId}
 use Rattle.tree_model.specs.declared.trees.TreeEntry.{TreeEntry}
