@@ -1,1 +1,3 @@
+pub mod Explaining
 pub mod Texts
+pub mod TrueReports

@@ -1,13 +1,16 @@
 -- The text of a report, word by word, and how it ends.
-use Rattle.std.proofs.Common.{◌≡◌, ◌∙◌, ℕ, nat_eq, Bool, true, false, if◌then◌else◌, List, ◌++◌, codes, OnOk, Result, Ok, Err, refl, sym, ap, subst, append_assoc}
+use Rattle.std.proofs.Common.{◌≡◌, ◌∙◌, ℕ, nat_eq, Bool, true, false, None, if◌then◌else◌, List, ◌++◌, codes, OnOk, Result, Ok, Err, refl, sym, ap, subst, append_assoc}
 use Rattle.std.specs.Fmt.{decimal}
 use Rattle.tree_model.specs.declared.trees.TreeEntry.{TreeEntry}
 use Rattle.tree_model.specs.Texts.{case_text, outcome_word}
 use Rattle.logs_script.specs.declared.line.ProcessLog.{ProcessLog}
-use Rattle.tree_audit.specs.Reports.{IsReport, mismatches_in}
+use Rattle.log_reading.specs.Faults.{first_damage}
+use Rattle.tree_audit.specs.Reports.{kept_lists, mismatches_in}
 use Rattle.tree_audit.specs.declared.report.Line.{Line}
 use Rattle.tree_audit.specs.declared.report.Report.{Report}
-use Rattle.audit_engine.specs.Audits.{IsAudited, Reports, audit_lines, count_text, ending_by, line_text, lines_text, mismatch_part, own_word, report_text}
+use Rattle.audit_engine.specs.Audits.{IsAudited, Reports, audit_lines, detailed_text, ending_by}
+use Rattle.audit_engine.specs.Lines.{count_text, line_text, mismatch_part, own_word}
+use Rattle.audit_engine.specs.declared.detail.Detail.{Detail}
 use Rattle.audit_engine.specs.declared.ending.Ending.{Ending}
 use Rattle.audit_engine.specs.declared.ending.Ending.TheVariants as ending
 
@@ -15,10 +18,10 @@ pub on_ok : {A E : Type 0} {P Q : Type 0} (r : Result A E) → (P → Q) → OnO
 on_ok (Ok a) f h = f h
 on_ok (Err e) f h = h
 
-three : (old a b c x y z : List ℕ) → a ≡ old ++ x → b ≡ a ++ y → c ≡ b ++ z → c ≡ old ++ (x ++ (y ++ z))
+pub three : (old a b c x y z : List ℕ) → a ≡ old ++ x → b ≡ a ++ y → c ≡ b ++ z → c ≡ old ++ (x ++ (y ++ z))
 three old a b c x y z e f g = g ∙ ap (λ t. t ++ z) (f ∙ ap (λ t. t ++ y) e) ∙ simp append_assoc
 
-four : (old a b c d x y z w : List ℕ) → a ≡ old ++ x → b ≡ a ++ y → c ≡ b ++ z → d ≡ c ++ w
+pub four : (old a b c d x y z w : List ℕ) → a ≡ old ++ x → b ≡ a ++ y → c ≡ b ++ z → d ≡ c ++ w
     → d ≡ old ++ (x ++ (y ++ (z ++ w)))
 four old a b c d x y z w e f g h = h ∙ ap (λ t. t ++ w) (three old a b c x y z e f g) ∙ simp append_assoc
 
@@ -49,24 +52,24 @@ line_pushed l old d e f g out mis up_to o out_is m mis_is end =
     joined x y z w o m n = simp append_assoc
 
 -- how an audit ends with this report
-pub report_ends : (tree : List TreeEntry) (logs : List ProcessLog) (r : Report) (text : List ℕ) (e : Ending)
-    → IsReport tree logs r → text ≡ lines_text r.lines.items ++ count_text r.mismatches → e ≡ ending_by r.mismatches
-    → IsAudited e tree logs text
-unfolding report_text
-report_ends tree logs r text e report is ends =
-    subst (λ x. IsAudited x tree logs text) (sym ends) (by_test (nat_eq r.mismatches 0) refl)
+pub report_ends : (detail : Detail) (tree : List TreeEntry) (logs : List ProcessLog) (r : Report) (text : List ℕ)
+    (e : Ending) → first_damage tree logs ≡ None → r.lines.items ≡ audit_lines tree logs
+    → r.mismatches ≡ mismatches_in r.lines.items
+    → text ≡ detailed_text detail tree (kept_lists tree logs) r.lines.items → e ≡ ending_by r.mismatches
+    → IsAudited detail e tree logs text
+report_ends detail tree logs r text e sound lines counted is ends =
+    subst (λ x. IsAudited detail x tree logs text) (sym ends) (by_test (nat_eq r.mismatches 0) refl)
   where
     same : r.mismatches ≡ mismatches_in (audit_lines tree logs)
-    same = report.mismatches ∙ ap mismatches_in report.lines
+    same = counted ∙ ap mismatches_in lines
 
-    reports : Reports tree logs text
+    reports : Reports detail tree logs text
     reports = record {
-      sound = report.sound;
-      report = is ∙ ap (λ n. lines_text r.lines.items ++ count_text n) report.mismatches
-          ∙ ap (λ ls. lines_text ls ++ count_text (mismatches_in ls)) report.lines;
+      sound = sound;
+      report = is ∙ ap (detailed_text detail tree (kept_lists tree logs)) lines;
     }
 
     by_test : (b : Bool) → nat_eq r.mismatches 0 ≡ b
-        → IsAudited (if b then ending.Agrees else ending.Differs) tree logs text
+        → IsAudited detail (if b then ending.Agrees else ending.Differs) tree logs text
     by_test true zero = (reports, ap (λ n. nat_eq n 0) (sym same) ∙ zero)
     by_test false more = (reports, ap (λ n. nat_eq n 0) (sym same) ∙ more)

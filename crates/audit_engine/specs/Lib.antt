@@ -1,1 +1,3 @@
 pub mod Audits
+pub mod Explanations
+pub mod Lines

@@ -1,11 +1,23 @@
 //! The text of a report.
 
 ghost use Rattle.std.specs.Prelude.{◌≡◌, ◌++◌, OnOk, IfOk};
-ghost use Rattle.audit_engine.specs.Audits.{count_text, line_text, lines_text, mismatch_part, own_word as word_of_own};
+ghost use Rattle.std.specs.List.{flat_map};
+ghost use Rattle.tree_auditor.specs.Audits.{Logs};
+ghost use Rattle.tree_model.specs.Trees.{IsTree};
+ghost use Rattle.tree_audit.specs.Reports.{mismatches_in};
+ghost use Rattle.tree_audit.specs.Tables.{AreNotes};
+ghost use Rattle.audit_chains.specs.Chains.{AreNamings};
+ghost use Rattle.audit_engine.specs.Audits.{detailed_text, explained_text};
+ghost use Rattle.audit_engine.specs.Explanations.{explained_line};
+ghost use Rattle.audit_engine.specs.Lines.{count_text, line_text, lines_text, mismatch_part, own_word as word_of_own};
 
+use crate::detail::Detail;
+use crate::explain::push_explained;
+use audit_chains::{TreeNamings, all_namings};
 use std::alloc::{AllocError, Global};
 use trace_lines::{outcome_word, push, push_case, push_number};
-use tree_audit::{Line, Own, Report};
+use tree_audit::{Line, Own, Report, TreeNotes};
+use tree_model::Tree;
 
 /// The word of how a case stands by its own records.
 fn own_word(own: Own) -> &'static str
@@ -28,7 +40,7 @@ fn mismatch_word(mismatch: bool) -> &'static str
     if mismatch { " mismatch" } else { "" }
 }
 
-fn push_line(out: &mut Vec<u8>, line: &Line) -> Result<(), AllocError>
+pub(crate) fn push_line(out: &mut Vec<u8>, line: &Line) -> Result<(), AllocError>
     ensures { OnOk result (out.new.items ≡ out.old.items ++ line_text line.now) }
 {
     push_case(out, &line.case)?;
@@ -58,11 +70,67 @@ fn push_lines(out: &mut Vec<u8>, lines: &[Line]) -> Result<(), AllocError>
 }
 
 /// A line for each case, and the number of mismatches.
-pub fn text_of(alloc: Global, report: &Report) -> Result<Vec<u8>, AllocError>
+fn text_of(alloc: Global, report: &Report) -> Result<Vec<u8>, AllocError>
     ensures { IfOk result (λ text. text.items ≡ lines_text report.now.lines.items ++ count_text report.now.mismatches) }
 {
     let mut out = Vec::new(alloc);
     push_lines(&mut out, report.lines.as_slice())?;
     push_count(&mut out, report.mismatches)?;
     Ok(out)
+}
+
+/// The lines, each explained that is in doubt or shows a mismatch.
+fn push_all_explained(
+    out: &mut Vec<u8>,
+    alloc: Global,
+    tree: &Tree,
+    namings: &TreeNamings,
+    lines: &[Line],
+) -> Result<(), AllocError>
+    requires { IsTree tree.now }
+    ensures { OnOk result ((logs : Logs) → AreNamings tree.now logs namings.now.entries
+        → out.new.items ≡ out.old.items ++ flat_map (explained_line tree.now logs) lines.now) }
+{
+    for line in lines {
+        push_explained(out, alloc, tree, namings, line)?;
+    }
+    Ok(())
+}
+
+/// The lines, explained, and the number of mismatches.
+fn explained_of(
+    alloc: Global,
+    tree: &Tree,
+    notes: &TreeNotes,
+    report: &Report,
+) -> Result<Vec<u8>, AllocError>
+    requires tree { IsTree tree.now }
+    requires counted { report.now.mismatches ≡ mismatches_in report.now.lines.items }
+    ensures { IfOk result (λ text. (logs : Logs) → AreNotes tree.now logs notes.now.entries
+        → text.items ≡ explained_text tree.now logs report.now.lines.items) }
+{
+    let namings = all_namings(alloc, tree, notes)?;
+    let mut out = Vec::new(alloc);
+    push_all_explained(&mut out, alloc, tree, &namings, report.lines.as_slice())?;
+    push_count(&mut out, report.mismatches)?;
+    Ok(out)
+}
+
+/// The text of a report on a tree of which this is noted.
+pub(crate) fn told(
+    alloc: Global,
+    detail: Detail,
+    tree: &Tree,
+    notes: &TreeNotes,
+    report: &Report,
+) -> Result<Vec<u8>, AllocError>
+    requires tree { IsTree tree.now }
+    requires counted { report.now.mismatches ≡ mismatches_in report.now.lines.items }
+    ensures { IfOk result (λ text. (logs : Logs) → AreNotes tree.now logs notes.now.entries
+        → text.items ≡ detailed_text detail tree.now logs report.now.lines.items) }
+{
+    match detail {
+        Detail::Lines => text_of(alloc, report),
+        Detail::Explained => explained_of(alloc, tree, notes, report),
+    }
 }

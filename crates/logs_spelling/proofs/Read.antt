@@ -47,7 +47,8 @@ processes_fit no_items (e ∷ es) h = absurd h
 processes_fit (item d ds) [] h = absurd h
 processes_fit (item d ds) (e ∷ es) h = (process_fits d e h.0, processes_fit ds es h.1)
 
-table_fits : (ms : Members) (es : List TreeEntry) → IsTable ms es → AllByRecursion FitsEntry es
+-- the processes of a tree text can be written
+pub table_fits : (ms : Members) (es : List TreeEntry) → IsTable ms es → AllByRecursion FitsEntry es
 table_fits no_members es h = subst (AllByRecursion FitsEntry) (sym h) tt
 table_fits (member k d ms) es (ds, is, are) = processes_fit ds es are
 

@@ -2,7 +2,7 @@
 //! end with. The folder data/ holds them; standard input lists them, a row a line: PROGRAM NAME STATUS.
 #![tactic(auto)]
 
-use audit_engine::run_audit;
+use audit_engine::{Detail, run_audit};
 use log_engine::run_log;
 use std::alloc::Global;
 use std::{fs, io};
@@ -22,6 +22,14 @@ enum Program {
     Log,
     /// The logs of a tree, for how its cases stand and end.
     Audit,
+    /// Likewise, and what decided those that are in doubt or show a mismatch.
+    Explain,
+}
+
+/// Audits logs: the exit status, and what it writes. No status where it fails.
+fn audited(alloc: Global, detail: Detail, mut input: &[u8], out: &mut Vec<u8>) -> Option<u8> {
+    let ending = run_audit(alloc, detail, &mut input, out).ok()?;
+    Some(ending.number())
 }
 
 impl Program {
@@ -33,6 +41,7 @@ impl Program {
             "xa" => Some(Program::Xa),
             "log" => Some(Program::Log),
             "audit" => Some(Program::Audit),
+            "explain" => Some(Program::Explain),
             _ => None,
         }
     }
@@ -43,7 +52,7 @@ impl Program {
             Program::Tree => ("tree", "out"),
             Program::Logs => ("tree", "logs"),
             Program::Xa => ("xa", "out"),
-            Program::Log | Program::Audit => ("logs", "out"),
+            Program::Log | Program::Audit | Program::Explain => ("logs", "out"),
         }
     }
 
@@ -54,10 +63,8 @@ impl Program {
             Program::Logs => run_tree(alloc, Output::Logs, &mut input, out),
             Program::Xa => run_xa(alloc, &mut input, out),
             Program::Log => run_log(alloc, &mut input, out),
-            Program::Audit => {
-                let ending = run_audit(alloc, &mut input, out).ok()?;
-                return Some(ending.number());
-            }
+            Program::Audit => return audited(alloc, Detail::Lines, input, out),
+            Program::Explain => return audited(alloc, Detail::Explained, input, out),
         };
         Some(ended.ok()?.number())
     }

@@ -1,7 +1,7 @@
 //! The program `rstar`: the command line, and standard input and output of the engines.
 #![tactic(auto)]
 
-use audit_engine::run_audit;
+use audit_engine::{Detail, run_audit};
 use clap::error::ErrorKind;
 use clap::{Arg, ArgAction, ArgMatches, Command, Error};
 use log_engine::run_log;
@@ -20,8 +20,8 @@ enum Request {
     Xa,
     /// What the logs of a tree hold.
     Log,
-    /// How the cases of a tree stand and end by its logs.
-    Audit,
+    /// How the cases of a tree stand and end by its logs, and how much is written of that.
+    Audit(Detail),
 }
 
 /// What was read of a command line.
@@ -89,9 +89,11 @@ heur-rollback. OUTCOME is how its transaction ends: the case's own decision or w
 told, or else what its parent's log says, or else what is presumed. ' mismatch' stands behind
 it where an operator decided otherwise. The last line is 'mismatches N'; the status is 3
 where N is above 0. 'damaged P PLACE' alone where a log is damaged, 'error ..' where the
-input is refused.
+input is refused. With --explain, behind each line that is in-doubt or shows a mismatch: who
+asks whom about it, a line a step, or what it was told; and what to do.
 
 Examples: rstar audit < examples/commit.logs
+          rstar audit --explain < examples/operator.logs
           rstar tree --logs < examples/commit.tree | rstar audit";
 
 /// The words after the program's name, and what help says of them.
@@ -115,7 +117,15 @@ fn grammar<'a>(alloc: Global) -> Result<Command<'a>, Error> {
         .about(
             "Tells how the cases of a tree stand and end, and where an operator decided otherwise",
         )
-        .after_help(AUDIT_HELP);
+        .after_help(AUDIT_HELP)
+        .arg(
+            Arg::new(alloc, "explain")
+                .long("explain")
+                .help(
+                    "Tells of each case in doubt and each mismatch what decided it, and what to do",
+                )
+                .action(ArgAction::SetTrue),
+        )?;
     let command = Command::new(alloc, "rstar")
         .about(
             "Distributed transactions by the R* commit protocol. Scripts come on standard input.",
@@ -138,6 +148,15 @@ fn output_of(matches: &ArgMatches) -> Output {
     }
 }
 
+/// How much is written of an audit.
+fn detail_of(matches: &ArgMatches) -> Detail {
+    if matches.get_flag("explain") {
+        Detail::Explained
+    } else {
+        Detail::Lines
+    }
+}
+
 /// What these words ask for, the program's name first.
 fn read_words<'a>(alloc: Global, words: &'a [String]) -> Result<Asked, Error> {
     let matches = grammar(alloc)?.try_get_matches_from(words)?;
@@ -145,7 +164,7 @@ fn read_words<'a>(alloc: Global, words: &'a [String]) -> Result<Asked, Error> {
         Some((name, found)) => Ok(Asked::Request(match name {
             "tree" => Request::Tree(output_of(found)),
             "log" => Request::Log,
-            "audit" => Request::Audit,
+            "audit" => Request::Audit(detail_of(found)),
             _ => Request::Xa,
         })),
         None => Ok(Asked::Memory),
@@ -169,7 +188,7 @@ fn perform(rt: &HostRuntime, request: Request) -> u8 {
         Request::Tree(output) => number(run_tree(alloc, output, &mut reader, &mut writer)),
         Request::Xa => number(run_xa(alloc, &mut reader, &mut writer)),
         Request::Log => number(run_log(alloc, &mut reader, &mut writer)),
-        Request::Audit => match run_audit(alloc, &mut reader, &mut writer) {
+        Request::Audit(detail) => match run_audit(alloc, detail, &mut reader, &mut writer) {
             Ok(ending) => Ok(ending.number()),
             Err(failure) => Err(failure),
         },

@@ -63,7 +63,7 @@ above_is tree logs said (Some p) all has = by_entry (lookup (same_id p) said) re
     by_entry None is h = absurd (cc)
     by_entry (Some s) is h = (s, is, all p s is)
 
-parent_is : (tree : List TreeEntry) (q : ProcessId) (e : TreeEntry) → find (λ x. same_process x.id q) tree ≡ Some e
+pub parent_is : (tree : List TreeEntry) (q : ProcessId) (e : TreeEntry) → find (λ x. same_process x.id q) tree ≡ Some e
     → parent_of tree q ≡ e.parent
 unfolding parent_of
 parent_is tree q e found = ap entry_parent found

@@ -1,7 +1,10 @@
 pub mod Climbs
+pub mod Elements
 pub mod LineLaws
 pub mod Outcomes
 pub mod OwnCases
 pub mod Passes
 pub mod RecordsAt
+pub mod SameLogs
 pub mod TreePlaces
+pub mod Truths

@@ -7,11 +7,11 @@ use Rattle.tree_model.specs.declared.trees.TreeEntry.{TreeEntry}
 use Rattle.tree_model.specs.Nodes.{is_listed, role_by, role_of}
 use Rattle.tree_model.specs.Records.{cases_in, has, is_decided}
 use Rattle.tree_model.specs.Trees.{IsTree}
-use Rattle.tree_auditor.specs.Audits.{Logs, audited, has_line, has_line_in, is_case_at, since_promise}
+use Rattle.tree_auditor.specs.Audits.{Logs, audited, has_line, has_line_in, is_case_at, own_decision, since_promise}
 use Rattle.audit_cases.specs.Kinds.{decided_in, kinds_of, line_in, own_of}
 use Rattle.audit_cases.specs.Notes.{CaseNote, note_of}
 use Rattle.audit_cases.specs.Sayings.{Outcomes, outcome_in}
-use Rattle.audit_cases.proofs.KindLaws.{decided_is, line_is, own_is}
+use Rattle.audit_cases.proofs.KindLaws.{decided_is, decision_is, line_is, own_is}
 use Rattle.tree_audit.specs.declared.report.Line.{Line}
 use Rattle.tree_audit.specs.Reports.{line_of, lines_at, lines_of, other}
 use Rattle.tree_audit.specs.Tables.{AllTrue, AreNotes, SaidFor, TreeOutcomes, TreeTables, above_of, all_lines, entry_lines, has_above, line_by, lines_in, table_or}
@@ -35,6 +35,7 @@ line_from : List TreeEntry → Logs → List Record → Case → Line
 line_from tree logs rs c = record {
   case = c;
   own = own_of c (since_promise c rs);
+  decision = own_decision c rs;
   outcome = audited tree logs c;
   mismatch = has (is_decided c (other (audited tree logs c))) (since_promise c rs);
 }
@@ -48,6 +49,7 @@ module _ (tree : List TreeEntry) (logs : Logs) (e : TreeEntry) (found : IsFound 
       (λ i. record {
         case = c;
         own = own_is c (since_promise c (logs e.id)) i;
+        decision = decision_is c (logs e.id) i;
         outcome = says c own i;
         mismatch = (ap (λ o. decided_in (kinds_of c (since_promise c (logs e.id))) (other o)) (says c own)
             ∙ decided_is c (other (audited tree logs c)) (since_promise c (logs e.id))) i;

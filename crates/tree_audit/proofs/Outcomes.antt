@@ -49,18 +49,18 @@ child_role AtRoot u q h = absurd (cc)
 child_role (Below p) u q h = refl
 child_role (AtLeaf p) u q h = refl
 
-owner_is : (c : Case) (u : Ticket) → c.ticket ≡ Some u → process_of c ≡ u.child
+pub owner_is : (c : Case) (u : Ticket) → c.ticket ≡ Some u → process_of c ≡ u.child
 owner_is c u is = ap (λ o. process_of (record { txn = c.txn; ticket = o })) is
 
 module _ (tree : List TreeEntry) (logs : Logs) where
   pub case_at : (q : ProcessId) (c : Case) → is_case_at tree q c ≡ true → process_of c ≡ q
   case_at q c own = is_one (process_of c) q (first_of _ _ (first_of _ _ own))
 
-  place_of_case : (q : ProcessId) (c : Case) → is_case_at tree q c ≡ true → has_place (role_of tree q) c.ticket ≡ true
+  pub place_of_case : (q : ProcessId) (c : Case) → is_case_at tree q c ≡ true → has_place (role_of tree q) c.ticket ≡ true
   place_of_case q c own = second_of _ _ (first_of _ _ own)
 
   -- the parent's case that names a ticket is one of its own
-  naming_own : (p : ProcessId) (x : Txn) (u : Ticket) (d : Case) → naming_case tree p x u (logs p) ≡ Some d
+  pub naming_own : (p : ProcessId) (x : Txn) (u : Ticket) (d : Case) → naming_case tree p x u (logs p) ≡ Some d
       → is_case_at tree p d ≡ true
   naming_own p x u d is =
       second_of (same_txn d.txn x && has (is_naming d u) (logs p)) (is_case_at tree p d)
@@ -114,7 +114,7 @@ top_has_none Manager None h = refl
 top_has_none Coordinator (Some p) h = absurd (cc)
 top_has_none Manager (Some p) h = absurd (cc)
 
-child_has : (k : Kind) (o : Option ProcessId) (u : Ticket) (q : ProcessId) → has_place (role_by k o) (Some u) ≡ true
+pub child_has : (k : Kind) (o : Option ProcessId) (u : Ticket) (q : ProcessId) → has_place (role_by k o) (Some u) ≡ true
     → o ≡ Some (parent_in (role_by k o) q)
 child_has Coordinator None u q h = absurd (cc)
 child_has Manager None u q h = absurd (cc)

@@ -187,7 +187,7 @@ lookup_inserted (x ∷ ts) p q v = by_place (same_id p x.0) refl (lookup_inserte
         ∙ there (same_id q x.0) (same_id q p)
         (λ one other. true_not_false (sym (ap (λ y. same_id y x.0) (sym (same_is q p other)) ∙ one) ∙ is))
 
-apart_of : (b : Bool) → (b ≡ true → ⊥) → b ≡ false
+pub apart_of : (b : Bool) → (b ≡ true → ⊥) → b ≡ false
 apart_of true n = absurd (n refl)
 apart_of false n = refl
 
@@ -200,7 +200,7 @@ pub none_noted : (tree : List TreeEntry) (logs : List ProcessLog) (ts : TreeTabl
 unfolding NotedTo is_listed
 none_noted tree logs ts = λ q h. absurd (true_not_false (sym h))
 
-listed_more : (es : List TreeEntry) (e : TreeEntry) (q : ProcessId) → is_listed (es ++ e ∷ []) q ≡ true
+pub listed_more : (es : List TreeEntry) (e : TreeEntry) (q : ProcessId) → is_listed (es ++ e ∷ []) q ≡ true
     → same_process e.id q ≡ false → is_listed es q ≡ true
 unfolding is_listed
 listed_more [] e q h apart = absurd (true_not_false (sym h ∙ ap (λ b. b || false) apart))

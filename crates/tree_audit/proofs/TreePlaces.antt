@@ -48,7 +48,7 @@ no_some : (e : TreeEntry) {A : Type 0} → None ≡ Some e → A
 no_some e h = absurd (cc)
 
 -- what holds of no entry does not hold of one that is found
-not_found : (f g : TreeEntry → Bool) (es : List TreeEntry) (e : TreeEntry) → list_any f es ≡ false
+pub not_found : (f g : TreeEntry → Bool) (es : List TreeEntry) (e : TreeEntry) → list_any f es ≡ false
     → find g es ≡ Some e → f e ≡ false
 not_found f g [] e none h = no_some e h
 not_found f g (x ∷ es) e none h =
@@ -132,15 +132,15 @@ named_so es q e h = is_one e.id q (passes (λ x. same_process x.id q) es e h)
 -- Each process once.
 
 -- how many entries pass
-how_many : (TreeEntry → Bool) → List TreeEntry → ℕ
+unfoldable pub how_many : (TreeEntry → Bool) → List TreeEntry → ℕ
 how_many p [] = 0
 how_many p (x ∷ es) = if p x then 1 + how_many p es else how_many p es
 
-counted : (p : TreeEntry → Bool) (es : List TreeEntry) → how_many p es ≡ count_by p es
+pub counted : (p : TreeEntry → Bool) (es : List TreeEntry) → how_many p es ≡ count_by p es
 unfolding how_many
 counted p es = is_count_by (how_many p) p refl (λ x xs. refl) es
 
-times_both : (p : TreeEntry → Bool) (fs es : List TreeEntry) → how_many p (fs ++ es) ≡ how_many p fs + how_many p es
+pub times_both : (p : TreeEntry → Bool) (fs es : List TreeEntry) → how_many p (fs ++ es) ≡ how_many p fs + how_many p es
 unfolding how_many
 times_both p [] es = omega arith
 times_both p (x ∷ fs) es = by_test (p x) (how_many p (fs ++ es)) (how_many p fs) (how_many p es) (times_both p fs es)
@@ -163,10 +163,10 @@ found_past (x ∷ fs) es e h =
     by_test true n z rest = absurd (omega (arith, z))
     by_test false n z rest = rest z
 
-no_more : (a b m n : ℕ) → nat_lt 1 n ≡ false → n ≡ a + m → m ≡ 1 + b → a ≡ 0
+pub no_more : (a b m n : ℕ) → nat_lt 1 n ≡ false → n ≡ a + m → m ≡ 1 + b → a ≡ 0
 no_more a b m n few sum one = grind (arith, nat_tests)
 
-here_once : (e : TreeEntry) (es : List TreeEntry)
+pub here_once : (e : TreeEntry) (es : List TreeEntry)
     → how_many (λ x. same_process x.id e.id) (e ∷ es) ≡ 1 + how_many (λ x. same_process x.id e.id) es
 unfolding how_many
 here_once e es =

@@ -1,2 +1,3 @@
 pub mod Reports
 pub mod Tables
+pub mod Truths

@@ -17,7 +17,7 @@ use Rattle.log_order.specs.Logs.{LogReading, Whole, Damaged, read_log}
 use Rattle.log_reading.specs.Faults.{first_damage}
 use Rattle.logs_script.specs.declared.line.ProcessLog.{ProcessLog}
 use Rattle.logs_script.specs.Logs.{bytes_of}
-use Rattle.tree_auditor.specs.Audits.{Logs, ShowsMismatch, audited, has_line, since_promise}
+use Rattle.tree_auditor.specs.Audits.{Logs, ShowsMismatch, audited, has_line, own_decision, since_promise}
 use Rattle.audit_cases.specs.Kinds.{own_of}
 use Rattle.tree_audit.specs.declared.report.AuditError.{AuditError}
 use Rattle.tree_audit.specs.declared.report.AuditError.TheVariants as error
@@ -56,12 +56,13 @@ other Aborted = Committed
 abbrev pub is_against : List TreeEntry → Logs → Case → Outcome → Bool
 is_against tree logs c o = has (is_decided c (other o)) (since_promise c (logs (process_of c)))
 
--- the line of a case: how it stands by its own records, its outcome, and whether an operator decided
--- against that
+-- the line of a case: how it stands by its own records, its own decision, its outcome, and whether an operator
+-- decided against that
 abbrev pub line_of : List TreeEntry → Logs → Case → Line
 line_of tree logs c = record {
   case = c;
   own = own_of c (since_promise c (logs (process_of c)));
+  decision = own_decision c (logs (process_of c));
   outcome = audited tree logs c;
   mismatch = is_against tree logs c (audited tree logs c);
 }

@@ -19,7 +19,7 @@ use Rattle.tree_model.specs.Trees.{is_unlisted, level_within}
 use Rattle.log_order.specs.Logs.{Whole, Damaged, read_log}
 use Rattle.log_reading.specs.Places.{placed_in}
 use Rattle.tree_auditor.specs.Audits.{Logs, audited, is_case_at, naming_case}
-use Rattle.audit_cases.specs.Kinds.{decided_in, line_in, own_in}
+use Rattle.audit_cases.specs.Kinds.{decided_in, decision_in, line_in, own_in}
 use Rattle.audit_cases.specs.Notes.{CaseNote, Table, noted, notes_of, place_at, same}
 use Rattle.audit_cases.specs.Sayings.{AreSaid, Outcomes, outcome_in}
 use Rattle.tree_audit.specs.declared.report.AuditError.{AuditError}
@@ -136,6 +136,7 @@ abbrev pub line_by : Option Outcomes → Case → CaseNote → Line
 line_by above c n = record {
   case = c;
   own = own_in n.kinds;
+  decision = decision_in n.kinds;
   outcome = outcome_in above c n;
   mismatch = decided_in n.kinds (other (outcome_in above c n));
 }

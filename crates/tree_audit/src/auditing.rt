@@ -3,8 +3,10 @@
 ghost use Rattle.std.specs.Prelude.{◌≡◌, ◌++◌, IfOk, IfErr, OnOk};
 ghost use Rattle.std.specs.Option.{option_copied};
 ghost use Rattle.tree_model.specs.Trees.{IsTree};
-ghost use Rattle.tree_audit.specs.Reports.{IsNoReport, IsReport, mismatches_in, other as other_of};
-ghost use Rattle.tree_audit.specs.Tables.{all_lines, entry_lines, line_by, lines_in};
+ghost use Rattle.tree_audit.specs.Reports.{IsNoReport, IsReport, lines_of as lines_in_logs, mismatches_in, other as other_of};
+ghost use Rattle.tree_audit.specs.Truths.{AreTrueOfRuns};
+ghost use Rattle.tree_auditor.specs.Audits.{Logs};
+ghost use Rattle.tree_audit.specs.Tables.{AreNotes, all_lines, entry_lines, line_by, lines_in};
 ghost use Rattle.tree_model.specs.Nodes.{role_by};
 
 use crate::logs::{TreeNotes, all_notes};
@@ -34,6 +36,7 @@ fn line_of(above: Option<&Sayings>, case: &Case, note: &Noted) -> Line
     Line {
         case: *case,
         own: kinds.own(),
+        decision: kinds.decision(),
         outcome,
         mismatch: kinds.is_decided(other(outcome)),
     }
@@ -95,19 +98,32 @@ fn count_mismatches(lines: &[Line]) -> usize
     lines.iter().filter(|line| line.mismatch).count()
 }
 
+/// Audits the cases of a tree of which this is noted: the lines and the number of mismatches, as `audit` tells them.
+pub fn audit_notes(alloc: Global, tree: &Tree, notes: &TreeNotes) -> Result<Report, AllocError>
+    requires { IsTree tree.now }
+    ensures lines { IfOk result (λ r. (logs : Logs) → AreNotes tree.now logs notes.now.entries
+        → r.lines.items ≡ lines_in_logs tree.now logs) }
+    ensures mismatches { IfOk result (λ r. r.mismatches ≡ mismatches_in r.lines.items) }
+{
+    let said = all_sayings(alloc, tree, notes)?;
+    let lines = lines_of(alloc, tree, notes, &said)?;
+    let mismatches = count_mismatches(&lines);
+    Ok(Report { lines, mismatches })
+}
+
 /// Audits the logs of a tree: a line for each case that is still told of, in the order of the tree and of first records, with
 /// how it stands by its own process's records and how its transaction ends. The outcome is the case's own decision or what it
 /// was told; else, at the root, abort; else that of the parent's first case of the transaction that names its ticket; else
 /// what is presumed. Cases that are not their process's own in this tree are left out. Each log is gone through once.
-/// Damaged: the first log in the order of the tree that is.
+///
+/// Where a run of the model left the logs, with no process failed, each outcome is that of its transaction in the run, and the
+/// mismatches that are shown are just those that stand. Damaged: the first log in the order of the tree that is.
 pub fn audit(alloc: Global, tree: &Tree, logs: &[ProcessLog]) -> Result<Report, AuditError>
     requires { IsTree tree.now }
     ensures ok { IfOk result (λ r. IsReport tree.now logs.now r) }
+    ensures true_of_runs { IfOk result (λ r. AreTrueOfRuns tree.now logs.now r.lines.items) }
     ensures err { IfErr result (λ e. IsNoReport tree.now logs.now e) }
 {
     let notes = all_notes(alloc, tree, logs)?;
-    let said = all_sayings(alloc, tree, &notes)?;
-    let lines = lines_of(alloc, tree, &notes, &said)?;
-    let mismatches = count_mismatches(&lines);
-    Ok(Report { lines, mismatches })
+    Ok(audit_notes(alloc, tree, &notes)?)
 }

@@ -17,7 +17,7 @@ use std::alloc::{AllocError, Global};
 use tree_model::{ProcessId, Tree, TreeEntry};
 
 /// What is noted of each process's cases.
-pub(crate) type TreeNotes = IndexMap<ProcessId, Notes>;
+pub type TreeNotes = IndexMap<ProcessId, Notes>;
 
 /// What the frames behind a header say of the process's cases, up to the first that is no record.
 fn noted(alloc: Global, tree: &Tree, entry: &TreeEntry, frames: &[u8]) -> Result<Notes, AllocError>
@@ -66,11 +66,7 @@ fn put(notes: &mut TreeNotes, process: ProcessId, new: Notes) -> Result<(), Allo
 }
 
 /// What the log of each process says of its cases. It goes through each log once, and stops at the first that is damaged.
-pub(crate) fn all_notes(
-    alloc: Global,
-    tree: &Tree,
-    logs: &[ProcessLog],
-) -> Result<TreeNotes, AuditError>
+pub fn all_notes(alloc: Global, tree: &Tree, logs: &[ProcessLog]) -> Result<TreeNotes, AuditError>
     requires { IsTree tree.now }
     ensures sound { IfOk result (λ notes. first_damage tree.now logs.now ≡ None) }
     ensures ok { IfOk result (λ notes. AreNotes tree.now (kept_lists tree.now logs.now) notes.entries) }

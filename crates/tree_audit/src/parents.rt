@@ -17,7 +17,7 @@ pub(crate) type TreeSayings = IndexMap<ProcessId, Sayings>;
 
 /// The parent of a process, if it is listed and has one.
 #[tactic(auto, unfolding(tree_model::specs::Trees::parent_of))]
-fn parent_of(tree: &Tree, process: ProcessId) -> Option<ProcessId>
+pub fn parent_of(tree: &Tree, process: ProcessId) -> Option<ProcessId>
     ensures { result ≡ parent_in tree.now process }
 {
     match tree.entry(process) {

@@ -10,6 +10,8 @@ pub struct Line {
     pub case: Case,
     /// How the case stands by the records of its own process.
     pub own: Own,
+    /// Its own decision, or what it was told; none where it is in doubt. A case that neither decided nor promised will abort.
+    pub decision: Option<Outcome>,
     /// How its transaction ends.
     pub outcome: Outcome,
     /// Whether an operator decided it the other way.

@@ -1,5 +1,5 @@
 use Rattle.std.proofs.Common.{◌≡◌, ◌++◌, drop}
-use Rattle.audit_engine.specs.Audits.{lines_text}
+use Rattle.audit_engine.specs.Lines.{lines_text}
 use Rattle.audit_engine.proofs.lines.push_lines.Given as goal
 
 abbrev pub invariant-loop-line : goal.invariant-loop-line

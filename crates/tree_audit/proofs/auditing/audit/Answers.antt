@@ -1,13 +1,17 @@
-use Rattle.std.proofs.Common.{◌∙◌, ap}
-use Rattle.tree_audit.specs.Reports.{kept_lists, mismatches_in}
-use Rattle.tree_audit.proofs.LineLaws.{lines_are}
+use Rattle.std.proofs.Common.{subst, sym}
+use Rattle.tree_audit.specs.Reports.{kept_lists}
+use Rattle.tree_audit.specs.Truths.{AreTrueOfRuns}
+use Rattle.tree_audit.proofs.Truths.{true_of_runs}
 use Rattle.tree_audit.proofs.auditing.audit.Goals as goal
 
 pub returns-clause-ok : goal.returns-clause-ok
 returns-clause-ok c = record {
   sound = c.in_ok-notes.ensures.sound;
-  lines = c.in_ok-lines.ensures
-      ∙ lines_are c.args.tree.now c.requires (kept_lists c.args.tree.now c.args.logs.now) c.in_ok-notes.notes.entries
-      c.in_ok-notes.ensures.ok c.in_ok-said.said.entries c.in_ok-said.ensures;
-  mismatches = c.count_mismatches-mismatches.ensures ∙ ap mismatches_in c.deref.ensures.value;
+  lines = c.in_ok-audit_notes.ensures.lines (kept_lists c.args.tree.now c.args.logs.now) c.in_ok-notes.ensures.ok;
+  mismatches = c.in_ok-audit_notes.ensures.mismatches;
 }
+
+pub returns-clause-true_of_runs : goal.returns-clause-true_of_runs
+returns-clause-true_of_runs c =
+    subst (AreTrueOfRuns c.args.tree.now c.args.logs.now) (sym (returns-clause-ok c).lines)
+    (true_of_runs c.args.tree.now c.requires c.args.logs.now)

@@ -1,0 +1,43 @@
+//! A step upward, and what is to be done about a case.
+
+use tree_model::{Case, ProcessId, Ticket};
+
+/// What stands of a case at a coordinator, as it decides there.
+#[derive(Clone, Copy, PartialEq, Eq)]
+pub enum Stands {
+    /// It committed.
+    Commit,
+    /// It aborted.
+    Abort,
+    /// It promised, and no more: it is in doubt itself.
+    Prepare,
+    /// It asked for votes, and no more: a restart of its process aborts it.
+    Collecting,
+}
+
+/// What is found of a case that is asked about.
+#[derive(Clone, Copy, PartialEq, Eq)]
+pub enum Found {
+    /// No kept case of its transaction names its ticket.
+    Nothing,
+    /// The first that does, and what stands of it.
+    Kept(Case, Stands),
+}
+
+/// A ticket asks its parent.
+#[derive(Clone, Copy, PartialEq, Eq)]
+pub struct Step {
+    pub ticket: Ticket,
+    /// The parent.
+    pub process: ProcessId,
+    pub found: Found,
+}
+
+/// What is to be done about a case.
+#[derive(Clone, Copy, PartialEq, Eq)]
+pub enum Deed {
+    /// Ask for the outcome of this case.
+    Ask(Case),
+    /// Restart this process, which aborts what it collects.
+    Restart(ProcessId),
+}

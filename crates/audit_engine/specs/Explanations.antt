@@ -1,0 +1,116 @@
+-- Why a case stands as its line says, and what to do, as text.
+use Rattle.std.specs.Prelude.{ℕ, Bool, true, false, ◌||◌, if◌then◌else◌, Option, Some, None, List, [], ◌++◌, codes}
+use Rattle.std.specs.List.{flat_map}
+use Rattle.std.specs.Fmt.{decimal}
+use Rattle.tree_model.specs.declared.names.Case.{Case}
+use Rattle.tree_model.specs.declared.names.Outcome.{Outcome}
+use Rattle.tree_model.specs.declared.names.Presumption.{Presumption}
+use Rattle.tree_model.specs.declared.names.ProcessId.{ProcessId}
+use Rattle.tree_model.specs.declared.names.Ticket.{Ticket}
+use Rattle.tree_model.specs.declared.trees.TreeEntry.{TreeEntry}
+use Rattle.tree_model.specs.Names.{presumed, process_of}
+use Rattle.tree_model.specs.Texts.{case_text, outcome_word, ticket_text}
+use Rattle.tree_auditor.specs.Audits.{Logs}
+use Rattle.audit_cases.specs.declared.kinds.Own.{Own}
+use Rattle.audit_cases.specs.declared.kinds.Own.TheVariants as own
+use Rattle.tree_audit.specs.declared.report.Line.{Line}
+use Rattle.audit_chains.specs.declared.steps.Deed.{Deed}
+use Rattle.audit_chains.specs.declared.steps.Deed.TheVariants.{Ask, Restart}
+use Rattle.audit_chains.specs.declared.steps.Found.{Found}
+use Rattle.audit_chains.specs.declared.steps.Found.TheVariants.{Kept, Nothing}
+use Rattle.audit_chains.specs.declared.steps.Stands.{Stands}
+use Rattle.audit_chains.specs.declared.steps.Stands.TheVariants.{Abort, Collecting, Commit, Prepare}
+use Rattle.audit_chains.specs.declared.steps.Step.{Step}
+use Rattle.audit_chains.specs.Chains.{chain_of, deed_behind}
+use Rattle.audit_engine.specs.Lines.{line_text}
+
+-- What decided it.
+
+-- the word of what stands of a case
+abbrev pub stands_word : Stands → List ℕ
+stands_word Commit = codes "Commit"
+stands_word Abort = codes "Abort"
+stands_word Prepare = codes "Prepare"
+stands_word Collecting = codes "Collecting"
+
+-- the ticket of a case, or at the root its transaction
+abbrev pub asker_text : Case → Option Ticket → List ℕ
+asker_text c None = case_text c
+asker_text c (Some t) = ticket_text t
+
+-- the line of what a case was told, or decided itself
+abbrev pub told_text : Case → Outcome → List ℕ
+told_text c o =
+    codes "  " ++ asker_text c c.ticket ++ codes " was told " ++ outcome_word o ++ codes "\n"
+
+-- a case and the process that keeps it
+abbrev pub place_text : Case → ProcessId → List ℕ
+place_text c p = case_text c ++ codes " at " ++ decimal p.0
+
+-- what stands of a case, and the ticket that it names
+abbrev pub kept_text : Stands → Ticket → List ℕ
+kept_text s t = codes ": " ++ stands_word s ++ codes " kept, names " ++ ticket_text t
+
+-- what this ticket found at this process; where it was nothing, what is presumed
+abbrev pub found_text : Presumption → Ticket → ProcessId → Found → List ℕ
+found_text x t p Nothing =
+    codes "at " ++ decimal p.0 ++ codes ": nothing kept, presumed " ++ outcome_word (presumed x)
+found_text x t p (Kept c s) = place_text c p ++ kept_text s t
+
+-- the line of a step
+abbrev pub step_text : Presumption → Step → List ℕ
+step_text x s =
+    codes "  " ++ ticket_text s.ticket ++ codes " asks " ++ found_text x s.ticket s.process s.found ++ codes "\n"
+
+-- the lines of steps
+abbrev pub steps_text : Presumption → List Step → List ℕ
+steps_text x ss = flat_map (step_text x) ss
+
+-- What to do.
+
+-- the line of what is to be done about a case in doubt
+abbrev pub deed_text : Deed → List ℕ
+deed_text (Ask c) = codes "  do: ask " ++ case_text c ++ codes "\n"
+deed_text (Restart p) = codes "  do: restart " ++ decimal p.0 ++ codes "\n"
+
+-- the line of what is to be done about a mismatch
+abbrev pub mend_text : Case → List ℕ
+mend_text c = codes "  do: put the data of " ++ decimal (process_of c).0 ++ codes " right, then forget "
+    ++ case_text c ++ codes "\n"
+
+-- Both.
+
+-- what a case was told, if it was
+abbrev pub told_part : Case → Option Outcome → List ℕ
+told_part c None = []
+told_part c (Some o) = told_text c o
+
+-- the steps from a case upward, unless it was told
+abbrev pub steps_of : List TreeEntry → Logs → Case → Option Outcome → List Step
+steps_of tree logs c None = chain_of tree logs c
+steps_of tree logs c (Some o) = []
+
+-- what to do: about a mismatch, or else about a case in doubt behind these steps
+abbrev pub do_text : Bool → Case → List Step → List ℕ
+do_text true c ss = mend_text c
+do_text false c ss = deed_text (deed_behind c ss)
+
+-- why a case stands as its line says, and what to do
+abbrev pub explanation_text : List TreeEntry → Logs → Line → List ℕ
+explanation_text tree logs l =
+    let ss = steps_of tree logs l.case l.decision in
+    told_part l.case l.decision ++ steps_text l.case.txn.presumption ss ++ do_text l.mismatch l.case ss
+
+-- the case is in doubt
+abbrev pub is_in_doubt : Own → Bool
+is_in_doubt own.InDoubt = true
+is_in_doubt _ = false
+
+-- a line is explained: it shows a mismatch, or its case is in doubt
+abbrev pub is_explained : Line → Bool
+is_explained l = l.mismatch || is_in_doubt l.own
+
+-- a line, and behind it why its case stands so, where it is explained
+abbrev pub explained_line : List TreeEntry → Logs → Line → List ℕ
+explained_line tree logs l =
+    line_text l ++ (if is_explained l then explanation_text tree logs l else [])

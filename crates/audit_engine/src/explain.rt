@@ -1,0 +1,230 @@
+//! Why a case stands as its line says, and what to do.
+
+ghost use Rattle.std.specs.Prelude.{◌≡◌, ◌++◌, IfOk, OnOk};
+ghost use Rattle.tree_auditor.specs.Audits.{Logs};
+ghost use Rattle.tree_model.specs.Names.{process_of as process_in};
+ghost use Rattle.tree_model.specs.Trees.{IsTree};
+ghost use Rattle.audit_chains.specs.Chains.{AreNamings};
+ghost use Rattle.audit_engine.specs.Explanations.{asker_text, deed_text, do_text, explained_line, explanation_text, found_text, is_explained as is_explained_line, kept_text, mend_text, place_text, stands_word as word_of_stands, step_text, steps_of as steps_by_decision, steps_text, told_part, told_text};
+
+use crate::lines::push_line;
+use audit_chains::{Deed, Found, Stands, Step, TreeNamings, deed_of, steps_of};
+use inquire_core::presumed;
+use std::alloc::{AllocError, Global};
+use trace_lines::{outcome_word, push, push_case, push_number, push_ticket};
+use tree_audit::{Line, Own};
+use tree_model::{Case, Outcome, Presumption, ProcessId, Tree};
+
+/// The process where the case stands: its ticket's child, or the root.
+fn process_of(case: &Case) -> ProcessId
+    ensures { result ≡ process_in case.now }
+{
+    match case.ticket {
+        None => case.txn.root,
+        Some(ticket) => ticket.child,
+    }
+}
+
+/// The word of what stands of a case.
+fn stands_word(stands: Stands) -> &'static str
+    ensures { result.now ≡ word_of_stands stands }
+{
+    match stands {
+        Stands::Commit => "Commit",
+        Stands::Abort => "Abort",
+        Stands::Prepare => "Prepare",
+        Stands::Collecting => "Collecting",
+    }
+}
+
+/// The ticket of a case, or at the root its transaction.
+fn push_asker(out: &mut Vec<u8>, case: &Case) -> Result<(), AllocError>
+    ensures { OnOk result (out.new.items ≡ out.old.items ++ asker_text case.now case.now.ticket) }
+{
+    match &case.ticket {
+        None => push_case(out, case),
+        Some(ticket) => push_ticket(out, ticket),
+    }
+}
+
+/// What a case was told, or decided itself.
+fn push_told(out: &mut Vec<u8>, case: &Case, outcome: Outcome) -> Result<(), AllocError>
+    ensures { OnOk result (out.new.items ≡ out.old.items ++ told_text case.now outcome) }
+{
+    push(out, "  ")?;
+    push_asker(out, case)?;
+    push(out, " was told ")?;
+    push(out, outcome_word(outcome))?;
+    push(out, "\n")
+}
+
+/// A case and the process that keeps it.
+fn push_place(out: &mut Vec<u8>, case: &Case, process: ProcessId) -> Result<(), AllocError>
+    ensures { OnOk result (out.new.items ≡ out.old.items ++ place_text case.now process) }
+{
+    push_case(out, case)?;
+    push(out, " at ")?;
+    push_number(out, u64::from(process.0))
+}
+
+/// What stands of a case that names the step's ticket.
+fn push_kept(out: &mut Vec<u8>, stands: Stands, step: &Step) -> Result<(), AllocError>
+    ensures { OnOk result (out.new.items ≡ out.old.items ++ kept_text stands step.now.ticket) }
+{
+    push(out, ": ")?;
+    push(out, stands_word(stands))?;
+    push(out, " kept, names ")?;
+    push_ticket(out, &step.ticket)
+}
+
+/// What a step found.
+fn push_found(out: &mut Vec<u8>, presumption: Presumption, step: &Step) -> Result<(), AllocError>
+    ensures { OnOk result (out.new.items
+        ≡ out.old.items ++ found_text presumption step.now.ticket step.now.process step.now.found) }
+{
+    match &step.found {
+        Found::Nothing => {
+            push(out, "at ")?;
+            push_number(out, u64::from(step.process.0))?;
+            push(out, ": nothing kept, presumed ")?;
+            push(out, outcome_word(presumed(presumption)))
+        }
+        Found::Kept(case, stands) => {
+            push_place(out, case, step.process)?;
+            push_kept(out, *stands, step)
+        }
+    }
+}
+
+fn push_step(out: &mut Vec<u8>, presumption: Presumption, step: &Step) -> Result<(), AllocError>
+    ensures { OnOk result (out.new.items ≡ out.old.items ++ step_text presumption step.now) }
+{
+    push(out, "  ")?;
+    push_ticket(out, &step.ticket)?;
+    push(out, " asks ")?;
+    push_found(out, presumption, step)?;
+    push(out, "\n")
+}
+
+fn push_steps(out: &mut Vec<u8>, presumption: Presumption, steps: &[Step]) -> Result<(), AllocError>
+    ensures { OnOk result (out.new.items ≡ out.old.items ++ steps_text presumption steps.now) }
+{
+    for step in steps {
+        push_step(out, presumption, step)?;
+    }
+    Ok(())
+}
+
+/// What to do about a case in doubt.
+fn push_deed(out: &mut Vec<u8>, deed: &Deed) -> Result<(), AllocError>
+    ensures { OnOk result (out.new.items ≡ out.old.items ++ deed_text deed.now) }
+{
+    match deed {
+        Deed::Ask(case) => {
+            push(out, "  do: ask ")?;
+            push_case(out, case)?;
+        }
+        Deed::Restart(process) => {
+            push(out, "  do: restart ")?;
+            push_number(out, u64::from(process.0))?;
+        }
+    }
+    push(out, "\n")
+}
+
+/// What to do about a mismatch.
+fn push_mend(out: &mut Vec<u8>, case: &Case) -> Result<(), AllocError>
+    ensures { OnOk result (out.new.items ≡ out.old.items ++ mend_text case.now) }
+{
+    push(out, "  do: put the data of ")?;
+    push_number(out, u64::from(process_of(case).0))?;
+    push(out, " right, then forget ")?;
+    push_case(out, case)?;
+    push(out, "\n")
+}
+
+/// The steps from a line's case upward, unless it was told the outcome, or decided it itself.
+fn steps_for(
+    alloc: Global,
+    tree: &Tree,
+    namings: &TreeNamings,
+    line: &Line,
+) -> Result<Vec<Step>, AllocError>
+    requires { IsTree tree.now }
+    ensures { IfOk result (λ steps. (logs : Logs) → AreNamings tree.now logs namings.now.entries
+        → steps.items ≡ steps_by_decision tree.now logs line.now.case line.now.decision) }
+{
+    match line.decision {
+        Some(_) => Ok(Vec::new(alloc)),
+        None => steps_of(alloc, tree, namings, &line.case),
+    }
+}
+
+/// What a case was told, or decided itself, if that is so.
+fn push_told_part(
+    out: &mut Vec<u8>,
+    case: &Case,
+    decision: Option<Outcome>,
+) -> Result<(), AllocError>
+    ensures { OnOk result (out.new.items ≡ out.old.items ++ told_part case.now decision) }
+{
+    match decision {
+        None => Ok(()),
+        Some(outcome) => push_told(out, case, outcome),
+    }
+}
+
+/// What to do about the case of a line: about a mismatch, or else about a case in doubt behind these steps.
+fn push_do(out: &mut Vec<u8>, line: &Line, steps: &[Step]) -> Result<(), AllocError>
+    ensures { OnOk result (out.new.items ≡ out.old.items ++ do_text line.now.mismatch line.now.case steps.now) }
+{
+    if line.mismatch {
+        push_mend(out, &line.case)
+    } else {
+        push_deed(out, &deed_of(&line.case, steps))
+    }
+}
+
+/// Why a case stands as its line says, and what to do.
+fn push_explanation(
+    out: &mut Vec<u8>,
+    alloc: Global,
+    tree: &Tree,
+    namings: &TreeNamings,
+    line: &Line,
+) -> Result<(), AllocError>
+    requires { IsTree tree.now }
+    ensures { OnOk result ((logs : Logs) → AreNamings tree.now logs namings.now.entries
+        → out.new.items ≡ out.old.items ++ explanation_text tree.now logs line.now) }
+{
+    let steps = steps_for(alloc, tree, namings, line)?;
+    push_told_part(out, &line.case, line.decision)?;
+    push_steps(out, line.case.txn.presumption, &steps)?;
+    push_do(out, line, &steps)
+}
+
+/// Whether a line is explained: it shows a mismatch, or its case is in doubt.
+fn is_explained(line: &Line) -> bool
+    ensures { result ≡ is_explained_line line.now }
+{
+    line.mismatch || line.own == Own::InDoubt
+}
+
+/// A line, and behind it why its case stands so, where it is in doubt or shows a mismatch.
+pub(crate) fn push_explained(
+    out: &mut Vec<u8>,
+    alloc: Global,
+    tree: &Tree,
+    namings: &TreeNamings,
+    line: &Line,
+) -> Result<(), AllocError>
+    requires { IsTree tree.now }
+    ensures { OnOk result ((logs : Logs) → AreNamings tree.now logs namings.now.entries
+        → out.new.items ≡ out.old.items ++ explained_line tree.now logs line.now) }
+{
+    push_line(out, line)?;
+    if is_explained(line) {
+        push_explanation(out, alloc, tree, namings, line)?;
+    }
+    Ok(())
+}

@@ -1,0 +1,204 @@
+-- The audit of the logs that a run left is true of that run.
+use Rattle.std.proofs.Common.{◌≡◌, ◌∙◌, ◌&&◌, ◌||◌, ℕ, Bool, true, false, if◌then◌else◌, is_none, is_some, Option, Some, None, List, find, refl, sym, ap, subst}
+use Rattle.std.specs.List.{AllByRecursion}
+use Rattle.tree_model.specs.declared.events.Event.{Event}
+use Rattle.tree_model.specs.declared.names.Kind.{Kind}
+use Rattle.tree_model.specs.declared.names.Kind.TheVariants.{Coordinator, Manager}
+use Rattle.tree_model.specs.declared.names.ProcessId.{ProcessId}
+use Rattle.tree_model.specs.declared.trees.TreeEntry.{TreeEntry}
+use Rattle.tree_model.specs.LogNames.{own_records}
+use Rattle.tree_model.specs.Names.{same_process}
+use Rattle.tree_model.specs.Nodes.{Place, is_listed, kept, place_of, role_by, role_of}
+use Rattle.tree_model.specs.Trees.{IsTree, has_wrong_roots, is_manager_kind, is_top}
+use Rattle.tree_model.specs.World.{Made, World}
+use Rattle.logs_script.specs.declared.line.ProcessLog.{ProcessLog}
+use Rattle.logs_script.specs.Logs.{IsLogsText, bytes_of}
+use Rattle.link_script.specs.Inputs.{IsScript}
+use Rattle.log_reading.specs.Faults.{Damage, damage_text, first_damage}
+use Rattle.log_order.specs.Logs.{read_log}
+use Rattle.logs_spelling.specs.Fits.{FitsEntry, FitsTree}
+use Rattle.logs_spelling.proofs.OneWay.{read_has_no_fault, read_in_one_way}
+use Rattle.logs_spelling.proofs.Read.{table_fits}
+use Rattle.logs_spelling.proofs.Written.{written_is_read}
+use Rattle.rec_log.specs.Sights.{body, records_of}
+use Rattle.rec_log.specs.Texts.{records_in}
+use Rattle.report_io.specs.declared.status.Status.TheVariants.{Ended}
+use Rattle.core_model.specs.States.{CoreState}
+use Rattle.core_law.specs.Fits.{KeepsOwn}
+use Rattle.run_law.proofs.Kept.{keeps_own}
+use Rattle.world_law.specs.Refusals.{LeadsTo, Refusal}
+use Rattle.world_law.specs.Runs.{IsOpened}
+use Rattle.world_law.specs.Ties.{Follows}
+use Rattle.world_law.specs.Worlds.{WorldState}
+use Rattle.tree_world.specs.Nodes.{SpellsLogBy, log_kind}
+use Rattle.tree_engine.specs.declared.tree.Output.TheVariants.{Logs}
+use Rattle.tree_engine.specs.Logs.{AreLogs, LeavesLogs}
+use Rattle.tree_engine.specs.Trees.{Saying, Tells, ending}
+use Rattle.tree_audit.specs.Reports.{entry_kind, kept_lists, mismatches_in, whole_records}
+use Rattle.tree_audit.specs.Truths.{AreKeptBehind, AreTrue}
+use Rattle.tree_audit.proofs.TreePlaces.{listed_entry, named_so, not_found, role_if}
+use Rattle.tree_audit.proofs.Truths.{true_of_runs}
+use Rattle.audit_engine.specs.Audits.{AuditsLogs, IsAudited, IsAuditReport, OfInput, OfLog, Reports, TellsDamage, audit_lines, ending_by}
+use Rattle.audit_engine.specs.declared.detail.Detail.{Detail}
+use Rattle.audit_engine.specs.declared.ending.Ending.{Ending}
+use Rattle.audit_engine.specs.declared.ending.Ending.TheVariants as ending
+use Rattle.audit_law.specs.Laws.{AreByteLogs, AuditsOfLeftLogsAreTrue, AuditsTruly, WritesBytes}
+use Rattle.audit_law.proofs.Entries.{none_failed}
+use Rattle.audit_law.proofs.Kept.{own_kept}
+use Rattle.audit_law.proofs.Left.{logs_fit, spells_at}
+use Rattle.audit_law.proofs.Reading.{IsSoundLog, sound_at, sound_records}
+use Rattle.audit_law.proofs.Unfailed.{NoneFailed, all_up}
+
+-- What a run left.
+
+kind_again : (k : Kind) (o : Option ProcessId) → (is_none o && is_manager_kind k) ≡ false → log_kind (role_by k o) ≡ k
+kind_again Coordinator None h = refl
+kind_again Coordinator (Some p) h = refl
+kind_again Manager (Some p) h = refl
+kind_again Manager None h = absurd (cc)
+
+second_false : (a b : Bool) → (a || b) ≡ false → b ≡ false
+second_false true b h = absurd (cc)
+second_false false b h = h
+
+-- the kind of a listed process's log is its entry's
+entry_log : (tree : List TreeEntry) → IsTree tree → (q : ProcessId) (e : TreeEntry)
+    → find (λ x. same_process x.id q) tree ≡ Some e → log_kind (role_of tree q) ≡ e.kind
+unfolding has_wrong_roots
+entry_log tree t q e found =
+    ap log_kind (role_if tree q e found)
+    ∙ kind_again e.kind e.parent
+    (not_found (λ x. is_top x && is_manager_kind x.kind) (λ x. same_process x.id q) tree e
+    (second_false _ _ t.one_coordinator_on_top) found)
+
+-- a process that is there
+some_node : (o : Option CoreState) → is_some o ≡ true → (c : CoreState) × (o ≡ Some c)
+some_node None h = absurd (cc)
+some_node (Some c) h = (c, refl)
+
+module _ (end : WorldState) (t : IsTree end.tree) (es : List Made) (w : World) (follows : Follows es w end)
+    (logs : List ProcessLog) (left : AreLogs end end.tree logs) (none : first_damage end.tree logs ≡ None) where
+  abbrev tree : List TreeEntry
+  tree = end.tree
+
+  module _ (q : ProcessId) (listed : is_listed end.tree q ≡ true) where
+    kept_by : (e : TreeEntry) → find (λ x. same_process x.id q) end.tree ≡ Some e → e.id ≡ q → (c : CoreState)
+        → end.node_at q ≡ Some c → kept_lists end.tree logs q ≡ kept (w.at q)
+    unfolding kept_lists
+    kept_by e found here c there =
+        let at = follows.nodes q c there in
+        let kind : log_kind c.place.role ≡ e.kind =
+        ap (λ (p : Place). log_kind p.role) at.place ∙ entry_log end.tree t q e found in
+        let spells : SpellsLogBy (Some c) (bytes_of logs q) =
+        subst (λ o. SpellsLogBy o (bytes_of logs q)) there
+        (subst (λ p. SpellsLogBy (end.node_at p) (bytes_of logs q)) here (spells_at end end.tree logs q e left found)) in
+        let sound = subst (λ p. IsSoundLog e.kind (bytes_of logs p)) here (sound_at logs end.tree q e none found) in
+        ap (λ o. own_records (place_of end.tree q) (whole_records (read_log (entry_kind o) (bytes_of logs q)))) found
+        ∙ ap (own_records (place_of end.tree q))
+        (sound_records e.kind (bytes_of logs q) sound.records sound.torn sound.read
+        ∙ ap (λ k. records_in k 0 (body (bytes_of logs q))) (sym kind)
+        ∙ spells.read)
+        ∙ ap (λ p. own_records p (records_of c.log.kept)) (sym at.place)
+        ∙ own_kept (w.at q) c at.stands
+        (subst (λ p. KeepsOwn p (w.at q)) (sym at.place) (keeps_own end.tree es w t follows.is_run q listed))
+
+    kept_there : kept_lists end.tree logs q ≡ kept (w.at q)
+    kept_there =
+        let found = listed_entry end.tree q listed in
+        let node = some_node (end.node_at q) (follows.listed q ∙ listed) in
+        kept_by found.0 found.1 (named_so end.tree q found.0 found.1) node.0 node.1
+
+  left_behind : NoneFailed es → AreKeptBehind end.tree es w (kept_lists end.tree logs)
+  left_behind whole = record {
+    is_run = follows.is_run;
+    all_up = λ q listed. all_up end.tree es w follows.is_run whole q;
+    kept_there = kept_there;
+  }
+
+-- What is written of it.
+
+-- lines that are the audit's are true of the run
+abbrev TrueLines : List TreeEntry → World → List ProcessLog → Type 0
+TrueLines tree w logs = first_damage tree logs ≡ None → AreTrue w (audit_lines tree logs)
+
+same_damage : (a b : ProcessId × ℕ) → Some a ≡ Some b → a ≡ b
+same_damage a b e = cc
+
+no_damage : {A : Type 0} (d : Damage) (x : ProcessId × ℕ) → d ≡ None → d ≡ Some x → A
+no_damage d x none some = absurd (let both = sym none ∙ some in cc)
+
+module _ (d : Detail) (tree : List TreeEntry) (logs : List ProcessLog) (w : World) (text report : List ℕ)
+    (says : IsLogsText text tree logs) (lines : TrueLines tree w logs) where
+  reported : (e : Ending) → e ≡ ending_by (mismatches_in (audit_lines tree logs)) → Reports d tree logs report
+      → AuditsTruly d tree w text e report
+  reported e ends reports = record {
+    logs = logs;
+    says = says;
+    sound = λ none. record {
+      lines = audit_lines tree logs;
+      text = reports.report;
+      ends = ends;
+      lines_true = lines none;
+    };
+    damaged = λ q place damage. no_damage (first_damage tree logs) (q, place) reports.sound damage;
+  }
+
+  told : (e : Ending) → TellsDamage tree logs report → AuditsTruly d tree w text e report
+  told e damage = record {
+    logs = logs;
+    says = says;
+    sound = λ none. no_damage (first_damage tree logs) (damage.0, damage.1) none damage.2;
+    damaged = λ q place there. damage.3 ∙ ap (λ (x : ProcessId × ℕ). damage_text x.0 x.1)
+        (same_damage (damage.0, damage.1) (q, place) (sym damage.2 ∙ there));
+  }
+
+  audited : (e : Ending) → IsAudited d e tree logs report → AuditsTruly d tree w text e report
+  audited ending.Agrees (reports, ends) = reported ending.Agrees (ap (λ b. if b then ending.Agrees else ending.Differs) (sym ends)) reports
+  audited ending.Differs (reports, ends) = reported ending.Differs (ap (λ b. if b then ending.Agrees else ending.Differs) (sym ends)) reports
+  audited ending.Refused damage = told ending.Refused damage
+
+  of_logs : (e : Ending) → AuditsLogs d e text report → AuditsTruly d tree w text e report
+  of_logs e a =
+      let same = read_in_one_way text a.tree tree a.logs logs a.says says in
+      audited e (subst (λ ms. IsAudited d e tree ms report) same.1 (subst (λ fs. IsAudited d e fs a.logs report) same.0 a.audits))
+
+  of_report : (e : Ending) → IsAuditReport d e text report → AuditsTruly d tree w text e report
+  of_report ending.Agrees a = of_logs ending.Agrees a
+  of_report ending.Differs a = of_logs ending.Differs a
+  of_report ending.Refused (OfLog a) = of_logs ending.Refused a
+  of_report ending.Refused (OfInput r) = absurd (read_has_no_fault text tree logs r.fault says r.there)
+
+-- Scripts.
+
+script_fits : (input : List ℕ) (tree : List TreeEntry) (events : List Event) → IsScript input tree events
+    → AllByRecursion FitsEntry tree × IsTree tree
+script_fits input tree events script =
+    let parsed = script.2.tree_text in (table_fits parsed.0 tree parsed.2, script.3)
+
+left_audit : (end : WorldState) → IsTree end.tree → AllByRecursion FitsEntry end.tree → (es : List Made) (w : World)
+    → Follows es w end → NoneFailed es → (text report : List ℕ) (d : Detail) (e : Ending) (left : LeavesLogs end text)
+    → AreByteLogs left.logs → IsAuditReport d e text report → AuditsTruly d end.tree w text e report
+left_audit end t fit es w follows whole text report d e left bytes a =
+    let fits : FitsTree end.tree = record { entries_fit = fit; is_tree = t } in
+    let says = subst (λ x. IsLogsText x end.tree left.logs) (sym left.is)
+    (written_is_read end.tree left.logs fits (logs_fit end end.tree left.logs t fit bytes left.are)) in
+    of_report d end.tree left.logs w text report says
+    (λ none. true_of_runs end.tree t left.logs es w (left_behind end t es w follows left.logs left.are none whole)) e a
+
+ended : (start end : WorldState) (tree : List TreeEntry) (events : List Event) → IsOpened start tree → IsTree end.tree
+    → AllByRecursion FitsEntry end.tree → (es : List Made) (w : World) → Follows es w end
+    → (refusal : Refusal) → LeadsTo start events refusal end → Ended ≡ ending refusal → (text report : List ℕ) (d : Detail) (e : Ending)
+    → (tells : Tells Logs end refusal text) → WritesBytes Logs end refusal text tells → IsAuditReport d e text report
+    → AuditsTruly d end.tree w text e report
+ended start end tree events opens t fit es w follows None leads status text report d e tells bytes a =
+    left_audit end t fit es w follows (none_failed tree start end events es opens leads follows.shown) text report d e tells bytes a
+ended start end tree events opens t fit es w follows (Some refused) leads status text report d e tells bytes a = absurd (cc)
+
+pub audits_true : (Holds : Saying) → AuditsOfLeftLogsAreTrue Holds
+audits_true Holds input text report d e script bytes a =
+    let runs = script.runs in
+    let fits = script_fits input script.tree script.events script.script in
+    subst (λ tree. AuditsTruly d tree runs.world text e report) runs.tree_is
+    (ended runs.start runs.end script.tree script.events runs.opens (subst IsTree (sym runs.tree_is) fits.1)
+    (subst (AllByRecursion FitsEntry) (sym runs.tree_is) fits.0) runs.moves runs.world runs.follows runs.refusal runs.leads
+    runs.status_is text report d e runs.tells bytes a)

@@ -1,0 +1,59 @@
+-- That the audit of the logs which a run of a tree script leaves is the audit of that run.
+use Rattle.std.specs.Prelude.{◌≡◌, ◌<◌, ⊤, ℕ, All, List, Some, None}
+use Rattle.std.specs.List.{AllByRecursion}
+use Rattle.tree_model.specs.declared.names.ProcessId.{ProcessId}
+use Rattle.tree_model.specs.declared.trees.TreeEntry.{TreeEntry}
+use Rattle.tree_model.specs.World.{World}
+use Rattle.logs_script.specs.declared.line.ProcessLog.{ProcessLog}
+use Rattle.logs_script.specs.Logs.{IsLogsText}
+use Rattle.log_reading.specs.Faults.{damage_text, first_damage}
+use Rattle.tree_audit.specs.declared.report.Line.{Line}
+use Rattle.tree_audit.specs.Reports.{kept_lists, mismatches_in}
+use Rattle.tree_audit.specs.Truths.{AreTrue}
+use Rattle.audit_engine.specs.Audits.{IsAuditReport, detailed_text, ending_by}
+use Rattle.audit_engine.specs.declared.detail.Detail.{Detail}
+use Rattle.audit_engine.specs.declared.ending.Ending.{Ending}
+use Rattle.report_io.specs.declared.status.Status.TheVariants.{Ended}
+use Rattle.world_law.specs.Refusals.{Refusal}
+use Rattle.world_law.specs.Worlds.{WorldState}
+use Rattle.tree_engine.specs.declared.tree.Output.{Output}
+use Rattle.tree_engine.specs.declared.tree.Output.TheVariants.{Logs, Trace}
+use Rattle.tree_engine.specs.Trees.{RunsScript, Saying, Tells}
+
+-- each number in these logs is a byte
+abbrev pub AreByteLogs : List ProcessLog → Type 0
+AreByteLogs logs = AllByRecursion (λ l. All (λ b. b < 256) l.bytes) logs
+
+-- where logs were written, each number in them is a byte
+abbrev pub WritesBytes : (output : Output) (w : WorldState) (refusal : Refusal) (text : List ℕ)
+    → Tells output w refusal text → Type 0
+WritesBytes Logs w None text left = AreByteLogs left.logs
+WritesBytes Logs w (Some refused) text told = ⊤
+WritesBytes Trace w refusal text told = ⊤
+
+-- the report tells lines that are true in this world, in as much detail as was asked for, and the audit ends as
+-- one does with so many mismatches
+pub record ReportsTruly (d : Detail) (tree : List TreeEntry) (logs : List ProcessLog) (w : World)
+    (ending : Ending) (report : List ℕ) : Type 0 where
+  pub lines : List Line
+  pub text : report ≡ detailed_text d tree (kept_lists tree logs) lines
+  pub ends : ending ≡ ending_by (mismatches_in lines)
+  pub lines_true : AreTrue w lines
+
+-- The text says this tree and some logs of it. Where each of these is sound, the report is true in this world;
+-- else it is the line of the first that is damaged.
+pub record AuditsTruly (d : Detail) (tree : List TreeEntry) (w : World) (text : List ℕ) (ending : Ending)
+    (report : List ℕ) : Type 0 where
+  pub logs : List ProcessLog
+  pub says : IsLogsText text tree logs
+  pub sound : first_damage tree logs ≡ None → ReportsTruly d tree logs w ending report
+  pub damaged : (q : ProcessId) (place : ℕ) → first_damage tree logs ≡ Some (q, place)
+      → report ≡ damage_text q place
+
+-- Whatever an audit writes of the logs that the run of a script left is true of just that run: of the world
+-- that its moves lead to, for which the tree's state at its end stands.
+abbrev pub AuditsOfLeftLogsAreTrue : Saying → Type 0
+AuditsOfLeftLogsAreTrue Holds = (input text report : List ℕ) (d : Detail) (ending : Ending)
+    → (script : RunsScript Holds Logs Ended input text)
+    → WritesBytes Logs script.runs.end script.runs.refusal text script.runs.tells
+    → IsAuditReport d ending text report → AuditsTruly d script.tree script.runs.world text ending report

@@ -1,0 +1,12 @@
+//! What an audit tells of the logs that a run of a tree script left.
+
+ghost use Rattle.tree_engine.specs.Trees.{IsOne, KeepsHeadline};
+ghost use Rattle.audit_law.specs.Laws.{AuditsOfLeftLogsAreTrue};
+
+/// Whatever `rstar audit` writes of the logs that `rstar tree --logs` left of a run is true of just that run: each case's
+/// outcome is its transaction's, and the mismatches that are shown are just those that stand. Or a log of the run is damaged,
+/// and it tells the first that is. It never refuses the text. The same run is that of which the headline holds.
+pub fn audits_of_left_logs_are_true()
+    ensures of_runs { AuditsOfLeftLogsAreTrue IsOne }
+    ensures with_the_headline { AuditsOfLeftLogsAreTrue KeepsHeadline }
+{}

@@ -1,0 +1,154 @@
+-- The lines of a run's logs are true of the run.
+use Rattle.std.proofs.Common.{◌≡◌, ◌≢◌, ◌∙◌, inl, inr, Bool, true, false, if◌then◌else◌, List, [], ◌∷◌, refl, sym, ap, subst, arith}
+use Rattle.std.specs.List.{Contains}
+use Rattle.tree_model.specs.declared.names.Case.{Case}
+use Rattle.tree_model.specs.declared.names.Outcome.{Outcome}
+use Rattle.tree_model.specs.declared.names.Outcome.TheVariants.{Committed, Aborted}
+use Rattle.tree_model.specs.declared.records.Record.{Record}
+use Rattle.tree_model.specs.declared.trees.TreeEntry.{TreeEntry}
+use Rattle.tree_model.specs.Names.{process_of, same_case}
+use Rattle.tree_model.specs.Nodes.{is_listed}
+use Rattle.tree_model.specs.Outcomes.{outcome_of}
+use Rattle.tree_model.specs.Records.{cases_in, has, has_case, is_decided, is_prepared}
+use Rattle.tree_model.specs.Trees.{IsTree}
+use Rattle.tree_model.specs.World.{Made, World}
+use Rattle.tree_nodes.specs.WorldHolds.{is_record_of}
+use Rattle.tree_nodes.proofs.RootLogs.{recorded_case}
+use Rattle.tree_nodes.proofs.Tests.{both, case_is, either, has-cons, right}
+use Rattle.tree_nodes.proofs.Worlds.{has_other}
+use Rattle.tree_auditor.specs.Audits.{AuditsAreTrue, Logs, ShowsMismatch, audited, has_line, is_case_at, logs_of_world, since_promise}
+use Rattle.tree_auditor.proofs.Audit.{audits_are_true}
+use Rattle.tree_runs.proofs.Headline.{the_world_holds}
+use Rattle.logs_script.specs.declared.line.ProcessLog.{ProcessLog}
+use Rattle.tree_audit.specs.declared.report.Line.{Line}
+use Rattle.tree_audit.specs.Reports.{kept_lists, line_of, lines_at, lines_of, other}
+use Rattle.tree_audit.specs.Truths.{AreKeptBehind, AreTrue, AreTrueOfRuns, StandsAgainst}
+use Rattle.tree_audit.proofs.Elements.{element_found, element_here, element_kept, element_later, element_made, element_part, kept_element, made_element, part_element}
+use Rattle.tree_audit.proofs.SameLogs.{line_same, shown_same}
+use Rattle.tree_audit.proofs.TreePlaces.{listed_entry, named_so}
+
+-- Outcomes.
+
+is_other : (o a : Outcome) → o ≢ a → o ≡ other a
+is_other Committed Committed differs = absurd (differs refl)
+is_other Committed Aborted differs = refl
+is_other Aborted Committed differs = refl
+is_other Aborted Aborted differs = absurd (differs refl)
+
+other_differs : (a : Outcome) → other a ≢ a
+other_differs Committed = λ e. cc
+other_differs Aborted = λ e. cc
+
+-- Cases of a list.
+
+listed_case : (cs : List Case) (c : Case) → has_case cs c ≡ true → Contains cs c
+unfolding has_case
+listed_case [] c h = absurd (cc)
+listed_case (d ∷ cs) c h = elim (either (same_case d c) (has_case cs c) h) [
+  | inl here ↦ subst (λ x. Contains (d ∷ cs) x) (case_is d c here) (element_here d cs)
+  | inr rest ↦ element_later c d cs (listed_case cs c rest)
+]
+
+decided_of : (c : Case) (o : Outcome) (r : Record) → is_decided c o r ≡ true → is_record_of c r ≡ true
+decided_of c Committed r e = grind arith
+decided_of c Aborted r e = grind arith
+
+-- what stands since the last promise stands
+since_stands : (c : Case) (q : Record → Bool) (rs : List Record) → has q (since_promise c rs) ≡ true → has q rs ≡ true
+since_stands c q [] h = h
+since_stands c q (r ∷ rs) h = by_test (has (is_prepared c) rs) h (since_stands c q rs)
+  where
+    by_test : (b : Bool) → has q (if b then since_promise c rs else r ∷ rs) ≡ true
+        → (has q (since_promise c rs) ≡ true → has q rs ≡ true) → has q (r ∷ rs) ≡ true
+    by_test true since stand = has-cons q r rs ∙ right (q r) (has q rs) (stand since)
+    by_test false all stand = all
+
+-- Lines.
+
+-- a line of a case that has one
+record LineOf (tree : List TreeEntry) (logs : Logs) (l : Line) : Type 0 where
+  of : Case
+  has : has_line tree logs of ≡ true
+  is : line_of tree logs of ≡ l
+
+module _ (tree : List TreeEntry) (logs : Logs) where
+  of_case : (l : Line) → Contains (lines_of tree logs) l → LineOf tree logs l
+  unfolding lines_of
+  of_case l at =
+      let part = element_part (λ (e : TreeEntry). lines_at tree logs e.id) l tree at in
+      let made = element_made (line_of tree logs) l _ part.within in
+      let kept = element_kept (has_line tree logs) made.from (cases_in (logs part.of.id)) made.listed in
+      record { of = made.from; has = kept.passes; is = made.is }
+
+  case_of : (c : Case) → has_line tree logs c ≡ true → has_case (cases_in (logs (process_of c))) c ≡ true
+      → Contains (lines_of tree logs) (line_of tree logs c)
+  unfolding lines_of
+  case_of c has recorded =
+      let listed = (both (is_listed tree (process_of c)) _ has).0 in
+      let found = listed_entry tree (process_of c) listed in
+      let here = named_so tree (process_of c) found.0 found.1 in
+      part_element (λ (e : TreeEntry). lines_at tree logs e.id) found.0 (line_of tree logs c) tree
+      (element_found _ found.0 tree found.1)
+      (subst (λ q. Contains (lines_at tree logs q) (line_of tree logs c)) (sym here)
+      (made_element (line_of tree logs) c _
+      (kept_element (has_line tree logs) c (cases_in (logs (process_of c)))
+      (listed_case (cases_in (logs (process_of c))) c recorded) has)))
+
+  shows_some : (c : Case) → has_line tree logs c ≡ true → (line_of tree logs c).mismatch ≡ true
+      → ShowsMismatch tree logs c (other (audited tree logs c))
+  shows_some c has shows = record { line = has; decided = shows; differs = other_differs (audited tree logs c) }
+
+  shown : (c : Case) (o : Outcome) → ShowsMismatch tree logs c o → (line_of tree logs c).mismatch ≡ true
+  shown c o s =
+      let is : o ≡ other (audited tree logs c) = is_other o (audited tree logs c) s.differs in
+      ap (λ x. has (is_decided c x) (since_promise c (logs (process_of c)))) (sym is) ∙ s.decided
+
+-- Runs.
+
+module _ (tree : List TreeEntry) (t : IsTree tree) (es : List Made) (w : World) (logs : Logs)
+    (behind : AreKeptBehind tree es w logs) where
+  truths : AuditsAreTrue tree w
+  truths = audits_are_true tree es w t behind.is_run (the_world_holds tree t es w behind.is_run) behind.all_up
+
+  -- the line of a case is that of the world's lists
+  world_line : (c : Case) → has_line tree logs c ≡ true
+      → line_of tree logs c ≡ line_of tree (logs_of_world w) c
+  world_line c has =
+      let f = both (is_listed tree (process_of c)) _ has in
+      line_same tree t logs (logs_of_world w) behind.kept_there c f.0 (both (is_case_at tree (process_of c) c) _ f.1).0
+
+  world_has : (c : Case) → has_line tree logs c ≡ has_line tree (logs_of_world w) c
+  world_has c = shown_same tree t logs (logs_of_world w) behind.kept_there c
+
+  pub lines_true : AreTrue w (lines_of tree logs)
+  lines_true = record {
+    outcomes = λ l at.
+        let f = of_case tree logs l at in
+        ap (λ (x : Line). x.outcome) (sym f.is ∙ world_line f.of f.has)
+        ∙ truths.outcomes f.of (sym (world_has f.of) ∙ f.has)
+        ∙ ap (λ (x : Line). outcome_of w x.case.txn) f.is;
+    mismatches_stand = λ l at shows.
+        let f = of_case tree logs l at in
+        let there = sym (world_has f.of) ∙ f.has in
+        let also = ap (λ (x : Line). x.mismatch) (sym (world_line f.of f.has) ∙ f.is) ∙ shows in
+        let m = truths.mismatches_stand f.of _ (shows_some tree (logs_of_world w) f.of there also) in
+        subst (λ (x : Line). (o : Outcome) × StandsAgainst w x.case o) f.is
+        (other (audited tree (logs_of_world w) f.of), record { mismatch = m.0; stands = m.1 });
+    standing_mismatches_show = λ c o stands.
+        let s = truths.standing_mismatches_show c o stands.mismatch stands.stands in
+        let has = world_has c ∙ s.line in
+        let listed = (both (is_listed tree (process_of c)) _ has).0 in
+        let decided = since_stands c (is_decided c o) (logs_of_world w (process_of c)) s.decided in
+        let recorded = recorded_case c (logs_of_world w (process_of c)) (has_other (is_decided c o) (is_record_of c) (logs_of_world w (process_of c)) (decided_of c o) decided) in
+        record {
+          line = line_of tree logs c;
+          listed = case_of tree logs c has (ap (λ rs. has_case (cases_in rs) c) (behind.kept_there (process_of c) listed) ∙ recorded);
+          case = refl;
+          shows = ap (λ (x : Line). x.mismatch) (world_line c has) ∙ shown tree (logs_of_world w) c o s;
+        };
+  }
+
+-- the lines of logs are true of every run that left them
+pub true_of_runs : (tree : List TreeEntry) → IsTree tree → (logs : List ProcessLog)
+    → AreTrueOfRuns tree logs (lines_of tree (kept_lists tree logs))
+true_of_runs tree t logs = λ es w behind. lines_true tree t es w (kept_lists tree logs) behind
