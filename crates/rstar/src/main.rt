@@ -104,6 +104,13 @@ fn grammar<'a>(alloc: Global) -> Result<Command<'a>, Error> {
                 .long("logs")
                 .help("Writes the tree and the logs it leaves, as 'rstar log' reads them")
                 .action(ArgAction::SetTrue),
+        )?
+        .arg(
+            Arg::new(alloc, "counts")
+                .long("counts")
+                .help("Writes behind the trace what each process wrote and sent, counted")
+                .action(ArgAction::SetTrue)
+                .conflicts_with("logs")?,
         )?;
     let xa = Command::new(alloc, "xa")
         .about("Makes the calls of an XA script on a key store with a log, and writes the answers")
@@ -133,6 +140,8 @@ fn grammar<'a>(alloc: Global) -> Result<Command<'a>, Error> {
 fn output_of(matches: &ArgMatches) -> Output {
     if matches.get_flag("logs") {
         Output::Logs
+    } else if matches.get_flag("counts") {
+        Output::Counts
     } else {
         Output::Trace
     }

@@ -1,6 +1,7 @@
 //! The engine of tree scripts: a script in, its trace or its logs out.
 #![tactic(auto)]
 
+mod counting;
 mod logs;
 mod trace;
 mod tree;

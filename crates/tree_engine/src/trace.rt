@@ -73,7 +73,7 @@ fn opening_line(alloc: Global, process: u64) -> Result<String, AllocError>
 }
 
 /// Lets go of a step.
-fn discard(_entry: Entry) {}
+pub(crate) fn discard(_entry: Entry) {}
 
 /// The lines of a step, behind so many messages. How many were sent with its own. 2^64 messages are taken for want of memory.
 fn push_step(out: &mut Vec<u8>, sent: u64, entry: &Entry) -> Result<u64, Failure>
