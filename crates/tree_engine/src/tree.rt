@@ -32,7 +32,7 @@ pub enum Output {
 }
 
 /// How many events were made, and why the next was refused; or none was.
-pub(crate) type Refusal = Option<(usize, StepError)>;
+pub type Refusal = Option<(usize, StepError)>;
 
 /// Reads a tree script, makes its events, and writes the trace, with the counts behind it where they are asked for, or the
 /// logs; or one line that says why the script is refused.
@@ -104,7 +104,7 @@ fn bytes_of(alloc: Global, line: &String) -> Result<Vec<u8>, AllocError>
 }
 
 /// The line of a refused script.
-fn refusal(alloc: Global, fault: ScriptFault) -> Result<Vec<u8>, AllocError>
+pub fn refusal(alloc: Global, fault: ScriptFault) -> Result<Vec<u8>, AllocError>
     ensures { IfOk result (λ v. v.items ≡ fault_text fault) }
 {
     let line = refusal_line(alloc, fault)?;

@@ -5,8 +5,9 @@ mod node;
 mod nodes;
 mod opening;
 mod restarting;
+mod unforced;
 mod world;
 
 pub use node::Node;
-pub use opening::OpenError;
+pub use opening::{OpenError, copied_tree};
 pub use world::World;
