@@ -52,37 +52,32 @@ fn is_in_doubt(line: &Line) -> bool
 pub(crate) fn doubts_of(alloc: Global, lines: &[Line]) -> Result<Vec<Case>, AllocError>
     ensures { IfOk result (λ cases. cases.items ≡ doubts_in lines.now) }
 {
-    let mut cases = Vec::new(alloc);
-    for line in lines {
-        if is_in_doubt(line) {
-            cases.push(line.case)?;
-        }
-    }
-    Ok(cases)
+    lines
+        .iter()
+        .filter(|line| is_in_doubt(line))
+        .map(|line| line.case)
+        .collect(alloc)
 }
 
 /// The cases that show a mismatch.
 pub(crate) fn mismatches_of(alloc: Global, lines: &[Line]) -> Result<Vec<Case>, AllocError>
     ensures { IfOk result (λ cases. cases.items ≡ mismatched_in lines.now) }
 {
-    let mut cases = Vec::new(alloc);
-    for line in lines {
-        if line.mismatch {
-            cases.push(line.case)?;
-        }
-    }
-    Ok(cases)
+    lines
+        .iter()
+        .filter(|line| line.mismatch)
+        .map(|line| line.case)
+        .collect(alloc)
 }
 
 /// The questions for these cases.
 fn asks_for(alloc: Global, cases: &[Case]) -> Result<Vec<Event>, AllocError>
     ensures { IfOk result (λ asks. asks.items ≡ asks_of_cases cases.now) }
 {
-    let mut asks = Vec::new(alloc);
-    for case in cases {
-        asks.push(Event::Act(Act::Ask(*case)))?;
-    }
-    Ok(asks)
+    cases
+        .iter()
+        .map(|case| Event::Act(Act::Ask(*case)))
+        .collect(alloc)
 }
 
 /// The questions for all cases in doubt; none, where a log is damaged.

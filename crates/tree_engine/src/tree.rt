@@ -175,7 +175,7 @@ fn told(
 {
     match (output, refusal) {
         (Output::Logs, None) => Ok((left_text(alloc, world)?, Status::Ended)),
-        (Output::Counts, refusal) => counted_trace(alloc, world, refusal),
-        (_, refusal) => trace(alloc, world, refusal),
+        (Output::Counts, _) => counted_trace(alloc, world, refusal),
+        _ => trace(alloc, world, refusal),
     }
 }

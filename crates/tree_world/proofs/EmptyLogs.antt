@@ -1,9 +1,9 @@
 -- The log of an empty store.
-use Rattle.std.proofs.Common.{◌≡◌, ◌∙◌, [], ℕ, List, Result, Ok, Err, IfOk, refl, sym, subst}
+use Rattle.std.proofs.Common.{◌≡◌, ◌∙◌, [], ℕ, List, refl, sym, subst}
 use Rattle.tree_model.specs.declared.names.Kind.TheVariants.{Coordinator}
 use Rattle.tree_model.specs.declared.records.LogRecord.{LogRecord}
 use Rattle.tree_model.specs.Records.{same_bytes}
-use Rattle.log_order.specs.Logs.{LogReading, Whole, read_log}
+use Rattle.log_order.specs.Logs.{Whole, read_log}
 use Rattle.rec_log.specs.Openings.{Opens}
 use Rattle.rec_log.specs.Sights.{LogState, records_of}
 

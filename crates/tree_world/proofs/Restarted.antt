@@ -1,5 +1,5 @@
 -- A restart and a trim of one process, among all, and in the tree.
-use Rattle.std.proofs.Common.{◌≡◌, ◌∙◌, sym, ap, subst, refl, ℕ, false, Option, Some, None, List, [], ◌∷◌, ◌++◌, Result, Ok, Err, IfOk, IfErr}
+use Rattle.std.proofs.Common.{◌≡◌, ◌∙◌, sym, ap, subst, refl, ℕ, false, Option, Some, List, [], ◌∷◌, ◌++◌, Result, Ok, Err, IfOk, IfErr}
 use Rattle.tree_model.specs.declared.names.ProcessId.{ProcessId}
 use Rattle.tree_model.specs.declared.events.Happening.{Happening}
 use Rattle.tree_model.specs.declared.events.Happening.TheVariants.{Restart, Trim as Trimming}

@@ -5,7 +5,7 @@ use Rattle.world_law.specs.Worlds.{Stops, least_open}
 use Rattle.tree_world.specs.Nodes.{nodes_at}
 use Rattle.tree_world.specs.Worlds.{state}
 use Rattle.tree_world.proofs.Handling.{passed_on, stays, world}
-use Rattle.tree_world.proofs.Settling.{settled, settled_all, settles_one_more, short, stops_here}
+use Rattle.tree_world.proofs.Settling.{settled, settled_all, settles_one_more, short}
 use Rattle.tree_world.proofs.world.World.settle.Goals as goal
 
 pub loop-preserved : goal.loop-preserved
