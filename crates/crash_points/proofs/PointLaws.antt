@@ -13,7 +13,7 @@ pub more_points : (q : ProcessId) (old new all : List Point) (sizes : List ℕ) 
     → new ++ map (point_at q) (bounds next (drop (i + 1) sizes)) ≡ all
 more_points q old new all sizes i at n next within is pushed sum so =
     let first : drop i sizes ≡ n ∷ drop (i + 1) sizes =
-        drop-cons sizes i n within ∙ ap (λ x. x ∷ drop (suc i) sizes) (sym is) ∙ ap (λ k. n ∷ drop k sizes) (sym (add-one i)) in
+    drop-cons sizes i n within ∙ ap (λ x. x ∷ drop (suc i) sizes) (sym is) ∙ ap (λ k. n ∷ drop k sizes) (sym (add-one i)) in
     ap (λ (xs : List Point). xs ++ map (point_at q) (bounds next (drop (i + 1) sizes))) pushed
     ∙ append_assoc old (point_at q at ∷ []) (map (point_at q) (bounds next (drop (i + 1) sizes)))
     ∙ ap (λ k. old ++ point_at q at ∷ map (point_at q) (bounds k (drop (i + 1) sizes))) sum

@@ -53,12 +53,20 @@ pub record Tries (tree : List TreeEntry) (events : List Event) (p : Point) (f : 
   pub ran : Ran tree (tried_events events p audit) refusal end
   pub ends : EndsWith end refusal f
 
+-- a crash behind so many events, and what it ends with
+abbrev pub trial_of : ℕ → Point → Found → Trial
+trial_of n p f = record { events = n; point = p; found = f }
+
 -- each of these points behind these events was tried, in order
 abbrev pub AreTried : List TreeEntry → List Event → List Point → List Trial → Type 0
 AreTried tree events [] [] = Unit {0}
 AreTried tree events (p ∷ ps) (t ∷ ts) =
     (t.events ≡ length events) × (t.point ≡ p) × Tries tree events p t.found × AreTried tree events ps ts
 AreTried tree events _ _ = ⊥
+
+-- each of these points behind these events was tried, behind what was tried before
+abbrev pub AddsTrials : List TreeEntry → List Event → List Point → List Trial → List Trial → Type 0
+AddsTrials tree events ps old new = (behind : List Trial) × (new ≡ old ++ behind) × AreTried tree events ps behind
 
 -- these events lead to a state of which each point was tried
 pub record TriesAll (tree : List TreeEntry) (events : List Event) (ts : List Trial) : Type 0 where

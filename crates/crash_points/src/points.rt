@@ -18,11 +18,7 @@ pub struct Point {
 
 /// The points of a process whose unforced records take so many bytes: it keeps none of them, or the first, and so on to all.
 /// 2^64 bytes are taken for want of memory.
-fn push_points(
-    points: &mut Vec<Point>,
-    process: ProcessId,
-    sizes: &[u64],
-) -> Result<(), AllocError>
+fn push_points(points: &mut Vec<Point>, process: ProcessId, sizes: &[u64]) -> Result<(), AllocError>
     ensures { OnOk result (points.new.items ≡ points.old.items ++ points_at process sizes.now) }
 {
     let mut keep: u64 = 0;

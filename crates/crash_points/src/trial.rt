@@ -1,9 +1,9 @@
 //! A crash, tried.
 
-ghost use Rattle.std.specs.Prelude.{◌≡◌, IfErr, IfOk};
+ghost use Rattle.std.specs.Prelude.{◌≡◌, ◌++◌, ◌∷◌, [], IfErr, IfOk, OnOk};
 ghost use Rattle.tree_model.specs.Trees.{IsTree};
 ghost use Rattle.tree_world.specs.Worlds.{state};
-ghost use Rattle.crash_points.specs.Trials.{Adds, EndsWith, Leaves, Tries};
+ghost use Rattle.crash_points.specs.Trials.{Adds, AddsTrials, EndsWith, Leaves, Tries, trial_of};
 
 use crate::auditing::{Audited, Left, asks_of, audit_of, doubts_of, mismatches_of};
 use crate::points::{Point, crash_events, points_of};
@@ -81,6 +81,42 @@ pub fn try_point(
     found_of(alloc, &run)
 }
 
+/// Adds a crash that was tried.
+fn push_trial(
+    trials: &mut Vec<Trial>,
+    events: usize,
+    point: Point,
+    found: Found,
+) -> Result<(), AllocError>
+    ensures { OnOk result (trials.new.items ≡ trials.old.items ++ trial_of events point found ∷ []) }
+{
+    trials.push(Trial {
+        events,
+        point,
+        found,
+    })?;
+    Ok(())
+}
+
+/// Tries a crash at each of these points behind these events.
+fn try_points(
+    alloc: Global,
+    tree: &Tree,
+    events: &[Event],
+    points: &[Point],
+    trials: &mut Vec<Trial>,
+) -> Result<(), Failure>
+    requires { IsTree tree.now }
+    ensures tried { OnOk result (AddsTrials tree.now events.now points.now trials.old.items trials.new.items) }
+    ensures memory { IfErr result (λ e. e ≡ Failure.Memory) }
+{
+    for point in points {
+        let found = try_point(alloc, tree, events, *point)?;
+        push_trial(trials, events.len(), *point, found)?;
+    }
+    Ok(())
+}
+
 /// Tries each crash behind these events; or tells which of them is refused, and tries none.
 pub fn try_event(
     alloc: Global,
@@ -94,17 +130,11 @@ pub fn try_event(
 {
     let mut run = Run::open(alloc, tree)?;
     run.go_on(events)?;
-    if run.refusal().is_some() {
-        return Ok(run.refusal());
+    let refusal = run.refusal();
+    if refusal.is_some() {
+        return Ok(refusal);
     }
     let points = points_of(alloc, run.world())?;
-    for point in &points {
-        let found = try_point(alloc, tree, events, *point)?;
-        trials.push(Trial {
-            events: events.len(),
-            point: *point,
-            found,
-        })?;
-    }
+    try_points(alloc, tree, events, &points, trials)?;
     Ok(None)
 }

@@ -150,7 +150,9 @@ fn grammar<'a>(alloc: Global) -> Result<Command<'a>, Error> {
         )
         .after_help(AUDIT_HELP);
     let crash = Command::new(alloc, "crash")
-        .about("Tries a crash of each process behind each event of a script, and tells what stays in doubt")
+        .about(
+            "Tries a crash of each process behind each event of a script, and tells what stays in doubt",
+        )
         .after_help(CRASH_HELP);
     let command = Command::new(alloc, "rstar")
         .about(

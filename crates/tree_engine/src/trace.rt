@@ -40,7 +40,12 @@ pub(crate) fn trace(
 }
 
 /// Adds the last line of a run that was refused an event.
-pub fn push_refused(alloc: Global, out: &mut Vec<u8>, event: u64, refusal: u8) -> Result<(), AllocError>
+pub fn push_refused(
+    alloc: Global,
+    out: &mut Vec<u8>,
+    event: u64,
+    refusal: u8,
+) -> Result<(), AllocError>
     ensures { OnOk result (out.new.items ≡ out.old.items ++ refused_text event refusal) }
 {
     let line = format!(in alloc; "refused {event} {refusal}\n")?;
