@@ -1,5 +1,5 @@
 -- Events behind events.
-use Rattle.std.proofs.Common.{◌≡◌, ◌≢◌, ◌∙◌, ap, sym, subst, ℕ, zero, suc, ◌+◌, Bool, true, false, is_some, Option, Some, None, List, [], ◌∷◌, ◌++◌, length, take, refl, arith, length-append}
+use Rattle.std.proofs.Common.{◌≡◌, ◌≢◌, ◌∙◌, ap, sym, subst, ℕ, zero, suc, ◌+◌, true, false, is_some, Some, None, List, [], ◌∷◌, ◌++◌, length, take, refl, arith, length-append}
 use Rattle.std.specs.Prelude.{slice_get}
 use Rattle.std.proofs.Math.Seq.{take-append-add}
 use Rattle.tree_model.specs.declared.events.Event.{Event}
@@ -7,7 +7,7 @@ use Rattle.tree_model.specs.declared.events.StepError.{StepError}
 use Rattle.tree_model.specs.declared.events.StepError.TheVariants.{Memory, Device}
 use Rattle.tree_model.specs.declared.trees.TreeEntry.{TreeEntry}
 use Rattle.tree_model.specs.Trees.{IsTree}
-use Rattle.world_law.specs.Refusals.{IsForItself, LeadsTo, Refusal}
+use Rattle.world_law.specs.Refusals.{Refusal}
 use Rattle.world_law.specs.Runs.{IsOpened, Leads, LeadsUntil}
 use Rattle.world_law.specs.Worlds.{WorldState}
 use Rattle.world_law.proofs.Whole.{run_of}

@@ -1,5 +1,5 @@
 -- Trials one after another.
-use Rattle.std.proofs.Common.{◌≡◌, ◌∙◌, ap, sym, subst, ℕ, suc, ◌+◌, ◌<◌, ◌≤◌, Bool, true, false, is_some, Option, Some, None, List, [], ◌∷◌, ◌++◌, length, get_or, take, refl, append_assoc}
+use Rattle.std.proofs.Common.{◌≡◌, ◌∙◌, ap, sym, subst, ℕ, ◌+◌, ◌<◌, ◌≤◌, true, false, is_some, Some, None, List, [], ◌∷◌, ◌++◌, length, get_or, take, refl, append_assoc}
 use Rattle.std.proofs.lemmas.List.{append-nil, take_all, take_more}
 use Rattle.tree_model.specs.declared.events.Event.{Event}
 use Rattle.tree_model.specs.declared.trees.TreeEntry.{TreeEntry}
@@ -18,7 +18,7 @@ use Rattle.crash_points.proofs.Going.{ran}
 use Rattle.crash_points.specs.declared.points.Point.{Point}
 use Rattle.crash_points.specs.declared.trial.Trial.{Trial}
 use Rattle.crash_points.specs.Points.{crash_of, points_in}
-use Rattle.crash_points.specs.Trials.{Adds, AddsTrials, AreTried, EndsWith, Ran, Tries, trial_of}
+use Rattle.crash_points.specs.Trials.{Adds, AddsTrials, AreTried, EndsWith, Ran, Tries}
 
 -- what a run comes to is a run of the model
 pub comes_to : (tree : List TreeEntry) (start : WorldState) (given : List Event) (run : Run) → IsTree tree → IsOpened start tree

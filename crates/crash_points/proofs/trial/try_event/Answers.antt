@@ -1,9 +1,8 @@
 use Rattle.std.proofs.Common.{◌≡◌, ◌∙◌, [], ap, is_some, false, true, rules, subst, sym}
-use Rattle.std.specs.Prelude.{List}
 use Rattle.tree_world.specs.Worlds.{state}
 use Rattle.world_law.specs.Refusals.{Refusal}
 use Rattle.crash_points.specs.Points.{points_in}
-use Rattle.crash_points.specs.Trials.{Adds, AddsTrials}
+use Rattle.crash_points.specs.Trials.{Adds}
 use Rattle.crash_points.proofs.Trying.{all_tried, comes_to, refused_adds}
 use Rattle.crash_points.proofs.trial.try_event.Goals as goal
 

@@ -1,4 +1,4 @@
-use Rattle.std.proofs.Common.{◌≡◌, ◌∙◌, ◌++◌, [], List, ap, subst, sym}
+use Rattle.std.proofs.Common.{◌∙◌, ◌++◌, [], subst, sym}
 use Rattle.std.proofs.lemmas.Result.{IfOk-weaker}
 use Rattle.tree_model.specs.Trees.{IsTree}
 use Rattle.tree_world.specs.Worlds.{state}

@@ -1,4 +1,4 @@
-use Rattle.std.proofs.Common.{◌≡◌, ◌<◌, length, get_or, refl, arith}
+use Rattle.std.proofs.Common.{◌<◌, length, refl, arith}
 use Rattle.std.proofs.lemmas.List.{get_or_default}
 use Rattle.crash_points.specs.Trials.{trial_of}
 use Rattle.crash_points.proofs.Trying.{all_points, none_tried, tried_more}
