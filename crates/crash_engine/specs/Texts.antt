@@ -1,5 +1,5 @@
 -- The lines of crashes.
-use Rattle.std.specs.Prelude.{ℕ, ◌+◌, ◌&&◌, nat_eq, not, Bool, true, false, if◌then◌else◌, None, Some, List, [], ◌++◌, codes, count_by, length}
+use Rattle.std.specs.Prelude.{ℕ, ◌+◌, ◌&&◌, nat_eq, not, Bool, false, if◌then◌else◌, None, Some, List, [], ◌++◌, codes, count_by, length}
 use Rattle.std.specs.List.{flat_map, list_all}
 use Rattle.std.specs.Fmt.{decimal}
 use Rattle.tree_model.specs.declared.names.Case.{Case}
@@ -40,6 +40,14 @@ has_mismatch _ = false
 abbrev pub are_clean : List Trial → Bool
 are_clean ts = list_all (λ t. is_clean t.found) ts
 
+-- how many crashes leave a case in doubt
+unfoldable pub doubt_count : List Trial → ℕ
+doubt_count ts = count_by (λ t. has_doubt t.found) ts
+
+-- how many leave a mismatch
+unfoldable pub mismatch_count : List Trial → ℕ
+mismatch_count ts = count_by (λ t. has_mismatch t.found) ts
+
 -- Lines.
 
 -- a space and a number
@@ -76,8 +84,8 @@ trial_text t =
 -- the line of the numbers: of crashes, of those with a case in doubt, and of those with a mismatch
 unfoldable pub totals_text : List Trial → List ℕ
 totals_text ts =
-    codes "points" ++ part (length ts) ++ codes " in-doubt" ++ part (count_by (λ t. has_doubt t.found) ts)
-    ++ codes " mismatches" ++ part (count_by (λ t. has_mismatch t.found) ts) ++ codes "\n"
+    codes "points" ++ part (length ts) ++ codes " in-doubt" ++ part (doubt_count ts)
+    ++ codes " mismatches" ++ part (mismatch_count ts) ++ codes "\n"
 
 -- the line of the refused event, if one was refused
 abbrev pub refusal_text : Refusal → List ℕ

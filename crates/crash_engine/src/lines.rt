@@ -1,16 +1,18 @@
 //! The lines of crashes.
 
-ghost use Rattle.std.specs.Prelude.{◌≡◌, ◌+◌, ◌++◌, IfOk, OnOk, count_by};
+ghost use Rattle.std.specs.Prelude.{◌≡◌, ◌+◌, ◌++◌, IfOk, OnOk};
 ghost use Rattle.crash_engine.specs.Texts.{
   are_clean as all_clean,
   case_part,
   cases_text,
   crashes_text,
+  doubt_count,
   found_text,
   has_doubt as doubt_in,
   has_mismatch as mismatch_in,
   is_clean as clean_by,
   left_text,
+  mismatch_count,
   part,
   point_text,
   refusal_text,
@@ -164,8 +166,9 @@ fn push_trial(out: &mut Vec<u8>, trial: &Trial) -> Result<(), AllocError>
 }
 
 /// How many of these leave a case in doubt.
+#[tactic(auto, unfolding(crate::specs::Texts::doubt_count))]
 fn count_doubts(trials: &[Trial]) -> usize
-    ensures { result ≡ count_by (λ t. doubt_in t.found) trials.now }
+    ensures { result ≡ doubt_count trials.now }
 {
     trials
         .iter()
@@ -174,8 +177,9 @@ fn count_doubts(trials: &[Trial]) -> usize
 }
 
 /// How many of these leave a mismatch.
+#[tactic(auto, unfolding(crate::specs::Texts::mismatch_count))]
 fn count_mismatches(trials: &[Trial]) -> usize
-    ensures { result ≡ count_by (λ t. mismatch_in t.found) trials.now }
+    ensures { result ≡ mismatch_count trials.now }
 {
     trials
         .iter()
