@@ -3,6 +3,7 @@
 #![tactic(auto)]
 
 use audit_engine::{Detail, run_audit};
+use crash_engine::run_crash;
 use log_engine::run_log;
 use std::alloc::Global;
 use std::{fs, io};
@@ -16,6 +17,10 @@ enum Program {
     Tree,
     /// A tree script, for the logs that it leaves.
     Logs,
+    /// A tree script, for its trace and the counts behind it.
+    Counts,
+    /// A tree script, for what its crashes end with.
+    Crash,
     /// An XA script.
     Xa,
     /// The logs of a tree, for what they hold.
@@ -38,6 +43,8 @@ impl Program {
         match word {
             "tree" => Some(Program::Tree),
             "logs" => Some(Program::Logs),
+            "counts" => Some(Program::Counts),
+            "crash" => Some(Program::Crash),
             "xa" => Some(Program::Xa),
             "log" => Some(Program::Log),
             "audit" => Some(Program::Audit),
@@ -51,6 +58,8 @@ impl Program {
         match self {
             Program::Tree => ("tree", "out"),
             Program::Logs => ("tree", "logs"),
+            Program::Counts => ("tree", "counts"),
+            Program::Crash => ("tree", "crashes"),
             Program::Xa => ("xa", "out"),
             Program::Log | Program::Audit | Program::Explain => ("logs", "out"),
         }
@@ -61,6 +70,12 @@ impl Program {
         let ended = match self {
             Program::Tree => run_tree(alloc, Output::Trace, &mut input, out),
             Program::Logs => run_tree(alloc, Output::Logs, &mut input, out),
+            Program::Counts => run_tree(alloc, Output::Counts, &mut input, out),
+            Program::Crash => {
+                let mut progress = Vec::new(alloc);
+                let ending = run_crash(alloc, &mut input, out, &mut progress).ok()?;
+                return Some(ending.number());
+            }
             Program::Xa => run_xa(alloc, &mut input, out),
             Program::Log => run_log(alloc, &mut input, out),
             Program::Audit => return audited(alloc, Detail::Lines, input, out),

@@ -4,6 +4,7 @@
 use audit_engine::{Detail, run_audit};
 use clap::error::ErrorKind;
 use clap::{Arg, ArgAction, ArgMatches, Command, Error};
+use crash_engine::run_crash;
 use log_engine::run_log;
 use std::alloc::Global;
 use std::io;
@@ -22,6 +23,8 @@ enum Request {
     Log,
     /// How the cases of a tree stand and end by its logs, and how much is written of that.
     Audit(Detail),
+    /// What each crash of a tree script ends with.
+    Crash,
 }
 
 /// What was read of a command line.
@@ -39,9 +42,11 @@ Examples:
   rstar xa < examples/migrate.xa
   rstar log < examples/commit.logs
   rstar audit < examples/commit.logs
+  rstar crash < examples/commit.tree
 
 Exit status: 0 the script was run to its end, 1 it was refused, 2 an event was refused,
-3 an audit found a mismatch, 4 reading, writing or memory failed.";
+3 an audit found a mismatch, or a crash ends with one or with a case in doubt, 4 reading,
+writing or memory failed.";
 
 /// What `rstar tree --help` says below its usage.
 const TREE_HELP: &str = "\
@@ -51,11 +56,15 @@ log are kept behind those that are forced), trim P; and an operator's acts: heur
 or heur CASE rollback (a manager's case in doubt is decided without its parent), and forget
 CASE. Out: a line for each log record, message and word to the application, 'trim P N'
 where N records remain, and 'end'; 'refused N E' where event N is refused, 'error ..' where
-the script is. With --logs, where no event is refused: the processes, a line ---, and a line
-'log P HEX' for the log of each process, as 'rstar log' and 'rstar audit' read them.
+the script is. With --counts, behind that, a line for each process: how many records it wrote
+in its steps, how many of them forced, and how many messages it sent, in all and by kind; the
+first Opened of each process, which opening the tree writes, does not count. With --logs,
+where no event is refused: the processes, a line ---, and a line 'log P HEX' for the log of
+each process, as 'rstar log' and 'rstar audit' read them.
 
 Examples: rstar tree < examples/commit.tree
           rstar tree < examples/crash.tree
+          rstar tree --counts < examples/commit.tree
           rstar tree --logs < examples/commit.tree | rstar log";
 
 /// What `rstar xa --help` says below its usage.
@@ -96,6 +105,23 @@ Examples: rstar audit < examples/commit.logs
           rstar audit --explain < examples/operator.logs
           rstar tree --logs < examples/commit.tree | rstar audit";
 
+/// What `rstar crash --help` says below its usage.
+const CRASH_HELP: &str = "\
+In: a tree script, as 'rstar tree' reads it. Behind each of its events, each process crashes
+in a run of its own, once with each number of its unforced records kept, from none to all.
+Then all messages are delivered, every case that its log shows in doubt asks its parent, all
+messages are delivered again, and the logs are audited. Out: a line for each crash that
+leaves something: 'event N restart P K:' and then 'in-doubt CASE ..', 'mismatch CASE ..', or
+both; it is the run of the first N events and 'restart P K'. The last line is 'points N
+in-doubt D mismatches M': so many crashes were tried, and so many end with a case in doubt,
+and with a mismatch; the status is 3 where one does. 'refused N E' stands behind it where
+event N is refused, and 'error ..' alone where the script is. Standard error has a line for
+each event. Each crash runs its script anew, so the time goes with the square of the number
+of events.
+
+Examples: rstar crash < examples/commit.tree
+          rstar crash < examples/operator.tree";
+
 /// The words after the program's name, and what help says of them.
 fn grammar<'a>(alloc: Global) -> Result<Command<'a>, Error> {
     let tree = Command::new(alloc, "tree")
@@ -106,6 +132,13 @@ fn grammar<'a>(alloc: Global) -> Result<Command<'a>, Error> {
                 .long("logs")
                 .help("Writes the tree and the logs it leaves, as 'rstar log' reads them")
                 .action(ArgAction::SetTrue),
+        )?
+        .arg(
+            Arg::new(alloc, "counts")
+                .long("counts")
+                .help("Writes behind the trace what each process wrote and sent, counted")
+                .action(ArgAction::SetTrue)
+                .conflicts_with("logs")?,
         )?;
     let xa = Command::new(alloc, "xa")
         .about("Makes the calls of an XA script on a key store with a log, and writes the answers")
@@ -126,6 +159,11 @@ fn grammar<'a>(alloc: Global) -> Result<Command<'a>, Error> {
                 )
                 .action(ArgAction::SetTrue),
         )?;
+    let crash = Command::new(alloc, "crash")
+        .about(
+            "Tries a crash of each process behind each event of a script, and tells what stays in doubt",
+        )
+        .after_help(CRASH_HELP);
     let command = Command::new(alloc, "rstar")
         .about(
             "Distributed transactions by the R* commit protocol. Scripts come on standard input.",
@@ -135,7 +173,8 @@ fn grammar<'a>(alloc: Global) -> Result<Command<'a>, Error> {
         .subcommand(tree)?
         .subcommand(xa)?
         .subcommand(log)?
-        .subcommand(audit)?;
+        .subcommand(audit)?
+        .subcommand(crash)?;
     Ok(command)
 }
 
@@ -143,6 +182,8 @@ fn grammar<'a>(alloc: Global) -> Result<Command<'a>, Error> {
 fn output_of(matches: &ArgMatches) -> Output {
     if matches.get_flag("logs") {
         Output::Logs
+    } else if matches.get_flag("counts") {
+        Output::Counts
     } else {
         Output::Trace
     }
@@ -165,6 +206,7 @@ fn read_words<'a>(alloc: Global, words: &'a [String]) -> Result<Asked, Error> {
             "tree" => Request::Tree(output_of(found)),
             "log" => Request::Log,
             "audit" => Request::Audit(detail_of(found)),
+            "crash" => Request::Crash,
             _ => Request::Xa,
         })),
         None => Ok(Asked::Memory),
@@ -189,6 +231,10 @@ fn perform(rt: &HostRuntime, request: Request) -> u8 {
         Request::Xa => number(run_xa(alloc, &mut reader, &mut writer)),
         Request::Log => number(run_log(alloc, &mut reader, &mut writer)),
         Request::Audit(detail) => match run_audit(alloc, detail, &mut reader, &mut writer) {
+            Ok(ending) => Ok(ending.number()),
+            Err(failure) => Err(failure),
+        },
+        Request::Crash => match run_crash(alloc, &mut reader, &mut writer, &mut rt.stderr()) {
             Ok(ending) => Ok(ending.number()),
             Err(failure) => Err(failure),
         },

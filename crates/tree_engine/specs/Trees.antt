@@ -11,6 +11,8 @@ use Rattle.tree_model.specs.World.{Made, World}
 use Rattle.link_script.specs.declared.script.ScriptFault.{ScriptFault}
 use Rattle.link_script.specs.declared.script.ScriptFault.TheVariants.{Utf8, TreeText, Tree, TooLong, Line}
 use Rattle.link_script.specs.Inputs.{IsScript, IsScriptFault}
+use Rattle.run_counts.specs.Counts.{rows_of}
+use Rattle.run_counts.specs.Texts.{rows_text}
 use Rattle.trace_lines.specs.Trace.{entries_text, entry_text}
 use Rattle.report_io.specs.declared.status.Status.{Status}
 use Rattle.report_io.specs.declared.status.Status.TheVariants.{Ended, Refused, Stopped}
@@ -20,7 +22,7 @@ use Rattle.world_law.specs.Sayings.{Saying}
 use Rattle.world_law.specs.Ties.{Follows}
 use Rattle.world_law.specs.Worlds.{WorldState}
 use Rattle.tree_engine.specs.declared.tree.Output.{Output}
-use Rattle.tree_engine.specs.declared.tree.Output.TheVariants.{Logs, Trace}
+use Rattle.tree_engine.specs.declared.tree.Output.TheVariants.{Counts, Logs, Trace}
 use Rattle.tree_engine.specs.Logs.{LeavesLogs}
 
 -- the line of a process that opened an empty log
@@ -69,12 +71,17 @@ abbrev pub ending : Refusal → Status
 ending None = Ended
 ending (Some refused) = Stopped
 
--- what is written of a run that ended so: its trace and the last line, or, where it was to its end, the logs
--- it leaves
+-- the counts of all processes behind a trace: what each wrote and sent in the steps of the run
+abbrev pub counts_text : WorldState → List ℕ
+counts_text w = rows_text (rows_of w.tree w.entries)
+
+-- what is written of a run that ended so: its trace and the last line, or these and the counts, or, where it
+-- was to its end, the logs it leaves
 abbrev pub Tells : Output → WorldState → Refusal → List ℕ → Type 0
 Tells Logs w None text = LeavesLogs w text
 Tells Logs w (Some refused) text = text ≡ trace_of w ++ last_line (Some refused)
 Tells Trace w refusal text = text ≡ trace_of w ++ last_line refusal
+Tells Counts w refusal text = text ≡ (trace_of w ++ last_line refusal) ++ counts_text w
 
 -- The text is that of the run of just these events: they led the tree, opened, to a state that stands for a
 -- run of the model, with its journal, its messages and its processes; of this run the saying holds; and the

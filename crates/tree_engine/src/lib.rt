@@ -1,9 +1,12 @@
 //! The engine of tree scripts: a script in, its trace or its logs out.
 #![tactic(auto)]
 
+mod counting;
 mod logs;
 mod trace;
 mod tree;
 
+pub use logs::logs_left;
 pub use report_io::{Failure, Status};
-pub use tree::{Output, run_tree};
+pub use trace::push_refused;
+pub use tree::{Output, Refusal, refusal, run_tree};

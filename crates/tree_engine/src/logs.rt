@@ -11,7 +11,7 @@ use tree_model::Bytes;
 use tree_world::World;
 
 /// The log of each process, in the order of the tree.
-fn logs_left(alloc: Global, world: &World<MemoryStore>) -> Result<Vec<ProcessLog>, AllocError>
+pub fn logs_left(alloc: Global, world: &World<MemoryStore>) -> Result<Vec<ProcessLog>, AllocError>
     ensures { IfOk result (λ logs. AreLogs (state world.now) (state world.now).tree logs.items) }
 {
     let mut logs = Vec::new(alloc);

@@ -39,8 +39,13 @@ pub(crate) fn trace(
     }
 }
 
-/// The last line of a run that was refused an event.
-fn push_refused(alloc: Global, out: &mut Vec<u8>, event: u64, refusal: u8) -> Result<(), AllocError>
+/// Adds the last line of a run that was refused an event.
+pub fn push_refused(
+    alloc: Global,
+    out: &mut Vec<u8>,
+    event: u64,
+    refusal: u8,
+) -> Result<(), AllocError>
     ensures { OnOk result (out.new.items ≡ out.old.items ++ refused_text event refusal) }
 {
     let line = format!(in alloc; "refused {event} {refusal}\n")?;
@@ -73,7 +78,7 @@ fn opening_line(alloc: Global, process: u64) -> Result<String, AllocError>
 }
 
 /// Lets go of a step.
-fn discard(_entry: Entry) {}
+pub(crate) fn discard(_entry: Entry) {}
 
 /// The lines of a step, behind so many messages. How many were sent with its own. 2^64 messages are taken for want of memory.
 fn push_step(out: &mut Vec<u8>, sent: u64, entry: &Entry) -> Result<u64, Failure>

@@ -10,6 +10,7 @@ ghost use Rattle.world_law.specs.Sayings.{Agrees, AnswersTruly, Consents, IsByOp
 ghost use Rattle.tree_world.specs.Worlds.{state};
 ghost use Rattle.tree_engine.specs.Trees.{IsNumbered, IsTreeReport, Plays, Tells, ending, fault_text};
 
+use crate::counting::counted_trace;
 use crate::logs::left_text;
 use crate::trace::trace;
 use link_script::{ScriptError, ScriptFault, read};
@@ -27,12 +28,15 @@ pub enum Output {
     Trace,
     /// Where every event was made, the tree and the logs that its processes keep; else the trace.
     Logs,
+    /// Its trace, and behind it a line for each process with how many records it wrote and messages it sent.
+    Counts,
 }
 
 /// How many events were made, and why the next was refused; or none was.
-pub(crate) type Refusal = Option<(usize, StepError)>;
+pub type Refusal = Option<(usize, StepError)>;
 
-/// Reads a tree script, makes its events, and writes the trace or the logs; or one line that says why the script is refused.
+/// Reads a tree script, makes its events, and writes the trace, with the counts behind it where they are asked for, or the
+/// logs; or one line that says why the script is refused.
 /// A refused event ends the trace by its number and why it was refused.
 ///
 /// What is written is that of the run of just the script's events in the model; a refused event is one that the model
@@ -101,7 +105,7 @@ fn bytes_of(alloc: Global, line: &String) -> Result<Vec<u8>, AllocError>
 }
 
 /// The line of a refused script.
-fn refusal(alloc: Global, fault: ScriptFault) -> Result<Vec<u8>, AllocError>
+pub fn refusal(alloc: Global, fault: ScriptFault) -> Result<Vec<u8>, AllocError>
     ensures { IfOk result (λ v. v.items ≡ fault_text fault) }
 {
     let line = refusal_line(alloc, fault)?;
@@ -173,6 +177,7 @@ fn told(
 {
     match (output, refusal) {
         (Output::Logs, None) => Ok((left_text(alloc, world)?, Status::Ended)),
+        (Output::Counts, _) => counted_trace(alloc, world, refusal),
         _ => trace(alloc, world, refusal),
     }
 }

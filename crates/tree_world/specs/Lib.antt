@@ -1,4 +1,5 @@
 pub mod Nodes
 pub mod Openings
 pub mod Restarts
+pub mod Unforced
 pub mod Worlds

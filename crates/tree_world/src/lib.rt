@@ -6,8 +6,9 @@ mod nodes;
 mod opening;
 mod restarting;
 mod running_tree;
+mod unforced;
 mod world;
 
 pub use node::Node;
-pub use opening::OpenError;
+pub use opening::{OpenError, copied_tree};
 pub use world::World;

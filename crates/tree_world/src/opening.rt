@@ -97,7 +97,7 @@ fn copied_entry(alloc: Global, entry: &TreeEntry) -> Result<TreeEntry, AllocErro
 }
 
 /// The tree once more: each process keeps its own.
-fn copied_tree(alloc: Global, tree: &[TreeEntry]) -> Result<Tree, AllocError>
+pub fn copied_tree(alloc: Global, tree: &[TreeEntry]) -> Result<Tree, AllocError>
     ensures { IfOk result (λ copy. copy ≡ tree.now) }
 {
     let mut copy = Vec::new(alloc);

@@ -41,7 +41,7 @@ impl<L: LogStore> Node<L> {
     }
 
     /// How many bytes its log has. A crash that keeps so many behind the forced front keeps every record.
-    fn log_size(&self) -> usize
+    pub(crate) fn log_size(&self) -> usize
         ensures { left_by (core_of self.now).log result ≡ records_of (core_of self.now).log.kept }
     {
         match self {
@@ -51,7 +51,7 @@ impl<L: LogStore> Node<L> {
     }
 
     /// How many of its unforced records a crash would leave that keeps so many bytes behind the forced front.
-    fn left_behind(&self, keep: usize) -> Result<usize, AllocError>
+    pub(crate) fn left_behind(&self, keep: usize) -> Result<usize, AllocError>
         ensures { IfOk result (λ count. count ≡ records_kept (core_of self.now) keep) }
     {
         match self {
@@ -61,7 +61,7 @@ impl<L: LogStore> Node<L> {
     }
 
     /// Each record of its log can stand in a log of its sort.
-    fn records_are_sound(&self)
+    pub(crate) fn records_are_sound(&self)
         ensures { IsSoundLog (core_of self.now) }
     {
         match self {

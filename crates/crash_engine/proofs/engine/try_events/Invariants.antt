@@ -1,0 +1,5 @@
+use Rattle.crash_points.specs.Trials.{GoesThrough}
+use Rattle.crash_engine.proofs.engine.try_events.Given as goal
+
+abbrev pub invariant-loop-made : goal.invariant-loop-made
+invariant-loop-made g l = GoesThrough l.tree l.events l.made l.trials.items

@@ -1,0 +1,109 @@
+-- The lines of crashes.
+use Rattle.std.specs.Prelude.{ℕ, ◌+◌, ◌&&◌, nat_eq, not, Bool, false, if◌then◌else◌, None, Some, List, [], ◌++◌, codes, count_by, length}
+use Rattle.std.specs.List.{flat_map, list_all}
+use Rattle.std.specs.Fmt.{decimal}
+use Rattle.tree_model.specs.declared.names.Case.{Case}
+use Rattle.tree_model.specs.Errors.{step_error_number}
+use Rattle.tree_model.specs.Texts.{case_text}
+use Rattle.world_law.specs.Refusals.{Refusal}
+use Rattle.tree_engine.specs.Trees.{refused_text}
+use Rattle.crash_points.specs.declared.auditing.Left.{Left}
+use Rattle.crash_points.specs.declared.points.Point.{Point}
+use Rattle.crash_points.specs.declared.trial.Found.{Found}
+use Rattle.crash_points.specs.declared.trial.Found.TheVariants.{Damaged, Ended, Refused}
+use Rattle.crash_points.specs.declared.trial.Trial.{Trial}
+use Rattle.crash_engine.specs.declared.ending.Ending.{Ending}
+use Rattle.crash_engine.specs.declared.ending.Ending.TheVariants as ending
+
+-- What is found.
+
+-- there is no case
+abbrev pub is_none : List Case → Bool
+is_none cs = nat_eq (length cs) 0
+
+-- nothing is left
+abbrev pub is_clean : Found → Bool
+is_clean (Ended l) = is_none l.in_doubt.items && is_none l.mismatches.items
+is_clean _ = false
+
+-- a case is left in doubt
+abbrev pub has_doubt : Found → Bool
+has_doubt (Ended l) = not (is_none l.in_doubt.items)
+has_doubt _ = false
+
+-- a mismatch is left
+abbrev pub has_mismatch : Found → Bool
+has_mismatch (Ended l) = not (is_none l.mismatches.items)
+has_mismatch _ = false
+
+-- nothing is left of any crash
+abbrev pub are_clean : List Trial → Bool
+are_clean ts = list_all (λ t. is_clean t.found) ts
+
+-- how many crashes leave a case in doubt
+unfoldable pub doubt_count : List Trial → ℕ
+doubt_count ts = count_by (λ t. has_doubt t.found) ts
+
+-- how many leave a mismatch
+unfoldable pub mismatch_count : List Trial → ℕ
+mismatch_count ts = count_by (λ t. has_mismatch t.found) ts
+
+-- Lines.
+
+-- a space and a number
+unfoldable pub part : ℕ → List ℕ
+part n = codes " " ++ decimal n
+
+-- a space and a case
+unfoldable pub case_part : Case → List ℕ
+case_part c = codes " " ++ case_text c
+
+-- a word and cases behind it, where there are any
+unfoldable pub cases_text : List ℕ → List Case → List ℕ
+cases_text word cs = if is_none cs then [] else word ++ flat_map case_part cs
+
+-- the cases in doubt, and those with a mismatch
+unfoldable pub left_text : Left → List ℕ
+left_text l = cases_text (codes " in-doubt") l.in_doubt.items ++ cases_text (codes " mismatch") l.mismatches.items
+
+-- what a crash ends with
+unfoldable pub found_text : Found → List ℕ
+found_text (Ended l) = left_text l
+found_text (Damaged q place) = codes " damaged" ++ part q.0 ++ part place
+found_text (Refused made e) = codes " refused" ++ part (made + 1) ++ part (step_error_number e)
+
+-- the crash: behind so many events this process restarts, and keeps so many bytes
+unfoldable pub point_text : ℕ → Point → List ℕ
+point_text events p = codes "event" ++ part events ++ codes " restart" ++ part p.process.0 ++ part p.keep ++ codes ":"
+
+-- the line of a crash, where something is left
+unfoldable pub trial_text : Trial → List ℕ
+trial_text t =
+    if is_clean t.found then [] else point_text t.events t.point ++ found_text t.found ++ codes "\n"
+
+-- the line of the numbers: of crashes, of those with a case in doubt, and of those with a mismatch
+unfoldable pub totals_text : List Trial → List ℕ
+totals_text ts =
+    codes "points" ++ part (length ts) ++ codes " in-doubt" ++ part (doubt_count ts)
+    ++ codes " mismatches" ++ part (mismatch_count ts) ++ codes "\n"
+
+-- the line of the refused event, if one was refused
+abbrev pub refusal_text : Refusal → List ℕ
+refusal_text None = []
+refusal_text (Some refused) = refused_text (refused.0 + 1) (step_error_number refused.1)
+
+-- what is written of crashes
+abbrev pub crashes_text : List Trial → Refusal → List ℕ
+crashes_text ts refusal = (flat_map trial_text ts ++ totals_text ts) ++ refusal_text refusal
+
+-- how it ends
+abbrev pub ending_by : List Trial → Refusal → Ending
+ending_by ts None = if are_clean ts then ending.Clean else ending.Finds
+ending_by ts (Some refused) = ending.Stopped
+
+-- the exit status
+abbrev pub ending_number : Ending → ℕ
+ending_number ending.Clean = 0
+ending_number ending.Refused = 1
+ending_number ending.Stopped = 2
+ending_number ending.Finds = 3

@@ -1,0 +1,119 @@
+//! The engine of `rstar crash`.
+
+ghost use Rattle.std.specs.Prelude.{◌≡◌, ℕ, List, IfErr, IfOk};
+ghost use Rattle.std.specs.Io.KnownBytes.{Appends, Keeps};
+ghost use Rattle.tree_model.specs.Trees.{IsTree};
+ghost use Rattle.report_io.specs.Streams.{IsInput, WritesFront};
+ghost use Rattle.crash_points.specs.Trials.{GoesOver};
+ghost use Rattle.crash_engine.specs.Crashes.{IsCrashReport};
+ghost use Rattle.crash_engine.specs.Texts.{ending_by};
+ghost use Rattle.crash_engine.specs.declared.ending.Ending.{Ending as AnyEnding};
+
+use crate::ending::Ending;
+use crate::lines::{are_clean, text_of};
+use crash_points::{Trial, try_event};
+use link_script::{ScriptError, read};
+use report_io::{Failure, read_all, write_all};
+use std::alloc::Global;
+use std::io::{Read, Write};
+use tree_engine::{Refusal, refusal};
+use tree_model::{Event, Tree};
+
+/// Shows which event is gone through. A failed write is no failure of the run.
+fn show<P: Write>(
+    alloc: Global,
+    progress: &mut P,
+    event: usize,
+    events: usize,
+) -> Result<(), Failure>
+    ensures memory { IfErr result (λ e. e ≡ Failure.Memory) }
+{
+    let line = format!(in alloc; "event {event} of {events}\n")?;
+    let _ = write_all(progress, line.as_bytes());
+    Ok(())
+}
+
+/// Tries each crash behind each event of a script, up to the first that is refused.
+fn try_events<P: Write>(
+    alloc: Global,
+    tree: &Tree,
+    events: &[Event],
+    progress: &mut P,
+) -> Result<(Vec<Trial>, Refusal), Failure>
+    requires { IsTree tree.now }
+    ensures goes { IfOk result (λ r. GoesOver tree.now events.now r.1 r.0.items) }
+    ensures memory { IfErr result (λ e. e ≡ Failure.Memory) }
+{
+    let mut trials = Vec::new(alloc);
+    for made in 0..events.len() {
+        show(alloc, progress, made + 1, events.len())?;
+        let refusal = try_event(alloc, tree, &events[..made + 1], &mut trials)?;
+        if refusal.is_some() {
+            return Ok((trials, refusal));
+        }
+    }
+    Ok((trials, None))
+}
+
+/// How it ends.
+fn ending_of(trials: &[Trial], refusal: Refusal) -> Ending
+    ensures { result ≡ ending_by trials.now refusal }
+{
+    match refusal {
+        Some(_) => Ending::Stopped,
+        None if are_clean(trials) => Ending::Clean,
+        None => Ending::Finds,
+    }
+}
+
+/// The answer to an input.
+fn answer<P: Write>(
+    alloc: Global,
+    input: &[u8],
+    progress: &mut P,
+) -> Result<(Vec<u8>, Ending), Failure>
+    ensures report { IfOk result (λ r. IsCrashReport r.1 input.now r.0.items) }
+    ensures memory { IfErr result (λ e. e ≡ Failure.Memory) }
+{
+    match read(alloc, input) {
+        Ok((tree, events)) => {
+            let (trials, refusal) = try_events(alloc, &tree, &events, progress)?;
+            let text = text_of(alloc, &trials, refusal)?;
+            Ok((text, ending_of(&trials, refusal)))
+        }
+        Err(ScriptError::Fault(fault)) => Ok((refusal(alloc, fault)?, Ending::Refused)),
+        Err(ScriptError::Memory) => Err(Failure::Memory),
+    }
+}
+
+/// Reads a tree script and tries each crash of it: behind each of its events, of each process, with each number of its
+/// unforced records that the crash may leave. Each is a run of its own of the script's events so far and the crash; then
+/// everything is delivered, every case that the logs show in doubt asks its parent, everything is delivered again, and the
+/// logs are audited. Writes a line for each crash that leaves a case in doubt or a mismatch, and the numbers of crashes;
+/// behind them which event was refused, if one was, or alone why the script was.
+///
+/// Each of these runs is one of the model, of which the headline holds. The time goes with the square of the number of
+/// events. `progress` gets a line for each event; a failed write there is no failure of the run. After a failed read, or
+/// where memory is refused, nothing was written; after a failed write, a beginning of the text.
+pub fn run_crash<R: Read, W: Write, P: Write>(
+    alloc: Global,
+    reader: &mut R,
+    writer: &mut W,
+    progress: &mut P,
+) -> Result<Ending, Failure>
+    ensures written { IfOk result (λ ending. (input : List ℕ) × (text : List ℕ)
+        × IsInput (R.remaining reader.old) input × IsCrashReport ending input text
+        × Appends (W.contents writer.old) (W.contents writer.new) text) }
+    ensures cut { IfErr result (λ e. e ≡ Failure.Write → (input : List ℕ) × (text : List ℕ) × (ending : AnyEnding)
+        × IsInput (R.remaining reader.old) input × IsCrashReport ending input text
+        × WritesFront (W.contents writer.old) (W.contents writer.new) text) }
+    ensures unread { IfErr result (λ e. e ≡ Failure.Read → Keeps (W.contents writer.old) (W.contents writer.new)) }
+    ensures memory { IfErr result (λ e. e ≡ Failure.Memory → Keeps (W.contents writer.old) (W.contents writer.new)) }
+{
+    let input = read_all(alloc, reader)?;
+    let (text, ending) = answer(alloc, &input, progress)?;
+    match write_all(writer, &text) {
+        Ok(()) => Ok(ending),
+        Err(failure) => Err(failure),
+    }
+}

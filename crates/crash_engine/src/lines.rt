@@ -1,0 +1,247 @@
+//! The lines of crashes.
+
+ghost use Rattle.std.specs.Prelude.{◌≡◌, ◌+◌, ◌++◌, IfOk, OnOk};
+ghost use Rattle.crash_engine.specs.Texts.{
+  are_clean as all_clean,
+  case_part,
+  cases_text,
+  crashes_text,
+  doubt_count,
+  found_text,
+  has_doubt as doubt_in,
+  has_mismatch as mismatch_in,
+  is_clean as clean_by,
+  left_text,
+  mismatch_count,
+  part,
+  point_text,
+  refusal_text,
+  totals_text,
+  trial_text,
+};
+ghost use Rattle.std.specs.List.{flat_map};
+
+use crash_points::{Found, Left, Point, Trial};
+use std::alloc::{AllocError, Global};
+use trace_lines::{push, push_case, push_number};
+use tree_engine::{Refusal, push_refused};
+use tree_model::Case;
+
+/// A space and a number.
+#[tactic(auto, unfolding(crate::specs::Texts::part))]
+fn push_part(out: &mut Vec<u8>, number: u64) -> Result<(), AllocError>
+    ensures { OnOk result (out.new.items ≡ out.old.items ++ part number) }
+{
+    push(out, " ")?;
+    push_number(out, number)
+}
+
+/// A space and a case.
+#[tactic(auto, unfolding(crate::specs::Texts::case_part))]
+fn push_case_part(out: &mut Vec<u8>, case: &Case) -> Result<(), AllocError>
+    ensures { OnOk result (out.new.items ≡ out.old.items ++ case_part case.now) }
+{
+    push(out, " ")?;
+    push_case(out, case)
+}
+
+/// Each of these cases.
+fn push_each(out: &mut Vec<u8>, cases: &[Case]) -> Result<(), AllocError>
+    ensures { OnOk result (out.new.items ≡ out.old.items ++ flat_map case_part cases.now) }
+{
+    for case in cases {
+        push_case_part(out, case)?;
+    }
+    Ok(())
+}
+
+/// A word and cases behind it, where there are any.
+#[tactic(auto, unfolding(crate::specs::Texts::cases_text))]
+fn push_cases(out: &mut Vec<u8>, word: &str, cases: &[Case]) -> Result<(), AllocError>
+    ensures { OnOk result (out.new.items ≡ out.old.items ++ cases_text word.now cases.now) }
+{
+    if cases.len() == 0 {
+        return Ok(());
+    }
+    push(out, word)?;
+    push_each(out, cases)
+}
+
+#[tactic(auto, unfolding(crate::specs::Texts::left_text))]
+fn push_left(out: &mut Vec<u8>, left: &Left) -> Result<(), AllocError>
+    ensures { OnOk result (out.new.items ≡ out.old.items ++ left_text left.now) }
+{
+    push_cases(out, " in-doubt", &left.in_doubt)?;
+    push_cases(out, " mismatch", &left.mismatches)
+}
+
+/// A word and two numbers.
+fn push_two(out: &mut Vec<u8>, word: &str, one: u64, other: u64) -> Result<(), AllocError>
+    ensures { OnOk result (out.new.items ≡ out.old.items ++ (word.now ++ part one ++ part other)) }
+{
+    push(out, word)?;
+    push_part(out, one)?;
+    push_part(out, other)
+}
+
+/// What a crash ends with. 2^64 events are taken for want of memory.
+#[tactic(auto, unfolding(crate::specs::Texts::found_text))]
+fn push_found(out: &mut Vec<u8>, found: &Found) -> Result<(), AllocError>
+    ensures { OnOk result (out.new.items ≡ out.old.items ++ found_text found.now) }
+{
+    match found {
+        Found::Ended(left) => push_left(out, left),
+        Found::Damaged(process, place) => {
+            push_two(out, " damaged", u64::from(process.0), *place as u64)
+        }
+        Found::Refused(made, refusal) => {
+            let event = event_behind(*made)?;
+            push_two(out, " refused", event, u64::from(refusal.number()))
+        }
+    }
+}
+
+/// The number of the event behind so many.
+fn event_behind(made: usize) -> Result<u64, AllocError>
+    ensures { IfOk result (λ event. event ≡ made + 1) }
+{
+    match (made as u64).checked_add(1) {
+        None => Err(AllocError),
+        Some(event) => Ok(event),
+    }
+}
+
+/// Whether nothing is left.
+fn is_clean(found: &Found) -> bool
+    ensures { result ≡ clean_by found.now }
+{
+    match found {
+        Found::Ended(left) => left.in_doubt.len() == 0 && left.mismatches.len() == 0,
+        _ => false,
+    }
+}
+
+/// Whether a case is left in doubt.
+fn has_doubt(found: &Found) -> bool
+    ensures { result ≡ doubt_in found.now }
+{
+    match found {
+        Found::Ended(left) => left.in_doubt.len() != 0,
+        _ => false,
+    }
+}
+
+/// Whether a mismatch is left.
+fn has_mismatch(found: &Found) -> bool
+    ensures { result ≡ mismatch_in found.now }
+{
+    match found {
+        Found::Ended(left) => left.mismatches.len() != 0,
+        _ => false,
+    }
+}
+
+/// Where the crash is.
+#[tactic(auto, unfolding(crate::specs::Texts::point_text))]
+fn push_point(out: &mut Vec<u8>, events: usize, point: Point) -> Result<(), AllocError>
+    ensures { OnOk result (out.new.items ≡ out.old.items ++ point_text events point) }
+{
+    push(out, "event")?;
+    push_part(out, events as u64)?;
+    push_two(out, " restart", u64::from(point.process.0), point.keep)?;
+    push(out, ":")
+}
+
+/// The line of a crash, where something is left.
+#[tactic(auto, unfolding(crate::specs::Texts::trial_text))]
+fn push_trial(out: &mut Vec<u8>, trial: &Trial) -> Result<(), AllocError>
+    ensures { OnOk result (out.new.items ≡ out.old.items ++ trial_text trial.now) }
+{
+    if is_clean(&trial.found) {
+        return Ok(());
+    }
+    push_point(out, trial.events, trial.point)?;
+    push_found(out, &trial.found)?;
+    push(out, "\n")
+}
+
+/// How many of these leave a case in doubt.
+#[tactic(auto, unfolding(crate::specs::Texts::doubt_count))]
+fn count_doubts(trials: &[Trial]) -> usize
+    ensures { result ≡ doubt_count trials.now }
+{
+    trials
+        .iter()
+        .filter(|trial| has_doubt(&trial.found))
+        .count()
+}
+
+/// How many of these leave a mismatch.
+#[tactic(auto, unfolding(crate::specs::Texts::mismatch_count))]
+fn count_mismatches(trials: &[Trial]) -> usize
+    ensures { result ≡ mismatch_count trials.now }
+{
+    trials
+        .iter()
+        .filter(|trial| has_mismatch(&trial.found))
+        .count()
+}
+
+/// A word and a number.
+fn push_count(out: &mut Vec<u8>, word: &str, count: usize) -> Result<(), AllocError>
+    ensures { OnOk result (out.new.items ≡ out.old.items ++ (word.now ++ part count)) }
+{
+    push(out, word)?;
+    push_part(out, count as u64)
+}
+
+/// The line of the numbers.
+#[tactic(auto, unfolding(crate::specs::Texts::totals_text))]
+fn push_totals(out: &mut Vec<u8>, trials: &[Trial]) -> Result<(), AllocError>
+    ensures { OnOk result (out.new.items ≡ out.old.items ++ totals_text trials.now) }
+{
+    push_count(out, "points", trials.len())?;
+    push_count(out, " in-doubt", count_doubts(trials))?;
+    push_count(out, " mismatches", count_mismatches(trials))?;
+    push(out, "\n")
+}
+
+/// Whether nothing is left of any of them.
+pub fn are_clean(trials: &[Trial]) -> bool
+    ensures { result ≡ all_clean trials.now }
+{
+    trials.iter().all(|trial| is_clean(&trial.found))
+}
+
+fn push_trials(out: &mut Vec<u8>, trials: &[Trial]) -> Result<(), AllocError>
+    ensures { OnOk result (out.new.items ≡ out.old.items ++ flat_map trial_text trials.now) }
+{
+    for trial in trials {
+        push_trial(out, trial)?;
+    }
+    Ok(())
+}
+
+/// The line of the refused event, if one was refused.
+fn push_refusal(alloc: Global, out: &mut Vec<u8>, refusal: Refusal) -> Result<(), AllocError>
+    ensures { OnOk result (out.new.items ≡ out.old.items ++ refusal_text refusal) }
+{
+    match refusal {
+        None => Ok(()),
+        Some((made, refusal)) => {
+            let event = event_behind(made)?;
+            push_refused(alloc, out, event, refusal.number())
+        }
+    }
+}
+
+/// A line for each crash of which something is left, the numbers, and which event was refused, if one was.
+pub fn text_of(alloc: Global, trials: &[Trial], refusal: Refusal) -> Result<Vec<u8>, AllocError>
+    ensures { IfOk result (λ text. text.items ≡ crashes_text trials.now refusal) }
+{
+    let mut out = Vec::new(alloc);
+    push_trials(&mut out, trials)?;
+    push_totals(&mut out, trials)?;
+    push_refusal(alloc, &mut out, refusal)?;
+    Ok(out)
+}

@@ -1,0 +1,4 @@
+pub mod Audits
+pub mod Points
+pub mod Runs
+pub mod Trials

@@ -1,0 +1,48 @@
+//! What the processes of a run have written and sent, counted.
+
+ghost use Rattle.std.specs.Prelude.{◌≡◌, ◌++◌, IfErr, IfOk};
+ghost use Rattle.run_counts.specs.Counts.{rows_of};
+ghost use Rattle.tree_world.specs.Worlds.{state};
+ghost use Rattle.tree_engine.specs.Trees.{IsNumbered, counts_text, ending, last_line, trace_of};
+
+use crate::trace::{discard, trace};
+use crate::tree::Refusal;
+use log_store::MemoryStore;
+use report_io::{Failure, Status};
+use run_counts::{RunCounts, push_counts};
+use std::alloc::{AllocError, Global};
+use tree_world::World;
+
+/// The counts of all steps that were made, each of which is made anew once.
+fn counted(alloc: Global, world: &World<MemoryStore>) -> Result<RunCounts, AllocError>
+    ensures { IfOk result (λ counts. counts ≡ rows_of (state world.now).tree (state world.now).entries) }
+{
+    let mut counts = RunCounts::new(alloc, world.tree().entries())?;
+    for place in 0..world.made() {
+        let Some(entry) = world.entry(place)? else {
+            return Ok(counts);
+        };
+        let added = counts.add(&entry);
+        discard(entry);
+        added?;
+    }
+    Ok(counts)
+}
+
+/// The trace of what the tree has come to, how its run ended, and the counts behind it.
+pub(crate) fn counted_trace(
+    alloc: Global,
+    world: &World<MemoryStore>,
+    refusal: Refusal,
+) -> Result<(Vec<u8>, Status), Failure>
+    requires { IsNumbered refusal }
+    ensures text { IfOk result (λ r. r.0.items ≡ (trace_of (state world.now) ++ last_line refusal)
+        ++ counts_text (state world.now)) }
+    ensures status { IfOk result (λ r. r.1 ≡ ending refusal) }
+    ensures memory { IfErr result (λ e. e ≡ Failure.Memory) }
+{
+    let (mut text, status) = trace(alloc, world, refusal)?;
+    let counts = counted(alloc, world)?;
+    push_counts(&mut text, &counts)?;
+    Ok((text, status))
+}

@@ -1,0 +1,9 @@
+-- The records of a process's log that are not forced.
+use Rattle.std.specs.Prelude.{Option, Some, None, List, []}
+use Rattle.tree_model.specs.declared.records.LogRecord.{LogRecord}
+use Rattle.core_model.specs.States.{CoreState}
+
+-- the records of a process's log behind its forced front; none, where there is no such process
+abbrev pub unforced_by : Option CoreState → List LogRecord
+unforced_by None = []
+unforced_by (Some s) = s.log.kept.unforced
