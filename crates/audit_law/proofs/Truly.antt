@@ -33,7 +33,8 @@ use Rattle.world_law.specs.Worlds.{WorldState}
 use Rattle.tree_world.specs.Nodes.{SpellsLogBy, log_kind}
 use Rattle.tree_engine.specs.declared.tree.Output.TheVariants.{Logs}
 use Rattle.tree_engine.specs.Logs.{AreLogs, LeavesLogs}
-use Rattle.tree_engine.specs.Trees.{Saying, Tells, ending}
+use Rattle.tree_engine.specs.Trees.{Tells, ending}
+use Rattle.world_law.specs.Sayings.{Saying}
 use Rattle.tree_audit.specs.Reports.{entry_kind, kept_lists, mismatches_in, whole_records}
 use Rattle.tree_audit.specs.Truths.{AreKeptBehind, AreTrue}
 use Rattle.tree_audit.proofs.TreePlaces.{listed_entry, named_so, not_found, role_if}

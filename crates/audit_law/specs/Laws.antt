@@ -18,7 +18,8 @@ use Rattle.world_law.specs.Refusals.{Refusal}
 use Rattle.world_law.specs.Worlds.{WorldState}
 use Rattle.tree_engine.specs.declared.tree.Output.{Output}
 use Rattle.tree_engine.specs.declared.tree.Output.TheVariants.{Logs, Trace}
-use Rattle.tree_engine.specs.Trees.{RunsScript, Saying, Tells}
+use Rattle.tree_engine.specs.Trees.{RunsScript, Tells}
+use Rattle.world_law.specs.Sayings.{Saying}
 
 -- each number in these logs is a byte
 abbrev pub AreByteLogs : List ProcessLog → Type 0

@@ -1,4 +1,4 @@
-use Rattle.tree_engine.specs.Trees.{IsOne, KeepsHeadline}
+use Rattle.world_law.specs.Sayings.{IsOne, KeepsHeadline}
 use Rattle.audit_law.proofs.Truly.{audits_true}
 use Rattle.audit_law.proofs.law.audits_of_left_logs_are_true.Goals as goal
 
