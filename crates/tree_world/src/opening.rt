@@ -10,6 +10,7 @@ ghost use Rattle.tree_model.specs.Names.{same_process};
 ghost use Rattle.tree_model.specs.Nodes.{Role, role_by};
 ghost use Rattle.tree_model.specs.Trees.{IsTree};
 ghost use Rattle.world_law.specs.Runs.{IsOpened};
+ghost use Rattle.world_law.specs.Sayings.{KeepsHeadline, SaidBehindFaults};
 ghost use Rattle.tree_world.specs.Openings.{AreOpened, OpenedAs, OpenedAt};
 ghost use Rattle.tree_world.specs.Nodes.{core_of, nodes_at};
 ghost use Rattle.tree_world.specs.Worlds.{state};
@@ -241,11 +242,14 @@ fn memory_stores(alloc: Global, count: usize) -> Result<Vec<MemoryStore>, AllocE
 
 impl<L: LogStore + Drop> World<L> {
     /// A tree whose processes have opened empty logs: boot 1, forced. The tree is one that passed its check. Each process
-    /// has a store without bytes, in the order of the tree; those that are left over are let go, and so are all behind a
-    /// refusal.
+    /// has a store without bytes, in the order of the tree; those that are left over are let go.
+    ///
+    /// Memory: a growth was refused. Device: the device of the store of this process failed. Store: there is no store for
+    /// this process, or bytes stand in it. Behind a refusal all stores are let go.
     pub fn with_stores(alloc: Global, tree: Tree, stores: Vec<L>) -> Result<World<L>, OpenError>
         requires { IsTree tree }
-        ensures { IfOk result (λ world. IsOpened (state world) tree) }
+        ensures opened { IfOk result (λ world. IsOpened (state world) tree) }
+        ensures headline { IfOk result (λ world. SaidBehindFaults KeepsHeadline (state world)) }
     {
         let nodes = opened_over(alloc, tree.entries(), stores)?;
         Ok(World {
@@ -263,7 +267,8 @@ impl World<MemoryStore> {
     /// The same over stores in memory. Memory is the only refusal that comes.
     pub fn new(alloc: Global, tree: Tree) -> Result<World<MemoryStore>, OpenError>
         requires { IsTree tree }
-        ensures { IfOk result (λ world. IsOpened (state world) tree) }
+        ensures opened { IfOk result (λ world. IsOpened (state world) tree) }
+        ensures headline { IfOk result (λ world. SaidBehindFaults KeepsHeadline (state world)) }
     {
         let stores = memory_stores(alloc, tree.entries().len())?;
         World::with_stores(alloc, tree, stores)
