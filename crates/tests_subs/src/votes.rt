@@ -2,6 +2,7 @@
 
 use crate::players::{own_case, root_case};
 use fake_manager::FakeManager;
+use manager_model::ResourceManager;
 use std::alloc::{AllocError, Global};
 use std::test::Fail;
 use sub_core::Subordinate;
@@ -14,8 +15,8 @@ fn opened(alloc: Global, refuses: bool) -> Result<Subordinate<FakeManager>, Allo
     Ok(Subordinate::open(alloc, ProcessId(2), ProcessId(1), tree, manager))
 }
 
-fn heard(
-    player: &mut Subordinate<FakeManager>,
+fn heard<M: ResourceManager>(
+    player: &mut Subordinate<M>,
     number: u64,
     message: Message,
 ) -> Result<Reaction, Fail> {
@@ -28,9 +29,9 @@ fn heard(
     }
 }
 
-// These say nothing of the process that they leave, so that the proof of a test stays short.
+// These say nothing of the process that they leave, and are for any manager, so that the proof of a test stays short.
 
-fn join(player: &mut Subordinate<FakeManager>) -> Result<Reaction, Fail> {
+fn join<M: ResourceManager>(player: &mut Subordinate<M>) -> Result<Reaction, Fail> {
     heard(
         player,
         1,
@@ -38,21 +39,21 @@ fn join(player: &mut Subordinate<FakeManager>) -> Result<Reaction, Fail> {
     )
 }
 
-fn work(player: &mut Subordinate<FakeManager>, op: Op) -> Result<Reaction, Fail> {
+fn work<M: ResourceManager>(player: &mut Subordinate<M>, op: Op) -> Result<Reaction, Fail> {
     let own = own_case(Presumption::PresumeAbort, 1, 1);
     heard(player, 2, Message::Work(own, 1, op))
 }
 
-fn prepare(player: &mut Subordinate<FakeManager>) -> Result<Reaction, Fail> {
+fn prepare<M: ResourceManager>(player: &mut Subordinate<M>) -> Result<Reaction, Fail> {
     let own = own_case(Presumption::PresumeAbort, 1, 1);
     heard(player, 3, Message::Prepare(own, 1))
 }
 
 /// What a process with one work votes.
-fn vote(player: &mut Subordinate<FakeManager>, op: Op) -> Result<Reaction, Fail> {
-    join(player)?;
-    work(player, op)?;
-    prepare(player)
+fn vote<M: ResourceManager + Drop>(mut player: Subordinate<M>, op: Op) -> Result<Reaction, Fail> {
+    join(&mut player)?;
+    work(&mut player, op)?;
+    prepare(&mut player)
 }
 
 fn key(alloc: Global) -> Result<Bytes, AllocError> {
@@ -63,6 +64,10 @@ fn put(alloc: Global) -> Result<Op, AllocError> {
     Ok(Op::Put(key(alloc)?, key(alloc)?))
 }
 
+fn get(alloc: Global) -> Result<Op, AllocError> {
+    Ok(Op::Get(key(alloc)?))
+}
+
 /// The one message of a reaction, if it has one.
 fn only(reaction: &Reaction) -> Option<&Message> {
     match reaction.messages.as_slice() {
@@ -71,35 +76,47 @@ fn only(reaction: &Reaction) -> Option<&Message> {
     }
 }
 
-#[test]
-fn a_branch_that_wrote_votes_yes(rt: HostRuntime) -> Result<(), Fail> {
-    let alloc = rt.alloc();
-    let mut player = opened(alloc, false)?;
-    let reaction = vote(&mut player, put(alloc)?)?;
-    match only(&reaction) {
+fn says_yes(reaction: &Reaction) -> Result<(), Fail> {
+    match only(reaction) {
         Some(Message::Yes(_)) => Ok(()),
         _ => Err(Fail::from("YES")),
     }
 }
 
-#[test]
-fn a_branch_that_read_votes_read(rt: HostRuntime) -> Result<(), Fail> {
-    let alloc = rt.alloc();
-    let mut player = opened(alloc, false)?;
-    let reaction = vote(&mut player, Op::Get(key(alloc)?))?;
-    match only(&reaction) {
+fn says_read(reaction: &Reaction) -> Result<(), Fail> {
+    match only(reaction) {
         Some(Message::Read(_)) => Ok(()),
         _ => Err(Fail::from("READ")),
     }
 }
 
-#[test]
-fn a_branch_whose_work_was_refused_votes_no(rt: HostRuntime) -> Result<(), Fail> {
-    let alloc = rt.alloc();
-    let mut player = opened(alloc, true)?;
-    let reaction = vote(&mut player, put(alloc)?)?;
-    match only(&reaction) {
+fn says_no(reaction: &Reaction) -> Result<(), Fail> {
+    match only(reaction) {
         Some(Message::No(_)) => Ok(()),
         _ => Err(Fail::from("NO")),
     }
+}
+
+#[test]
+fn a_branch_that_wrote_votes_yes(rt: HostRuntime) -> Result<(), Fail> {
+    let alloc = rt.alloc();
+    let player = opened(alloc, false)?;
+    let reaction = vote(player, put(alloc)?)?;
+    says_yes(&reaction)
+}
+
+#[test]
+fn a_branch_that_read_votes_read(rt: HostRuntime) -> Result<(), Fail> {
+    let alloc = rt.alloc();
+    let player = opened(alloc, false)?;
+    let reaction = vote(player, get(alloc)?)?;
+    says_read(&reaction)
+}
+
+#[test]
+fn a_branch_whose_work_was_refused_votes_no(rt: HostRuntime) -> Result<(), Fail> {
+    let alloc = rt.alloc();
+    let player = opened(alloc, true)?;
+    let reaction = vote(player, put(alloc)?)?;
+    says_no(&reaction)
 }
