@@ -89,7 +89,7 @@ fn report(alloc: Global, output: Output, input: &[u8]) -> Result<(Vec<u8>, Statu
 {
     match read(alloc, input) {
         Ok((tree, events)) => {
-            let (world, refusal) = play(alloc, tree, &events)?;
+            let (world, refusal) = play_out(alloc, tree, events)?;
             told(alloc, output, &world, refusal)
         }
         Err(ScriptError::Fault(fault)) => Ok((refusal(alloc, fault)?, Status::Refused)),
@@ -161,6 +161,20 @@ fn play(
             Ok((world, Some((made, refusal))))
         }
     }
+}
+
+/// The same, and lets go of the events, so that their room serves what is written.
+fn play_out(
+    alloc: Global,
+    tree: Tree,
+    events: Vec<Event>,
+) -> Result<(World<MemoryStore>, Refusal), Failure>
+    requires { IsTree tree }
+    ensures plays { IfOk result (λ r. Plays tree events.items r.1 (state r.0)) }
+    ensures numbered { IfOk result (λ r. IsNumbered r.1) }
+    ensures memory { IfErr result (λ e. e ≡ Failure.Memory) }
+{
+    play(alloc, tree, &events)
 }
 
 /// What is written of the tree that has come so far, and how its run ended.
