@@ -1,5 +1,5 @@
 -- What is written of a tree script.
-use Rattle.std.proofs.Common.{◌≡◌, sym, ℕ, Some, None, List, Result, Ok, Err, IfOk}
+use Rattle.std.proofs.Common.{◌≡◌, ℕ, Some, None, List, Result, Ok, Err, IfOk}
 use Rattle.tree_model.specs.declared.trees.TreeEntry.{TreeEntry}
 use Rattle.tree_model.specs.declared.events.Event.{Event}
 use Rattle.tree_model.specs.World.{Made, World}
