@@ -50,7 +50,8 @@ unfolding how_many is_listed
 none_listed [] q h = refl
 none_listed (x ∷ fs) q h = by_test (same_process x.id q) h (none_listed fs q)
   where
-    by_test : (b : Bool) → (if b then 1 + how_many (λ x. same_process x.id q) fs else how_many (λ x. same_process x.id q) fs) ≡ 0
+    by_test : (b : Bool) → (if b then 1 + how_many (λ x. same_process x.id q) fs else how_many
+        (λ x. same_process x.id q) fs) ≡ 0
         → (how_many (λ x. same_process x.id q) fs ≡ 0 → list_any (λ x. same_process x.id q) fs ≡ false)
         → (b || list_any (λ x. same_process x.id q) fs) ≡ false
     by_test true z rest = absurd (omega (arith, z))
@@ -111,7 +112,8 @@ one_named (f ∷ es) (m ∷ ls) e l are is = (are.0, one_named es ls e l are.1 i
 listed_behind : (fs es : List TreeEntry) (e : TreeEntry) → is_listed (fs ++ e ∷ es) e.id ≡ true
 unfolding is_listed
 listed_behind [] es e = ap (λ b. b || list_any (λ x. same_process x.id e.id) es) (itself e.id)
-listed_behind (x ∷ fs) es e = later (same_process x.id e.id) (list_any (λ y. same_process y.id e.id) (fs ++ e ∷ es)) (listed_behind fs es e)
+listed_behind (x ∷ fs) es e = later (same_process x.id e.id) (list_any (λ y. same_process y.id e.id) (fs ++ e ∷ es))
+    (listed_behind fs es e)
   where
     later : (a b : Bool) → b ≡ true → (a || b) ≡ true
     later true b h = refl

@@ -153,14 +153,17 @@ module _ (d : Detail) (tree : List TreeEntry) (logs : List ProcessLog) (w : Worl
   }
 
   audited : (e : Ending) → IsAudited d e tree logs report → AuditsTruly d tree w text e report
-  audited ending.Agrees (reports, ends) = reported ending.Agrees (ap (λ b. if b then ending.Agrees else ending.Differs) (sym ends)) reports
-  audited ending.Differs (reports, ends) = reported ending.Differs (ap (λ b. if b then ending.Agrees else ending.Differs) (sym ends)) reports
+  audited ending.Agrees (reports, ends) = reported ending.Agrees (ap
+      (λ b. if b then ending.Agrees else ending.Differs) (sym ends)) reports
+  audited ending.Differs (reports, ends) = reported ending.Differs (ap
+      (λ b. if b then ending.Agrees else ending.Differs) (sym ends)) reports
   audited ending.Refused damage = told ending.Refused damage
 
   of_logs : (e : Ending) → AuditsLogs d e text report → AuditsTruly d tree w text e report
   of_logs e a =
       let same = read_in_one_way text a.tree tree a.logs logs a.says says in
-      audited e (subst (λ ms. IsAudited d e tree ms report) same.1 (subst (λ fs. IsAudited d e fs a.logs report) same.0 a.audits))
+      audited e (subst (λ ms. IsAudited d e tree ms report) same.1 (subst
+      (λ fs. IsAudited d e fs a.logs report) same.0 a.audits))
 
   of_report : (e : Ending) → IsAuditReport d e text report → AuditsTruly d tree w text e report
   of_report ending.Agrees a = of_logs ending.Agrees a
@@ -187,11 +190,13 @@ left_audit end t fit es w follows whole text report d e left a =
 
 ended : (start end : WorldState) (tree : List TreeEntry) (events : List Event) → IsOpened start tree → IsTree end.tree
     → AllByRecursion FitsEntry end.tree → (es : List Made) (w : World) → Follows es w end
-    → (refusal : Refusal) → LeadsTo start events refusal end → Ended ≡ ending refusal → (text report : List ℕ) (d : Detail) (e : Ending)
+    → (refusal : Refusal) → LeadsTo start events refusal end → Ended ≡ ending refusal
+    → (text report : List ℕ) (d : Detail) (e : Ending)
     → (tells : Tells Logs end refusal text) → IsAuditReport d e text report
     → AuditsTruly d end.tree w text e report
 ended start end tree events opens t fit es w follows None leads status text report d e tells a =
-    left_audit end t fit es w follows (none_failed tree start end events es opens leads follows.shown) text report d e tells a
+    left_audit end t fit es w follows (none_failed tree start end events es opens leads follows.shown) text report d
+    e tells a
 ended start end tree events opens t fit es w follows (Some refused) leads status text report d e tells a = absurd (cc)
 
 pub audits_true : (Holds : Saying) → AuditsOfLeftLogsAreTrue Holds
