@@ -12,9 +12,8 @@ use Rattle.logs_script.specs.Logs.{bytes_of, each_has_log, has_log}
 use Rattle.logs_spelling.specs.Fits.{FitsEntry, FitsLogs}
 use Rattle.world_law.specs.Worlds.{WorldState}
 use Rattle.tree_world.specs.Nodes.{SpellsLogBy}
-use Rattle.tree_engine.specs.Logs.{AreLogs}
+use Rattle.tree_engine.specs.Logs.{AreByteLogs, AreLogs}
 use Rattle.tree_audit.proofs.TreePlaces.{counted, here_once, how_many, itself, no_more, times_both}
-use Rattle.audit_law.specs.Laws.{AreByteLogs}
 
 some_entry : (a b : TreeEntry) → Some a ≡ Some b → a ≡ b
 some_entry a b e = cc

@@ -43,7 +43,7 @@ use Rattle.audit_engine.specs.Audits.{AuditsLogs, IsAudited, IsAuditReport, OfIn
 use Rattle.audit_engine.specs.declared.detail.Detail.{Detail}
 use Rattle.audit_engine.specs.declared.ending.Ending.{Ending}
 use Rattle.audit_engine.specs.declared.ending.Ending.TheVariants as ending
-use Rattle.audit_law.specs.Laws.{AreByteLogs, AuditsOfLeftLogsAreTrue, AuditsTruly, WritesBytes}
+use Rattle.audit_law.specs.Laws.{AuditsOfLeftLogsAreTrue, AuditsTruly}
 use Rattle.audit_law.proofs.Entries.{none_failed}
 use Rattle.audit_law.proofs.Kept.{own_kept}
 use Rattle.audit_law.proofs.Left.{logs_fit, spells_at}
@@ -181,11 +181,11 @@ script_fits input tree events script =
 
 left_audit : (end : WorldState) → IsTree end.tree → AllByRecursion FitsEntry end.tree → (es : List Made) (w : World)
     → Follows es w end → NoneFailed es → (text report : List ℕ) (d : Detail) (e : Ending) (left : LeavesLogs end text)
-    → AreByteLogs left.logs → IsAuditReport d e text report → AuditsTruly d end.tree w text e report
-left_audit end t fit es w follows whole text report d e left bytes a =
+    → IsAuditReport d e text report → AuditsTruly d end.tree w text e report
+left_audit end t fit es w follows whole text report d e left a =
     let fits : FitsTree end.tree = record { entries_fit = fit; is_tree = t } in
     let says = subst (λ x. IsLogsText x end.tree left.logs) (sym left.is)
-    (written_is_read end.tree left.logs fits (logs_fit end end.tree left.logs t fit bytes left.are)) in
+    (written_is_read end.tree left.logs fits (logs_fit end end.tree left.logs t fit left.bytes left.are)) in
     of_report d end.tree left.logs w text report says
     (λ none. true_of_runs end.tree t left.logs es w (left_behind end t es w follows left.logs left.are none whole)) e a
 
@@ -193,18 +193,18 @@ ended : (start end : WorldState) (tree : List TreeEntry) (events : List Event) �
     → AllByRecursion FitsEntry end.tree → (es : List Made) (w : World) → Follows es w end
     → (refusal : Refusal) → LeadsTo start events refusal end → Ended ≡ ending refusal
     → (text report : List ℕ) (d : Detail) (e : Ending)
-    → (tells : Tells Logs end refusal text) → WritesBytes Logs end refusal text tells → IsAuditReport d e text report
+    → (tells : Tells Logs end refusal text) → IsAuditReport d e text report
     → AuditsTruly d end.tree w text e report
-ended start end tree events opens t fit es w follows None leads status text report d e tells bytes a =
+ended start end tree events opens t fit es w follows None leads status text report d e tells a =
     left_audit end t fit es w follows (none_failed tree start end events es opens leads follows.shown) text report d
-    e tells bytes a
-ended start end tree events opens t fit es w follows (Some refused) leads status text report d e tells bytes a = absurd (cc)
+    e tells a
+ended start end tree events opens t fit es w follows (Some refused) leads status text report d e tells a = absurd (cc)
 
 pub audits_true : (Holds : Saying) → AuditsOfLeftLogsAreTrue Holds
-audits_true Holds input text report d e script bytes a =
+audits_true Holds input text report d e script a =
     let runs = script.runs in
     let fits = script_fits input script.tree script.events script.script in
     subst (λ tree. AuditsTruly d tree runs.world text e report) runs.tree_is
     (ended runs.start runs.end script.tree script.events runs.opens (subst IsTree (sym runs.tree_is) fits.1)
     (subst (AllByRecursion FitsEntry) (sym runs.tree_is) fits.0) runs.moves runs.world runs.follows runs.refusal runs.leads
-    runs.status_is text report d e runs.tells bytes a)
+    runs.status_is text report d e runs.tells a)

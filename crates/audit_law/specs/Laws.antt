@@ -1,6 +1,5 @@
 -- That the audit of the logs which a run of a tree script leaves is the audit of that run.
-use Rattle.std.specs.Prelude.{◌≡◌, ◌<◌, ⊤, ℕ, All, List, Some, None}
-use Rattle.std.specs.List.{AllByRecursion}
+use Rattle.std.specs.Prelude.{◌≡◌, ℕ, List, Some, None}
 use Rattle.tree_model.specs.declared.names.ProcessId.{ProcessId}
 use Rattle.tree_model.specs.declared.trees.TreeEntry.{TreeEntry}
 use Rattle.tree_model.specs.World.{World}
@@ -14,23 +13,9 @@ use Rattle.audit_engine.specs.Audits.{IsAuditReport, detailed_text, ending_by}
 use Rattle.audit_engine.specs.declared.detail.Detail.{Detail}
 use Rattle.audit_engine.specs.declared.ending.Ending.{Ending}
 use Rattle.report_io.specs.declared.status.Status.TheVariants.{Ended}
-use Rattle.world_law.specs.Refusals.{Refusal}
-use Rattle.world_law.specs.Worlds.{WorldState}
-use Rattle.tree_engine.specs.declared.tree.Output.{Output}
-use Rattle.tree_engine.specs.declared.tree.Output.TheVariants.{Logs, Trace}
-use Rattle.tree_engine.specs.Trees.{RunsScript, Tells}
+use Rattle.tree_engine.specs.declared.tree.Output.TheVariants.{Logs}
+use Rattle.tree_engine.specs.Trees.{RunsScript}
 use Rattle.world_law.specs.Sayings.{Saying}
-
--- each number in these logs is a byte
-abbrev pub AreByteLogs : List ProcessLog → Type 0
-AreByteLogs logs = AllByRecursion (λ l. All (λ b. b < 256) l.bytes) logs
-
--- where logs were written, each number in them is a byte
-abbrev pub WritesBytes : (output : Output) (w : WorldState) (refusal : Refusal) (text : List ℕ)
-    → Tells output w refusal text → Type 0
-WritesBytes Logs w None text left = AreByteLogs left.logs
-WritesBytes Logs w (Some refused) text told = ⊤
-WritesBytes Trace w refusal text told = ⊤
 
 -- the report tells lines that are true in this world, in as much detail as was asked for, and the audit ends as
 -- one does with so many mismatches
@@ -56,5 +41,4 @@ pub record AuditsTruly (d : Detail) (tree : List TreeEntry) (w : World) (text : 
 abbrev pub AuditsOfLeftLogsAreTrue : Saying → Type 0
 AuditsOfLeftLogsAreTrue Holds = (input text report : List ℕ) (d : Detail) (ending : Ending)
     → (script : RunsScript Holds Logs Ended input text)
-    → WritesBytes Logs script.runs.end script.runs.refusal text script.runs.tells
     → IsAuditReport d ending text report → AuditsTruly d script.tree script.runs.world text ending report

@@ -1,11 +1,12 @@
 -- The logs of the processes, one after another.
+use Rattle.std.specs.List.{All}
 use Rattle.std.proofs.Common.{◌≡◌, sym, subst, ℕ, ◌+◌, ◌<◌, List, [], ◌∷◌, ◌++◌, length, get_or, take}
 use Rattle.std.proofs.lemmas.List.{take_more}
 use Rattle.tree_model.specs.declared.trees.TreeEntry.{TreeEntry}
 use Rattle.logs_script.specs.declared.line.ProcessLog.{ProcessLog}
 use Rattle.world_law.specs.Worlds.{WorldState}
 use Rattle.tree_world.specs.Nodes.{SpellsLogBy}
-use Rattle.tree_engine.specs.Logs.{AreLogs}
+use Rattle.tree_engine.specs.Logs.{AreByteLogs, AreLogs}
 
 one_more : (w : WorldState) (es : List TreeEntry) (ls : List ProcessLog) (e : TreeEntry) (l : ProcessLog) → AreLogs w es ls
     → l.process ≡ e.id → SpellsLogBy (w.node_at e.id) l.bytes → AreLogs w (es ++ e ∷ []) (ls ++ l ∷ [])
@@ -21,3 +22,12 @@ pub tell_more : (w : WorldState) (es : List TreeEntry) (ls more : List ProcessLo
 tell_more w es ls more i e l lt is pushed name spells are =
     rw (take_more es i e lt, ← is) (subst (λ xs. AreLogs w (take i es ++ e ∷ []) xs) (sym pushed)
     (one_more w (take i es) ls e l are name spells))
+
+-- one log more of bytes
+pub bytes_more : (ls more : List ProcessLog) (l : ProcessLog) → more ≡ ls ++ l ∷ [] → All (λ b. b < 256) l.bytes
+    → AreByteLogs ls → AreByteLogs more
+bytes_more ls more l is bytes all = subst AreByteLogs (sym is) (behind ls all)
+  where
+    behind : (ls : List ProcessLog) → AreByteLogs ls → AreByteLogs (ls ++ l ∷ [])
+    behind [] h = (bytes, tt)
+    behind (m ∷ ls) h = (h.0, behind ls h.1)
