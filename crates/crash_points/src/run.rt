@@ -2,6 +2,7 @@
 
 ghost use Rattle.std.specs.Prelude.{◌≡◌, ◌+◌, ◌++◌, [], IfErr, IfOk, List, OnOk};
 ghost use Rattle.tree_model.specs.declared.events.Event.{Event as AnyEvent};
+ghost use Rattle.tree_model.specs.Trees.{IsTree};
 ghost use Rattle.world_law.specs.Runs.{IsOpened};
 ghost use Rattle.world_law.specs.Worlds.{WorldState};
 ghost use Rattle.tree_world.specs.Worlds.{state};
@@ -34,8 +35,9 @@ fn sum(one: usize, more: usize) -> Result<usize, Failure>
 }
 
 impl Run {
-    /// A tree that opens over logs in memory.
+    /// A tree that opens over logs in memory. The tree is one that passed its check.
     pub fn open(alloc: Global, tree: &Tree) -> Result<Run, Failure>
+        requires { IsTree tree.now }
         ensures opened { IfOk result (λ run. IsOpened (state run.world) tree.now) }
         ensures begins { IfOk result (λ run. HasCome (state run.world) [] run) }
         ensures memory { IfErr result (λ e. e ≡ Failure.Memory) }
