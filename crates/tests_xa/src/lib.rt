@@ -2,8 +2,6 @@
 #![tactic(auto)]
 
 #[cfg(test)]
-mod manager_tables;
-#[cfg(test)]
 mod numbers;
 #[cfg(test)]
 mod xa_parts;
