@@ -56,6 +56,12 @@ fn vote<M: ResourceManager + Drop>(mut player: Subordinate<M>, op: Op) -> Result
     prepare(&mut player)
 }
 
+/// The same over a manager that refuses every operation or does what is asked of it.
+fn voted(alloc: Global, refuses: bool, op: Op) -> Result<Reaction, Fail> {
+    let player = opened(alloc, refuses)?;
+    vote(player, op)
+}
+
 fn key(alloc: Global) -> Result<Bytes, AllocError> {
     Ok(Bytes::from_vec(Vec::from_slice(alloc, b"x")?))
 }
@@ -100,23 +106,20 @@ fn says_no(reaction: &Reaction) -> Result<(), Fail> {
 #[test]
 fn a_branch_that_wrote_votes_yes(rt: HostRuntime) -> Result<(), Fail> {
     let alloc = rt.alloc();
-    let player = opened(alloc, false)?;
-    let reaction = vote(player, put(alloc)?)?;
+    let reaction = voted(alloc, false, put(alloc)?)?;
     says_yes(&reaction)
 }
 
 #[test]
 fn a_branch_that_read_votes_read(rt: HostRuntime) -> Result<(), Fail> {
     let alloc = rt.alloc();
-    let player = opened(alloc, false)?;
-    let reaction = vote(player, get(alloc)?)?;
+    let reaction = voted(alloc, false, get(alloc)?)?;
     says_read(&reaction)
 }
 
 #[test]
 fn a_branch_whose_work_was_refused_votes_no(rt: HostRuntime) -> Result<(), Fail> {
     let alloc = rt.alloc();
-    let player = opened(alloc, true)?;
-    let reaction = vote(player, put(alloc)?)?;
+    let reaction = voted(alloc, true, put(alloc)?)?;
     says_no(&reaction)
 }
