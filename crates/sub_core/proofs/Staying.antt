@@ -20,7 +20,9 @@ use Rattle.core_model.specs.States.{log_behind, wrote}
 use Rattle.core_model.specs.Turns.{Handles, Turn, leaf_in}
 use Rattle.core_model.specs.Makes.{retired_by}
 use Rattle.sub_table.specs.declared.branch.Branch.{Branch}
-use Rattle.sub_table.specs.Tables.{BranchTable, IsKept, branch_in, kept_view, retired_at, ticket_in, view_in}
+use Rattle.sub_table.specs.declared.branch.Stage.{Stage}
+use Rattle.sub_table.specs.declared.branch.Stage.TheVariants.{Active, Heuristic, Prepared}
+use Rattle.sub_table.specs.Tables.{BranchTable, IsKept, branch_in, kept_view, retired_at, takes, ticket_in, view_in}
 use Rattle.sub_core.specs.Subordinates.{Hears, IsAt, SubState, Turns, Writes, active, core_of, decided, prepared, shown, takes_work, turn_for, xid_of}
 use Rattle.sub_core.proofs.Ties.{one}
 use Rattle.sub_core.proofs.Rows.{handled}
@@ -193,3 +195,10 @@ module _ (s : SubState) (c : Case) (kept : IsKept s.table) where
         tickets = λ k d. never_worked k i op c d (ticket_in s.table d);
         writes = passed s c i op (ap (λ (o : Option Branch). takes_work o i) at.live ∙ unfit);
       }
+
+  -- whatever its stage, a branch that does not take the work stays as it is
+  pub work_untaken : (i : ℕ) (op : Op) (key : ℕ) (x : Xid) (st : Stage) → IsAt s.table key c (record { xid = x; stage = st })
+      → takes st i ≡ false → Stays s c (Work c i op) (unmoved (view_in s.table c))
+  work_untaken i op key x (Active g n p) at untaken = work_passed i op key x g n p at untaken
+  work_untaken i op key x Prepared at untaken = work_prepared i op key x at
+  work_untaken i op key x (Heuristic told) at untaken = work_decided i op key x told at

@@ -1,5 +1,5 @@
 -- A subordinate: a process below a parent, with a resource manager.
-use Rattle.std.specs.Prelude.{◌≡◌, ◌≢◌, ◌≤◌, ◌+◌, ◌==◌, ◌&&◌, not, ℕ, Bool, true, false, is_none, if◌then◌else◌, Option, Some, None, List, [], ◌∷◌, map}
+use Rattle.std.specs.Prelude.{◌≡◌, ◌≢◌, ◌≤◌, ◌&&◌, ℕ, Bool, true, false, is_none, if◌then◌else◌, Option, Some, None, List, [], ◌∷◌, map}
 use Rattle.xa_tables.specs.declared.states.BranchState.{BranchState}
 use Rattle.xa_tables.specs.declared.states.BranchState.TheVariants.{S2, S3, S4, S5}
 use Rattle.xa_xid.specs.declared.xid.Xid.{Xid}
@@ -45,7 +45,7 @@ use Rattle.sub_table.specs.declared.branch.Branch.{Branch}
 use Rattle.sub_table.specs.declared.branch.Stage.{Stage}
 use Rattle.sub_table.specs.declared.branch.Stage.TheVariants.{Active, Heuristic, Prepared}
 use Rattle.live_table.specs.Tables.{entry_at}
-use Rattle.sub_table.specs.Tables.{BranchTable, branch_in, ticket_in, view_in}
+use Rattle.sub_table.specs.Tables.{BranchTable, branch_in, takes, ticket_in, view_in}
 
 -- what a subordinate is: where it sits, how many tickets it gave in this boot, its live branches, and its
 -- manager
@@ -172,15 +172,10 @@ turn_for s m = manager_turn (core_of s) s.parent (answer_for s m) m
 
 -- What the manager's branches have written.
 
--- a branch at this stage takes the work with this number
-abbrev pub stage_takes : Stage → ℕ → Bool
-stage_takes (Active d done spoiled) i = (i == done + 1) && not spoiled
-stage_takes _ i = false
-
 -- a case of which this is kept takes the work with this number
 abbrev pub takes_work : Option Branch → ℕ → Bool
 takes_work None i = false
-takes_work (Some b) i = stage_takes b.stage i
+takes_work (Some b) i = takes b.stage i
 
 -- what the branch of a case has written behind a work: what the operation writes, where the case takes the
 -- work and the data are not in its way

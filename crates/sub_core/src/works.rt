@@ -1,6 +1,6 @@
 //! WORK: done in order, and nothing after a refusal.
 
-ghost use Rattle.std.specs.Prelude.{◌≡◌, ◌+◌, ◌==◌, ◌&&◌, not, false, IfErr, IfOk};
+ghost use Rattle.std.specs.Prelude.{◌≡◌, ◌+◌, false, IfErr, IfOk};
 ghost use Rattle.tree_model.specs.declared.messages.Message.TheVariants as message;
 ghost use Rattle.sub_core.specs.Subordinates.{Hears, IsAt, NotHeard, active, seen};
 
@@ -8,16 +8,8 @@ use crate::replies::silence;
 use crate::subordinate::{Subordinate, find_branch};
 use manager_model::ResourceManager;
 use sub_deeds::work;
-use sub_table::Stage;
 use tree_model::{Case, Op, Reaction, StepError};
 use xa_xid::Xid;
-
-/// Whether the work with this number is the next one of a branch that has done so many.
-fn is_next(done: u64, number: u64, spoiled: bool) -> bool
-    ensures { result ≡ ((number == done + 1) && not spoiled) }
-{
-    !spoiled && number > done && number - done == 1
-}
 
 impl<M: ResourceManager> Subordinate<M> {
     /// The next work of an Active case. Where the data are in its way the branch is spoiled.
@@ -59,20 +51,11 @@ impl<M: ResourceManager> Subordinate<M> {
         let Some((key, branch)) = find_branch(&self.branches, &case) else {
             return Ok(silence(self.alloc));
         };
-        match branch.stage {
-            Stage::Prepared => Ok(silence(self.alloc)),
-            Stage::Heuristic { .. } => Ok(silence(self.alloc)),
-            Stage::Active {
-                given_for,
-                done,
-                spoiled,
-            } => {
-                if is_next(done, number, spoiled) {
-                    self.work_on(key, case, given_for, done, number, branch.xid, op)
-                } else {
-                    Ok(silence(self.alloc))
-                }
+        match branch.stage.takes(number) {
+            Some((given_for, done)) => {
+                self.work_on(key, case, given_for, done, number, branch.xid, op)
             }
+            None => Ok(silence(self.alloc)),
         }
     }
 }

@@ -1,7 +1,7 @@
 //! What a subordinate keeps of a live branch.
 
 ghost use Rattle.std.specs.Prelude.{◌≡◌};
-ghost use Rattle.sub_table.specs.Tables.{awaits};
+ghost use Rattle.sub_table.specs.Tables.{TakesBy, awaits};
 
 use tree_model::{Case, Outcome};
 use xa_xid::Xid;
@@ -30,6 +30,28 @@ impl Stage {
         ensures { result ≡ awaits self }
     {
         matches!(self, Stage::Prepared | Stage::Heuristic { told: None })
+    }
+
+    /// The parent's case and how many works are done, where the branch takes the work with this number: it is Active, no
+    /// work was refused, and this is the next one.
+    pub fn takes(self, number: u64) -> Option<(Case, u64)>
+        ensures { TakesBy self number result }
+    {
+        match self {
+            Stage::Active {
+                given_for,
+                done,
+                spoiled,
+            } => {
+                if !spoiled && number > done && number - done == 1 {
+                    Some((given_for, done))
+                } else {
+                    None
+                }
+            }
+            Stage::Prepared => None,
+            Stage::Heuristic { .. } => None,
+        }
     }
 }
 
