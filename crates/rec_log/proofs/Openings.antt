@@ -8,7 +8,7 @@ use Rattle.log_text.specs.Reading.{read_record}
 use Rattle.log_order.specs.Orders.{SeenLog, after, nothing_seen}
 use Rattle.log_order.specs.Logs.{LogReading, Whole, Damaged, frame_by, read_frames, record_by, seen_by, with_first}
 use Rattle.rec_log.specs.Texts.{and_records, is_whole, records_in, whole_if}
-use Rattle.rec_log.specs.Openings.{Ends}
+use Rattle.rec_log.specs.Openings.{Ends, after_frame}
 use Rattle.rec_log.proofs.Frames.{Cuts, cut_there, cuts, more_records, more_whole, nothing_whole, no_records, step, step_whole, taken}
 
 abbrev pub with_all : List LogRecord → LogReading → LogReading
@@ -140,7 +140,7 @@ reads_record p place s t c l r f =
     ap (λ o. record_by place s o (λ u. read_frames p (place + 3 + length c.1) u 0 c.2)) r
     ∙ ap (λ o. seen_by place l o (λ u. read_frames p (place + 3 + length c.1) u 0 c.2)) f
 
-pub reads_on : (p : Kind) (bytes rest : List ℕ) (s t : SeenLog) (c : Cut) (l : LogRecord)
+reads_on : (p : Kind) (bytes rest : List ℕ) (s t : SeenLog) (c : Cut) (l : LogRecord)
     → Reads p bytes s rest → first_frame rest ≡ Some c
     → read_record p c.0 c.1 ≡ Some l → after s l ≡ Some t → Reads p bytes t c.2
 reads_on p bytes rest s t c l h e r f =
@@ -164,6 +164,16 @@ reads_on p bytes rest s t c l h e r f =
           (read_frames p (5 + length (h.sound ++ a.frame)) t 0 c.2))
           ∙ ap (λ ls. with_all ls (read_frames p (5 + length (h.sound ++ a.frame)) t 0 c.2)) (sym all);
     }
+
+-- the record of the frame may follow
+pub reads_next : (p : Kind) (bytes rest : List ℕ) (s t : SeenLog) (c : Cut) → Reads p bytes s rest
+    → first_frame rest ≡ Some c → after_frame s (read_record p c.0 c.1) ≡ Some t → Reads p bytes t c.2
+reads_next p bytes rest s t c h e f = by_record (read_record p c.0 c.1) refl f
+  where
+    by_record : (o : Option LogRecord) → read_record p c.0 c.1 ≡ o → after_frame s o ≡ Some t
+        → Reads p bytes t c.2
+    by_record None r k = absurd (cc)
+    by_record (Some l) r k = reads_on p bytes rest s t c l h e r k
 
 pub torn_read : (p : Kind) (place : ℕ) (s : SeenLog) (rest : List ℕ) → first_frame rest ≡ None
     → read_frames p place s 0 rest ≡ Whole [] (length rest)
@@ -198,7 +208,7 @@ damaged_at p bytes rest s h place e d =
     ∙ ap Damaged (place_of bytes h.sound rest h.split ∙ sym e)
 
 -- no record is read there
-pub damaged_record : (p : Kind) (bytes rest : List ℕ) (s : SeenLog) (c : Cut) (place : ℕ)
+damaged_record : (p : Kind) (bytes rest : List ℕ) (s : SeenLog) (c : Cut) (place : ℕ)
     → Reads p bytes s rest → first_frame rest ≡ Some c
     → read_record p c.0 c.1 ≡ None → place ≡ 5 + (length bytes - length rest)
     → read_frames p 5 nothing_seen 0 bytes ≡ Damaged place
@@ -208,7 +218,7 @@ damaged_record p bytes rest s c place h e r is =
     (λ u. read_frames p (5 + length h.sound + 3 + length c.1) u 0 c.2)) r)
 
 -- the record may not follow
-pub damaged_order : (p : Kind) (bytes rest : List ℕ) (s : SeenLog) (c : Cut) (l : LogRecord) (place : ℕ)
+damaged_order : (p : Kind) (bytes rest : List ℕ) (s : SeenLog) (c : Cut) (l : LogRecord) (place : ℕ)
     → Reads p bytes s rest → first_frame rest ≡ Some c
     → read_record p c.0 c.1 ≡ Some l → after s l ≡ None → place ≡ 5 + (length bytes - length rest)
     → read_frames p 5 nothing_seen 0 bytes ≡ Damaged place
@@ -218,6 +228,17 @@ damaged_order p bytes rest s c l place h e r f is =
     (λ u. read_frames p (5 + length h.sound + 3 + length c.1) u 0 c.2)) r
     ∙ ap (λ o. seen_by (5 + length h.sound) l o
     (λ u. read_frames p (5 + length h.sound + 3 + length c.1) u 0 c.2)) f)
+
+-- there is no record, or it may not follow
+pub damaged_next : (p : Kind) (bytes rest : List ℕ) (s : SeenLog) (c : Cut) (place : ℕ)
+    → Reads p bytes s rest → first_frame rest ≡ Some c → after_frame s (read_record p c.0 c.1) ≡ None
+    → place ≡ 5 + (length bytes - length rest) → read_frames p 5 nothing_seen 0 bytes ≡ Damaged place
+damaged_next p bytes rest s c place h e f is = by_record (read_record p c.0 c.1) refl f
+  where
+    by_record : (o : Option LogRecord) → read_record p c.0 c.1 ≡ o → after_frame s o ≡ None
+        → read_frames p 5 nothing_seen 0 bytes ≡ Damaged place
+    by_record None r k = damaged_record p bytes rest s c place h e r is
+    by_record (Some l) r k = damaged_order p bytes rest s c l place h e r k is
 
 pub shorter_rest : (p : Kind) (bytes rest : List ℕ) (s : SeenLog) → Reads p bytes s rest
     → length rest ≤ length bytes

@@ -1,9 +1,10 @@
 -- Opening a log over a store.
-use Rattle.std.specs.Prelude.{◌≡◌, ◌<◌, ◌≤◌, ◌⊎◌, ⊤, ℕ, true, false, List, [], ◌++◌, length, take, drop}
+use Rattle.std.specs.Prelude.{◌≡◌, ◌<◌, ◌≤◌, ◌⊎◌, ⊤, ℕ, true, false, Option, Some, None, List, [], ◌++◌, length, take, drop}
 use Rattle.tree_model.specs.declared.names.Kind.{Kind}
+use Rattle.tree_model.specs.declared.records.LogRecord.{LogRecord}
 use Rattle.log_store.specs.Stores.{SameStore}
 use Rattle.log_order.specs.Logs.{Whole, Damaged, read_frames, read_log}
-use Rattle.log_order.specs.Orders.{nothing_seen}
+use Rattle.log_order.specs.Orders.{SeenLog, after, nothing_seen}
 use Rattle.rec_log.specs.Texts.{is_whole, records_in}
 use Rattle.rec_log.specs.Sights.{LogSight, LogState, bytes_behind, kept_of, records_of}
 use Rattle.log_text.specs.Frames.{header}
@@ -11,6 +12,11 @@ use Rattle.rec_log.specs.declared.opening.Found.{Found}
 use Rattle.rec_log.specs.declared.opening.Found.TheVariants.{Empty, Sound}
 use Rattle.rec_log.specs.declared.opening.OpenError.{OpenError}
 use Rattle.rec_log.specs.declared.opening.OpenError.TheVariants.{Memory, Device, Damaged as DamagedError}
+
+-- what was seen once the record of a frame is taken; none, where there is no record or it may not follow
+abbrev pub after_frame : SeenLog → Option LogRecord → Option SeenLog
+after_frame s None = None
+after_frame s (Some l) = after s l
 
 -- the frames in these bytes are sound, but for a torn tail of so many bytes
 pub record Ends (p : Kind) (bytes : List ℕ) (torn : ℕ) : Type 0 where

@@ -1,8 +1,9 @@
 //! Opening a log over the bytes of a store.
 
-ghost use Rattle.std.specs.Prelude.{◌≡◌, ◌≤◌, ◌-◌, IfOk, IfErr, OnOk, length, take, drop};
+ghost use Rattle.std.specs.Prelude.{◌≡◌, ◌≤◌, ◌-◌, None, Some, IfOk, IfErr, OnOk, length, take, drop};
+ghost use Rattle.log_text.specs.Reading.{read_record};
 ghost use Rattle.log_text.specs.Frames.{header};
-ghost use Rattle.rec_log.specs.Openings.{Ends, IsFault, IsFound, IsNoLog};
+ghost use Rattle.rec_log.specs.Openings.{Ends, IsFault, IsFound, IsNoLog, after_frame};
 ghost use Rattle.tree_model.specs.Records.{same_bytes};
 
 use log_order::Seen;
@@ -25,6 +26,22 @@ pub enum OpenError {
     Damaged(usize),
 }
 
+/// Takes the record of a frame. Malformed comes exactly where there is none, or it may not follow the records so far.
+/// Behind an error nothing more is known.
+fn take_frame(
+    seen: &mut Seen,
+    kind: Kind,
+    frame_kind: u8,
+    payload: &[u8],
+    alloc: Global,
+) -> Result<(), ReadFault>
+    ensures ok { OnOk result (after_frame seen.old (read_record kind frame_kind payload.now) ≡ Some seen.new) }
+    ensures err { IfErr result (λ e. e ≡ ReadFault.Malformed → after_frame seen.old (read_record kind frame_kind payload.now) ≡ None) }
+{
+    let entry = read_record(kind, frame_kind, payload, alloc)?;
+    seen.take(entry)
+}
+
 /// How many bytes of a torn tail stand behind the sound frames in the bytes behind a header.
 pub fn torn_tail(kind: Kind, bytes: &[u8], alloc: Global) -> Result<usize, OpenError>
     ensures ok { IfOk result (λ torn. Ends kind bytes.now torn) }
@@ -34,12 +51,7 @@ pub fn torn_tail(kind: Kind, bytes: &[u8], alloc: Global) -> Result<usize, OpenE
     let mut rest = bytes;
     while let Some((frame_kind, payload, behind)) = first_frame(rest) {
         let place = HEADER.len() + (bytes.len() - rest.len());
-        let entry = match read_record(kind, frame_kind, payload, alloc) {
-            Ok(entry) => entry,
-            Err(ReadFault::Malformed) => return Err(OpenError::Damaged(place)),
-            Err(ReadFault::Memory) => return Err(OpenError::Memory),
-        };
-        match seen.take(entry) {
+        match take_frame(&mut seen, kind, frame_kind, payload, alloc) {
             Ok(()) => rest = behind,
             Err(ReadFault::Malformed) => return Err(OpenError::Damaged(place)),
             Err(ReadFault::Memory) => return Err(OpenError::Memory),

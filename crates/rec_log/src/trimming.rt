@@ -1,9 +1,11 @@
 //! The text of the records that stay in a trim.
 
 ghost use Rattle.std.specs.Prelude.{◌≡◌, ◌≤◌, ◌++◌, [], IfOk, OnOk, if◌then◌else◌, length, map};
+ghost use Rattle.log_text.specs.Frames.{header};
 ghost use Rattle.log_text.specs.Made.{frame_record};
+ghost use Rattle.log_text.specs.Payloads.{records_text};
 ghost use Rattle.log_trim.specs.Trims.{front_of_trim, last_opened};
-ghost use Rattle.log_trim.specs.Tables.{picked};
+ghost use Rattle.log_trim.specs.Tables.{lives_of, picked};
 ghost use Rattle.rec_log.specs.Sights.{AreRecords};
 ghost use Rattle.rec_log.specs.Texts.{records_in};
 ghost use Rattle.rec_log.specs.Trimming.{Fronts, Holds, Spells};
@@ -87,6 +89,37 @@ fn kept_frames(
     Ok((frames, kept))
 }
 
+/// The frames of the records that stay in a trim of these, and how many they are.
+fn staying_frames(
+    kind: Kind,
+    bytes: &[u8],
+    records: &[LogRecord],
+    alloc: Global,
+) -> Result<(Vec<u8>, usize), AllocError>
+    requires { records_in kind 0 bytes.now ≡ records.now }
+    ensures frames { IfOk result (λ r. Holds kind r.0.items (picked (lives_of records.now) 0 records.now) × (r.1 ≡ length (picked (lives_of records.now) 0 records.now))) }
+    ensures few { IfOk result (λ r. r.1 ≤ length records.now) }
+{
+    let lives = Lives::of(records, alloc)?;
+    kept_frames(kind, bytes, records, &lives, alloc)
+}
+
+/// A text of the header, the frame of the last Opened, the frames that stay, and these behind them.
+fn joined_text(
+    opened: &[u8],
+    frames: &[u8],
+    behind: &[Frame],
+    alloc: Global,
+) -> Result<Vec<u8>, AllocError>
+    ensures { IfOk result (λ text. text.items ≡ ((header ++ opened.now) ++ frames.now) ++ records_text (map frame_record behind.now)) }
+{
+    let mut text = Vec::from_slice(alloc, &HEADER)?;
+    text.extend_from_slice(opened)?;
+    text.extend_from_slice(frames)?;
+    push_frames(&mut text, behind)?;
+    Ok(text)
+}
+
 /// The text of a log of what stays of the records in these bytes, and of these records behind it; and how many they are.
 pub(crate) fn trimmed_text(
     kind: Kind,
@@ -99,12 +132,8 @@ pub(crate) fn trimmed_text(
     ensures count { IfOk result (λ r. r.1 ≡ length (front_of_trim (records_in kind 0 bytes.now) ++ map frame_record behind.now)) }
 {
     let records = records_in(kind, bytes, alloc)?;
-    let lives = Lives::of(&records, alloc)?;
     let (opened, first) = opened_frame(kind, bytes, &records);
-    let (frames, kept) = kept_frames(kind, bytes, &records, &lives, alloc)?;
-    let mut text = Vec::from_slice(alloc, &HEADER)?;
-    text.extend_from_slice(opened)?;
-    text.extend_from_slice(&frames)?;
-    push_frames(&mut text, behind)?;
+    let (frames, kept) = staying_frames(kind, bytes, &records, alloc)?;
+    let text = joined_text(opened, &frames, behind, alloc)?;
     Ok((text, first + kept + behind.len()))
 }

@@ -1,5 +1,5 @@
 use Rattle.std.proofs.Common.{refl, sym}
-use Rattle.rec_log.proofs.Openings.{damaged_order, damaged_record, reads_all, reads_first, reads_on}
+use Rattle.rec_log.proofs.Openings.{damaged_next, reads_all, reads_first, reads_next}
 use Rattle.rec_log.proofs.opening.torn_tail.Goals as goal
 
 pub loop-frame_kind-init : goal.loop-frame_kind-init
@@ -7,21 +7,14 @@ loop-frame_kind-init c = reads_first c.args.kind c.args.bytes.now c.new-seen.res
 
 pub returns-in-Err-Malformed-clause-err : goal.returns-in-Err-Malformed-clause-err
 returns-in-Err-Malformed-clause-err c =
-    damaged_record c.args.kind c.args.bytes.now c.loop-frame_kind.rest.now c.loop-frame_kind.seen _ _
+    damaged_next c.args.kind c.args.bytes.now c.loop-frame_kind.rest.now c.loop-frame_kind.seen _ _
     c.loop-frame_kind.invariant (sym c.in-Some.ensures)
     (c.in-Err-Malformed.ensures.err c.in-Err-Malformed.field-0-is) refl
 
 pub loop-frame_kind-preserved : goal.loop-frame_kind-preserved
 loop-frame_kind-preserved c =
-    reads_on c.args.kind c.args.bytes.now c.loop-frame_kind.rest.now c.loop-frame_kind.seen c.take.new.self _
-    c.in-Ok.entry c.loop-frame_kind.invariant (sym c.in-Some.ensures)
-    c.in-Ok.ensures.ok c.in-Ok-take.ensures.ok
-
-pub returns-in-Err-Malformed-take-clause-err : goal.returns-in-Err-Malformed-take-clause-err
-returns-in-Err-Malformed-take-clause-err c =
-    damaged_order c.args.kind c.args.bytes.now c.loop-frame_kind.rest.now c.loop-frame_kind.seen _
-    c.in-Ok.entry _ c.loop-frame_kind.invariant (sym c.in-Some.ensures)
-    c.in-Ok.ensures.ok (c.in-Err-Malformed-take.ensures.err c.in-Err-Malformed-take.field-0-is) refl
+    reads_next c.args.kind c.args.bytes.now c.loop-frame_kind.rest.now c.loop-frame_kind.seen c.take_frame.new.seen _
+    c.loop-frame_kind.invariant (sym c.in-Some.ensures) c.in-Ok.ensures.ok
 
 pub returns-clause-ok : goal.returns-clause-ok
 returns-clause-ok c = reads_all c.args.kind c.args.bytes.now c.loop-frame_kind.rest.now c.loop-frame_kind.seen
