@@ -1,94 +1,56 @@
-//! Each act of an application once, at a root with one manager.
+//! Each act of an application once, at a root with one manager; and a device that fails under a record.
 
-use crate::players::{first_ticket, first_txn, listed, opened, put, root_case, step};
-use coord_core::Coordinator;
-use log_store::MemoryStore;
-use std::alloc::Global;
+use crate::players::{CHILD, Root, accept, first_txn, opened, root_case};
+use std::alloc::{AllocError, Global};
 use std::test::Fail;
-use tree_model::{
-    Conclusion, Input, Kind, Message, Op, Presumption, ProcessId, Reaction, Standing, StepError,
-    Told, Tree, Txn,
-};
+use tree_model::{Bytes, Conclusion, Op, Presumption, Reaction, Standing, StepError, Told, Txn};
 
-/// A root over a log in memory.
-type Root = Coordinator<MemoryStore>;
+/// An act of the application.
+#[derive(Drop)]
+enum Asked {
+    Begin(Presumption),
+    Join(Txn),
+    Work(Txn, Op),
+    Commit(Txn),
+    Abort(Txn),
+}
 
-fn small_root(alloc: Global) -> Result<Root, Fail> {
-    let tree = Tree::from_vec(vec![in alloc;
-        listed(1, Kind::Coordinator, None),
-        listed(2, Kind::Manager, Some(1)),
-    ]?);
-    opened(alloc, 1, None, tree)
+/// What an act leads to, or its refusal. This says nothing of the root that it leaves, so that the proof of a test stays short.
+fn act(root: &mut Root, asked: Asked) -> Result<Reaction, StepError> {
+    if !root.has_numbers() {
+        return Err(StepError::Memory);
+    }
+    match asked {
+        Asked::Begin(presumption) => root.begin(presumption),
+        Asked::Join(txn) => root.join(root_case(txn), CHILD),
+        Asked::Work(txn, op) => root.work(root_case(txn), CHILD, op),
+        Asked::Commit(txn) => root.commit(txn),
+        Asked::Abort(txn) => root.abort(txn),
+    }
 }
 
 /// What an act led to, which was not refused.
-fn made(act: Result<Reaction, StepError>) -> Result<Reaction, Fail> {
-    match act {
+fn made(root: &mut Root, asked: Asked) -> Result<Reaction, Fail> {
+    match act(root, asked) {
         Ok(reaction) => Ok(reaction),
         Err(_) => Err(Fail::from("an act that is made")),
     }
 }
 
-// These say nothing of the root that they leave, so that the proof of a test stays short.
-
-fn begin(root: &mut Root) -> Result<Reaction, Fail> {
-    if !root.has_numbers() {
-        return Err(Fail::from("numbers are left"));
-    }
-    made(root.begin(Presumption::PresumeAbort))
-}
-
-fn join(root: &mut Root, txn: Txn) -> Result<Reaction, Fail> {
-    if !root.has_numbers() {
-        return Err(Fail::from("numbers are left"));
-    }
-    made(root.join(root_case(txn), ProcessId(2)))
-}
-
-fn work(root: &mut Root, txn: Txn, op: Op) -> Result<Reaction, Fail> {
-    if !root.has_numbers() {
-        return Err(Fail::from("numbers are left"));
-    }
-    made(root.work(root_case(txn), ProcessId(2), op))
-}
-
-fn commit(root: &mut Root, txn: Txn) -> Result<Reaction, Fail> {
-    if !root.has_numbers() {
-        return Err(Fail::from("numbers are left"));
-    }
-    made(root.commit(txn))
-}
-
-fn abort(root: &mut Root, txn: Txn) -> Result<Reaction, Fail> {
-    if !root.has_numbers() {
-        return Err(Fail::from("numbers are left"));
-    }
-    made(root.abort(txn))
-}
-
-/// The child's JOINED.
-fn accept(root: &mut Root, txn: Txn) -> Result<Reaction, Fail> {
-    step(
-        root,
-        &Input::Message(1, Message::Joined(root_case(txn), first_ticket(2))),
-    )
+fn bytes(alloc: Global, text: &str) -> Result<Bytes, AllocError> {
+    Ok(Bytes::from_vec(Vec::from_slice(alloc, text.as_bytes())?))
 }
 
 /// A transaction without children has read only; its case is gone.
 #[test]
 fn an_empty_transaction_reads_only(rt: HostRuntime) -> Result<(), Fail> {
     let txn = first_txn(Presumption::PresumeAbort);
-    let mut root = small_root(rt.alloc())?;
-    begin(&mut root)?;
+    let mut root = opened(rt.alloc(), 100)?;
+    made(&mut root, Asked::Begin(txn.presumption))?;
     assert!(rt; root.live() == 1 && root.standing(&root_case(txn)) == Standing::Active);
-    let reaction = commit(&mut root, txn)?;
-    assert!(rt;
-        reaction.told
-            == Some(Told {
-                txn,
-                conclusion: Conclusion::ReadOnly
-            })
-    );
+    let reaction = made(&mut root, Asked::Commit(txn))?;
+    let conclusion = Conclusion::ReadOnly;
+    assert!(rt; reaction.told == Some(Told { txn, conclusion }));
     assert!(rt; root.live() == 0 && root.standing(&root_case(txn)) == Standing::Unknown);
     Ok(())
 }
@@ -98,12 +60,26 @@ fn an_empty_transaction_reads_only(rt: HostRuntime) -> Result<(), Fail> {
 fn a_child_works_and_is_aborted(rt: HostRuntime) -> Result<(), Fail> {
     let alloc = rt.alloc();
     let txn = first_txn(Presumption::PresumeAbort);
-    let mut root = small_root(alloc)?;
-    begin(&mut root)?;
-    assert!(rt; join(&mut root, txn)?.messages.len() == 1);
+    let mut root = opened(alloc, 100)?;
+    made(&mut root, Asked::Begin(txn.presumption))?;
+    assert_eq!(rt; made(&mut root, Asked::Join(txn))?.messages.len(), 1);
     accept(&mut root, txn)?;
-    assert!(rt; work(&mut root, txn, put(alloc, "x", "1")?)?.messages.len() == 1);
-    assert!(rt; abort(&mut root, txn)?.messages.len() == 1);
-    assert!(rt; root.live() == 0);
+    let put = Op::Put(bytes(alloc, "x")?, bytes(alloc, "1")?);
+    assert_eq!(rt; made(&mut root, Asked::Work(txn, put))?.messages.len(), 1);
+    assert_eq!(rt; made(&mut root, Asked::Abort(txn))?.messages.len(), 1);
+    assert_eq!(rt; root.live(), 0);
+    Ok(())
+}
+
+/// The record of a commit under Presumed Commit cannot be written: the act says so, and from then on the root has failed.
+#[test]
+fn a_root_fails_with_its_device(rt: HostRuntime) -> Result<(), Fail> {
+    let txn = first_txn(Presumption::PresumeCommit);
+    let mut root = opened(rt.alloc(), 3)?;
+    made(&mut root, Asked::Begin(txn.presumption))?;
+    accept(&mut root, txn)?;
+    assert!(rt; act(&mut root, Asked::Commit(txn)).err() == Some(StepError::Device));
+    assert!(rt; root.failed());
+    assert!(rt; act(&mut root, Asked::Commit(txn)).err() == Some(StepError::Failed));
     Ok(())
 }

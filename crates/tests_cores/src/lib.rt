@@ -1,9 +1,9 @@
-//! Tests of coordinators by themselves, over a log in memory: each is played input by input, with no other process.
+//! Tests of a coordinator and of a subordinate by themselves: each is played input by input, with no other process.
 #![tactic(auto)]
 
 #[cfg(test)]
 mod acts;
 #[cfg(test)]
-mod faults;
-#[cfg(test)]
 mod players;
+#[cfg(test)]
+mod votes;

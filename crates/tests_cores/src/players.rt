@@ -1,26 +1,19 @@
-//! A coordinator that is played input by input.
+//! The root that is played, and the cases of its first transaction.
 
 use coord_core::Coordinator;
-use log_store::{LogStore, MemoryStore};
+use log_store::{FaultStore, MemoryStore};
 use rec_log::RecLog;
-use std::alloc::{AllocError, Global};
+use std::alloc::Global;
 use std::test::Fail;
 use tree_model::{
-    Bytes, Case, Input, Kind, Op, Presumption, ProcessId, Reaction, Ticket, Tree, TreeEntry, Txn,
+    Case, Input, Kind, Message, Presumption, ProcessId, Reaction, Ticket, Tree, TreeEntry, Txn,
 };
 
-/// A process of a tree, without a text for xa_open.
-pub(crate) fn listed(id: u32, kind: Kind, parent: Option<u32>) -> TreeEntry {
-    TreeEntry {
-        id: ProcessId(id),
-        kind,
-        parent: match parent {
-            None => None,
-            Some(parent) => Some(ProcessId(parent)),
-        },
-        info: None,
-    }
-}
+/// A root over a log in memory whose device fails once.
+pub(crate) type Root = Coordinator<FaultStore>;
+
+/// The manager below the root.
+pub(crate) const CHILD: ProcessId = ProcessId(2);
 
 /// The first transaction of process 1.
 pub(crate) fn first_txn(presumption: Presumption) -> Txn {
@@ -32,55 +25,53 @@ pub(crate) fn first_txn(presumption: Presumption) -> Txn {
     }
 }
 
-/// The first ticket of a process.
-pub(crate) fn first_ticket(child: u32) -> Ticket {
-    Ticket {
-        child: ProcessId(child),
-        boot: 1,
-        number: 1,
-    }
-}
-
 /// The root's case.
 pub(crate) fn root_case(txn: Txn) -> Case {
     Case { txn, ticket: None }
 }
 
-fn bytes(alloc: Global, text: &str) -> Result<Bytes, AllocError> {
-    Ok(Bytes::from_vec(Vec::from_slice(alloc, text.as_bytes())?))
+/// The first ticket of the child.
+pub(crate) fn first_ticket() -> Ticket {
+    Ticket {
+        child: CHILD,
+        boot: 1,
+        number: 1,
+    }
 }
 
-/// Puts a value at a key.
-pub(crate) fn put(alloc: Global, key: &str, value: &str) -> Result<Op, AllocError> {
-    Ok(Op::Put(bytes(alloc, key)?, bytes(alloc, value)?))
+fn listed(id: ProcessId, kind: Kind, parent: Option<ProcessId>) -> TreeEntry {
+    TreeEntry {
+        id,
+        kind,
+        parent,
+        info: None,
+    }
 }
 
-/// A coordinator that opened an empty log in memory.
-pub(crate) fn opened(
-    alloc: Global,
-    me: u32,
-    parent: Option<ProcessId>,
-    tree: Tree,
-) -> Result<Coordinator<MemoryStore>, Fail> {
-    match RecLog::open(MemoryStore::new(alloc), Kind::Coordinator, alloc) {
+/// A root whose device fails behind so many calls; opening takes three.
+pub(crate) fn opened(alloc: Global, calls: u64) -> Result<Root, Fail> {
+    let tree = Tree::from_vec(vec![in alloc;
+        listed(ProcessId(1), Kind::Coordinator, None),
+        listed(CHILD, Kind::Manager, Some(ProcessId(1))),
+    ]?);
+    let store = FaultStore::new(MemoryStore::new(alloc), calls);
+    match RecLog::open(store, Kind::Coordinator, alloc) {
         Err(_) => Err(Fail::from("a log")),
-        Ok(log) => match Coordinator::open(alloc, ProcessId(me), parent, tree, log) {
+        Ok(log) => match Coordinator::open(alloc, ProcessId(1), None, tree, log) {
             Err(_) => Err(Fail::from("a coordinator")),
             Ok(core) => Ok(core),
         },
     }
 }
 
-/// What a step led to, which was not refused.
-pub(crate) fn step<L: LogStore>(
-    core: &mut Coordinator<L>,
-    input: &Input,
-) -> Result<Reaction, Fail> {
-    if !core.has_numbers() {
+/// The child's JOINED.
+pub(crate) fn accept(root: &mut Root, txn: Txn) -> Result<Reaction, Fail> {
+    if !root.has_numbers() {
         return Err(Fail::from("numbers are left"));
     }
-    match core.step(input) {
+    let joined = Message::Joined(root_case(txn), first_ticket());
+    match root.step(&Input::Message(1, joined)) {
         Ok(reaction) => Ok(reaction),
-        Err(_) => Err(Fail::from("a step that is made")),
+        Err(_) => Err(Fail::from("a message that is heard")),
     }
 }
