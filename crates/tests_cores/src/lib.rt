@@ -1,8 +1,6 @@
-//! Tests of a coordinator and of a subordinate by themselves: each is played input by input, with no other process.
+//! Tests of a subordinate over a manager that votes as it was told.
 #![tactic(auto)]
 
-#[cfg(test)]
-mod acts;
 #[cfg(test)]
 mod players;
 #[cfg(test)]

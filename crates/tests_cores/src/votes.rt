@@ -1,12 +1,12 @@
 //! How a subordinate votes, over a manager that votes as it was told.
 
-use crate::players::{CHILD, first_ticket, first_txn, root_case};
+use crate::players::{CHILD, first_ticket, parent_case};
 use fake_manager::FakeManager;
 use manager_model::ResourceManager;
 use std::alloc::{AllocError, Global};
 use std::test::Fail;
 use sub_core::Subordinate;
-use tree_model::{Bytes, Case, Input, Message, Op, Presumption, ProcessId, Reaction, Tree};
+use tree_model::{Bytes, Case, Input, Message, Op, ProcessId, Reaction, Tree};
 
 /// Process 2 below process 1, over a manager that refuses every operation or does what is asked of it.
 fn opened(alloc: Global, refuses: bool) -> Result<Subordinate<FakeManager>, AllocError> {
@@ -32,7 +32,7 @@ fn heard<M: ResourceManager>(
 
 /// What a process with one work votes.
 fn vote<M: ResourceManager + Drop>(mut player: Subordinate<M>, op: Op) -> Result<Reaction, Fail> {
-    let parent = root_case(first_txn(Presumption::PresumeAbort));
+    let parent = parent_case();
     let own = Case {
         txn: parent.txn,
         ticket: Some(first_ticket()),
