@@ -1,9 +1,11 @@
-//! Tests of what the processes of a tree stand on, and of the root.
+//! Tests of what the processes of a tree stand on: scripts and copies, logs of bytes, and the versions of keys.
 #![tactic(auto)]
 
 #[cfg(test)]
 mod always_out_of_memory;
 #[cfg(test)]
-mod names_and_trees;
+mod commits;
 #[cfg(test)]
-mod scripts;
+mod damage;
+#[cfg(test)]
+mod faults;

@@ -1,9 +1,7 @@
-//! Tests of coordinators by themselves, over a log in memory: each is played input by input, with no other process.
+//! Tests of a subordinate over a manager that votes as it was told.
 #![tactic(auto)]
 
 #[cfg(test)]
-mod acts;
-#[cfg(test)]
-mod faults;
-#[cfg(test)]
 mod players;
+#[cfg(test)]
+mod votes;

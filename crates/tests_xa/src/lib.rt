@@ -1,12 +1,10 @@
-//! Tests of the crates of XA, up to the engine of XA scripts.
+//! Tests of the crates below an XA manager.
 #![tactic(auto)]
 
 #[cfg(test)]
+mod codes;
+#[cfg(test)]
 mod numbers;
-#[cfg(test)]
-mod xa_parts;
-#[cfg(test)]
-mod xa_rows;
 #[cfg(test)]
 mod xa_steps;
 #[cfg(test)]

@@ -73,12 +73,10 @@ const ROWS: [Row; 55] = [
 
 /// A row, by its number.
 fn row_at(number: u64) -> Row {
-    for (i, row) in ROWS.iter().enumerate() {
-        if i as u64 == number {
-            return *row;
-        }
+    match ROWS.get(number as usize) {
+        Some(row) => *row,
+        None => (S4, Call::Start, Code::Outside, S4),
     }
-    (S4, Call::Start, Code::Outside, S4)
 }
 
 /// A call, an answer and a state: of one row, or with one of them changed.
@@ -96,22 +94,23 @@ fn asked(numbers: &mut Numbers) -> (Call, Code, BranchState) {
 
 /// What a step in this state answers, and the state behind it.
 fn wanted(
-    walked: &mut [bool; 55],
+    walked: &mut [bool],
     from: BranchState,
     asked: (Call, Code, BranchState),
 ) -> (Code, BranchState) {
-    for (i, row) in ROWS.iter().enumerate() {
-        let (state, call, code, to) = *row;
-        if state == from && call == asked.0 && code == asked.1 && to == asked.2 {
-            walked[i] = true;
+    let (call, code, to) = asked;
+    for (row, walked) in ROWS.iter().zip(walked.iter_mut()) {
+        if *row == (from, call, code, to) {
+            *walked = true;
             return (code, to);
         }
     }
-    if asked.0 == Call::Start {
-        (Code::DupId, from)
+    let refusal = if call == Call::Start {
+        Code::DupId
     } else {
-        (Code::Proto, from)
-    }
+        Code::Proto
+    };
+    (refusal, from)
 }
 
 /// What a step of a branch answers, and the state behind it.
@@ -150,9 +149,7 @@ fn random_steps(rt: HostRuntime) -> Result<(), Fail> {
         );
         from = wanted.1;
     }
-    for (i, walked) in walked.iter().enumerate() {
-        assert!(rt; *walked, "row {i}");
-    }
+    assert!(rt; walked.iter().all(|walked| *walked));
     Ok(())
 }
 

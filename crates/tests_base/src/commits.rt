@@ -1,0 +1,42 @@
+//! Many commits of one key.
+
+use kv_store::Versions;
+use std::alloc::{AllocError, Global};
+use std::test::Fail;
+use tree_model::{Bytes, Write};
+
+/// The write of the key `a`: the value `1`, or a deletion.
+fn write_of(alloc: Global, is_put: bool) -> Result<Vec<Write>, AllocError> {
+    let value = if is_put {
+        Some(Bytes::from_vec(Vec::from_slice(alloc, b"1")?))
+    } else {
+        None
+    };
+    let key = Bytes::from_vec(Vec::from_slice(alloc, b"a")?);
+    let mut writes = Vec::new(alloc);
+    writes.push(Write { key, value })?;
+    Ok(writes)
+}
+
+/// By halving the 100,000 reads take less than two million steps; one version after another they would take five
+/// thousand million.
+#[test]
+fn a_hundred_thousand_commits_of_one_key(rt: HostRuntime) -> Result<(), Fail> {
+    let alloc = rt.alloc();
+    let mut versions = Versions::new(alloc, 0);
+    let put = write_of(alloc, true)?;
+    let delete = write_of(alloc, false)?;
+    for count in 0..100_000 {
+        assert!(rt; versions.count() == count);
+        if count % 2 == 0 {
+            versions.apply(&put)?;
+        } else {
+            versions.apply(&delete)?;
+        }
+    }
+    for count in 0..=100_000 {
+        let found = versions.read_at(count, b"a");
+        assert!(rt; found.is_ok_and(|value| value.is_some() == (count % 2 == 1)));
+    }
+    Ok(())
+}

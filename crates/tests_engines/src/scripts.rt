@@ -1,0 +1,58 @@
+//! Tree scripts that are cut, or too long.
+
+use std::alloc::{AllocError, Global};
+use std::test::Fail;
+use tree_engine::{Output, Status, run_tree};
+
+/// A script that commits one transaction of two managers.
+pub(crate) const FLAT_PA_COMMIT: &str =
+    "[[process]]\nid = 1\nkind = \"coordinator\"\n[[process]]\nid = 2\nkind = \"manager\"\n\
+     parent = 1\n[[process]]\nid = 3\nkind = \"manager\"\nparent = 1\n---\nbegin pa\n\
+     join a1.1 2\njoin a1.1 3\nsettle\nwork a1.1 2 put x 1\nwork a1.1 3 put y 2\nsettle\n\
+     commit a1.1\nsettle\n";
+
+/// Whether a script's run ends so, and writes this text.
+fn is_run(alloc: Global, mut script: &[u8], text: &[u8], status: Status) -> bool {
+    let mut out = Vec::new(alloc);
+    run_tree(alloc, Output::Trace, &mut script, &mut out) == Ok(status) && out.as_slice() == text
+}
+
+/// Whether a script is refused, or runs to its end.
+fn is_refused_or_ends(alloc: Global, mut script: &[u8]) -> bool {
+    let mut out = Vec::new(alloc);
+    match run_tree(alloc, Output::Trace, &mut script, &mut out) {
+        Ok(Status::Ended) => out.ends_with(b"end\n"),
+        Ok(Status::Refused) => out.starts_with(b"error "),
+        _ => false,
+    }
+}
+
+/// The script cut at every byte: it is refused, or runs to its end.
+#[test]
+fn every_front_of_a_script(rt: HostRuntime) {
+    let script = FLAT_PA_COMMIT.as_bytes();
+    for cut in 0..script.len() {
+        assert!(rt; is_refused_or_ends(rt.alloc(), &script[..cut]), "{cut}");
+    }
+}
+
+/// A script with so many event lines.
+fn long_script(alloc: Global, lines: u32) -> Result<Vec<u8>, AllocError> {
+    let head = b"[[process]]\nid = 1\nkind = \"coordinator\"\n---\n";
+    let mut script = Vec::from_slice(alloc, head)?;
+    for _ in 0..lines {
+        script.extend_from_slice(b"settle\n")?;
+    }
+    Ok(script)
+}
+
+/// 100,000 event lines are run, and one more is refused.
+#[test]
+fn too_many_event_lines(rt: HostRuntime) -> Result<(), Fail> {
+    let script = long_script(rt.alloc(), 100_000)?;
+    let text = b"log 1 Opened 1 forced\nend\n";
+    assert!(rt; is_run(rt.alloc(), &script, text, Status::Ended));
+    let script = long_script(rt.alloc(), 100_001)?;
+    assert!(rt; is_run(rt.alloc(), &script, b"error 5\n", Status::Refused));
+    Ok(())
+}

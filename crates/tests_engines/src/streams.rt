@@ -1,0 +1,64 @@
+//! Readers and writers that fail, at each engine.
+
+use crate::scripts::FLAT_PA_COMMIT;
+use fake_streams::{Fails, Full};
+use log_engine::run_log;
+use report_io::Failure;
+use std::alloc::Global;
+use std::io::{Read, Write};
+use tree_engine::{Output, run_tree};
+use xa_engine::run_xa;
+
+/// An engine.
+#[derive(Clone, Copy)]
+enum Engine {
+    Tree,
+    Xa,
+    Log,
+}
+
+const ENGINES: [Engine; 3] = [Engine::Tree, Engine::Xa, Engine::Log];
+
+/// An input of an engine that has an output.
+fn input_of(engine: Engine) -> &'static [u8] {
+    match engine {
+        Engine::Tree => FLAT_PA_COMMIT.as_bytes(),
+        Engine::Xa => b"open TMNOFLAGS",
+        Engine::Log => b"---\n",
+    }
+}
+
+/// Why a run fails.
+fn failure_of<R: Read, W: Write>(
+    alloc: Global,
+    engine: Engine,
+    reader: &mut R,
+    writer: &mut W,
+) -> Option<Failure> {
+    match engine {
+        Engine::Tree => run_tree(alloc, Output::Trace, reader, writer).err(),
+        Engine::Xa => run_xa(alloc, reader, writer).err(),
+        Engine::Log => run_log(alloc, reader, writer).err(),
+    }
+}
+
+#[test]
+fn a_reader_that_fails(rt: HostRuntime) {
+    for engine in ENGINES {
+        let mut out = Vec::new(rt.alloc());
+        let failure = failure_of(rt.alloc(), engine, &mut Fails, &mut out);
+        assert!(rt; failure == Some(Failure::Read) && out.is_empty());
+    }
+}
+
+/// A writer that fails, and one that takes nothing.
+#[test]
+fn a_writer_that_fails(rt: HostRuntime) {
+    for engine in ENGINES {
+        for fails in [false, true] {
+            let mut input = input_of(engine);
+            let failure = failure_of(rt.alloc(), engine, &mut input, &mut Full { fails });
+            assert!(rt; failure == Some(Failure::Write));
+        }
+    }
+}

@@ -1,0 +1,109 @@
+//! A tree that runs over stores: what is refused, and each public call once, with ample memory: none of them answers want of memory.
+
+use log_store::{FaultStore, MemoryStore};
+use std::alloc::{AllocError, Global};
+use std::test::Fail;
+use tree_model::{
+    Act, Case, Event, Happening, Input, Kind, Message, Presumption, ProcessId, Tree, TreeEntry, Txn,
+};
+use tree_world::{OpenError, World};
+
+const ROOT: ProcessId = ProcessId(1);
+
+const CHILD: ProcessId = ProcessId(2);
+
+fn listed(id: ProcessId, kind: Kind, parent: Option<ProcessId>) -> TreeEntry {
+    TreeEntry {
+        id,
+        kind,
+        parent,
+        info: None,
+    }
+}
+
+/// A root with one manager below it, over these stores.
+fn opened(
+    alloc: Global,
+    stores: Vec<FaultStore>,
+) -> Result<Result<World<FaultStore>, OpenError>, Fail> {
+    let tree = Tree::from_vec(vec![in alloc;
+        listed(ROOT, Kind::Coordinator, None),
+        listed(CHILD, Kind::Manager, Some(ROOT)),
+    ]?);
+    tree.check().ok().ok_or("a tree")?;
+    Ok(World::with_stores(alloc, tree, stores))
+}
+
+/// A store that begins with these bytes, and whose device fails behind so many calls.
+fn store(alloc: Global, bytes: &[u8], calls: u64) -> Result<FaultStore, AllocError> {
+    let bytes = Vec::from_slice(alloc, bytes)?;
+    Ok(FaultStore::new(MemoryStore::from_bytes(bytes), calls))
+}
+
+/// A store without bytes, whose device does not fail.
+fn sound_store(alloc: Global) -> Result<FaultStore, AllocError> {
+    store(alloc, b"", 1000)
+}
+
+/// Why a tree does not open over these stores, if it does not.
+fn refusal_over(alloc: Global, stores: Vec<FaultStore>) -> Result<Option<OpenError>, Fail> {
+    Ok(opened(alloc, stores)?.err())
+}
+
+/// A process without a store, a store with bytes, and one whose device fails.
+#[test]
+fn stores_are_refused(rt: HostRuntime) -> Result<(), Fail> {
+    let alloc = rt.alloc();
+    let stores = vec![in alloc; sound_store(alloc)?]?;
+    assert!(rt; refusal_over(alloc, stores)? == Some(OpenError::Store(CHILD)));
+    let stores = vec![in alloc; store(alloc, b"x", 1000)?, sound_store(alloc)?]?;
+    assert!(rt; refusal_over(alloc, stores)? == Some(OpenError::Store(ROOT)));
+    let stores = vec![in alloc; sound_store(alloc)?, store(alloc, b"", 0)?]?;
+    assert!(rt; refusal_over(alloc, stores)? == Some(OpenError::Device(CHILD)));
+    Ok(())
+}
+
+/// A world in which the child was invited and has joined.
+fn joined_world(alloc: Global) -> Result<World<FaultStore>, Fail> {
+    let stores = vec![in alloc; sound_store(alloc)?, sound_store(alloc)?]?;
+    let mut world = opened(alloc, stores)?.ok().ok_or("a world")?;
+    let txn = Txn {
+        root: ROOT,
+        boot: 1,
+        sequence: 1,
+        presumption: Presumption::PresumeAbort,
+    };
+    let events = [
+        Event::Act(Act::Begin(txn.presumption)),
+        Event::Act(Act::Join(Case { txn, ticket: None }, CHILD)),
+        Event::Settle,
+    ];
+    world.run(&events).ok().ok_or("a run")?;
+    Ok(world)
+}
+
+/// Whether the fourth step is the delivery of the second message, as it was sent.
+fn handles_second_message(world: &World<FaultStore>) -> Result<bool, AllocError> {
+    Ok(match world.entry(3)? {
+        Some(entry) => {
+            entry.step.process == ROOT
+                && matches!(
+                    entry.step.happening,
+                    Happening::Input(Input::Message(2, Message::Joined(_, _)))
+                )
+        }
+        None => false,
+    })
+}
+
+#[test]
+fn a_world_runs(rt: HostRuntime) -> Result<(), Fail> {
+    let world = joined_world(rt.alloc())?;
+    assert_eq!(rt; world.tree().entries().len(), 2);
+    assert_eq!(rt; world.sent()?.len(), 2);
+    assert_eq!(rt; world.made(), 4);
+    assert!(rt; handles_second_message(&world)?);
+    assert_eq!(rt; world.live(ROOT), Some(1));
+    assert_eq!(rt; world.logs()?.len(), 2);
+    Ok(())
+}
