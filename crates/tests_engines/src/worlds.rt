@@ -4,7 +4,8 @@ use log_store::{FaultStore, MemoryStore};
 use std::alloc::{AllocError, Global};
 use std::test::Fail;
 use tree_model::{
-    Act, Case, Event, Happening, Input, Kind, Message, Presumption, ProcessId, Tree, TreeEntry, Txn,
+    Act, Case, Event, Happening, Input, Kind, Message, Presumption, ProcessId, StepError, Tree,
+    TreeEntry, Txn,
 };
 use tree_world::{OpenError, World};
 
@@ -63,22 +64,30 @@ fn stores_are_refused(rt: HostRuntime) -> Result<(), Fail> {
     Ok(())
 }
 
-/// A world in which the child was invited and has joined.
-fn joined_world(alloc: Global) -> Result<World<FaultStore>, Fail> {
-    let stores = vec![in alloc; sound_store(alloc)?, sound_store(alloc)?]?;
-    let mut world = opened(alloc, stores)?.ok().ok_or("a world")?;
-    let txn = Txn {
+/// The first transaction of the root.
+fn first_txn(presumption: Presumption) -> Txn {
+    Txn {
         root: ROOT,
         boot: 1,
         sequence: 1,
-        presumption: Presumption::PresumeAbort,
-    };
-    let events = [
+        presumption,
+    }
+}
+
+/// The transaction begins, the child is invited, and joins.
+fn joining(txn: Txn) -> [Event; 3] {
+    [
         Event::Act(Act::Begin(txn.presumption)),
         Event::Act(Act::Join(Case { txn, ticket: None }, CHILD)),
         Event::Settle,
-    ];
-    world.run(&events).ok().ok_or("a run")?;
+    ]
+}
+
+/// A world in which the child was invited and has joined; the root's device fails behind so many calls.
+fn joined_world(alloc: Global, calls: u64, txn: Txn) -> Result<World<FaultStore>, Fail> {
+    let stores = vec![in alloc; store(alloc, b"", calls)?, sound_store(alloc)?]?;
+    let mut world = opened(alloc, stores)?.ok().ok_or("a world")?;
+    world.run(&joining(txn)).ok().ok_or("a run")?;
     Ok(world)
 }
 
@@ -98,12 +107,24 @@ fn handles_second_message(world: &World<FaultStore>) -> Result<bool, AllocError>
 
 #[test]
 fn a_world_runs(rt: HostRuntime) -> Result<(), Fail> {
-    let world = joined_world(rt.alloc())?;
+    let txn = first_txn(Presumption::PresumeAbort);
+    let world = joined_world(rt.alloc(), 1000, txn)?;
     assert_eq!(rt; world.tree().entries().len(), 2);
     assert_eq!(rt; world.sent()?.len(), 2);
     assert_eq!(rt; world.made(), 4);
     assert!(rt; handles_second_message(&world)?);
     assert_eq!(rt; world.live(ROOT), Some(1));
     assert_eq!(rt; world.logs()?.len(), 2);
+    Ok(())
+}
+
+/// The root's device fails under its first record behind Opened: the act is refused so, and from then on the root has failed.
+#[test]
+fn a_root_fails_with_its_device(rt: HostRuntime) -> Result<(), Fail> {
+    let txn = first_txn(Presumption::PresumeCommit);
+    let mut world = joined_world(rt.alloc(), 3, txn)?;
+    let commit = Event::Act(Act::Commit(txn));
+    assert!(rt; world.apply(&commit) == Err(StepError::Device));
+    assert!(rt; world.apply(&commit) == Err(StepError::Failed));
     Ok(())
 }
