@@ -1,9 +1,17 @@
 -- How the code's seats and effects stand for those of the reaction table.
 use Rattle.std.specs.Prelude.{◌≡◌, ⊤, Option, Some, None, List, [], ◌∷◌}
 use Rattle.tree_model.specs.declared.names.ProcessId.{ProcessId}
+use Rattle.tree_model.specs.declared.names.Case.{Case}
 use Rattle.tree_model.specs.declared.names.Kind.TheVariants.{Coordinator}
+use Rattle.tree_model.specs.declared.names.Outcome.{Outcome}
+use Rattle.tree_model.specs.declared.names.Outcome.TheVariants.{Committed, Aborted}
+use Rattle.tree_model.specs.declared.names.Ticket.{Ticket}
 use Rattle.tree_model.specs.declared.messages.Envelope.{Envelope}
 use Rattle.tree_model.specs.declared.events.Told.{Told}
+use Rattle.tree_model.specs.declared.records.Record.{Record}
+use Rattle.tree_model.specs.declared.records.Record.TheVariants.{Commit as CommitRecord, Abort as AbortRecord}
+use Rattle.tree_model.specs.declared.standings.Standing.{Standing}
+use Rattle.tree_model.specs.declared.standings.Standing.TheVariants.{Committing, Aborting}
 use Rattle.tree_model.specs.LogNames.{in_log}
 use Rattle.tree_model.specs.Nodes.{Written as WrittenRecord, logged_of, reaction_of}
 use Rattle.tree_model.specs.Standings.{CoordinatorView}
@@ -28,6 +36,16 @@ abbrev pub reason : Reason → AnyReason
 reason Vote = ByVote
 reason Act = ByAct
 reason Abort = ByAbort
+
+-- the record of a decision that names these
+abbrev pub decision : Case → Outcome → List Ticket → Record
+decision c Committed ts = CommitRecord c ts
+decision c Aborted ts = AbortRecord c ts
+
+-- where a case stands that was decided so, and waits for acknowledgements
+abbrev pub waits : Outcome → Standing
+waits Committed = Committing
+waits Aborted = Aborting
 
 -- a record with its force
 abbrev pub meant : Written → WrittenRecord

@@ -15,13 +15,12 @@ ghost use Rattle.tree_model.specs.CoordinatorRows.{
 ghost use Rattle.core_model.specs.Views.{SameView};
 ghost use Rattle.coord_rows.specs.Rows.{Does, reason as reason_meant, seat as seat_meant};
 
+use crate::deciding::{decides_owed, forgets_behind};
 use crate::effect::{RowEffect, Written};
 use crate::seat::{Reason, Seat, heard_above, none_of, tell_each, up};
 use coord_case::Live;
 use std::alloc::{AllocError, Global};
-use tree_model::{
-    Conclusion, Message, Outcome, Presumption, Record, Sequence, Standing, Ticket, Told, Vote,
-};
+use tree_model::{Conclusion, Message, Outcome, Presumption, Record, Sequence, Ticket, Told, Vote};
 
 /// Collecting, a vote: the first of an accepted ticket counts. Memory: nothing changed.
 pub fn collecting_vote(
@@ -100,16 +99,11 @@ fn abort_undecided(
     match seat.case.txn.presumption {
         Presumption::PresumeAbort => {
             let written = Written::plain(Record::Abort(seat.case, Sequence::new(alloc)));
-            let effect = RowEffect::writes(alloc, seat, written, told, messages)?;
-            live.forget();
-            Ok(effect)
+            forgets_behind(alloc, seat, written, told, messages, live)
         }
         Presumption::PresumeCommit => {
-            let named = Sequence::from_vec(Vec::from_slice(alloc, &undecided)?);
-            let written = Written::forced(Record::Abort(seat.case, named));
-            let effect = RowEffect::writes(alloc, seat, written, told, messages)?;
-            live.awaits(Standing::Aborting, undecided)?;
-            Ok(effect)
+            let outcome = Outcome::Aborted;
+            decides_owed(alloc, seat, outcome, undecided, told, messages, live)
         }
     }
 }
@@ -144,9 +138,7 @@ fn collecting_read_only(alloc: Global, seat: Seat, live: &mut Live) -> Result<Ro
         }
         Presumption::PresumeCommit => {
             let written = Written::plain(Record::End(seat.case));
-            let effect = RowEffect::writes(alloc, seat, written, told, messages)?;
-            live.forget();
-            Ok(effect)
+            forgets_behind(alloc, seat, written, told, messages, live)
         }
     }
 }
@@ -170,17 +162,11 @@ fn root_commits(
     });
     match seat.case.txn.presumption {
         Presumption::PresumeAbort => {
-            let named = Sequence::from_vec(Vec::from_slice(alloc, &yes)?);
-            let written = Written::forced(Record::Commit(seat.case, named));
-            let effect = RowEffect::writes(alloc, seat, written, told, messages)?;
-            live.awaits(Standing::Committing, yes)?;
-            Ok(effect)
+            decides_owed(alloc, seat, Outcome::Committed, yes, told, messages, live)
         }
         Presumption::PresumeCommit => {
             let written = Written::forced(Record::Commit(seat.case, Sequence::new(alloc)));
-            let effect = RowEffect::writes(alloc, seat, written, told, messages)?;
-            live.forget();
-            Ok(effect)
+            forgets_behind(alloc, seat, written, told, messages, live)
         }
     }
 }

@@ -16,12 +16,13 @@ ghost use Rattle.tree_model.specs.CoordinatorRows.{
 ghost use Rattle.core_model.specs.Views.{SameView};
 ghost use Rattle.coord_rows.specs.Rows.{Does, seat as seat_meant};
 
+use crate::deciding::forgets_behind;
 use crate::effect::{RowEffect, Written};
-use crate::seat::{Seat, acknowledge_abort, outcome_message, up};
+use crate::seat::{Seat, acknowledge_abort, acknowledge_commit, outcome_message, up};
 use coord_case::Live;
 use inquire_core::presumed;
 use std::alloc::{AllocError, Global};
-use tree_model::{Envelopes, Message, Outcome, Presumption, Record, Sequence, Ticket};
+use tree_model::{Message, Outcome, Record, Sequence, Ticket};
 
 /// Committing or Aborting, an ACK that agrees: the last one that is owed ends the case. Memory: nothing changed.
 pub fn decided_ack(
@@ -41,9 +42,7 @@ pub fn decided_ack(
         return Ok(RowEffect::quiet(alloc));
     }
     let written = Written::plain(Record::End(seat.case));
-    let effect = RowEffect::writes(alloc, seat, written, None, Sequence::new(alloc))?;
-    live.forget();
-    Ok(effect)
+    forgets_behind(alloc, seat, written, None, Sequence::new(alloc), live)
 }
 
 /// The outcome to one child.
@@ -102,16 +101,6 @@ pub fn unknown_prepare(alloc: Global, seat: Seat) -> Result<RowEffect, AllocErro
 {
     let messages = up(alloc, seat, Message::No(seat.case))?;
     Ok(RowEffect::sends(alloc, messages))
-}
-
-/// An outcome that the presumption does not cover is acknowledged; of one that it covers nothing is said.
-fn acknowledge_commit(alloc: Global, seat: Seat) -> Result<Envelopes, AllocError>
-    ensures { IfOk result (λ messages. (view : CoordinatorView) → messages ≡ (commit_row (seat_meant seat) view).messages) }
-{
-    match seat.case.txn.presumption {
-        Presumption::PresumeAbort => up(alloc, seat, Message::Ack(seat.case, Outcome::Committed)),
-        Presumption::PresumeCommit => Ok(Sequence::new(alloc)),
-    }
 }
 
 /// COMMIT of a case of which nothing is known: acknowledged under Presumed Abort, else nothing.

@@ -23,6 +23,7 @@
 //! | Prepared | COMMIT, ABORT, PREPARE, ask | `prepared_commit`, `prepared_abort`, `prepared_prepare`, `prepared_ask` |
 //! | Committing, Aborting | ACK, INQUIRE | `decided_ack`, `decided_inquiry` |
 //! | Committing, Aborting | COMMIT, ABORT, PREPARE again | `committing_commit`, `aborting_abort`, `aborting_prepare` |
+//! | any | COMMIT, ABORT | `on_commit`, `on_abort`: the row that is met there |
 //! | none | PREPARE, COMMIT, ABORT, INQUIRE | `unknown_prepare`, `unknown_commit`, `unknown_abort`, `unknown_inquiry` |
 //!
 //! A case that aborted without anybody left to acknowledge, or that ended, is gone: it is Unknown.
@@ -31,7 +32,9 @@
 mod active;
 mod collecting;
 mod decided;
+mod deciding;
 mod effect;
+mod outcomes;
 mod prepared;
 mod resuming;
 mod seat;
@@ -43,6 +46,7 @@ pub use decided::{
     unknown_abort, unknown_commit, unknown_inquiry, unknown_prepare,
 };
 pub use effect::{Framed, RowEffect};
+pub use outcomes::{on_abort, on_commit};
 pub use prepared::{prepared_abort, prepared_ask, prepared_commit, prepared_prepare};
 pub use resuming::resume;
 pub use seat::{Reason, Seat};

@@ -10,11 +10,12 @@ ghost use Rattle.tree_model.specs.CoordinatorRows.{
 ghost use Rattle.core_model.specs.Views.{SameView};
 ghost use Rattle.coord_rows.specs.Rows.{Does, seat as seat_meant};
 
+use crate::deciding::{decides_owed, forgets_behind};
 use crate::effect::{RowEffect, Written};
-use crate::seat::{Seat, tell_each, up};
+use crate::seat::{Seat, acknowledge_abort, acknowledge_commit, tell_each, up};
 use coord_case::Live;
 use std::alloc::{AllocError, Global};
-use tree_model::{Message, Outcome, Presumption, Record, Sequence, Standing};
+use tree_model::{Message, Outcome, Presumption, Record, Sequence};
 
 /// Prepared, COMMIT: the promised are told. Under Presumed Abort the decision is forced and acknowledged, and names those
 /// that owe an acknowledgement; under Presumed Commit nobody owes one. Memory: nothing changed.
@@ -23,23 +24,23 @@ pub fn prepared_commit(alloc: Global, seat: Seat, live: &mut Live) -> Result<Row
     ensures err { OnErr result (live.new ≡ live.old) }
 {
     let promised = Vec::from_slice(alloc, live.promised())?;
+    let mut messages = acknowledge_commit(alloc, seat)?;
+    tell_each(&mut messages, seat, Outcome::Committed, &promised)?;
     match seat.case.txn.presumption {
         Presumption::PresumeAbort => {
-            let mut messages = up(alloc, seat, Message::Ack(seat.case, Outcome::Committed))?;
-            tell_each(&mut messages, seat, Outcome::Committed, &promised)?;
-            let named = Sequence::from_vec(Vec::from_slice(alloc, &promised)?);
-            let written = Written::forced(Record::Commit(seat.case, named));
-            let effect = RowEffect::writes(alloc, seat, written, None, messages)?;
-            live.awaits(Standing::Committing, promised)?;
-            Ok(effect)
+            decides_owed(
+                alloc,
+                seat,
+                Outcome::Committed,
+                promised,
+                None,
+                messages,
+                live,
+            )
         }
         Presumption::PresumeCommit => {
-            let mut messages = Sequence::new(alloc);
-            tell_each(&mut messages, seat, Outcome::Committed, &promised)?;
             let written = Written::plain(Record::Commit(seat.case, Sequence::new(alloc)));
-            let effect = RowEffect::writes(alloc, seat, written, None, messages)?;
-            live.forget();
-            Ok(effect)
+            forgets_behind(alloc, seat, written, None, messages, live)
         }
     }
 }
@@ -51,23 +52,23 @@ pub fn prepared_abort(alloc: Global, seat: Seat, live: &mut Live) -> Result<RowE
     ensures err { OnErr result (live.new ≡ live.old) }
 {
     let promised = Vec::from_slice(alloc, live.promised())?;
+    let mut messages = acknowledge_abort(alloc, seat)?;
+    tell_each(&mut messages, seat, Outcome::Aborted, &promised)?;
     match seat.case.txn.presumption {
         Presumption::PresumeAbort => {
-            let mut messages = Sequence::new(alloc);
-            tell_each(&mut messages, seat, Outcome::Aborted, &promised)?;
             let written = Written::plain(Record::Abort(seat.case, Sequence::new(alloc)));
-            let effect = RowEffect::writes(alloc, seat, written, None, messages)?;
-            live.forget();
-            Ok(effect)
+            forgets_behind(alloc, seat, written, None, messages, live)
         }
         Presumption::PresumeCommit => {
-            let mut messages = up(alloc, seat, Message::Ack(seat.case, Outcome::Aborted))?;
-            tell_each(&mut messages, seat, Outcome::Aborted, &promised)?;
-            let named = Sequence::from_vec(Vec::from_slice(alloc, &promised)?);
-            let written = Written::forced(Record::Abort(seat.case, named));
-            let effect = RowEffect::writes(alloc, seat, written, None, messages)?;
-            live.awaits(Standing::Aborting, promised)?;
-            Ok(effect)
+            decides_owed(
+                alloc,
+                seat,
+                Outcome::Aborted,
+                promised,
+                None,
+                messages,
+                live,
+            )
         }
     }
 }

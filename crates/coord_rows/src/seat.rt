@@ -1,8 +1,9 @@
 //! A coordinator in one of its cases, and the messages that it sends from there.
 
 ghost use Rattle.std.specs.Prelude.{◌≡◌, ◌++◌, ◌∷◌, [], IfOk, OnOk};
-ghost use Rattle.tree_model.specs.CoordinatorRows.{abort_heard_above, acknowledges_abort, each, post, tells, tells_outcome, to_child, up as up_of};
+ghost use Rattle.tree_model.specs.CoordinatorRows.{abort_heard_above, acknowledges_abort, each, post, tells, tells_outcome, to_child, unknown_commit, up as up_of};
 ghost use Rattle.tree_model.specs.Reactions.{told_of};
+ghost use Rattle.tree_model.specs.Standings.{CoordinatorView};
 ghost use Rattle.tree_model.specs.Records.{none_of as is_none_of};
 ghost use Rattle.coord_rows.specs.Rows.{reason as reason_meant, seat as seat_meant};
 
@@ -84,6 +85,16 @@ pub(crate) fn acknowledge_abort(alloc: Global, seat: Seat) -> Result<Envelopes, 
     match seat.case.txn.presumption {
         Presumption::PresumeAbort => Ok(Sequence::new(alloc)),
         Presumption::PresumeCommit => up(alloc, seat, Message::Ack(seat.case, Outcome::Aborted)),
+    }
+}
+
+/// A commit under Presumed Abort is acknowledged; under Presumed Commit nothing is said.
+pub(crate) fn acknowledge_commit(alloc: Global, seat: Seat) -> Result<Envelopes, AllocError>
+    ensures { IfOk result (λ messages. (view : CoordinatorView) → messages ≡ (unknown_commit (seat_meant seat) view).messages) }
+{
+    match seat.case.txn.presumption {
+        Presumption::PresumeAbort => up(alloc, seat, Message::Ack(seat.case, Outcome::Committed)),
+        Presumption::PresumeCommit => Ok(Sequence::new(alloc)),
     }
 }
 

@@ -1,4 +1,3 @@
-pub mod AnyView
 pub mod Given
 pub mod Lent
 pub mod Standings

@@ -3,9 +3,7 @@
 ghost use Rattle.std.specs.Prelude.{◌≡◌, true, IfOk, OnErr};
 ghost use Rattle.tree_model.specs.Records.{in_list as is_in};
 ghost use Rattle.tree_model.specs.CoordinatorRows.{
-  on_abort as abort_row,
   on_ack as ack_row,
-  on_commit as commit_row,
   on_inquiry as inquiry_row,
   on_joined as joined_row,
   on_prepare as prepare_row,
@@ -19,10 +17,10 @@ ghost use Rattle.coord_turns.specs.Asks.{Accepts, asked_row, is_for_any};
 use crate::asked::Asked;
 use coord_case::Live;
 use coord_rows::{
-    Reason, RowEffect, Seat, aborting_abort, aborting_prepare, active_abort, active_commit,
-    active_join, active_joined, active_work, collecting_abort, collecting_vote, committing_commit,
-    decided_ack, decided_inquiry, prepared_abort, prepared_ask, prepared_commit, prepared_prepare,
-    unknown_abort, unknown_commit, unknown_prepare,
+    Reason, RowEffect, Seat, aborting_prepare, active_abort, active_commit, active_join,
+    active_joined, active_work, collecting_abort, collecting_vote, decided_ack, decided_inquiry,
+    on_abort, on_commit, prepared_ask, prepared_prepare, unknown_abort, unknown_commit,
+    unknown_prepare,
 };
 use std::alloc::{AllocError, Global};
 use tree_model::{Outcome, Standing, Ticket, Vote};
@@ -104,34 +102,6 @@ fn on_prepare(alloc: Global, seat: Seat, live: &mut Live) -> Result<RowEffect, A
         Standing::Prepared => prepared_prepare(alloc, seat, live),
         Standing::Aborting => aborting_prepare(alloc, seat),
         Standing::Unknown => unknown_prepare(alloc, seat),
-        _ => Ok(RowEffect::quiet(alloc)),
-    }
-}
-
-/// COMMIT of the parent.
-fn on_commit(alloc: Global, seat: Seat, live: &mut Live) -> Result<RowEffect, AllocError>
-    ensures ok { IfOk result (λ effect. Does seat (commit_row (seat_meant seat) live.old live.old.standing) effect live.new) }
-    ensures err { OnErr result (live.new ≡ live.old) }
-{
-    match live.standing() {
-        Standing::Prepared => prepared_commit(alloc, seat, live),
-        Standing::Committing => committing_commit(alloc, seat),
-        Standing::Unknown => unknown_commit(alloc, seat),
-        _ => Ok(RowEffect::quiet(alloc)),
-    }
-}
-
-/// ABORT of the parent.
-fn on_abort(alloc: Global, seat: Seat, live: &mut Live) -> Result<RowEffect, AllocError>
-    ensures ok { IfOk result (λ effect. Does seat (abort_row (seat_meant seat) live.old live.old.standing) effect live.new) }
-    ensures err { OnErr result (live.new ≡ live.old) }
-{
-    match live.standing() {
-        Standing::Active => active_abort(alloc, seat, live),
-        Standing::Collecting => collecting_abort(alloc, seat, Reason::Abort, live),
-        Standing::Prepared => prepared_abort(alloc, seat, live),
-        Standing::Aborting => aborting_abort(alloc, seat),
-        Standing::Unknown => unknown_abort(alloc, seat),
         _ => Ok(RowEffect::quiet(alloc)),
     }
 }

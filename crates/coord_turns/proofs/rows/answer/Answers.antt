@@ -5,7 +5,7 @@ use Rattle.coord_rows.specs.Rows.{seat}
 use Rattle.coord_turns.specs.declared.asked.Asked.{Asked}
 use Rattle.coord_turns.specs.declared.asked.Asked.TheVariants.{Aborts, Commits, Prepare}
 use Rattle.coord_turns.specs.Asks.{asked_row}
-use Rattle.coord_turns.proofs.AnyView.{at_view}
+use Rattle.coord_rows.proofs.AnyView.{at_view}
 use Rattle.coord_turns.proofs.rows.answer.Goals as goal
 
 pub returns-in-Prepare : goal.returns-in-Prepare

@@ -2,7 +2,7 @@ use Rattle.std.proofs.Common.{rules, ◌≡◌, ap}
 use Rattle.tree_model.specs.declared.standings.Standing.TheVariants.{Aborting, Unknown}
 use Rattle.tree_model.specs.CoordinatorRows.{aborting_prepare, on_prepare, unknown_prepare}
 use Rattle.coord_rows.specs.Rows.{seat}
-use Rattle.coord_turns.proofs.AnyView.{at_view}
+use Rattle.coord_rows.proofs.AnyView.{at_view}
 use Rattle.coord_turns.proofs.rows.on_prepare.Goals as goal
 
 pub returns-in-Aborting-clause-ok : goal.returns-in-Aborting-clause-ok

@@ -1,0 +1,86 @@
+//! A record that a row writes, and where the case is left behind it.
+
+ghost use Rattle.std.specs.Prelude.{◌≡◌, true, IfOk, OnErr, OnOk};
+ghost use Rattle.tree_model.specs.CoordinatorRows.{awaits as awaits_view};
+ghost use Rattle.tree_model.specs.Standings.{unknown_view};
+ghost use Rattle.coord_rows.specs.Rows.{ShowsRecord, decision as decision_of, waits as waits_for};
+
+use crate::effect::{RowEffect, Written};
+use crate::seat::Seat;
+use coord_case::Live;
+use std::alloc::{AllocError, Global};
+use tree_model::{Case, Envelopes, Outcome, Record, Sequence, Standing, Ticket, Told};
+
+/// Commit of the case, with these names.
+fn commit_record(case: Case, named: Sequence<Ticket>) -> Record
+    ensures { result ≡ Record.Commit case named }
+{
+    Record::Commit(case, named)
+}
+
+/// Abort of the case, with these names.
+fn abort_record(case: Case, named: Sequence<Ticket>) -> Record
+    ensures { result ≡ Record.Abort case named }
+{
+    Record::Abort(case, named)
+}
+
+/// The record of a decision that names these.
+fn decision(case: Case, outcome: Outcome, named: Sequence<Ticket>) -> Record
+    ensures { result ≡ decision_of case outcome named }
+{
+    match outcome {
+        Outcome::Committed => commit_record(case, named),
+        Outcome::Aborted => abort_record(case, named),
+    }
+}
+
+/// Where a decided case stands that waits for acknowledgements.
+fn waits(outcome: Outcome) -> Standing
+    ensures { result ≡ waits_for outcome }
+{
+    match outcome {
+        Outcome::Committed => Standing::Committing,
+        Outcome::Aborted => Standing::Aborting,
+    }
+}
+
+/// A decision that each of these owes an acknowledgement of: its record is forced and names them, and the case waits for
+/// them, or is forgotten where there are none. Memory: nothing changed.
+pub(crate) fn decides_owed(
+    alloc: Global,
+    seat: Seat,
+    outcome: Outcome,
+    owed: Vec<Ticket>,
+    told: Option<Told>,
+    messages: Envelopes,
+    live: &mut Live,
+) -> Result<RowEffect, AllocError>
+    ensures shows { IfOk result (λ effect. ShowsRecord seat.parent effect (record { entry = decision_of seat.case outcome owed.items; forced = true }) told messages) }
+    ensures waiting { OnOk result (live.new ≡ awaits_view (waits_for outcome) owed.items live.old) }
+    ensures err { OnErr result (live.new ≡ live.old) }
+{
+    let named = Sequence::from_vec(Vec::from_slice(alloc, &owed)?);
+    let written = Written::forced(decision(seat.case, outcome, named));
+    let effect = RowEffect::writes(alloc, seat, written, told, messages)?;
+    live.awaits(waits(outcome), owed)?;
+    Ok(effect)
+}
+
+/// A record behind which nobody owes anything: the case is forgotten. Memory: nothing changed.
+pub(crate) fn forgets_behind(
+    alloc: Global,
+    seat: Seat,
+    written: Written,
+    told: Option<Told>,
+    messages: Envelopes,
+    live: &mut Live,
+) -> Result<RowEffect, AllocError>
+    ensures shows { IfOk result (λ effect. ShowsRecord seat.parent effect written told messages) }
+    ensures forgotten { OnOk result (live.new ≡ unknown_view) }
+    ensures err { OnErr result (live.new ≡ live.old) }
+{
+    let effect = RowEffect::writes(alloc, seat, written, told, messages)?;
+    live.forget();
+    Ok(effect)
+}

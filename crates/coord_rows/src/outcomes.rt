@@ -1,0 +1,44 @@
+//! The row that an outcome from the parent meets where a live case stands (R*). A decision that it contradicts stays as it
+//! is.
+
+ghost use Rattle.std.specs.Prelude.{◌≡◌, IfOk, OnErr};
+ghost use Rattle.tree_model.specs.CoordinatorRows.{on_abort as abort_row, on_commit as commit_row};
+ghost use Rattle.coord_rows.specs.Rows.{Does, seat as seat_meant};
+
+use crate::active::active_abort;
+use crate::collecting::collecting_abort;
+use crate::decided::{aborting_abort, committing_commit, unknown_abort, unknown_commit};
+use crate::effect::RowEffect;
+use crate::prepared::{prepared_abort, prepared_commit};
+use crate::seat::{Reason, Seat};
+use coord_case::Live;
+use std::alloc::{AllocError, Global};
+use tree_model::Standing;
+
+/// COMMIT of the parent. Memory: nothing changed.
+pub fn on_commit(alloc: Global, seat: Seat, live: &mut Live) -> Result<RowEffect, AllocError>
+    ensures ok { IfOk result (λ effect. Does seat (commit_row (seat_meant seat) live.old live.old.standing) effect live.new) }
+    ensures err { OnErr result (live.new ≡ live.old) }
+{
+    match live.standing() {
+        Standing::Prepared => prepared_commit(alloc, seat, live),
+        Standing::Committing => committing_commit(alloc, seat),
+        Standing::Unknown => unknown_commit(alloc, seat),
+        _ => Ok(RowEffect::quiet(alloc)),
+    }
+}
+
+/// ABORT of the parent. Memory: nothing changed.
+pub fn on_abort(alloc: Global, seat: Seat, live: &mut Live) -> Result<RowEffect, AllocError>
+    ensures ok { IfOk result (λ effect. Does seat (abort_row (seat_meant seat) live.old live.old.standing) effect live.new) }
+    ensures err { OnErr result (live.new ≡ live.old) }
+{
+    match live.standing() {
+        Standing::Active => active_abort(alloc, seat, live),
+        Standing::Collecting => collecting_abort(alloc, seat, Reason::Abort, live),
+        Standing::Prepared => prepared_abort(alloc, seat, live),
+        Standing::Aborting => aborting_abort(alloc, seat),
+        Standing::Unknown => unknown_abort(alloc, seat),
+        _ => Ok(RowEffect::quiet(alloc)),
+    }
+}
