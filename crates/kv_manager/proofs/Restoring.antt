@@ -9,7 +9,7 @@ use Rattle.xa_xid.specs.declared.xid.Xid.{Xid}
 use Rattle.xa_tables.specs.declared.states.BranchState.TheVariants.{S0, S3}
 use Rattle.xa_states.specs.declared.states.States.{States}
 use Rattle.xa_states.specs.Answers.{state_at}
-use Rattle.xa_states.specs.Restored.{Restored, state_left, states_left}
+use Rattle.xa_states.specs.Restored.{Restored, restore_refusal, state_left, states_left}
 use Rattle.tree_model.specs.declared.records.Branch.TheVariants.{Foreign}
 use Rattle.tree_model.specs.declared.records.LogRecord.{LogRecord}
 use Rattle.tree_model.specs.Store.{Data, writes_of as promised_of}
@@ -30,7 +30,8 @@ use Rattle.kv_replay.proofs.Lookups.{same_is}
 use Rattle.tree_model.specs.declared.names.Kind.TheVariants.{Manager}
 use Rattle.log_text.specs.Made.{frame_record}
 use Rattle.core_log.specs.Writes.{Writes}
-use Rattle.rec_log.specs.Sights.{LogSight, LogState, Restarts, left_by as left_by_crash, records_of}
+use Rattle.core_model.specs.States.{wrote}
+use Rattle.rec_log.specs.Sights.{Breaks, LogSight, LogState, Restarts, left_by as left_by_crash, records_of}
 use Rattle.kv_manager.specs.declared.restart.Ready.{Ready}
 use Rattle.kv_manager.specs.declared.restart.RestartError.{RestartError}
 use Rattle.kv_manager.specs.declared.restart.RestartError.TheVariants.{Device, Exhausted as ExhaustedRestart, Memory as MemoryRestart, Unfit}
@@ -38,7 +39,7 @@ use Rattle.xa_heur.specs.Cases.{DecisionTable}
 use Rattle.kv_replay.specs.Decisions.{KnowDecided, decided_in, says_decided}
 use Rattle.kv_core.specs.Stores.{IsTidy, KeySight, Rebuilt, is_decided, is_let_go}
 use Rattle.kv_core.specs.Ends.{known_of}
-use Rattle.kv_manager.specs.Restarts.{FailsToRestart, IsReady, LeavesStore, NotRebuilt, error_of, next_boot, opened}
+use Rattle.kv_manager.specs.Restarts.{FailsToRestart, IsReady, LeavesNone, LeavesStore, NotBegun, NotRebuilt, NotStored, StartsOver, error_of, next_boot, opened}
 use Rattle.kv_manager.specs.Sights.{IsKept, IsLogged, KvSight, SaysDecided, logged}
 use Rattle.kv_manager.proofs.Marks.{agrees_of, prepared_mark, state_by}
 use Rattle.kv_manager.proofs.Turns.{data_behind, decided_behind, mark_behind}
@@ -209,14 +210,61 @@ kept_restarted old log keep r kind ready made =
     (made.forced ∙ ap (λ l. left_by_crash old.sight keep ++ l ∷ []) ready.spells) made.unforced
 
 -- a log that was opened, with the record of the boot behind its own
-pub kept_started : (log mid new : LogState) (r : Ready) → log.kind ≡ Manager → mid.kind ≡ log.kind → mid.sight ≡ log.sight
-    → IsReady (records_of log.sight.kept) r → Writes mid new (frame_record r.opened) true
-    → IsKept (record { store = r.store; log = new; boot = r.boot })
-kept_started log mid new r kind same_kind same ready made =
-    kept_left (record { store = r.store; log = new; boot = r.boot }) (records_of log.sight.kept) (made.kind ∙ same_kind ∙ kind) ready.left
-    (ap (λ (k : LogSight). k.kept.forced) made.sight ∙ ap (λ (k : LogSight). records_of k.kept ++ frame_record r.opened ∷ []) same
-    ∙ ap (λ l. records_of log.sight.kept ++ l ∷ []) ready.spells)
-    (ap (λ (k : LogSight). k.kept.unforced) made.sight)
+pub kept_over : (log new : LogState) (store : KeySight) (boot : ℕ) → log.kind ≡ Manager → new.kind ≡ log.kind
+    → StartsOver log (record { store = store; log = new; boot = boot }) → IsKept (record { store = store; log = new; boot = boot })
+kept_over log new store boot kind same starts =
+    kept_left (record { store = store; log = new; boot = boot }) (records_of log.sight.kept) (same ∙ kind) starts.left starts.forced starts.unforced
+
+-- the record of the boot was written behind those of a log that was opened
+pub starts_over : (log new : LogState) (store : KeySight) (boot : ℕ) → log.sight.failed ≡ false → LeavesStore (records_of log.sight.kept) store boot
+    → Writes log new (opened boot) true → StartsOver log (record { store = store; log = new; boot = boot })
+starts_over log new store boot works left made = record {
+  left = left;
+  forced = ap (λ (k : LogSight). k.kept.forced) made.sight;
+  unforced = ap (λ (k : LogSight). k.kept.unforced) made.sight;
+  behind = ap (λ (k : LogSight). k.behind) made.sight;
+  works = ap (λ (k : LogSight). k.failed) made.sight ∙ works;
+  failures = ap (λ (k : LogSight). k.failures) made.sight;
+}
+
+-- or it was not
+pub starts_none : (log new : LogState) (store : KeySight) (boot : ℕ) (e : RestartError) → LeavesStore (records_of log.sight.kept) store boot
+    → NotBegun log new boot e → LeavesNone log new e
+starts_none log new store boot MemoryRestart left same = (tt, same)
+starts_none log new store boot Device left broke = (boot, record { seen = left.seen; read = left.read; next = left.next }, broke)
+starts_none log new store boot Unfit left never = absurd never
+starts_none log new store boot ExhaustedRestart left never = absurd never
+
+-- a record is written behind room that was made
+pub writes_behind : (log mid new : LogState) (l m : LogRecord) → mid.kind ≡ log.kind → mid.sight ≡ log.sight → l ≡ m → Writes mid new l true
+    → Writes log new m true
+writes_behind log mid new l m kind same is made = subst (λ k. Writes log new k true) is (record {
+  kind = made.kind ∙ kind;
+  sight = made.sight ∙ ap (λ s. wrote s (record { entry = l.entry; is_forced = true } ∷ []) (l ∷ [])) same;
+})
+
+-- and so it fails
+pub breaks_behind : (log mid new : LogState) (l m : LogRecord) → mid.kind ≡ log.kind → mid.sight ≡ log.sight → l ≡ m → Breaks mid new (l ∷ [])
+    → Breaks log new (m ∷ [])
+breaks_behind log mid new l m kind same is broke = subst (λ k. Breaks log new (k ∷ [])) is
+    (subst (λ k. Breaks (record { kind = k; sight = log.sight; room = log.room }) new (l ∷ [])) kind
+    (subst (λ (s : LogSight). Breaks (record { kind = mid.kind; sight = s; room = log.room }) new (l ∷ [])) same (record {
+      kind = broke.kind;
+      appended = broke.appended;
+      stand = broke.stand;
+      no_less = broke.no_less;
+      more = broke.more;
+      leaves = broke.leaves;
+      failed = broke.failed;
+      cause = broke.cause;
+    })))
+
+-- the records of a log that was opened leave no manager
+pub none_left : (log : LogState) (e : RestartError) → NotRebuilt (records_of log.sight.kept) e → LeavesNone log log e
+none_left log MemoryRestart why = (why, refl)
+none_left log Device never = absurd never
+none_left log Unfit why = (why, refl)
+none_left log ExhaustedRestart why = (why, refl)
 
 -- a log that did not restart leaves a manager that stands, or that has failed
 pub kept_unstarted : (s : KvSight) (log : LogState) (keep : ℕ) (l : LogRecord) (e : RestartError) → IsKept s → log.kind ≡ s.log.kind
@@ -262,6 +310,15 @@ pub not_rebuilt : (ls : List LogRecord) (e : ReplayError) → Fails ls e → Not
 not_rebuilt ls Memory why = tt
 not_rebuilt ls Malformed why = inl why
 not_rebuilt ls Exhausted why = inl why
+
+-- nor is what makes no store
+pub not_stored : (ls : List LogRecord) (s : SeenLog) (left : List (Xid × Bool)) (e : RestartError) → seen_of ls ≡ Some s → left ≡ left_by s
+    → NotStored left e → NotRebuilt ls e
+not_stored ls s left MemoryRestart read is why = tt
+not_stored ls s left Device read is never = never
+not_stored ls s left Unfit read is why =
+    inr (record { seen = s; read = read; refusal = why.0; refused = ap restore_refusal (sym is) ∙ why.1 })
+not_stored ls s left ExhaustedRestart read is never = absurd never
 
 -- a boot fits a record
 pub boot_fits : (o : Option ℕ) (b : ℕ) → next_boot o ≡ Some b → b < 2 ^ 63

@@ -1,5 +1,5 @@
 -- A key store behind a restart: what the records say that its log keeps.
-use Rattle.std.specs.Prelude.{◌≡◌, ◌+◌, ◌-◌, ◌^◌, ◌⊎◌, ⊤, ℕ, false, nat_lt, if◌then◌else◌, List, [], ◌∷◌, ◌++◌, Option, Some, None}
+use Rattle.std.specs.Prelude.{◌≡◌, ◌+◌, ◌-◌, ◌^◌, ◌⊎◌, ⊤, ℕ, Bool, false, nat_lt, if◌then◌else◌, List, [], ◌∷◌, ◌++◌, Option, Some, None}
 use Rattle.xa_codes.specs.declared.code.Code.{Code}
 use Rattle.xa_xid.specs.declared.xid.Xid.{Xid}
 use Rattle.xa_branch.specs.Branches.{in_doubt}
@@ -65,6 +65,13 @@ pub record AreLastBoots (ls : List LogRecord) : Type 0 where
   pub seen : SeenLog
   pub read : seen_of ls ≡ Some seen
   pub spent : next_boot seen.boot ≡ None
+
+-- why what replayed makes no store
+abbrev pub NotStored : List (Xid × Bool) → RestartError → Type 0
+NotStored left Memory = ⊤
+NotStored left Device = ⊥
+NotStored left Unfit = (refusal : Code) × (restore_refusal left ≡ Some refusal)
+NotStored left Exhausted = ⊥
 
 -- why records leave no manager; want of memory may come at any time
 abbrev pub NotRebuilt : List LogRecord → RestartError → Type 0
@@ -133,6 +140,12 @@ pub record RestoredFrom (bytes : List ℕ) (forced failures : ℕ) (s : KvSight)
   pub log : LogState
   pub opens : Opens Manager bytes forced failures log
   pub starts : StartsOver log s
+
+-- the record of a boot was not written: nothing changed, or the device failed under it
+abbrev pub NotBegun : LogState → LogState → ℕ → RestartError → Type 0
+NotBegun old new boot Memory = new.sight ≡ old.sight
+NotBegun old new boot Device = Breaks old new (opened boot ∷ [])
+NotBegun old new boot e = ⊥
 
 -- the log was opened, and its records leave no manager; or the device failed under the record of the boot
 abbrev pub LeavesNone : LogState → LogState → RestartError → Type 0

@@ -17,24 +17,24 @@ ghost use Rattle.std.specs.List.{AllByRecursion};
 ghost use Rattle.log_sound.specs.Sound.{IsSound};
 ghost use Rattle.log_text.specs.Made.{frame_record};
 ghost use Rattle.log_text.specs.Payloads.{record_text};
-ghost use Rattle.rec_log.specs.Sights.{IsRecord, ReadsAs, Restarts, left_by, records_of, whole_within};
+ghost use Rattle.rec_log.specs.Sights.{IsRecord, ReadsAs, left_by, records_of, whole_within};
 ghost use Rattle.tree_model.specs.declared.names.Kind.TheVariants as kind;
 ghost use Rattle.kv_writes.specs.Writes.{writes_of};
 ghost use Rattle.kv_turns.specs.Turns.{applies, entry_record};
-ghost use Rattle.kv_manager.specs.Restarts.{FailsToRestart, IsReady, LeavesNone, NotRebuilt, NotRestarted, NotRestored, Restarted, RestoredFrom, StartsOver};
+ghost use Rattle.kv_manager.specs.Restarts.{IsReady, LeavesNone, NotRestarted, NotRestored, Restarted, RestoredFrom, StartsOver};
 ghost use Rattle.kv_manager.specs.Turns.{Calls, Finishes, HasWrites, IsDueTurn, OnlyRoom, Refuses, Takes};
 
-use crate::restart::{Ready, RestartError, ready_for};
+use crate::restart::{Ready, RestartError, ready_for, restart_log, started};
 use core_log::write;
 use kv_core::KeyStore;
 use kv_turns::{Entry, Turn};
 use log_store::LogStore;
 use log_text::Frame;
 use manager_model::DecideError;
-use rec_log::{LogError, OpenError, RecLog};
+use rec_log::{OpenError, RecLog};
 use std::alloc::{AllocError, Global};
 use std::marker::Model;
-use std::{mem, slice};
+use std::mem;
 use thiserror::Error;
 use tree_model::{Bytes, Kind, LogRecord, Outcome};
 use xa_codes::{Code, Flags};
@@ -71,39 +71,6 @@ impl<L: LogStore> Model for KvManager<L> {
     ghost view = { λ m. record { store = m.store; log = m.log; boot = m.boot } };
 
     ghost invariant = { λ m. IsKept (record { store = m.store; log = m.log; boot = m.boot }) };
-}
-
-/// Restarts a log, with the record of a boot behind what is left.
-fn restart_log<L: LogStore>(
-    log: &mut RecLog<L>,
-    keep: usize,
-    opened: &Frame,
-    alloc: Global,
-) -> Result<(), RestartError>
-    requires { IsRecord log.old.kind (frame_record opened.now) }
-    ensures kind { log.new.kind ≡ log.old.kind }
-    ensures ok { OnOk result (Restarts log.old log.new keep (frame_record opened.now ∷ [])) }
-    ensures err { IfErr result (λ e. FailsToRestart log.old log.new keep (frame_record opened.now) e) }
-{
-    match log.restart(keep, slice::from_ref(opened), alloc) {
-        Ok(()) => Ok(()),
-        Err(LogError::Memory) => Err(RestartError::Memory),
-        Err(LogError::Device) => Err(RestartError::Device),
-    }
-}
-
-/// What a manager over a log that was opened starts as, with room in the log for the record of its boot. The
-/// errors are those of `rebuilt`.
-fn ready_over<L: LogStore>(log: &mut RecLog<L>, alloc: Global) -> Result<Ready, RestartError>
-    ensures ok { IfOk result (IsReady (records_of log.old.sight.kept)) }
-    ensures room { IfOk result (λ ready. length (record_text (frame_record ready.opened)) ≤ log.new.room) }
-    ensures err { IfErr result (NotRebuilt (records_of log.old.sight.kept)) }
-    ensures stays { (log.new.sight ≡ log.old.sight) × (log.new.kind ≡ log.old.kind) }
-{
-    let records = log.records(alloc)?;
-    let ready = ready_for(records, alloc)?;
-    log.reserve(ready.opened.bytes().len())?;
-    Ok(ready)
 }
 
 /// Whether a branch took the turn of a decision, by what the turn answered.
@@ -499,20 +466,14 @@ impl<L: LogStore> KvManager<L> {
         ensures ok { IfOk result (StartsOver log) }
         ensures err { IfErr result (λ e. LeavesNone log e.1 e.0 × (e.1.kind ≡ kind.Manager)) }
     {
-        let ready = match ready_over(&mut log, alloc) {
-            Ok(ready) => ready,
-            Err(error) => return Err((error, log)),
-        };
-        let written = write(&mut log, &ready.opened, true);
-        let (store, boot) = ready.into_store();
-        match written {
-            Ok(()) => Ok(KvManager {
+        match started(&mut log, alloc) {
+            Ok((store, boot)) => Ok(KvManager {
                 alloc,
                 log,
                 boot,
                 store,
             }),
-            Err(_) => Err((RestartError::Device, log)),
+            Err(error) => Err((error, log)),
         }
     }
 }

@@ -1,15 +1,24 @@
 //! What the records of a log leave of a manager.
 
-ghost use Rattle.std.specs.Prelude.{◌≡◌, ◌<◌, ◌^◌, ◌∷◌, [], IfOk, IfErr};
+ghost use Rattle.std.specs.Prelude.{◌≡◌, ◌<◌, ◌^◌, ◌∷◌, [], true, false, IfOk, IfErr, OnOk};
+ghost use Rattle.xa_branch.specs.Branches.{in_doubt};
+ghost use Rattle.xa_states.specs.declared.states.States.{States as AnyStates};
+ghost use Rattle.xa_states.specs.Restored.{Restored};
+ghost use Rattle.kv_core.specs.Stores.{IsTidy, Rebuilt};
 ghost use Rattle.tree_model.specs.declared.names.Kind.TheVariants as kind;
 ghost use Rattle.log_text.specs.Made.{frame_record};
-ghost use Rattle.rec_log.specs.Sights.{IsRecord};
-ghost use Rattle.kv_manager.specs.Restarts.{IsReady, LeavesStore, NotRebuilt, error_of, next_boot, opened};
+ghost use Rattle.core_log.specs.Writes.{Writes};
+ghost use Rattle.rec_log.specs.Sights.{IsRecord, Restarts};
+ghost use Rattle.kv_manager.specs.Restarts.{FailsToRestart, IsReady, LeavesNone, LeavesStore, NotBegun, NotRebuilt, NotStored, StartsOver, error_of, next_boot, opened};
 
+use core_log::write;
 use kv_core::KeyStore;
 use kv_replay::{ReplayError, Replayed, replay};
+use log_store::LogStore;
 use log_text::Frame;
+use rec_log::{LogError, RecLog};
 use std::alloc::{AllocError, Global};
+use std::slice;
 use thiserror::Error;
 use tree_model::{LogRecord, Record};
 use xa_xid::Xid;
@@ -67,6 +76,28 @@ fn next_boot(last: Option<u64>) -> Option<u64>
 /// The last boot that a log holds.
 const BOOTS: u64 = 0x7fff_ffff_ffff_ffff;
 
+/// The key store of what replayed. Memory: there was none. Unfit: more branches are in doubt than it holds, or one of them
+/// twice.
+fn stored(replayed: Replayed, alloc: Global) -> Result<KeyStore, RestartError>
+    requires { (t : AnyStates) → Restored replayed.left.items t → IsTidy (record { tables = t; writes = replayed.writes; locks = replayed.locks; versions = replayed.data; decisions = replayed.decisions }) }
+    ensures ok { IfOk result (λ store. Rebuilt store replayed.left.items replayed.writes replayed.locks replayed.data replayed.decisions) }
+    ensures err { IfErr result (NotStored replayed.left.items) }
+{
+    let Replayed {
+        left,
+        data,
+        writes,
+        locks,
+        decisions,
+        ..
+    } = replayed;
+    match KeyStore::restored(alloc, left.as_slice(), writes, locks, data, decisions) {
+        Ok(Ok(store)) => Ok(store),
+        Ok(Err(_)) => Err(RestartError::Unfit),
+        Err(_) => Err(RestartError::Memory),
+    }
+}
+
 /// What the records of a log leave of a key store, and the boot behind them. Memory: there was none. Unfit:
 /// they are not the records of a key store. Exhausted: the boots or the commits count 2^63. With an error the
 /// records are gone.
@@ -74,23 +105,16 @@ pub fn rebuilt(records: Vec<LogRecord>, alloc: Global) -> Result<(KeyStore, u64)
     ensures ok { IfOk result (λ made. LeavesStore records.items made.0 made.1) }
     ensures err { IfErr result (NotRebuilt records.items) }
 {
-    let Replayed {
-        boot,
-        left,
-        data,
-        writes,
-        locks,
-        decisions,
-    } = match replay(records, alloc) {
+    let replayed = match replay(records, alloc) {
         Ok(replayed) => replayed,
         Err(error) => return Err(replay_error(error)),
     };
-    let Some(boot) = next_boot(boot) else {
+    let Some(boot) = next_boot(replayed.boot) else {
         return Err(RestartError::Exhausted);
     };
-    match KeyStore::restored(alloc, left.as_slice(), writes, locks, data, decisions)? {
+    match stored(replayed, alloc) {
         Ok(store) => Ok((store, boot)),
-        Err(_) => Err(RestartError::Unfit),
+        Err(error) => Err(error),
     }
 }
 
@@ -124,14 +148,18 @@ impl Ready {
         let Ready { in_doubt, .. } = self;
         in_doubt
     }
+}
 
-    /// The store and its boot.
-    pub(crate) fn into_store(self) -> (KeyStore, u64)
-        ensures { result ≡ (self.store, self.boot) }
-    {
-        let Ready { store, boot, .. } = self;
-        (store, boot)
-    }
+/// The branches in doubt of a store, and the frame of its boot.
+fn announced(store: &KeyStore, boot: u64, alloc: Global) -> Result<(Vec<Xid>, Frame), AllocError>
+    requires { boot < 2 ^ 63 }
+    ensures listed { IfOk result (λ made. made.0.items ≡ in_doubt store.now.tables.branches.branches) }
+    ensures spells { IfOk result (λ made. frame_record made.1 ≡ opened boot) }
+    ensures sound { IfOk result (λ made. IsRecord kind.Manager (frame_record made.1)) }
+{
+    let opened = opened(boot, alloc)?;
+    let in_doubt = store.in_doubt()?;
+    Ok((in_doubt, opened))
 }
 
 /// What a manager restarts as where these records are left. The errors are those of `rebuilt`.
@@ -140,12 +168,73 @@ pub(crate) fn ready_for(records: Vec<LogRecord>, alloc: Global) -> Result<Ready,
     ensures err { IfErr result (NotRebuilt records.items) }
 {
     let (store, boot) = rebuilt(records, alloc)?;
-    let in_doubt = store.in_doubt()?;
+    match announced(&store, boot, alloc) {
+        Ok((in_doubt, opened)) => Ok(Ready {
+            store,
+            boot,
+            in_doubt,
+            opened,
+        }),
+        Err(_) => Err(RestartError::Memory),
+    }
+}
+
+/// Restarts a log, with the record of a boot behind what is left.
+pub(crate) fn restart_log<L: LogStore>(
+    log: &mut RecLog<L>,
+    keep: usize,
+    opened: &Frame,
+    alloc: Global,
+) -> Result<(), RestartError>
+    requires { IsRecord log.old.kind (frame_record opened.now) }
+    ensures kind { log.new.kind ≡ log.old.kind }
+    ensures ok { OnOk result (Restarts log.old log.new keep (frame_record opened.now ∷ [])) }
+    ensures err { IfErr result (λ e. FailsToRestart log.old log.new keep (frame_record opened.now) e) }
+{
+    match log.restart(keep, slice::from_ref(opened), alloc) {
+        Ok(()) => Ok(()),
+        Err(LogError::Memory) => Err(RestartError::Memory),
+        Err(LogError::Device) => Err(RestartError::Device),
+    }
+}
+
+/// Writes the record of a boot, forced. Memory: nothing changed. Device: the device failed under it.
+fn write_boot<L: LogStore>(
+    log: &mut RecLog<L>,
+    boot: u64,
+    alloc: Global,
+) -> Result<(), RestartError>
+    requires fits { boot < 2 ^ 63 }
+    requires works { log.old.sight.failed ≡ false }
+    requires kind { log.old.kind ≡ kind.Manager }
+    ensures ok { OnOk result (Writes log.old log.new (opened boot) true) }
+    ensures err { IfErr result (NotBegun log.old log.new boot) }
+    ensures kind { log.new.kind ≡ log.old.kind }
+{
     let opened = opened(boot, alloc)?;
-    Ok(Ready {
-        store,
-        boot,
-        in_doubt,
-        opened,
-    })
+    log.reserve(opened.bytes().len())?;
+    match write(log, &opened, true) {
+        Ok(()) => Ok(()),
+        Err(_) => Err(RestartError::Device),
+    }
+}
+
+/// What a manager over a log that was opened starts as; the record of its boot is in the log, forced. Device: the record
+/// could not be written. The other errors are those of `rebuilt`.
+pub(crate) fn started<L: LogStore>(
+    log: &mut RecLog<L>,
+    alloc: Global,
+) -> Result<(KeyStore, u64), RestartError>
+    requires works { log.old.sight.failed ≡ false }
+    requires kind { log.old.kind ≡ kind.Manager }
+    ensures ok { IfOk result (λ made. StartsOver log.old (record { store = made.0; log = log.new; boot = made.1 })) }
+    ensures err { IfErr result (LeavesNone log.old log.new) }
+    ensures kind { log.new.kind ≡ log.old.kind }
+{
+    let records = log.records(alloc)?;
+    let (store, boot) = rebuilt(records, alloc)?;
+    match write_boot(log, boot, alloc) {
+        Ok(()) => Ok((store, boot)),
+        Err(error) => Err(error),
+    }
 }

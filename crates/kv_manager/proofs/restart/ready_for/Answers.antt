@@ -1,12 +1,16 @@
-use Rattle.kv_manager.specs.declared.restart.RestartError.TheVariants.{Memory}
-use Rattle.kv_manager.specs.Restarts.{NotRebuilt}
-use Rattle.kv_manager.proofs.Keeping.{made_error}
+use Rattle.kv_manager.proofs.Restoring.{boot_fits}
 use Rattle.kv_manager.proofs.restart.ready_for.Goals as goal
 
-pub returns-in_err-in_doubt-clause-err : goal.returns-in_err-in_doubt-clause-err
-returns-in_err-in_doubt-clause-err c =
-    made_error (NotRebuilt c.args.records.items) Memory c.from_residual-in_err-in_doubt.result c.from_residual-in_err-in_doubt.ensures.1 tt
+pub announced-requires : goal.announced-requires
+announced-requires c = boot_fits c.in_ok-store.ensures.ok.seen.boot c.in_ok-store.boot c.in_ok-store.ensures.ok.next
 
-pub returns-in_err-opened-clause-err : goal.returns-in_err-opened-clause-err
-returns-in_err-opened-clause-err c =
-    made_error (NotRebuilt c.args.records.items) Memory c.from_residual-in_err-opened.result c.from_residual-in_err-opened.ensures.1 tt
+pub returns-in-Ok-clause-ok : goal.returns-in-Ok-clause-ok
+returns-in-Ok-clause-ok c = record {
+  left = c.in_ok-store.ensures.ok;
+  listed = c.in-Ok.ensures.listed;
+  spells = c.in-Ok.ensures.spells;
+  sound = c.in-Ok.ensures.sound;
+}
+
+pub returns-in-Err-clause-err : goal.returns-in-Err-clause-err
+returns-in-Err-clause-err c = tt
