@@ -9,10 +9,10 @@ use Rattle.tree_model.specs.Names.{child_case}
 use Rattle.audit_cases.specs.declared.kinds.Kinds.{Kinds}
 use Rattle.audit_cases.specs.Notes.{CaseNote, Table, same}
 use Rattle.audit_cases.specs.Sayings.{first_naming}
-use Rattle.audit_chains.specs.declared.steps.Found.{Found}
-use Rattle.audit_chains.specs.declared.steps.Found.TheVariants.{Kept, Nothing}
-use Rattle.audit_chains.specs.declared.steps.Stands.{Stands}
-use Rattle.audit_chains.specs.declared.steps.Stands.TheVariants.{Abort, Collecting, Commit, Prepare}
+use Rattle.audit_engine.specs.declared.steps.Found.{Found}
+use Rattle.audit_engine.specs.declared.steps.Found.TheVariants.{Kept, Nothing}
+use Rattle.audit_engine.specs.declared.steps.Stands.{Stands}
+use Rattle.audit_engine.specs.declared.steps.Stands.TheVariants.{Abort, Collecting, Commit, Prepare}
 
 -- by whether a coordinator's case has a Commit, an Abort or a Prepare: what stands of it
 abbrev pub stands_by : Bool → Bool → Bool → Stands

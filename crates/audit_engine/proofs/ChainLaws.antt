@@ -14,10 +14,10 @@ use Rattle.audit_cases.specs.Notes.{Table, notes_of}
 use Rattle.tree_audit.specs.Tables.{AreNotes, TreeTables, same_id}
 use Rattle.tree_audit.proofs.Passes.{apart_of, listed_more, lookup_inserted, same_is, same_self}
 use Rattle.tree_audit.proofs.TreePlaces.{is_one, parent_listed, true_not_false}
-use Rattle.audit_chains.specs.declared.steps.Found.{Found}
-use Rattle.audit_chains.specs.declared.steps.Step.{Step}
-use Rattle.audit_chains.specs.Chains.{Adds, AreNamings, TreeFounds, asks_on, chain_of, found_by_table, found_in, steps_by, steps_from, steps_on, steps_within}
-use Rattle.audit_chains.specs.Namings.{AreNamed, Founds, finds, found_at}
+use Rattle.audit_engine.specs.declared.steps.Found.{Found}
+use Rattle.audit_engine.specs.declared.steps.Step.{Step}
+use Rattle.audit_engine.specs.Chains.{Adds, AreNamings, TreeFounds, asks_on, chain_of, found_by_table, found_in, steps_by, steps_from, steps_on, steps_within}
+use Rattle.audit_engine.specs.Namings.{AreNamed, Founds, finds, found_at}
 
 -- What the processes find.
 

@@ -13,13 +13,13 @@ use Rattle.tree_model.specs.Trees.{parent_of}
 use Rattle.tree_auditor.specs.Audits.{Logs}
 use Rattle.audit_cases.specs.Notes.{Table, notes_of}
 use Rattle.tree_audit.specs.Tables.{same_id}
-use Rattle.audit_chains.specs.declared.steps.Deed.{Deed}
-use Rattle.audit_chains.specs.declared.steps.Deed.TheVariants.{Ask, Restart}
-use Rattle.audit_chains.specs.declared.steps.Found.{Found}
-use Rattle.audit_chains.specs.declared.steps.Found.TheVariants.{Kept, Nothing}
-use Rattle.audit_chains.specs.declared.steps.Stands.TheVariants.{Collecting, Prepare}
-use Rattle.audit_chains.specs.declared.steps.Step.{Step}
-use Rattle.audit_chains.specs.Namings.{AreNamed, Founds, finds, found_at}
+use Rattle.audit_engine.specs.declared.steps.Deed.{Deed}
+use Rattle.audit_engine.specs.declared.steps.Deed.TheVariants.{Ask, Restart}
+use Rattle.audit_engine.specs.declared.steps.Found.{Found}
+use Rattle.audit_engine.specs.declared.steps.Found.TheVariants.{Kept, Nothing}
+use Rattle.audit_engine.specs.declared.steps.Stands.TheVariants.{Collecting, Prepare}
+use Rattle.audit_engine.specs.declared.steps.Step.{Step}
+use Rattle.audit_engine.specs.Namings.{AreNamed, Founds, finds, found_at}
 
 -- The steps.
 

@@ -1,6 +1,6 @@
 use Rattle.std.proofs.Common.{◌∙◌, sym}
-use Rattle.audit_chains.proofs.ChainLaws.{on_ok, step_ends, step_goes_on}
-use Rattle.audit_chains.proofs.chains.+push_steps.Goals as goal
+use Rattle.audit_engine.proofs.ChainLaws.{on_ok, step_ends, step_goes_on}
+use Rattle.audit_engine.proofs.chains.+push_steps.Goals as goal
 
 pub returns-in-None : goal.returns-in-None
 returns-in-None t c =

@@ -11,9 +11,9 @@ use Rattle.tree_model.proofs.Equality.{case_equality}
 use Rattle.inquire_core.proofs.Readings.{apart_back, same_is}
 use Rattle.audit_cases.specs.Notes.{CaseNote, Table, same}
 use Rattle.audit_cases.specs.Sayings.{first_naming, names}
-use Rattle.audit_chains.specs.declared.steps.Found.{Found}
-use Rattle.audit_chains.specs.declared.steps.Found.TheVariants.{Kept, Nothing}
-use Rattle.audit_chains.specs.Namings.{AreNamed, Founds, found_by, namings_of, stands_in, with_entry, with_first, with_named}
+use Rattle.audit_engine.specs.declared.steps.Found.{Found}
+use Rattle.audit_engine.specs.declared.steps.Found.TheVariants.{Kept, Nothing}
+use Rattle.audit_engine.specs.Namings.{AreNamed, Founds, found_by, namings_of, stands_in, with_entry, with_first, with_named}
 
 -- the first of two that is there
 abbrev or_else : Option Found → Option Found → Option Found

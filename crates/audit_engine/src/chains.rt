@@ -6,7 +6,7 @@ ghost use Rattle.tree_model.specs.Names.{process_of as process_in};
 ghost use Rattle.tree_model.specs.Trees.{IsTree};
 ghost use Rattle.std.specs.Map.{lookup};
 ghost use Rattle.tree_audit.specs.Tables.{AreNotes, same_id};
-ghost use Rattle.audit_chains.specs.Chains.{Adds, AreNamings, found_by_table, asks as deed_asking, asks_on, chain_of, deed_behind, steps_within};
+ghost use Rattle.audit_engine.specs.Chains.{Adds, AreNamings, found_by_table, asks as deed_asking, asks_on, chain_of, deed_behind, steps_within};
 
 use crate::namings::{Namings, TreeNamings};
 use crate::steps::{Deed, Found, Stands, Step};

@@ -1,6 +1,6 @@
 use Rattle.std.proofs.Common.{arith}
-use Rattle.audit_chains.proofs.ChainLaws.{named_all, named_next, none_named}
-use Rattle.audit_chains.proofs.chains.all_namings.Goals as goal
+use Rattle.audit_engine.proofs.ChainLaws.{named_all, named_next, none_named}
+use Rattle.audit_engine.proofs.chains.all_namings.Goals as goal
 
 pub loop-entry-init : goal.loop-entry-init
 loop-entry-init c = none_named c.args.tree.now c.args.notes.now.entries _

@@ -1,7 +1,7 @@
 //! Which case of a process names a child's case.
 
 ghost use Rattle.std.specs.Prelude.{◌≡◌, IfOk, OnOk};
-ghost use Rattle.audit_chains.specs.Namings.{AreNamed, found_at, namings_of, stands_in, with_entry, with_first, with_named};
+ghost use Rattle.audit_engine.specs.Namings.{AreNamed, found_at, namings_of, stands_in, with_entry, with_first, with_named};
 
 use crate::steps::{Found, Stands};
 use audit_cases::{Kinds, Noted, Notes};
@@ -32,7 +32,7 @@ pub struct Namings {
 }
 
 impl Model for Namings {
-    ghost use Rattle.audit_chains.specs.Namings.{Founds};
+    ghost use Rattle.audit_engine.specs.Namings.{Founds};
 
     ghost Value = { Founds };
 

@@ -1,6 +1,6 @@
 use Rattle.std.proofs.Common.{◌≡◌, drop}
-use Rattle.audit_chains.specs.Namings.{with_named}
-use Rattle.audit_chains.proofs.namings.Namings.put_all.Given as goal
+use Rattle.audit_engine.specs.Namings.{with_named}
+use Rattle.audit_engine.proofs.namings.Namings.put_all.Given as goal
 
 abbrev pub invariant-loop-ticket : goal.invariant-loop-ticket
 invariant-loop-ticket l =

@@ -1,5 +1,5 @@
-use Rattle.audit_chains.proofs.ChainLaws.{all_steps}
-use Rattle.audit_chains.proofs.chains.steps_of.Goals as goal
+use Rattle.audit_engine.proofs.ChainLaws.{all_steps}
+use Rattle.audit_engine.proofs.chains.steps_of.Goals as goal
 
 pub returns : goal.returns
 returns c =
