@@ -4,9 +4,7 @@ use Rattle.xa_xid.specs.declared.xid.Xid.{Xid}
 use Rattle.xa_manager.specs.declared.errors.WorkError.{WorkError}
 use Rattle.xa_manager.specs.declared.errors.WorkError.TheVariants.{TooLong}
 use Rattle.tree_model.specs.declared.messages.Op.{Op}
-use Rattle.kv_manager.specs.Resources as stores
 use Rattle.manager_model.specs.Sights.{ManagerSight}
-use Rattle.fake_manager.specs.declared.manager.FakeManager.{FakeManager}
 
 -- why data are in the way of an operation: always the same, where it was told to refuse
 abbrev pub obstacle_by : Bool → (Xid → Op → Option WorkError) → Xid → Op → Option WorkError
@@ -16,7 +14,3 @@ obstacle_by false obstacle x op = obstacle x op
 -- a manager that was told whether it refuses
 abbrev pub told : Bool → ManagerSight → ManagerSight
 told refuses m = record m { obstacle = obstacle_by refuses m.obstacle }
-
--- what a process sees of it
-abbrev pub sight_of : FakeManager → ManagerSight
-sight_of m = told m.refuses (stores.sight_of m.manager)

@@ -1,9 +1,10 @@
-//! The manager.
+//! A resource manager in memory that votes as it was told.
 
 ghost use Rattle.std.specs.Prelude.{◌≡◌, true, false, IfErr, IfOk, OnOk};
 ghost use Rattle.manager_model.specs.Opening.{IsNew};
 ghost use Rattle.manager_model.specs.Works.{WorkRefused, Works};
-ghost use Rattle.fake_manager.specs.Told.{sight_of};
+ghost use Rattle.kv_manager.specs.Resources.{sight_of as store_sight};
+ghost use Rattle.tests_base.specs.Told.{told};
 
 use kv_manager::KvManager;
 use log_store::MemoryStore;
@@ -27,7 +28,7 @@ impl FakeManager {
     /// A manager over an empty store, which refuses every operation or does what is asked of it. An empty store in memory
     /// is refused for memory alone.
     pub fn create(alloc: Global, refuses: bool) -> Result<Self, AllocError>
-        ensures new { IfOk result (λ made. IsNew (sight_of made)) }
+        ensures new { IfOk result (λ made. IsNew (told made.refuses (store_sight made.manager))) }
         ensures told { IfOk result (λ made. made.refuses ≡ refuses) }
     {
         match KvManager::create(MemoryStore::new(alloc), alloc) {
@@ -39,8 +40,10 @@ impl FakeManager {
     /// The key store does a thread's operation.
     fn do_work(&mut self, thread: u32, op: &Op) -> Result<(), WorkError>
         requires { self.old.refuses ≡ false }
-        ensures ok { OnOk result (Works (sight_of self.old) (sight_of self.new) thread op.now) }
-        ensures err { IfErr result (WorkRefused (sight_of self.old) (sight_of self.new) thread op.now) }
+        ensures ok { OnOk result (Works (told self.old.refuses (store_sight self.old.manager))
+            (told self.new.refuses (store_sight self.new.manager)) thread op.now) }
+        ensures err { IfErr result (WorkRefused (told self.old.refuses (store_sight self.old.manager))
+            (told self.new.refuses (store_sight self.new.manager)) thread op.now) }
     {
         ResourceManager::work(&mut self.manager, thread, op)
     }
@@ -49,15 +52,17 @@ impl FakeManager {
     /// order of refusals comes first.
     fn refuse_work(&mut self, thread: u32, _op: &Op) -> Result<(), WorkError>
         requires { self.old.refuses ≡ true }
-        ensures ok { OnOk result (Works (sight_of self.old) (sight_of self.new) thread _op.now) }
-        ensures err { IfErr result (WorkRefused (sight_of self.old) (sight_of self.new) thread _op.now) }
+        ensures ok { OnOk result (Works (told self.old.refuses (store_sight self.old.manager))
+            (told self.new.refuses (store_sight self.new.manager)) thread _op.now) }
+        ensures err { IfErr result (WorkRefused (told self.old.refuses (store_sight self.old.manager))
+            (told self.new.refuses (store_sight self.new.manager)) thread _op.now) }
     {
         self.manager.put(thread, &[], &[])
     }
 }
 
 impl ResourceManager for FakeManager {
-    ghost sight = { λ m. sight_of m };
+    ghost sight = { λ m. told m.refuses (store_sight m.manager) };
 
     fn boot(&self) -> u64 {
         ResourceManager::boot(&self.manager)

@@ -3,8 +3,8 @@ use Rattle.xa_codes.specs.declared.code.Code.TheVariants as code
 use Rattle.xa_tables.specs.declared.call.Verb.TheVariants.{Start}
 use Rattle.xa_states.specs.Answers.{Answers}
 use Rattle.kv_manager.specs.Resources.{sight_of as store_sight}
-use Rattle.fake_manager.proofs.Told.{called, on_answer}
-use Rattle.fake_manager.proofs.manager.FakeManagerResourceManager.start.Goals as goal
+use Rattle.tests_base.proofs.Told.{called, on_answer}
+use Rattle.tests_base.proofs.manager.FakeManagerResourceManager.start.Goals as goal
 
 pub returns-clause-answer : goal.returns-clause-answer
 returns-clause-answer c =

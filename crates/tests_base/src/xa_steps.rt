@@ -71,9 +71,13 @@ const ROWS: [Row; 55] = [
     (S5, Call::Forget, Code::Ok, S0),
 ];
 
+fn rows() -> &'static [Row] {
+    &ROWS
+}
+
 /// A row, by its number.
 fn row_at(number: u64) -> Row {
-    match ROWS.get(number as usize) {
+    match rows().get(number as usize) {
         Some(row) => *row,
         None => (S4, Call::Start, Code::Outside, S4),
     }
@@ -92,6 +96,27 @@ fn asked(numbers: &mut Numbers) -> (Call, Code, BranchState) {
     }
 }
 
+/// The place of a row.
+fn place_of(wanted: &Row) -> Option<usize> {
+    rows().iter().position(|row| row == wanted)
+}
+
+/// The row at this place is walked.
+fn walk(walked: &mut [bool], place: usize) {
+    if let Some(is_walked) = walked.get_mut(place) {
+        *is_walked = true;
+    }
+}
+
+/// What a call that is no row answers.
+fn refusal(call: Call) -> Code {
+    if call == Call::Start {
+        Code::DupId
+    } else {
+        Code::Proto
+    }
+}
+
 /// What a step in this state answers, and the state behind it.
 fn wanted(
     walked: &mut [bool],
@@ -99,18 +124,13 @@ fn wanted(
     asked: (Call, Code, BranchState),
 ) -> (Code, BranchState) {
     let (call, code, to) = asked;
-    for (row, walked) in ROWS.iter().zip(walked.iter_mut()) {
-        if *row == (from, call, code, to) {
-            *walked = true;
-            return (code, to);
+    match place_of(&(from, call, code, to)) {
+        None => (refusal(call), from),
+        Some(place) => {
+            walk(walked, place);
+            (code, to)
         }
     }
-    let refusal = if call == Call::Start {
-        Code::DupId
-    } else {
-        Code::Proto
-    };
-    (refusal, from)
 }
 
 /// What a step of a branch answers, and the state behind it.

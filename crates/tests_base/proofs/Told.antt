@@ -10,7 +10,7 @@ use Rattle.xa_states.specs.declared.states.States.{States}
 use Rattle.manager_model.specs.Sights.{Calls, ManagerSight, SameData, SameManager}
 use Rattle.manager_model.specs.Ends.{Fails, Finishes, Makes}
 use Rattle.tree_model.specs.declared.messages.Op.{Op}
-use Rattle.fake_manager.specs.Told.{obstacle_by, told}
+use Rattle.tests_base.specs.Told.{obstacle_by, told}
 
 -- of what was answered, a fact for another
 pub on_answer : {A E : Type 0} {P Q : A → Type 0} (r : Result A E) → ((a : A) → P a → Q a) → IfOk r P → IfOk r Q

@@ -1,7 +1,7 @@
 //! How a subordinate votes, over a manager that votes as it was told.
 
+use crate::manager::FakeManager;
 use crate::players::{CHILD, first_ticket, parent_case};
-use fake_manager::FakeManager;
 use manager_model::ResourceManager;
 use std::alloc::{AllocError, Global};
 use std::test::Fail;

@@ -1,7 +1,7 @@
 use Rattle.xa_tables.specs.declared.call.Verb.TheVariants.{Prepare}
 use Rattle.kv_manager.specs.Resources.{sight_of as store_sight}
-use Rattle.fake_manager.proofs.Told.{finished, on_answer}
-use Rattle.fake_manager.proofs.manager.FakeManagerResourceManager.prepare.Goals as goal
+use Rattle.tests_base.proofs.Told.{finished, on_answer}
+use Rattle.tests_base.proofs.manager.FakeManagerResourceManager.prepare.Goals as goal
 
 pub returns-clause-answer : goal.returns-clause-answer
 returns-clause-answer c =
