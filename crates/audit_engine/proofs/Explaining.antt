@@ -14,9 +14,9 @@ use Rattle.tree_audit.specs.Reports.{mismatches_in}
 use Rattle.tree_audit.specs.Tables.{AreNotes, TreeTables}
 use Rattle.tree_audit.specs.declared.report.Line.{Line}
 use Rattle.tree_audit.specs.declared.report.Report.{Report}
-use Rattle.audit_chains.specs.declared.steps.Found.{Found}
-use Rattle.audit_chains.specs.declared.steps.Found.TheVariants.{Nothing}
-use Rattle.audit_chains.specs.declared.steps.Step.{Step}
+use Rattle.audit_engine.specs.declared.steps.Found.{Found}
+use Rattle.audit_engine.specs.declared.steps.Found.TheVariants.{Nothing}
+use Rattle.audit_engine.specs.declared.steps.Step.{Step}
 use Rattle.audit_engine.specs.Audits.{detailed_text, explained_text, report_text}
 use Rattle.audit_engine.specs.Explanations.{do_text, explained_line, explanation_text, found_text, is_explained, mend_text, steps_of, steps_text, told_part}
 use Rattle.audit_engine.specs.Lines.{count_text, line_text, lines_text}

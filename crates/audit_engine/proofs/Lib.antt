@@ -1,3 +1,5 @@
+pub mod ChainLaws
+pub mod NamingLaws
 pub mod Explaining
 pub mod Texts
 pub mod TrueReports

@@ -14,14 +14,14 @@ use Rattle.tree_auditor.specs.Audits.{Logs}
 use Rattle.audit_cases.specs.declared.kinds.Own.{Own}
 use Rattle.audit_cases.specs.declared.kinds.Own.TheVariants as own
 use Rattle.tree_audit.specs.declared.report.Line.{Line}
-use Rattle.audit_chains.specs.declared.steps.Deed.{Deed}
-use Rattle.audit_chains.specs.declared.steps.Deed.TheVariants.{Ask, Restart}
-use Rattle.audit_chains.specs.declared.steps.Found.{Found}
-use Rattle.audit_chains.specs.declared.steps.Found.TheVariants.{Kept, Nothing}
-use Rattle.audit_chains.specs.declared.steps.Stands.{Stands}
-use Rattle.audit_chains.specs.declared.steps.Stands.TheVariants.{Abort, Collecting, Commit, Prepare}
-use Rattle.audit_chains.specs.declared.steps.Step.{Step}
-use Rattle.audit_chains.specs.Chains.{chain_of, deed_behind}
+use Rattle.audit_engine.specs.declared.steps.Deed.{Deed}
+use Rattle.audit_engine.specs.declared.steps.Deed.TheVariants.{Ask, Restart}
+use Rattle.audit_engine.specs.declared.steps.Found.{Found}
+use Rattle.audit_engine.specs.declared.steps.Found.TheVariants.{Kept, Nothing}
+use Rattle.audit_engine.specs.declared.steps.Stands.{Stands}
+use Rattle.audit_engine.specs.declared.steps.Stands.TheVariants.{Abort, Collecting, Commit, Prepare}
+use Rattle.audit_engine.specs.declared.steps.Step.{Step}
+use Rattle.audit_engine.specs.Chains.{chain_of, deed_behind}
 use Rattle.audit_engine.specs.Lines.{line_text}
 
 -- What decided it.

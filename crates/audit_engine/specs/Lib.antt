@@ -1,3 +1,5 @@
+pub mod Namings
+pub mod Chains
 pub mod Audits
 pub mod Explanations
 pub mod Lines

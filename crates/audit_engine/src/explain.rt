@@ -4,11 +4,13 @@ ghost use Rattle.std.specs.Prelude.{◌≡◌, ◌++◌, IfOk, OnOk};
 ghost use Rattle.tree_auditor.specs.Audits.{Logs};
 ghost use Rattle.tree_model.specs.Names.{process_of as process_in};
 ghost use Rattle.tree_model.specs.Trees.{IsTree};
-ghost use Rattle.audit_chains.specs.Chains.{AreNamings};
+ghost use Rattle.audit_engine.specs.Chains.{AreNamings};
 ghost use Rattle.audit_engine.specs.Explanations.{asker_text, deed_text, do_text, explained_line, explanation_text, found_text, is_explained as is_explained_line, kept_text, mend_text, place_text, stands_word as word_of_stands, step_text, steps_of as steps_by_decision, steps_text, told_part, told_text};
 
+use crate::chains::{deed_of, steps_of};
 use crate::lines::push_line;
-use audit_chains::{Deed, Found, Stands, Step, TreeNamings, deed_of, steps_of};
+use crate::namings::TreeNamings;
+use crate::steps::{Deed, Found, Stands, Step};
 use inquire_core::presumed;
 use std::alloc::{AllocError, Global};
 use trace_lines::{outcome_word, push, push_case, push_number, push_ticket};

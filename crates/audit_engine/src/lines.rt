@@ -6,14 +6,15 @@ ghost use Rattle.tree_auditor.specs.Audits.{Logs};
 ghost use Rattle.tree_model.specs.Trees.{IsTree};
 ghost use Rattle.tree_audit.specs.Reports.{mismatches_in};
 ghost use Rattle.tree_audit.specs.Tables.{AreNotes};
-ghost use Rattle.audit_chains.specs.Chains.{AreNamings};
+ghost use Rattle.audit_engine.specs.Chains.{AreNamings};
 ghost use Rattle.audit_engine.specs.Audits.{detailed_text, explained_text};
 ghost use Rattle.audit_engine.specs.Explanations.{explained_line};
 ghost use Rattle.audit_engine.specs.Lines.{count_text, line_text, lines_text, mismatch_part, own_word as word_of_own};
 
+use crate::chains::all_namings;
 use crate::detail::Detail;
 use crate::explain::push_explained;
-use audit_chains::{TreeNamings, all_namings};
+use crate::namings::TreeNamings;
 use std::alloc::{AllocError, Global};
 use trace_lines::{outcome_word, push, push_case, push_number};
 use tree_audit::{Line, Own, Report, TreeNotes};

@@ -5,16 +5,30 @@ use std::alloc::{AllocError, Global};
 use std::test::Fail;
 use tree_model::{Bytes, Write};
 
-/// The write of the key `a`: the value `1`, or a deletion.
-fn write_of(alloc: Global, is_put: bool) -> Result<Vec<Write>, AllocError> {
-    let value = if is_put {
-        Some(Bytes::from_vec(Vec::from_slice(alloc, b"1")?))
+fn bytes(alloc: Global, text: &[u8]) -> Result<Bytes, AllocError> {
+    Ok(Bytes::from_vec(Vec::from_slice(alloc, text)?))
+}
+
+/// The value `1`, or none.
+fn value(alloc: Global, is_put: bool) -> Result<Option<Bytes>, AllocError> {
+    if is_put {
+        Ok(Some(bytes(alloc, b"1")?))
     } else {
-        None
-    };
-    let key = Bytes::from_vec(Vec::from_slice(alloc, b"a")?);
+        Ok(None)
+    }
+}
+
+/// The write of the key `a`: the value `1`, or a deletion.
+fn write(alloc: Global, is_put: bool) -> Result<Write, AllocError> {
+    let key = bytes(alloc, b"a")?;
+    let value = value(alloc, is_put)?;
+    Ok(Write { key, value })
+}
+
+/// This write alone.
+fn write_of(alloc: Global, is_put: bool) -> Result<Vec<Write>, AllocError> {
     let mut writes = Vec::new(alloc);
-    writes.push(Write { key, value })?;
+    writes.push(write(alloc, is_put)?)?;
     Ok(writes)
 }
 

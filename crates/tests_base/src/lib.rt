@@ -1,11 +1,26 @@
-//! Tests of what the processes of a tree stand on: scripts and copies, logs of bytes, and the versions of keys.
+//! Tests of what a tree stands on: XA codes and branches, scripts and copies, logs of bytes, the versions of keys, and how a
+//! subordinate votes over a manager that votes as it was told.
 #![tactic(auto)]
 
 #[cfg(test)]
 mod always_out_of_memory;
+#[cfg(test)]
+mod codes;
 #[cfg(test)]
 mod commits;
 #[cfg(test)]
 mod damage;
 #[cfg(test)]
 mod faults;
+#[cfg(test)]
+mod manager;
+#[cfg(test)]
+mod numbers;
+#[cfg(test)]
+mod players;
+#[cfg(test)]
+mod votes;
+#[cfg(test)]
+mod xa_steps;
+#[cfg(test)]
+mod xids;

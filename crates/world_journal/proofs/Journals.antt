@@ -158,6 +158,11 @@ pub record Grows (s t : Stock) : Type 0 where
   pub steps : (k n : ℕ) → Finds (message_in (slice_get s.steps k) n) (message_in (slice_get t.steps k) n)
   pub posted : (k : ℕ) → Finds (slice_get s.posted k) (slice_get t.posted k)
 
+-- the name of a message, by its number
+pub place_of_name : (ps : List Posted) (k : ℕ) → 0 < k → named_by ps k ≡ slice_get ps (k - 1)
+place_of_name ps zero h = absurd (omega arith)
+place_of_name ps (suc k) h = let place : suc k - 1 ≡ k = omega arith in rw place refl
+
 finds_name : (s t : Stock) → Grows s t → (k : ℕ) → Finds (named_by s.posted k) (named_by t.posted k)
 finds_name s t g zero p is = is
 finds_name s t g (suc k) p is = g.posted k p is

@@ -1,9 +1,9 @@
 //! A step as the journal keeps it: what stands elsewhere too is named by its place.
 
-ghost use Rattle.std.specs.Prelude.{◌≡◌, ◌++◌, ◌<◌, IfOk, OnOk, length};
+ghost use Rattle.std.specs.Prelude.{◌≡◌, ◌++◌, ◌<◌, IfOk, OnOk, length, slice_get};
 ghost use Rattle.std.specs.Option.{option_copied};
 ghost use Rattle.std.specs.Vec.{vec_capacity, vec_len};
-ghost use Rattle.world_journal.specs.Journals.{Stock, act_by, aside_by, aside_in, asides_by, cause_by, entry_in, happening_in, is_bare as is_bare_of, message_by, reaction_by};
+ghost use Rattle.world_journal.specs.Journals.{Stock, act_by, aside_by, aside_in, asides_by, cause_by, entry_in, happening_in, is_bare as is_bare_of, message_at as message_named, message_by, named_by, reaction_by};
 
 use std::alloc::{AllocError, Global};
 use tree_model::{
@@ -49,6 +49,34 @@ pub(crate) struct ShortStep {
     pub(crate) aside: Option<usize>,
 }
 
+/// The name at this place.
+fn name_at(posted: &[Posted], place: usize) -> Option<Posted>
+    ensures { result ≡ slice_get posted.now place }
+{
+    posted.get(place).copied()
+}
+
+/// The name of the message with this number, among these.
+fn named(posted: &[Posted], number: u64) -> Option<Posted>
+    ensures { result ≡ named_by posted.now number }
+{
+    if number == 0 {
+        None
+    } else {
+        name_at(posted, (number - 1) as usize)
+    }
+}
+
+/// The message with this name.
+fn message_at(steps: &[ShortStep], posted: Posted) -> Option<&Envelope>
+    ensures { option_copied result ≡ message_named steps.now posted }
+{
+    match steps.get(posted.entry) {
+        None => None,
+        Some(step) => step.messages.as_slice().get(posted.nth),
+    }
+}
+
 /// The message with this number, where messages have these names.
 pub(crate) fn message_of<'a>(
     steps: &'a [ShortStep],
@@ -57,12 +85,10 @@ pub(crate) fn message_of<'a>(
 ) -> Option<&'a Envelope>
     ensures { option_copied result ≡ message_by steps.now posted.now number }
 {
-    if number == 0 {
-        return None;
+    match named(posted, number) {
+        None => None,
+        Some(posted) => message_at(steps, posted),
     }
-    let posted = posted.get((number - 1) as usize)?;
-    let step = steps.get(posted.entry)?;
-    step.messages.as_slice().get(posted.nth)
 }
 
 /// What happened, of a step with this cause, made anew; None, where what it names is not there.

@@ -1,7 +1,7 @@
 use Rattle.std.proofs.Common.{◌≡◌, ◌++◌, drop}
 use Rattle.std.specs.List.{flat_map}
 use Rattle.tree_auditor.specs.Audits.{Logs}
-use Rattle.audit_chains.specs.Chains.{AreNamings}
+use Rattle.audit_engine.specs.Chains.{AreNamings}
 use Rattle.audit_engine.specs.Explanations.{explained_line}
 use Rattle.audit_engine.proofs.lines.push_all_explained.Given as goal
 

@@ -1,4 +1,0 @@
-use Rattle.audit_chains.proofs.chains.+push_steps.Given as goal
-
-abbrev pub decreases-push_steps : goal.decreases-push_steps
-decreases-push_steps l = l.most

@@ -1,6 +1,0 @@
-use Rattle.std.proofs.Common.{◌≡◌, drop}
-use Rattle.audit_chains.specs.Chains.{deed_behind}
-use Rattle.audit_chains.proofs.chains.deed_of.Given as goal
-
-abbrev pub invariant-loop-step : goal.invariant-loop-step
-invariant-loop-step l = deed_behind l.last (drop l.step-index l.steps) ≡ deed_behind l.fn.case l.fn.steps

@@ -1,5 +1,0 @@
-use Rattle.audit_chains.proofs.NamingLaws.{all_named}
-use Rattle.audit_chains.proofs.namings.Namings.of.Goals as goal
-
-pub returns : goal.returns
-returns c = all_named c.args.notes.now c.passing.result c.passing.ensures

@@ -1,6 +1,0 @@
-use Rattle.std.proofs.Common.{◌≡◌, fold}
-use Rattle.audit_chains.specs.Namings.{namings_of, with_entry}
-use Rattle.audit_chains.proofs.namings.Namings.passing.Given as goal
-
-abbrev pub invariant-loop-case : goal.invariant-loop-case
-invariant-loop-case l = fold with_entry l.namings l.case-iterator ≡ namings_of l.fn.notes

@@ -1,2 +1,0 @@
-pub mod Namings
-pub mod Chains

@@ -1,0 +1,65 @@
+-- Which case of a process names a child's case, by what is noted of its cases, and what stands of it.
+use Rattle.std.specs.Prelude.{◌≡◌, Bool, true, false, if◌then◌else◌, is_some, Option, Some, None, unwrap_or, List, [], fold}
+use Rattle.std.specs.Map.{lookup}
+use Rattle.indexmap.specs.IndexMap.{insert_entry}
+use Rattle.tree_model.specs.declared.names.Case.{Case}
+use Rattle.tree_model.specs.declared.names.Ticket.{Ticket}
+use Rattle.tree_model.specs.declared.names.Txn.{Txn}
+use Rattle.tree_model.specs.Names.{child_case}
+use Rattle.audit_cases.specs.declared.kinds.Kinds.{Kinds}
+use Rattle.audit_cases.specs.Notes.{CaseNote, Table, same}
+use Rattle.audit_cases.specs.Sayings.{first_naming}
+use Rattle.audit_engine.specs.declared.steps.Found.{Found}
+use Rattle.audit_engine.specs.declared.steps.Found.TheVariants.{Kept, Nothing}
+use Rattle.audit_engine.specs.declared.steps.Stands.{Stands}
+use Rattle.audit_engine.specs.declared.steps.Stands.TheVariants.{Abort, Collecting, Commit, Prepare}
+
+-- by whether a coordinator's case has a Commit, an Abort or a Prepare: what stands of it
+abbrev pub stands_by : Bool → Bool → Bool → Stands
+stands_by true _ _ = Commit
+stands_by false true _ = Abort
+stands_by false false true = Prepare
+stands_by false false false = Collecting
+
+-- what stands of a coordinator's case
+abbrev pub stands_in : Kinds → Stands
+stands_in k = stands_by k.commit k.abort k.prepare
+
+-- what is found where this is the first case that names the ticket, or none does
+abbrev pub found_by : Option (Case × CaseNote) → Found
+found_by None = Nothing
+found_by (Some e) = Kept e.0 (stands_in e.1.kinds)
+
+-- what a process finds of a case with this ticket: its first case of the transaction that names it
+abbrev pub finds : Table → Txn → Ticket → Found
+finds notes x t = found_by (first_naming notes x t)
+
+-- The pass.
+
+-- what is found of cases of children
+abbrev pub Founds : Type 0
+Founds = List (Case × Found)
+
+-- what is found of a case among these; nothing, where it is not there
+abbrev pub found_at : Founds → Case → Found
+found_at s c = unwrap_or (lookup (same c) s) Nothing
+
+-- this is what a process finds of the cases of its children
+abbrev pub AreNamed : Table → Founds → Type 0
+AreNamed notes s = (x : Txn) (t : Ticket) → found_at s (child_case x t) ≡ finds notes x t
+
+-- these with what is found of a child's case, unless something was before
+abbrev pub with_first : Founds → Case → Found → Founds
+with_first s c f = if is_some (lookup (same c) s) then s else insert_entry same s c f
+
+-- these with what is found of the cases of these tickets
+abbrev pub with_named : Txn → Found → Founds → List Ticket → Founds
+with_named x f s ts = fold (λ t u. with_first t (child_case x u) f) s ts
+
+-- these with what is found of the cases that an entry's case names
+abbrev pub with_entry : Founds → Case × CaseNote → Founds
+with_entry s e = with_named e.0.txn (Kept e.0 (stands_in e.1.kinds)) s e.1.named
+
+-- what is found of all, the first that names a ticket before the others
+abbrev pub namings_of : Table → Founds
+namings_of notes = fold with_entry [] notes

@@ -1,0 +1,156 @@
+//! The steps from a case upward.
+
+ghost use Rattle.std.specs.Prelude.{◌≡◌, ◌++◌, ◌∷◌, [], IfOk, OnOk, length, take};
+ghost use Rattle.tree_auditor.specs.Audits.{Logs};
+ghost use Rattle.tree_model.specs.Names.{process_of as process_in};
+ghost use Rattle.tree_model.specs.Trees.{IsTree};
+ghost use Rattle.std.specs.Map.{lookup};
+ghost use Rattle.tree_audit.specs.Tables.{AreNotes, same_id};
+ghost use Rattle.audit_engine.specs.Chains.{Adds, AreNamings, found_by_table, asks as deed_asking, asks_on, chain_of, deed_behind, steps_within};
+
+use crate::namings::{Namings, TreeNamings};
+use crate::steps::{Deed, Found, Stands, Step};
+use indexmap::IndexMap;
+use std::alloc::{AllocError, Global};
+use tree_audit::{TreeNotes, parent_of};
+use tree_model::{Case, ProcessId, Tree};
+
+/// What each process of the tree names.
+pub fn all_namings(alloc: Global, tree: &Tree, notes: &TreeNotes) -> Result<TreeNamings, AllocError>
+    requires { IsTree tree.now }
+    ensures { IfOk result (λ namings. (logs : Logs) → AreNotes tree.now logs notes.now.entries
+        → AreNamings tree.now logs namings.entries) }
+{
+    let mut namings = IndexMap::new(alloc);
+    let entries = tree.entries();
+    for entry in entries {
+        add(alloc, notes, &mut namings, entry.id)?;
+    }
+    Ok(namings)
+}
+
+/// What a process names, where anything is noted of it.
+fn add(
+    alloc: Global,
+    notes: &TreeNotes,
+    namings: &mut TreeNamings,
+    process: ProcessId,
+) -> Result<(), AllocError>
+    ensures { OnOk result (Adds (lookup (same_id process) notes.now.entries) process namings.old.entries
+        namings.new.entries) }
+{
+    match notes.get(&process) {
+        None => Ok(()),
+        Some(own) => {
+            let new = Namings::of(alloc, own)?;
+            let _ = namings.insert(process, new)?;
+            Ok(())
+        }
+    }
+}
+
+/// The process where the case stands: its ticket's child, or the root.
+fn process_of(case: &Case) -> ProcessId
+    ensures { result ≡ process_in case.now }
+{
+    match case.ticket {
+        None => case.txn.root,
+        Some(ticket) => ticket.child,
+    }
+}
+
+/// What this process finds of a case.
+fn find(namings: &TreeNamings, process: ProcessId, case: &Case) -> Found
+    ensures { result ≡ found_by_table (lookup (same_id process) namings.now.entries) case.now }
+{
+    match namings.get(&process) {
+        None => Found::Nothing,
+        Some(own) => own.of_child(case),
+    }
+}
+
+/// The case that is in doubt itself, and so asks in its turn.
+fn asks_next(found: Found) -> Option<Case>
+    ensures { result ≡ asks_on found }
+{
+    match found {
+        Found::Kept(case, Stands::Prepare) => Some(case),
+        _ => None,
+    }
+}
+
+/// The steps from a case upward, so many at most.
+fn push_steps(
+    steps: &mut Vec<Step>,
+    tree: &Tree,
+    namings: &TreeNamings,
+    case: Case,
+    most: usize,
+) -> Result<(), AllocError>
+    requires { IsTree tree.now }
+    ensures { OnOk result ((logs : Logs) → AreNamings tree.now logs namings.now.entries
+        → steps.new.items ≡ steps.old.items ++ steps_within most tree.now logs case) }
+{
+    if most == 0 {
+        return Ok(());
+    }
+    let Some(ticket) = case.ticket else {
+        return Ok(());
+    };
+    let Some(process) = parent_of(tree, process_of(&case)) else {
+        return Ok(());
+    };
+    let found = find(namings, process, &case);
+    steps.push(Step {
+        ticket,
+        process,
+        found,
+    })?;
+    match asks_next(found) {
+        None => Ok(()),
+        Some(next) => push_steps(steps, tree, namings, next, most - 1),
+    }
+}
+
+/// The steps from a case upward: each ticket asks its parent, up to a case that is not in doubt itself, or of which nothing
+/// is kept.
+pub fn steps_of(
+    alloc: Global,
+    tree: &Tree,
+    namings: &TreeNamings,
+    case: &Case,
+) -> Result<Vec<Step>, AllocError>
+    requires { IsTree tree.now }
+    ensures { IfOk result (λ steps. (logs : Logs) → AreNamings tree.now logs namings.now.entries
+        → steps.items ≡ chain_of tree.now logs case.now) }
+{
+    let mut steps = Vec::new(alloc);
+    push_steps(&mut steps, tree, namings, *case, tree.entries().len())?;
+    Ok(steps)
+}
+
+/// To ask for the outcome of a case in doubt.
+fn asking(case: &Case) -> Deed
+    ensures { result ≡ deed_asking case.now case.now.ticket }
+{
+    match case.ticket {
+        None => Deed::Restart(process_of(case)),
+        Some(_) => Deed::Ask(*case),
+    }
+}
+
+/// What is to be done about a case in doubt behind these steps: the last case in doubt asks, or the process that collects
+/// votes is restarted.
+pub fn deed_of(case: &Case, steps: &[Step]) -> Deed
+    ensures { result ≡ deed_behind case.now steps.now }
+{
+    let mut last = *case;
+    for step in steps {
+        match step.found {
+            Found::Kept(_, Stands::Collecting) => return Deed::Restart(step.process),
+            Found::Kept(next, Stands::Prepare) => last = next,
+            _ => return asking(&last),
+        }
+    }
+    asking(&last)
+}

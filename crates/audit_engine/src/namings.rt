@@ -1,0 +1,107 @@
+//! Which case of a process names a child's case.
+
+ghost use Rattle.std.specs.Prelude.{◌≡◌, IfOk, OnOk};
+ghost use Rattle.audit_engine.specs.Namings.{AreNamed, found_at, namings_of, stands_in, with_entry, with_first, with_named};
+
+use crate::steps::{Found, Stands};
+use audit_cases::{Kinds, Noted, Notes};
+use indexmap::IndexMap;
+use std::alloc::{AllocError, Global};
+use std::marker::Model;
+use tree_model::{Case, ProcessId};
+
+/// What stands of a case at a coordinator: a decision before a promise, a promise before the votes that it asks for.
+fn stands_of(kinds: Kinds) -> Stands
+    ensures { result ≡ stands_in kinds }
+{
+    if kinds.commit {
+        Stands::Commit
+    } else if kinds.abort {
+        Stands::Abort
+    } else if kinds.prepare {
+        Stands::Prepare
+    } else {
+        Stands::Collecting
+    }
+}
+
+/// Of each case of a child that a case of the process names: the first of its cases that does, and what stands of it.
+#[derive(Drop)]
+pub struct Namings {
+    found: IndexMap<Case, Found>,
+}
+
+impl Model for Namings {
+    ghost use Rattle.audit_engine.specs.Namings.{Founds};
+
+    ghost Value = { Founds };
+
+    ghost view = { λ s. s.found.entries };
+}
+
+impl Namings {
+    /// What these notes name, one case after another.
+    fn passing(alloc: Global, notes: &Notes) -> Result<Namings, AllocError>
+        ensures { IfOk result (λ s. s ≡ namings_of notes.now) }
+    {
+        let mut namings = Namings {
+            found: IndexMap::new(alloc),
+        };
+        for (case, note) in notes.cases() {
+            namings.add(case, note)?;
+        }
+        Ok(namings)
+    }
+
+    /// What a process names of which this is noted. It goes through its cases once.
+    pub fn of(alloc: Global, notes: &Notes) -> Result<Namings, AllocError>
+        ensures { IfOk result (λ s. AreNamed notes.now s) }
+    {
+        Namings::passing(alloc, notes)
+    }
+
+    /// One case more, with its tickets.
+    fn add(&mut self, case: &Case, note: &Noted) -> Result<(), AllocError>
+        ensures { OnOk result (self.new ≡ with_entry self.old (case.now, note.now)) }
+    {
+        let found = Found::Kept(*case, stands_of(note.kinds()));
+        self.put_all(case, note, found)
+    }
+
+    /// What is found of the cases of a case's tickets.
+    fn put_all(&mut self, case: &Case, note: &Noted, found: Found) -> Result<(), AllocError>
+        ensures { OnOk result (self.new ≡ with_named case.now.txn found self.old note.now.named) }
+    {
+        for ticket in note.named() {
+            let child = Case {
+                txn: case.txn,
+                ticket: Some(*ticket),
+            };
+            self.put(child, found)?;
+        }
+        Ok(())
+    }
+
+    /// What is found of a child's case, unless something was before.
+    fn put(&mut self, child: Case, found: Found) -> Result<(), AllocError>
+        ensures { OnOk result (self.new ≡ with_first self.old child found) }
+    {
+        if self.found.get(&child).is_none() {
+            let _ = self.found.insert(child, found)?;
+        }
+        Ok(())
+    }
+
+    /// What is found of a child's case.
+    pub fn of_child(&self, case: &Case) -> Found
+        ensures { result ≡ found_at self.now case.now }
+    {
+        match self.found.get(case) {
+            Some(found) => *found,
+            None => Found::Nothing,
+        }
+    }
+}
+
+/// What each process names.
+pub type TreeNamings = IndexMap<ProcessId, Namings>;

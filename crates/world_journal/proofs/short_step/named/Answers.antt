@@ -1,0 +1,7 @@
+use Rattle.std.proofs.Common.{◌∙◌, sym, arith}
+use Rattle.world_journal.proofs.Journals.{place_of_name}
+use Rattle.world_journal.proofs.short_step.named.Goals as goal
+
+pub returns-else-number-eq0 : goal.returns-else-number-eq0
+returns-else-number-eq0 c =
+    c.name_at.ensures ∙ sym (place_of_name c.args.posted.now c.args.number (omega arith))
