@@ -153,10 +153,6 @@ module _ (ls : List LogRecord) (l : LogRecord) (rest : List LogRecord) (s : Seen
   reading_fails Malformed fails = inl (malformed fails)
   reading_fails Exhausted fails = exhausted fails
 
-  pub reading_is_refused : (f : ReadFault) → (f ≡ fault.Malformed → after s l ≡ None) → Fails ls (error_of f)
-  reading_is_refused fault.Memory never = tt
-  reading_is_refused fault.Malformed never = inl (malformed (never refl))
-
 pub reading_ends : (ls : List LogRecord) (s : SeenLog) (v : VersionTable) → IsReading ls [] s v → Reads ls s v
 reading_ends ls s v reading = record {
   read = ap seen_of (reading.parts ∙ append-nil reading.done) ∙ reading.read;
@@ -164,6 +160,12 @@ reading_ends ls s v reading = record {
       (reading.parts ∙ append-nil reading.done)) reading.stored;
   history = subst (GoBack v) (sym (reading.parts ∙ append-nil reading.done)) reading.history;
 }
+
+-- a record that may not follow is not taken
+pub refused_take : (s : SeenLog) (l : LogRecord) (v : VersionTable) (f : ReadFault) → (f ≡ fault.Malformed → after s l ≡ None)
+    → TakeFails s l v (error_of f)
+refused_take s l v fault.Memory never = tt
+refused_take s l v fault.Malformed never = never refl
 
 -- the loop begins with all records, nothing seen and no data
 pub reading_starts : (ls rest : List LogRecord) (s : SeenLog) (v : VersionTable) → rest ≡ ls

@@ -76,7 +76,7 @@ fn give_back(
 }
 
 /// What the open branches hold, of those that are left.
-pub(crate) fn restore(
+fn restore(
     seen: &Seen,
     left: &[(Xid, bool)],
     alloc: Global,
@@ -94,4 +94,28 @@ pub(crate) fn restore(
         }
     }
     Ok((writes, locks))
+}
+
+/// The branches in doubt, and what the open ones hold.
+#[derive(Drop)]
+pub(crate) struct InDoubt {
+    pub(crate) left: Vec<(Xid, bool)>,
+    pub(crate) writes: BranchWrites,
+    pub(crate) locks: Locks,
+}
+
+/// The branches that records left in doubt, and what the open ones hold.
+pub(crate) fn in_doubt(seen: &Seen, alloc: Global) -> Result<InDoubt, ReplayError>
+    requires { IsOrderly seen.now }
+    ensures left { IfOk result (λ held. held.left.items ≡ left_by seen.now) }
+    ensures held { IfOk result (λ held. Restores seen.now held.writes held.locks) }
+    ensures err { IfErr result (RestoreFails seen.now) }
+{
+    let left = seen.left()?;
+    let (writes, locks) = restore(seen, &left, alloc)?;
+    Ok(InDoubt {
+        left,
+        writes,
+        locks,
+    })
 }

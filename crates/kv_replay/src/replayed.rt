@@ -1,12 +1,13 @@
 //! The pass over the records of a log.
 
-ghost use Rattle.std.specs.Prelude.{◌≡◌, IfOk, IfErr};
-ghost use Rattle.kv_replay.specs.Replays.{Fails, Leaves, Reads};
+ghost use Rattle.std.specs.Prelude.{◌≡◌, false, Some, IfOk, IfErr, OnOk};
+ghost use Rattle.log_order.specs.Orders.{after};
+ghost use Rattle.kv_replay.specs.Replays.{Fails, KeepsBefore, Leaves, Reads, TakeFails, Takes};
 
 use crate::data;
 use crate::fault::ReplayError;
 use crate::heuristic::decided;
-use crate::promises::restore;
+use crate::promises::{InDoubt, in_doubt};
 use kv_locks::Locks;
 use kv_store::Versions;
 use kv_writes::BranchWrites;
@@ -33,18 +34,41 @@ pub struct Replayed {
     pub decisions: Heuristics,
 }
 
+/// The records so far: what they have said, and the data that they make.
+#[derive(Drop)]
+struct Reading {
+    seen: Seen,
+    data: Versions,
+}
+
+impl Reading {
+    /// Takes the next record.
+    fn take(&mut self, next: LogRecord, alloc: Global) -> Result<(), ReplayError>
+        requires { self.old.data.is_staged ≡ false }
+        ensures may { OnOk result (after self.old.seen next ≡ Some self.new.seen) }
+        ensures takes { OnOk result (Takes self.old.seen next self.old.data self.new.data) }
+        ensures before { OnOk result (KeepsBefore self.old.data self.new.data next.entry) }
+        ensures err { IfErr result (TakeFails self.old.seen next self.old.data) }
+    {
+        data::take(&mut self.data, &self.seen, &next, alloc)?;
+        self.seen.take(next)?;
+        Ok(())
+    }
+}
+
 /// What all records have said, and the data that they make.
-fn read(records: Vec<LogRecord>, alloc: Global) -> Result<(Seen, Versions), ReplayError>
-    ensures ok { IfOk result (λ made. Reads records.items made.0 made.1) }
+fn read(records: Vec<LogRecord>, alloc: Global) -> Result<Reading, ReplayError>
+    ensures ok { IfOk result (λ all. Reads records.items all.seen all.data) }
     ensures err { IfErr result (Fails records.items) }
 {
-    let mut seen = Seen::new(alloc);
-    let mut data = Versions::new(alloc, 0);
+    let mut reading = Reading {
+        seen: Seen::new(alloc),
+        data: Versions::new(alloc, 0),
+    };
     for record in records {
-        data::take(&mut data, &seen, &record, alloc)?;
-        seen.take(record)?;
+        reading.take(record, alloc)?;
     }
-    Ok((seen, data))
+    Ok(reading)
 }
 
 /// What the records of a log leave of a key store. It goes through them twice.
@@ -57,9 +81,14 @@ pub fn replay(records: Vec<LogRecord>, alloc: Global) -> Result<Replayed, Replay
     ensures err { IfErr result (Fails records.items) }
 {
     let decisions = decided(&records, alloc)?;
-    let (seen, data) = read(records, alloc)?;
-    let left = seen.left()?;
-    let (writes, locks) = restore(&seen, &left, alloc)?;
+    let reading = read(records, alloc)?;
+    let held = in_doubt(&reading.seen, alloc)?;
+    let Reading { seen, data } = reading;
+    let InDoubt {
+        left,
+        writes,
+        locks,
+    } = held;
     Ok(Replayed {
         boot: seen.boot(),
         left,

@@ -1,5 +1,8 @@
 -- A step of a subordinate: one input, as `core_model` says of any process.
 use Rattle.std.specs.Prelude.{◌≡◌, ℕ, Bool, true, false, []}
+use Rattle.xa_codes.specs.declared.code.Code.{Code}
+use Rattle.xa_codes.specs.declared.code.Code.TheVariants.{RmFail}
+use Rattle.xa_states.specs.Answers.{Opens}
 use Rattle.xa_xid.specs.declared.xid.Xid.{Xid}
 use Rattle.tree_model.specs.declared.events.Act.{Act}
 use Rattle.tree_model.specs.declared.events.Act.TheVariants.{Decide, Forget}
@@ -12,8 +15,8 @@ use Rattle.tree_model.specs.Nodes.{DataAnswer, ReadsOnly}
 use Rattle.core_model.specs.States.{CoreState}
 use Rattle.core_model.specs.Turns.{Turn, manager_act}
 use Rattle.rec_log.specs.Sights.{left_by}
-use Rattle.manager_model.specs.Restarting.{writes_left}
-use Rattle.manager_model.specs.Sights.{ManagerSight}
+use Rattle.manager_model.specs.Restarting.{Restarts, writes_left}
+use Rattle.manager_model.specs.Sights.{Calls, ManagerSight}
 use Rattle.sub_deeds.specs.Deeds.{Wrote}
 use Rattle.sub_core.specs.Subordinates.{NotTurned, OthersWriteNothing, SubState, SubValue, Turns, Writes, WritesNothing, answer_for, core_of, seen, xid_of}
 
@@ -55,6 +58,13 @@ pub record Acts (old new : SubState) (a : Act) (reaction : Reaction) : Type 0 wh
 -- why an act was not made, and what that leaves
 abbrev pub NotActed : SubState → SubState → Act → StepError → Type 0
 NotActed old new a e = NotTurned old new (turn_at old a) e
+
+-- a manager restarted behind a crash that kept so many unforced bytes, and was opened
+pub record Reopens (old new : ManagerSight) (keep : ℕ) : Type 0 where
+  pub mid : ManagerSight
+  pub restarts : Restarts old mid keep
+  pub answer : Code
+  pub calls : Calls mid new (answer ≡ RmFail) (λ old new. Opens old new 0 false answer)
 
 -- behind a restart each branch that is in doubt by the records that were left has the writes that it
 -- promised, and no other branch has any

@@ -1,11 +1,12 @@
 //! Restart: what a crash left of the log stands, and the cases that were not told their outcomes ask. And trim.
 
-ghost use Rattle.std.specs.Prelude.{◌≡◌, ◌∷◌, [], true, IfErr, IfOk, OnOk};
+ghost use Rattle.std.specs.Prelude.{◌≡◌, ◌∷◌, ◌+◌, [], true, IfErr, IfOk, OnOk};
 ghost use Rattle.core_model.specs.Restarting.{NotRestarted, NotTrimmed, Restarts, Trims};
+ghost use Rattle.manager_model.specs.Restarting.{NotRestarted as NotReopened};
 ghost use Rattle.rec_log.specs.Sights.{left_by};
 ghost use Rattle.sub_restart.specs.Rebuilt.{Rebuilds, leaf};
 ghost use Rattle.sub_core.specs.Subordinates.{seen};
-ghost use Rattle.sub_core.specs.Steps.{LeavesPromises, state};
+ghost use Rattle.sub_core.specs.Steps.{LeavesPromises, Reopens, state};
 ghost use Rattle.tree_model.specs.declared.records.RecordKind.TheVariants as kind;
 ghost use Rattle.tree_model.specs.declared.records.Subject.TheVariants as subject;
 
@@ -29,6 +30,16 @@ fn opened(boot: u64, alloc: Global) -> Result<Sequence<Logged>, AllocError>
     Ok(written)
 }
 
+/// The manager restarts behind a crash that keeps so many of the log's unforced bytes, and is opened.
+fn reopen<M: ResourceManager>(manager: &mut M, keep: usize) -> Result<(), RestartError>
+    ensures ok { OnOk result (Reopens (M.sight manager.old) (M.sight manager.new) keep) }
+    ensures err { IfErr result (NotReopened (M.sight manager.old) (M.sight manager.new) keep) }
+{
+    manager.restart(keep)?;
+    let _ = manager.open(Flags::TMNOFLAGS, false);
+    Ok(())
+}
+
 impl<M: ResourceManager> Subordinate<M> {
     /// What the records leave that a crash would leave. Memory: also where no run makes such records.
     fn rebuilt(&self, keep: usize) -> Result<Rebuilt, StepError>
@@ -43,6 +54,20 @@ impl<M: ResourceManager> Subordinate<M> {
         }
     }
 
+    /// What the records leave that a crash would leave, and the record of the boot behind it, as a reaction shows it. The error
+    /// is that of `rebuilt`.
+    fn ready(&self, keep: usize) -> Result<(Rebuilt, Sequence<Logged>), StepError>
+        ensures ok { IfOk result (λ ready. Rebuilds (leaf self.now.me self.now.parent self.now.tree) self.now.parent
+            (left_by (M.sight self.now.manager).log keep) ready.0) }
+        ensures written { IfOk result (λ ready.
+            ready.1 ≡ record { kind = kind.Opened; subject = subject.Boot (ready.0.boot + 1); forced = true } ∷ []) }
+        ensures err { IfErr result (λ e. e ≡ StepError.Memory) }
+    {
+        let rebuilt = self.rebuilt(keep)?;
+        let written = opened(rebuilt.boot + 1, self.alloc)?;
+        Ok((rebuilt, written))
+    }
+
     /// Restarts behind a crash that keeps so many of the log's unforced bytes: each case in doubt asks for its outcome, and so
     /// does one that an operator decided and that was not told. All memory is taken before the crash. Memory: nothing changed,
     /// also where the records that are left are none that a run makes: those of no manager, or with a ticket of a boot to come.
@@ -52,15 +77,14 @@ impl<M: ResourceManager> Subordinate<M> {
         ensures writes { OnOk result (LeavesPromises (seen M.sight self.old) keep (seen M.sight self.new)) }
         ensures err { IfErr result (NotRestarted (state M.sight self.old) keep (state M.sight self.new)) }
     {
-        let Rebuilt {
-            branches,
-            messages,
-            boot,
-        } = self.rebuilt(keep)?;
-        let written = opened(boot + 1, self.alloc)?;
-        match self.manager.restart(keep) {
+        let (rebuilt, written) = self.ready(keep)?;
+        match reopen(&mut self.manager, keep) {
             Ok(()) => {
-                let _ = self.manager.open(Flags::TMNOFLAGS, false);
+                let Rebuilt {
+                    branches,
+                    messages,
+                    ..
+                } = rebuilt;
                 self.branches = branches;
                 self.given = 0;
                 Ok(Reaction {

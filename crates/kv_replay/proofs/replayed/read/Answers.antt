@@ -1,40 +1,29 @@
 use Rattle.std.proofs.Common.{rules, ◌≡◌, ◌∷◌, subst}
-use Rattle.kv_replay.specs.Replays.{Fails, error_of}
-use Rattle.kv_replay.proofs.Passes.{IsReading, passed_on, reading_fails, reading_goes_on, reading_is_refused, reading_starts}
+use Rattle.kv_replay.specs.Replays.{Fails}
+use Rattle.kv_replay.proofs.Passes.{IsReading, passed_on, reading_fails, reading_goes_on, reading_starts}
 use Rattle.kv_replay.proofs.replayed.read.Goals as goal
 
 pub loop-record-init : goal.loop-record-init
-loop-record-init c = reading_starts c.args.records.items c.into_iter-record-iterator.result.rest.items c.new-seen.result c.new-data.result
-    c.into_iter-record-iterator.ensures.into_iter_gives.0 c.new-seen.ensures c.new-data.ensures
+loop-record-init c = reading_starts c.args.records.items c.into_iter-record-iterator.result.rest.items c.new.result c.new-2.result
+    c.into_iter-record-iterator.ensures.into_iter_gives.0 c.new.ensures c.new-2.ensures
 
 pub loop-record-preserved : goal.loop-record-preserved
 loop-record-preserved c =
     let next : c.loop-record.record-iterator.rest.items ≡ c.in-Some.record ∷ c.next.new.self.rest.items =
     search rules in
-    let reading : IsReading c.args.records.items (c.in-Some.record ∷ c.next.new.self.rest.items) c.loop-record.seen c.loop-record.data =
-    subst (λ ks. IsReading c.args.records.items ks c.loop-record.seen c.loop-record.data) next c.loop-record.invariant in
-    reading_goes_on c.args.records.items c.in-Some.record c.next.new.self.rest.items c.loop-record.seen c.loop-record.data reading
-    c.take-in-loop-record.new.self c.take.new.versions (search rules) c.in_ok-take.ensures.ok
+    let reading : IsReading c.args.records.items (c.in-Some.record ∷ c.next.new.self.rest.items) c.loop-record.reading.seen c.loop-record.reading.data =
+    subst (λ ks. IsReading c.args.records.items ks c.loop-record.reading.seen c.loop-record.reading.data) next c.loop-record.invariant in
+    reading_goes_on c.args.records.items c.in-Some.record c.next.new.self.rest.items c.loop-record.reading.seen c.loop-record.reading.data reading
+    c.take.new.self.seen c.take.new.self.data c.in_ok-take.ensures.may c.in_ok-take.ensures.takes
     c.in_ok-take.ensures.before
 
 pub returns-in_err-take-clause-err : goal.returns-in_err-take-clause-err
 returns-in_err-take-clause-err c =
     let next : c.loop-record.record-iterator.rest.items ≡ c.in-Some.record ∷ c.next.new.self.rest.items =
     search rules in
-    let reading : IsReading c.args.records.items (c.in-Some.record ∷ c.next.new.self.rest.items) c.loop-record.seen c.loop-record.data =
-    subst (λ ks. IsReading c.args.records.items ks c.loop-record.seen c.loop-record.data) next c.loop-record.invariant in
+    let reading : IsReading c.args.records.items (c.in-Some.record ∷ c.next.new.self.rest.items) c.loop-record.reading.seen c.loop-record.reading.data =
+    subst (λ ks. IsReading c.args.records.items ks c.loop-record.reading.seen c.loop-record.reading.data) next c.loop-record.invariant in
     passed_on c.from_residual.result c.in_err-take.field-0.0
     (Fails c.args.records.items) c.from_residual.ensures.1
-    (reading_fails c.args.records.items c.in-Some.record c.next.new.self.rest.items c.loop-record.seen c.loop-record.data reading
+    (reading_fails c.args.records.items c.in-Some.record c.next.new.self.rest.items c.loop-record.reading.seen c.loop-record.reading.data reading
     c.in_err-take.field-0.0 c.in_err-take.ensures.err)
-
-pub returns-in_err-take-2-clause-err : goal.returns-in_err-take-2-clause-err
-returns-in_err-take-2-clause-err c =
-    let next : c.loop-record.record-iterator.rest.items ≡ c.in-Some.record ∷ c.next.new.self.rest.items =
-    search rules in
-    let reading : IsReading c.args.records.items (c.in-Some.record ∷ c.next.new.self.rest.items) c.loop-record.seen c.loop-record.data =
-    subst (λ ks. IsReading c.args.records.items ks c.loop-record.seen c.loop-record.data) next c.loop-record.invariant in
-    passed_on c.from_residual-in_err-take-2.result (error_of c.in_err-take-2.field-0.0)
-    (Fails c.args.records.items) c.from_residual-in_err-take-2.ensures.1
-    (reading_is_refused c.args.records.items c.in-Some.record c.next.new.self.rest.items c.loop-record.seen c.loop-record.data reading
-    c.in_err-take-2.field-0.0 c.in_err-take-2.ensures.err)

@@ -9,7 +9,7 @@ use Rattle.manager_model.specs.Restarting.{NotRestarted as NotRestartedBy, write
 use Rattle.sub_restart.specs.declared.rebuilt.Rebuilt.{Rebuilt}
 use Rattle.sub_restart.specs.Rebuilt.{Rebuilds, leaf}
 use Rattle.sub_core.specs.Subordinates.{SubState, core_of}
-use Rattle.sub_core.specs.Steps.{state}
+use Rattle.sub_core.specs.Steps.{Reopens, state}
 use Rattle.sub_core.proofs.Restarted.{broken, broken_tied, reopened_tied, restarted}
 use Rattle.sub_core.proofs.Ties.{behind, same_tied}
 use Rattle.sub_core.proofs.subordinate.Subordinate.restart.Goals as goal
@@ -24,12 +24,12 @@ invariant_of-self g c =
       table = c.self.inside.branches;
       manager = g.M.ResourceManager.sight c.self.inside.manager;
     } in
-    let r : Rebuilt = c.in_ok-branches.field-0 in
-    let mid : ManagerSight = g.M.ResourceManager.sight c.restart.new.self in
-    let m : ManagerSight = g.M.ResourceManager.sight c.open.new.self in
+    let r : Rebuilt = c.in_ok-rebuilt.rebuilt in
+    let re : Reopens s.manager (g.M.ResourceManager.sight c.reopen.new.manager) c.args.keep = c.in-Ok.ensures.ok in
+    let m : ManagerSight = g.M.ResourceManager.sight c.reopen.new.manager in
     let made : Rebuilds (leaf s.me s.parent s.tree) s.parent (left_by s.manager.log c.args.keep) r =
-    subst (λ v. Rebuilds (leaf v.me v.parent v.tree) v.parent (left_by (g.M.ResourceManager.sight v.manager).log c.args.keep) r) (sym c.self.view_is) c.in_ok-branches.ensures.ok in
-    reopened_tied s c.args.keep r mid m (λ answer. answer ≡ code.RmFail) c.open.result made c.in-Ok.ensures.ok c.open.ensures
+    subst (λ v. Rebuilds (leaf v.me v.parent v.tree) v.parent (left_by (g.M.ResourceManager.sight v.manager).log c.args.keep) r) (sym c.self.view_is) c.in_ok-rebuilt.ensures.ok in
+    reopened_tied s c.args.keep r re.mid m (λ answer. answer ≡ code.RmFail) re.answer made re.restarts re.calls
 
 pub returns-in-Ok-clause-ok : goal.returns-in-Ok-clause-ok
 returns-in-Ok-clause-ok g c =
@@ -41,17 +41,17 @@ returns-in-Ok-clause-ok g c =
       table = c.self.inside.branches;
       manager = g.M.ResourceManager.sight c.self.inside.manager;
     } in
-    let r : Rebuilt = c.in_ok-branches.field-0 in
-    let mid : ManagerSight = g.M.ResourceManager.sight c.restart.new.self in
-    let m : ManagerSight = g.M.ResourceManager.sight c.open.new.self in
+    let r : Rebuilt = c.in_ok-rebuilt.rebuilt in
+    let re : Reopens s.manager (g.M.ResourceManager.sight c.reopen.new.manager) c.args.keep = c.in-Ok.ensures.ok in
+    let m : ManagerSight = g.M.ResourceManager.sight c.reopen.new.manager in
     let n : SubState = record { me = s.me; parent = s.parent; tree = s.tree; given = 0; table = r.branches; manager = m } in
     let made : Rebuilds (leaf s.me s.parent s.tree) s.parent (left_by s.manager.log c.args.keep) r =
-    subst (λ v. Rebuilds (leaf v.me v.parent v.tree) v.parent (left_by (g.M.ResourceManager.sight v.manager).log c.args.keep) r) (sym c.self.view_is) c.in_ok-branches.ensures.ok in
+    subst (λ v. Rebuilds (leaf v.me v.parent v.tree) v.parent (left_by (g.M.ResourceManager.sight v.manager).log c.args.keep) r) (sym c.self.view_is) c.in_ok-rebuilt.ensures.ok in
     subst (λ v. Restarts (state g.M.ResourceManager.sight v) c.args.keep (core_of n)
-    (record { begun = None; written = c.in_ok-written.written; told = None; messages = r.messages; kept = None })) c.self.view_is
+    (record { begun = None; written = c.in_ok-rebuilt.written; told = None; messages = r.messages; kept = None })) c.self.view_is
     (subst (λ w. Restarts (core_of s) c.args.keep (core_of n) (record { begun = None; written = w; told = None; messages = r.messages; kept = None }))
-    (sym c.in_ok-written.ensures)
-    (restarted s c.args.keep r mid m (λ answer. answer ≡ code.RmFail) c.open.result made c.in-Ok.ensures.ok c.open.ensures))
+    (sym c.in_ok-rebuilt.ensures.written)
+    (restarted s c.args.keep r re.mid m (λ answer. answer ≡ code.RmFail) re.answer made re.restarts re.calls))
 
 pub invariant_of-self-in-Err-Memory : goal.invariant_of-self-in-Err-Memory
 invariant_of-self-in-Err-Memory g c =
@@ -63,8 +63,8 @@ invariant_of-self-in-Err-Memory g c =
       table = c.self.inside.branches;
       manager = g.M.ResourceManager.sight c.self.inside.manager;
     } in
-    same_tied s (g.M.ResourceManager.sight c.restart.new.self) c.self.invariant
-    (subst (λ e. NotRestartedBy s.manager (g.M.ResourceManager.sight c.restart.new.self) c.args.keep e) c.in-Err-Memory.field-0-is c.in-Err-Memory.ensures.err)
+    same_tied s (g.M.ResourceManager.sight c.reopen.new.manager) c.self.invariant
+    (subst (λ e. NotRestartedBy s.manager (g.M.ResourceManager.sight c.reopen.new.manager) c.args.keep e) c.in-Err-Memory.field-0-is c.in-Err-Memory.ensures.err)
 
 pub invariant_of-self-in-Err-Device : goal.invariant_of-self-in-Err-Device
 invariant_of-self-in-Err-Device g c =
@@ -76,8 +76,8 @@ invariant_of-self-in-Err-Device g c =
       table = c.self.inside.branches;
       manager = g.M.ResourceManager.sight c.self.inside.manager;
     } in
-    broken_tied s (g.M.ResourceManager.sight c.restart.new.self) c.args.keep c.self.invariant
-    (subst (λ e. NotRestartedBy s.manager (g.M.ResourceManager.sight c.restart.new.self) c.args.keep e) c.in-Err-Device.field-0-is c.in-Err-Device.ensures.err)
+    broken_tied s (g.M.ResourceManager.sight c.reopen.new.manager) c.args.keep c.self.invariant
+    (subst (λ e. NotRestartedBy s.manager (g.M.ResourceManager.sight c.reopen.new.manager) c.args.keep e) c.in-Err-Device.field-0-is c.in-Err-Device.ensures.err)
 
 pub returns-clause-err : goal.returns-clause-err
 returns-clause-err g c =
@@ -89,13 +89,14 @@ returns-clause-err g c =
       table = c.self.inside.branches;
       manager = g.M.ResourceManager.sight c.self.inside.manager;
     } in
-    let m : ManagerSight = g.M.ResourceManager.sight c.restart.new.self in
+    let m : ManagerSight = g.M.ResourceManager.sight c.reopen.new.manager in
     subst (λ v. NotRestarted (state g.M.ResourceManager.sight v) c.args.keep (core_of (behind s s.table m)) Device) c.self.view_is
     (broken s m c.args.keep
     (subst (λ e. NotRestartedBy s.manager m c.args.keep e) c.in-Err-Device.field-0-is c.in-Err-Device.ensures.err))
 
 pub returns-in-Ok-clause-writes : goal.returns-in-Ok-clause-writes
 returns-in-Ok-clause-writes g c =
-    let m : ManagerSight = g.M.ResourceManager.sight c.open.new.self in
+    let m : ManagerSight = g.M.ResourceManager.sight c.reopen.new.manager in
+    let re : Reopens (g.M.ResourceManager.sight c.self.inside.manager) m c.args.keep = c.in-Ok.ensures.ok in
     subst (λ v. (x : Xid) → m.writes x ≡ writes_left (left_by (g.M.ResourceManager.sight v.manager).log c.args.keep) x) c.self.view_is
-    (λ x. c.open.ensures.rest.writes x ∙ c.in-Ok.ensures.ok.writes x)
+    (λ x. re.calls.rest.writes x ∙ re.restarts.writes x)
