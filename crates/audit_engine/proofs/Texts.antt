@@ -4,7 +4,7 @@ use Rattle.std.specs.Fmt.{decimal}
 use Rattle.tree_model.specs.declared.trees.TreeEntry.{TreeEntry}
 use Rattle.tree_model.specs.Texts.{case_text, outcome_word}
 use Rattle.logs_script.specs.declared.line.ProcessLog.{ProcessLog}
-use Rattle.log_reading.specs.Faults.{first_damage}
+use Rattle.logs_script.specs.Faults.{first_damage}
 use Rattle.tree_audit.specs.Reports.{kept_lists, mismatches_in}
 use Rattle.tree_audit.specs.declared.report.Line.{Line}
 use Rattle.tree_audit.specs.declared.report.Report.{Report}

@@ -14,7 +14,7 @@ use Rattle.tree_model.specs.World.{Made, World}
 use Rattle.logs_script.specs.declared.line.ProcessLog.{ProcessLog}
 use Rattle.logs_script.specs.Logs.{IsLogsText, bytes_of}
 use Rattle.link_script.specs.Inputs.{IsScript}
-use Rattle.log_reading.specs.Faults.{Damage, damage_text, first_damage}
+use Rattle.logs_script.specs.Faults.{Damage, damage_text, first_damage}
 use Rattle.log_order.specs.Logs.{read_log}
 use Rattle.logs_spelling.specs.Fits.{FitsEntry, FitsTree}
 use Rattle.logs_spelling.proofs.OneWay.{read_has_no_fault, read_in_one_way}
@@ -25,7 +25,7 @@ use Rattle.rec_log.specs.Texts.{records_in}
 use Rattle.report_io.specs.declared.status.Status.TheVariants.{Ended}
 use Rattle.core_model.specs.States.{CoreState}
 use Rattle.core_law.specs.Fits.{KeepsOwn}
-use Rattle.run_law.proofs.Kept.{keeps_own}
+use Rattle.world_law.proofs.Kept.{keeps_own}
 use Rattle.world_law.specs.Refusals.{LeadsTo, Refusal}
 use Rattle.world_law.specs.Runs.{IsOpened}
 use Rattle.world_law.specs.Ties.{Follows}

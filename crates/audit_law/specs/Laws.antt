@@ -5,7 +5,7 @@ use Rattle.tree_model.specs.declared.trees.TreeEntry.{TreeEntry}
 use Rattle.tree_model.specs.World.{World}
 use Rattle.logs_script.specs.declared.line.ProcessLog.{ProcessLog}
 use Rattle.logs_script.specs.Logs.{IsLogsText}
-use Rattle.log_reading.specs.Faults.{damage_text, first_damage}
+use Rattle.logs_script.specs.Faults.{damage_text, first_damage}
 use Rattle.tree_audit.specs.declared.report.Line.{Line}
 use Rattle.tree_audit.specs.Reports.{kept_lists, mismatches_in}
 use Rattle.tree_audit.specs.Truths.{AreTrue}

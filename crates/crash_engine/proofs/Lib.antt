@@ -1,1 +1,4 @@
+pub mod Going
+pub mod PointLaws
+pub mod Trying
 pub mod Reports

@@ -4,8 +4,8 @@ use Rattle.tree_model.specs.declared.events.Event.{Event}
 use Rattle.tree_model.specs.declared.trees.TreeEntry.{TreeEntry}
 use Rattle.link_script.specs.Inputs.{IsScript}
 use Rattle.world_law.specs.Refusals.{Refusal}
-use Rattle.crash_points.specs.Trials.{Adds, GoesOver, GoesThrough, IsRefused, TriesAll}
-use Rattle.crash_points.specs.declared.trial.Trial.{Trial}
+use Rattle.crash_engine.specs.Trials.{Adds, GoesOver, GoesThrough, IsRefused, TriesAll}
+use Rattle.crash_engine.specs.declared.trial.Trial.{Trial}
 use Rattle.crash_engine.specs.Crashes.{IsCrashReport, TriesScript}
 use Rattle.crash_engine.specs.Texts.{are_clean, crashes_text, ending_by}
 use Rattle.crash_engine.specs.declared.ending.Ending.{Ending}

@@ -5,8 +5,8 @@ use Rattle.tree_model.specs.declared.trees.TreeEntry.{TreeEntry}
 use Rattle.link_script.specs.Inputs.{IsScript}
 use Rattle.world_law.specs.Refusals.{Refusal}
 use Rattle.tree_engine.specs.Trees.{RefusesScript}
-use Rattle.crash_points.specs.Trials.{GoesOver}
-use Rattle.crash_points.specs.declared.trial.Trial.{Trial}
+use Rattle.crash_engine.specs.Trials.{GoesOver}
+use Rattle.crash_engine.specs.declared.trial.Trial.{Trial}
 use Rattle.crash_engine.specs.Texts.{crashes_text, ending_by}
 use Rattle.crash_engine.specs.declared.ending.Ending.{Ending}
 use Rattle.crash_engine.specs.declared.ending.Ending.TheVariants as ending

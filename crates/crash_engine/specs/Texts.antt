@@ -7,11 +7,11 @@ use Rattle.tree_model.specs.Errors.{step_error_number}
 use Rattle.tree_model.specs.Texts.{case_text}
 use Rattle.world_law.specs.Refusals.{Refusal}
 use Rattle.tree_engine.specs.Trees.{refused_text}
-use Rattle.crash_points.specs.declared.auditing.Left.{Left}
-use Rattle.crash_points.specs.declared.points.Point.{Point}
-use Rattle.crash_points.specs.declared.trial.Found.{Found}
-use Rattle.crash_points.specs.declared.trial.Found.TheVariants.{Damaged, Ended, Refused}
-use Rattle.crash_points.specs.declared.trial.Trial.{Trial}
+use Rattle.crash_engine.specs.declared.auditing.Left.{Left}
+use Rattle.crash_engine.specs.declared.points.Point.{Point}
+use Rattle.crash_engine.specs.declared.trial.Found.{Found}
+use Rattle.crash_engine.specs.declared.trial.Found.TheVariants.{Damaged, Ended, Refused}
+use Rattle.crash_engine.specs.declared.trial.Trial.{Trial}
 use Rattle.crash_engine.specs.declared.ending.Ending.{Ending}
 use Rattle.crash_engine.specs.declared.ending.Ending.TheVariants as ending
 

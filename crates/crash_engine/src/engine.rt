@@ -4,14 +4,14 @@ ghost use Rattle.std.specs.Prelude.{◌≡◌, ℕ, List, IfErr, IfOk};
 ghost use Rattle.std.specs.Io.KnownBytes.{Appends, Keeps};
 ghost use Rattle.tree_model.specs.Trees.{IsTree};
 ghost use Rattle.report_io.specs.Streams.{IsInput, WritesFront};
-ghost use Rattle.crash_points.specs.Trials.{GoesOver};
+ghost use Rattle.crash_engine.specs.Trials.{GoesOver};
 ghost use Rattle.crash_engine.specs.Crashes.{IsCrashReport};
 ghost use Rattle.crash_engine.specs.Texts.{ending_by};
 ghost use Rattle.crash_engine.specs.declared.ending.Ending.{Ending as AnyEnding};
 
 use crate::ending::Ending;
 use crate::lines::{are_clean, text_of};
-use crash_points::{Trial, try_event};
+use crate::trial::{Trial, try_event};
 use link_script::{ScriptError, read};
 use report_io::{Failure, read_all, write_all};
 use std::alloc::Global;

@@ -1,9 +1,13 @@
 //! The engine of `rstar crash`: a script in, what each crash of its run ends with out.
 #![tactic(auto)]
 
+mod auditing;
 mod ending;
 mod engine;
 mod lines;
+mod points;
+mod run;
+mod trial;
 
 pub use ending::Ending;
 pub use engine::run_crash;

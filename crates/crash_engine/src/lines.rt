@@ -21,7 +21,9 @@ ghost use Rattle.crash_engine.specs.Texts.{
 };
 ghost use Rattle.std.specs.List.{flat_map};
 
-use crash_points::{Found, Left, Point, Trial};
+use crate::auditing::Left;
+use crate::points::Point;
+use crate::trial::{Found, Trial};
 use std::alloc::{AllocError, Global};
 use trace_lines::{push, push_case, push_number};
 use tree_engine::{Refusal, push_refused};

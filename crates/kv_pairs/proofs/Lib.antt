@@ -1,3 +1,7 @@
+pub mod Rebasing
+pub mod Promises
+pub mod Deciding
+pub mod Trims
 pub mod Ordered
 pub mod Named
 pub mod Spelt

@@ -9,7 +9,7 @@ use Rattle.log_sound.specs.Sound.{IsSound}
 use Rattle.log_sound.proofs.Sizes.{records_fit_frames}
 use Rattle.log_sound.proofs.Records.{records_read_back}
 use Rattle.rec_log.specs.Sights.{AreRecords, IsRecord}
-use Rattle.trim_law.specs.Keeping.{unnamed}
+use Rattle.kv_pairs.specs.Keeping.{unnamed}
 
 pub pair_fits : (k v j u : List ℕ) → IsSound Manager (unnamed (Pair k v)) → j ≡ k → u ≡ v
     → FitsFrame (record { entry = Pair j u; parent = None })

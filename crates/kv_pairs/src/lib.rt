@@ -2,6 +2,7 @@
 #![tactic(auto)]
 
 mod frames;
+pub mod law;
 mod pairs;
 
 pub use frames::base_frames;

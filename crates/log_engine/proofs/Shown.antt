@@ -12,10 +12,10 @@ use Rattle.rec_log.specs.declared.opening.Found.TheVariants.{Empty, Sound}
 use Rattle.rec_log.specs.Openings.{IsFound, IsNoLog}
 use Rattle.rec_log.specs.declared.opening.OpenError.{OpenError}
 use Rattle.rec_log.specs.declared.opening.OpenError.TheVariants.{Memory, Device, Damaged as DamagedError}
-use Rattle.log_reading.specs.Places.{Placed, placed_records}
+use Rattle.logs_script.specs.Places.{Placed, placed_records}
 use Rattle.log_engine.specs.Reports.{heading_text, held_text, records_text, shown_text, tail_text, torn_text}
-use Rattle.log_reading.specs.Faults.{damage_or, first_damage}
-use Rattle.log_reading.proofs.PlaceLaws.{places_tell}
+use Rattle.logs_script.specs.Faults.{damage_or, first_damage}
+use Rattle.logs_script.proofs.PlaceLaws.{places_tell}
 
 pub shown_more : (e : TreeEntry) (es : List TreeEntry) (logs : List ProcessLog)
     → shown_text (e ∷ es) logs ≡ held_text e.id e.kind (bytes_of logs e.id) ++ shown_text es logs

@@ -2,7 +2,7 @@
 use Rattle.std.proofs.Common.{◌≡◌, ℕ, List, [], ◌∷◌, ◌++◌, sym, ap, ◌∙◌, append-nil, append_assoc}
 use Rattle.tree_model.specs.declared.records.LogRecord.{LogRecord}
 use Rattle.log_engine.specs.Reports.{placed_text, records_text}
-use Rattle.log_reading.specs.Places.{Placed, placed}
+use Rattle.logs_script.specs.Places.{Placed, placed}
 
 pub text_ends : (out total : List ℕ) (xs : List Placed) → xs ≡ [] → out ++ records_text xs ≡ total
     → out ≡ total

@@ -15,8 +15,8 @@ use Rattle.log_order.specs.Logs.{LogReading, Whole, Damaged, read_log}
 use Rattle.report_io.specs.declared.status.Status.{Status}
 use Rattle.report_io.specs.declared.status.Status.TheVariants.{Ended, Refused, Stopped}
 use Rattle.log_engine.specs.Lines.{record_words}
-use Rattle.log_reading.specs.Faults.{damage_text, fault_text, first_damage}
-use Rattle.log_reading.specs.Places.{Placed, placed_records}
+use Rattle.logs_script.specs.Faults.{damage_text, fault_text, first_damage}
+use Rattle.logs_script.specs.Places.{Placed, placed_records}
 
 -- the line that comes before the records of a process
 abbrev pub heading_text : ProcessId → List ℕ

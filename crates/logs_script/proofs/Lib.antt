@@ -1,3 +1,4 @@
+pub mod PlaceLaws
 pub mod LineLaws
 pub mod LogLaws
 pub mod Digits

@@ -1,3 +1,5 @@
+pub mod Faults
+pub mod Places
 pub mod Lines
 pub mod Logs
 pub mod Trees

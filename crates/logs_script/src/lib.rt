@@ -1,11 +1,14 @@
 //! A tree and the logs of its processes as text: what `tree --logs` writes and what `log` reads.
 #![tactic(auto)]
 
+mod faults;
 pub mod law;
 mod line;
+pub mod places;
 mod reading;
 mod writing;
 
+pub use faults::{damaged, refusal};
 pub use line::{ProcessLog, ProcessLogs};
 pub use reading::{bytes_of, read_logs};
 pub use writing::logs_text;

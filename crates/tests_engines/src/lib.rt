@@ -1,6 +1,16 @@
-//! Tests of the engines of scripts and logs, and of the tree that runs.
+//! Tests of the engines, and of the tree that runs: at their edges, and over random runs.
 #![tactic(auto)]
 
+#[cfg(test)]
+mod chance;
+#[cfg(test)]
+mod ends;
+#[cfg(test)]
+mod fakes;
+#[cfg(test)]
+mod history;
+#[cfg(test)]
+mod runs;
 #[cfg(test)]
 mod scripts;
 #[cfg(test)]

@@ -1,7 +1,7 @@
 //! Readers and writers that fail, at each engine.
 
+use crate::fakes::{Fails, Full};
 use crate::scripts::FLAT_PA_COMMIT;
-use fake_streams::{Fails, Full};
 use log_engine::run_log;
 use report_io::Failure;
 use std::alloc::Global;

@@ -16,9 +16,9 @@ use Rattle.tree_model.specs.Records.{cases_in, record_case}
 use Rattle.tree_model.specs.Trees.{IsTree}
 use Rattle.tree_model.specs.contracts.names.ProcessIdPartialEq.TheImpl as processes
 use Rattle.log_order.specs.Logs.{LogReading, Whole, Damaged, read_log}
-use Rattle.log_reading.specs.Faults.{damage_or, first_damage}
-use Rattle.log_reading.specs.Places.{Placed, placed, placed_in}
-use Rattle.log_reading.proofs.PlaceLaws.{places_tell}
+use Rattle.logs_script.specs.Faults.{damage_or, first_damage}
+use Rattle.logs_script.specs.Places.{Placed, placed, placed_in}
+use Rattle.logs_script.proofs.PlaceLaws.{places_tell}
 use Rattle.logs_script.specs.declared.line.ProcessLog.{ProcessLog}
 use Rattle.logs_script.specs.Logs.{bytes_of}
 use Rattle.rec_log.specs.Openings.{IsFound as IsLogFound, IsNoLog}

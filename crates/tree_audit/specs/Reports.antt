@@ -14,7 +14,7 @@ use Rattle.tree_model.specs.Names.{process_of, same_process}
 use Rattle.tree_model.specs.Nodes.{place_of}
 use Rattle.tree_model.specs.Records.{cases_in, has, is_decided}
 use Rattle.log_order.specs.Logs.{LogReading, Whole, Damaged, read_log}
-use Rattle.log_reading.specs.Faults.{first_damage}
+use Rattle.logs_script.specs.Faults.{first_damage}
 use Rattle.logs_script.specs.declared.line.ProcessLog.{ProcessLog}
 use Rattle.logs_script.specs.Logs.{bytes_of}
 use Rattle.tree_auditor.specs.Audits.{Logs, ShowsMismatch, audited, has_line, own_decision, since_promise}

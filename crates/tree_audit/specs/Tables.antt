@@ -17,7 +17,7 @@ use Rattle.tree_model.specs.Nodes.{Role, is_listed, role_by}
 use Rattle.tree_model.specs.Records.{cases_in}
 use Rattle.tree_model.specs.Trees.{is_unlisted, level_within}
 use Rattle.log_order.specs.Logs.{Whole, Damaged, read_log}
-use Rattle.log_reading.specs.Places.{placed_in}
+use Rattle.logs_script.specs.Places.{placed_in}
 use Rattle.tree_auditor.specs.Audits.{Logs, audited, is_case_at, naming_case}
 use Rattle.audit_cases.specs.Kinds.{decided_in, decision_in, line_in, own_in}
 use Rattle.audit_cases.specs.Notes.{CaseNote, Table, noted, notes_of, place_at, same}

@@ -2,7 +2,7 @@
 
 ghost use Rattle.std.specs.Prelude.{◌≡◌, None, IfOk, IfErr, OnOk};
 ghost use Rattle.indexmap.specs.IndexMap.{insert_entry};
-ghost use Rattle.log_reading.specs.Faults.{first_damage};
+ghost use Rattle.logs_script.specs.Faults.{first_damage};
 ghost use Rattle.tree_model.specs.Trees.{IsTree};
 ghost use Rattle.tree_audit.specs.Reports.{IsNoReport, kept_lists};
 ghost use Rattle.tree_audit.specs.Tables.{AreNotes, IsDamage, NotesLog, frames_table, same_id};

@@ -1,3 +1,4 @@
+pub mod Sums
 pub mod LogsLeft
 pub mod Traces
 pub mod TreeReports

@@ -1,2 +1,4 @@
+pub mod Counts
+pub mod Texts
 pub mod Logs
 pub mod Trees

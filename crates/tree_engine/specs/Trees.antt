@@ -11,8 +11,8 @@ use Rattle.tree_model.specs.World.{Made, World}
 use Rattle.link_script.specs.declared.script.ScriptFault.{ScriptFault}
 use Rattle.link_script.specs.declared.script.ScriptFault.TheVariants.{Utf8, TreeText, Tree, TooLong, Line}
 use Rattle.link_script.specs.Inputs.{IsScript, IsScriptFault}
-use Rattle.run_counts.specs.Counts.{rows_of}
-use Rattle.run_counts.specs.Texts.{rows_text}
+use Rattle.tree_engine.specs.Counts.{rows_of}
+use Rattle.tree_engine.specs.Texts.{rows_text}
 use Rattle.trace_lines.specs.Trace.{entries_text, entry_text}
 use Rattle.report_io.specs.declared.status.Status.{Status}
 use Rattle.report_io.specs.declared.status.Status.TheVariants.{Ended, Refused, Stopped}

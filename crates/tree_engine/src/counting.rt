@@ -1,15 +1,16 @@
 //! What the processes of a run have written and sent, counted.
 
 ghost use Rattle.std.specs.Prelude.{◌≡◌, ◌++◌, IfErr, IfOk};
-ghost use Rattle.run_counts.specs.Counts.{rows_of};
+ghost use Rattle.tree_engine.specs.Counts.{rows_of};
 ghost use Rattle.tree_world.specs.Worlds.{state};
 ghost use Rattle.tree_engine.specs.Trees.{IsNumbered, counts_text, ending, last_line, trace_of};
 
+use crate::rows::RunCounts;
+use crate::text::push_counts;
 use crate::trace::{discard, trace};
 use crate::tree::Refusal;
 use log_store::MemoryStore;
 use report_io::{Failure, Status};
-use run_counts::{RunCounts, push_counts};
 use std::alloc::{AllocError, Global};
 use tree_world::World;
 

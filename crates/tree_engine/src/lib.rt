@@ -2,7 +2,11 @@
 #![tactic(auto)]
 
 mod counting;
+mod counts;
+mod kinds;
 mod logs;
+mod rows;
+mod text;
 mod trace;
 mod tree;
 

@@ -40,10 +40,10 @@ use Rattle.core_law.specs.Ties.{ChildrenFit, Stands}
 use Rattle.core_law.proofs.CascadeQuiet.{cascaded_place}
 use Rattle.core_law.proofs.CascadeSteps.{is_cascaded_place}
 use Rattle.core_law.proofs.Faults.{breaks_so}
-use Rattle.run_law.proofs.Kept.{all_opened, keeps_own}
-use Rattle.run_law.proofs.Moves.{faults_move}
-use Rattle.run_law.proofs.Restarts.{restart_faults_move, trim_faults_move}
-use Rattle.run_law.proofs.Runs.{runs_fit}
+use Rattle.world_law.proofs.Kept.{all_opened, keeps_own}
+use Rattle.world_law.proofs.Moves.{faults_move}
+use Rattle.world_law.proofs.RunRestarts.{restart_faults_move, trim_faults_move}
+use Rattle.world_law.proofs.Fitting.{runs_fit}
 use Rattle.world_law.specs.Worlds.{DeviceFails, MovesNode, RestartFails, TrimFails, WorldState}
 use Rattle.world_law.specs.Ties.{FollowsBy, GoesOnBy}
 use Rattle.world_law.proofs.Steps.{HidesFaults, in_full, listed_at, made_at, move_goes_on, move_with, world_after}

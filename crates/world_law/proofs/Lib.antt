@@ -1,3 +1,15 @@
+pub mod Acks
+pub mod Cases
+pub mod Given
+pub mod Moves
+pub mod Roots
+pub mod Early
+pub mod Leaves
+pub mod Fitting
+pub mod Cascades
+pub mod Kept
+pub mod RunRestarts
+pub mod Tops
 pub mod Openings
 pub mod Steps
 pub mod Unchanged

@@ -20,7 +20,7 @@ use Rattle.core_model.proofs.Alike.{same_view}
 use Rattle.core_law.specs.Fits.{NodeFits}
 use Rattle.core_law.proofs.ManagerSteps.{place_stays}
 use Rattle.core_law.proofs.Steps.{refusals_so, steps_so}
-use Rattle.run_law.proofs.Runs.{runs_fit}
+use Rattle.world_law.proofs.Fitting.{runs_fit}
 use Rattle.world_law.specs.Worlds.{RefusesAt, WorldState}
 use Rattle.world_law.specs.Ties.{Follows}
 use Rattle.world_law.specs.Refusals.{RefusesSo, refusal_in}

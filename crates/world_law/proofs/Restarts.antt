@@ -11,8 +11,8 @@ use Rattle.tree_model.specs.World.{Made, Move, World}
 use Rattle.core_model.specs.States.{CoreState}
 use Rattle.core_law.specs.Steps.{no_answer, quiet_move, restart_of, trim_reaction}
 use Rattle.core_law.proofs.Trimming.{trim_done}
-use Rattle.run_law.proofs.Kept.{all_opened, keeps_own, open_fits}
-use Rattle.run_law.proofs.Restarts.{restarts_move, trims_move}
+use Rattle.world_law.proofs.Kept.{all_opened, keeps_own, open_fits}
+use Rattle.world_law.proofs.RunRestarts.{restarts_move, trims_move}
 use Rattle.world_law.specs.Worlds.{HasFailed, RestartsAt, TrimsAt, WorldState}
 use Rattle.world_law.specs.Ties.{Follows, FollowsBy, GoesOnBy}
 use Rattle.world_law.specs.Refusals.{model_refusal, refusal_in}

@@ -1,3 +1,4 @@
+pub mod Laws
 pub mod Worlds
 pub mod Runs
 pub mod Ties

@@ -48,8 +48,8 @@ use Rattle.kv_writes.specs.Writes.{writes_of}
 use Rattle.kv_core.specs.Stores.{KeySight, MovesTables, state_of}
 use Rattle.kv_core.specs.Works.{IsRefused}
 use Rattle.kv_core.specs.Ends.{IsDue, known_of, wrote_some}
-use Rattle.kv_law.specs.Rows.{rows_of}
-use Rattle.kv_law.proofs.Rows.{checks_alone, fits}
+use Rattle.xa_law.specs.Rows.{rows_of}
+use Rattle.xa_law.proofs.TurnRows.{checks_alone, fits}
 use Rattle.manager_model.specs.declared.errors.DecideError.TheVariants as decide_error
 use Rattle.manager_model.specs.declared.errors.TrimError.TheVariants as trim_error
 use Rattle.kv_manager.specs.Sights.{KvSight, SameManager}

@@ -1,3 +1,4 @@
+pub mod TurnRows
 pub mod Plans
 pub mod Reached
 pub mod Outcomes

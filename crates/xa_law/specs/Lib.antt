@@ -1,3 +1,4 @@
+pub mod Rows
 pub mod Moves
 pub mod Refusals
 pub mod Histories

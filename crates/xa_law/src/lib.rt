@@ -2,5 +2,7 @@
 #![tactic(auto)]
 
 mod law;
+mod rows;
 
 pub use law::histories_are_legal;
+pub use rows::{refusals_are_checks, turns_are_rows};

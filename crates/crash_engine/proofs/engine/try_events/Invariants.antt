@@ -1,4 +1,4 @@
-use Rattle.crash_points.specs.Trials.{GoesThrough}
+use Rattle.crash_engine.specs.Trials.{GoesThrough}
 use Rattle.crash_engine.proofs.engine.try_events.Given as goal
 
 abbrev pub invariant-loop-made : goal.invariant-loop-made

@@ -1,7 +1,7 @@
 use Rattle.std.proofs.Common.{rules, arith, refl}
 use Rattle.tree_model.specs.Store.{pair_record}
 use Rattle.log_text.specs.Made.{frame_record}
-use Rattle.trim_law.specs.Keeping.{unnamed}
+use Rattle.kv_pairs.specs.Keeping.{unnamed}
 use Rattle.kv_pairs.proofs.Spelt.{begun, followed}
 use Rattle.kv_pairs.proofs.frames.base_frames.Goals as goal
 

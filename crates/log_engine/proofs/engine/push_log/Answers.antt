@@ -1,5 +1,5 @@
 use Rattle.std.proofs.Common.{◌∙◌, ◌++◌, ap, sym}
-use Rattle.log_reading.specs.Places.{placed_in}
+use Rattle.logs_script.specs.Places.{placed_in}
 use Rattle.log_engine.specs.Reports.{records_text}
 use Rattle.log_engine.proofs.Shown.{held_empty, held_sound, joined}
 use Rattle.log_engine.proofs.engine.push_log.Goals as goal

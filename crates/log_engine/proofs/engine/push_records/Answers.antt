@@ -1,8 +1,8 @@
 use Rattle.std.proofs.Common.{◌≡◌, ◌∙◌, ◌++◌, ◌+◌, ◌-◌, ap, sym, arith, length}
-use Rattle.log_reading.specs.Places.{placed_in}
+use Rattle.logs_script.specs.Places.{placed_in}
 use Rattle.log_engine.specs.Reports.{records_text}
 use Rattle.log_engine.proofs.Texts.{text_ends, text_goes_on}
-use Rattle.log_reading.proofs.PlaceLaws.{frame_size, goes_on, no_frame, stops}
+use Rattle.logs_script.proofs.PlaceLaws.{frame_size, goes_on, no_frame, stops}
 use Rattle.log_engine.proofs.engine.push_records.Goals as goal
 
 pub returns-in-Err-Malformed : goal.returns-in-Err-Malformed

@@ -1,5 +1,5 @@
 use Rattle.std.proofs.Common.{◌≡◌, ◌≤◌, ◌+◌, ◌-◌, ◌++◌, length}
-use Rattle.log_reading.specs.Places.{placed_in}
+use Rattle.logs_script.specs.Places.{placed_in}
 use Rattle.log_engine.specs.Reports.{records_text}
 use Rattle.log_engine.proofs.engine.push_records.Given as goal
 

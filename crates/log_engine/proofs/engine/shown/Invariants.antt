@@ -1,6 +1,6 @@
 use Rattle.std.proofs.Common.{◌≡◌, ◌++◌, drop}
 use Rattle.log_engine.specs.Reports.{shown_text}
-use Rattle.log_reading.specs.Faults.{first_damage}
+use Rattle.logs_script.specs.Faults.{first_damage}
 use Rattle.log_engine.proofs.engine.shown.Given as goal
 
 abbrev pub invariant-loop-entry : goal.invariant-loop-entry

@@ -1,7 +1,7 @@
 use Rattle.std.proofs.Common.{◌∙◌, ◌∷◌, ◌+◌, ap, sym, subst, refl, arith, drop}
 use Rattle.std.proofs.lemmas.List.{at_drop_more, drop_all}
 use Rattle.logs_script.specs.Logs.{bytes_of as bytes_in}
-use Rattle.log_reading.specs.Faults.{first_damage}
+use Rattle.logs_script.specs.Faults.{first_damage}
 use Rattle.tree_audit.specs.Tables.{IsDamage, NotesLog}
 use Rattle.tree_audit.proofs.Passes.{first_damaged, none_damaged, none_noted, noted_all_of, noted_next, sound_more}
 use Rattle.tree_audit.proofs.logs.all_notes.Goals as goal

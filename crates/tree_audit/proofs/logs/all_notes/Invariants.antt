@@ -1,5 +1,5 @@
 use Rattle.std.proofs.Common.{◌≡◌, drop, take}
-use Rattle.log_reading.specs.Faults.{first_damage}
+use Rattle.logs_script.specs.Faults.{first_damage}
 use Rattle.tree_audit.proofs.Passes.{NotedTo}
 use Rattle.tree_audit.proofs.logs.all_notes.Given as goal
 

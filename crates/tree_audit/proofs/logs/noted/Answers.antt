@@ -1,7 +1,7 @@
 use Rattle.std.proofs.Common.{◌≡◌, ◌∙◌, ◌+◌, ◌-◌, ap, sym, arith, fold, length, map}
 use Rattle.tree_model.specs.LogNames.{own_records}
-use Rattle.log_reading.specs.Places.{placed_in}
-use Rattle.log_reading.proofs.PlaceLaws.{frame_size, goes_on, no_frame, stops}
+use Rattle.logs_script.specs.Places.{placed_in}
+use Rattle.logs_script.proofs.PlaceLaws.{frame_size, goes_on, no_frame, stops}
 use Rattle.audit_cases.specs.Notes.{noted as noted_by_record, place_at}
 use Rattle.tree_audit.proofs.Passes.{is_frames_table, noted_ends, noted_goes_on}
 use Rattle.tree_audit.proofs.RecordsAt.{record_at}

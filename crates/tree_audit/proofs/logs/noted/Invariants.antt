@@ -1,6 +1,6 @@
 use Rattle.std.proofs.Common.{◌≡◌, ◌≤◌, ◌+◌, ◌-◌, [], length, map, fold}
 use Rattle.tree_model.specs.LogNames.{own_records}
-use Rattle.log_reading.specs.Places.{placed_in}
+use Rattle.logs_script.specs.Places.{placed_in}
 use Rattle.audit_cases.specs.Notes.{noted, place_at}
 use Rattle.tree_audit.proofs.logs.noted.Given as goal
 

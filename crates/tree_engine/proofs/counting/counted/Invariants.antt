@@ -1,5 +1,5 @@
 use Rattle.std.proofs.Common.{◌≡◌, take}
-use Rattle.run_counts.specs.Counts.{rows_of}
+use Rattle.tree_engine.specs.Counts.{rows_of}
 use Rattle.tree_world.specs.Worlds.{state}
 use Rattle.tree_engine.proofs.counting.counted.Given as goal
 

@@ -1,0 +1,101 @@
+-- Events behind events.
+use Rattle.std.proofs.Common.{◌≡◌, ◌≢◌, ◌∙◌, ap, sym, subst, ℕ, zero, suc, ◌+◌, true, false, is_some, Some, None, List, [], ◌∷◌, ◌++◌, length, take, refl, arith, length-append}
+use Rattle.std.specs.Prelude.{slice_get}
+use Rattle.std.proofs.Math.Seq.{take-append-add}
+use Rattle.tree_model.specs.declared.events.Event.{Event}
+use Rattle.tree_model.specs.declared.events.StepError.{StepError}
+use Rattle.tree_model.specs.declared.events.StepError.TheVariants.{Memory, Device}
+use Rattle.tree_model.specs.declared.trees.TreeEntry.{TreeEntry}
+use Rattle.tree_model.specs.Trees.{IsTree}
+use Rattle.world_law.specs.Refusals.{Refusal}
+use Rattle.world_law.specs.Runs.{IsOpened, Leads, LeadsUntil}
+use Rattle.world_law.specs.Worlds.{WorldState}
+use Rattle.world_law.proofs.Whole.{run_of}
+use Rattle.crash_engine.specs.Runs.{ComesTo}
+use Rattle.crash_engine.specs.Trials.{Ran}
+
+leads_on : (s m e : WorldState) (xs ys : List Event) → Leads s xs m → Leads m ys e → Leads s (xs ++ ys) e
+leads_on s m e [] ys same led = subst (λ w. Leads w ys e) same led
+leads_on s m e (x ∷ xs) ys first led = (first.0, first.1, leads_on first.0 m e xs ys first.2 led)
+
+got_longer : (xs ys : List Event) (n : ℕ) (x : Event) → slice_get xs n ≡ Some x → slice_get (xs ++ ys) n ≡ Some x
+got_longer [] ys n x is = absurd (cc)
+got_longer (y ∷ xs) ys zero x is = is
+got_longer (y ∷ xs) ys (suc n) x is = got_longer xs ys n x is
+
+taken_longer : (xs ys : List Event) (n : ℕ) (x : Event) → slice_get xs n ≡ Some x → take n (xs ++ ys) ≡ take n xs
+taken_longer [] ys n x is = absurd (cc)
+taken_longer (y ∷ xs) ys zero x is = refl
+taken_longer (y ∷ xs) ys (suc n) x is = ap (λ zs. y ∷ zs) (taken_longer xs ys n x is)
+
+got_behind : (xs ys : List Event) (n : ℕ) → slice_get (xs ++ ys) (length xs + n) ≡ slice_get ys n
+got_behind [] ys n = let at : 0 + n ≡ n = omega arith in rw at refl
+got_behind (x ∷ xs) ys n =
+    let at : length (x ∷ xs) + n ≡ suc (length xs + n) = omega arith in
+    rw at (got_behind xs ys n)
+
+-- the events behind a refused one change nothing
+until_stays : (s e : WorldState) (xs ys : List Event) (n : ℕ) (r : StepError) → LeadsUntil s xs n r e → LeadsUntil s (xs ++ ys) n r e
+until_stays s e xs ys n r h = record {
+  event = h.event;
+  next = got_longer xs ys n h.event h.next;
+  before = h.before;
+  leads = subst (λ zs. Leads s zs h.before) (sym (taken_longer xs ys n h.event h.next)) h.leads;
+  stops = h.stops;
+}
+
+until_on : (s m e : WorldState) (xs ys : List Event) (n : ℕ) (r : StepError) → Leads s xs m → LeadsUntil m ys n r e
+    → LeadsUntil s (xs ++ ys) (length xs + n) r e
+until_on s m e xs ys n r led h = record {
+  event = h.event;
+  next = got_behind xs ys n ∙ h.next;
+  before = h.before;
+  leads = subst (λ zs. Leads s zs h.before) (sym (take-append-add xs ys n)) (leads_on s m h.before xs (take n ys) led h.leads);
+  stops = h.stops;
+}
+
+-- a run of no event
+pub begins : (s : WorldState) → ComesTo s [] None 0 s
+begins s = record { leads = refl; number = λ none. refl; itself = tt }
+
+-- where an event was refused, none behind it is made
+pub none_more : (s now : WorldState) (given events : List Event) (refusal : Refusal) (n : ℕ) → is_some refusal ≡ true
+    → ComesTo s given refusal n now → ComesTo s (given ++ events) refusal n now
+none_more s now given events None n is h = absurd (cc)
+none_more s now given events (Some r) n is h = record {
+  leads = until_stays s now given events r.0 r.1 h.leads;
+  number = λ none. absurd (cc);
+  itself = h.itself;
+}
+
+-- all were made
+pub all_more : (s now new : WorldState) (given events : List Event) (refusal : Refusal) (n m : ℕ) → is_some refusal ≡ false
+    → ComesTo s given refusal n now → Leads now events new → m ≡ n + length events → ComesTo s (given ++ events) refusal m new
+all_more s now new given events (Some r) n m is h led sum = absurd (cc)
+all_more s now new given events None n m is h led sum = record {
+  leads = leads_on s now new given events h.leads led;
+  number = λ none. sum ∙ ap (λ k. k + length events) (h.number refl) ∙ sym (length-append given events);
+  itself = tt;
+}
+
+-- one was refused
+pub one_refused : (s now new : WorldState) (given events : List Event) (refusal : Refusal) (n k m : ℕ) (e : StepError)
+    → is_some refusal ≡ false → ComesTo s given refusal n now → LeadsUntil now events k e new → m ≡ n + k → e ≢ Memory
+    → e ≢ Device → ComesTo s (given ++ events) (Some (m, e)) n new
+one_refused s now new given events (Some r) n k m e is h until sum memory device = absurd (cc)
+one_refused s now new given events None n k m e is h until sum memory device = record {
+  leads = subst (λ j. LeadsUntil s (given ++ events) j e new) (sym (sum ∙ ap (λ j. j + k) (h.number refl)))
+      (until_on s now new given events k e h.leads until);
+  number = λ none. absurd (cc);
+  itself = (memory, device);
+}
+
+-- what a run comes to is a run of the model
+pub ran : (tree : List TreeEntry) (s now : WorldState) (given : List Event) (refusal : Refusal) (n : ℕ) → IsTree tree
+    → IsOpened s tree → ComesTo s given refusal n now → Ran tree given refusal now
+ran tree s now given refusal n is opens h = record {
+  start = s;
+  opens = opens;
+  leads = h.leads;
+  run = run_of tree s now given refusal is opens h.leads h.itself;
+}

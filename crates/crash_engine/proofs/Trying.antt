@@ -1,0 +1,97 @@
+-- Trials one after another.
+use Rattle.std.proofs.Common.{◌≡◌, ◌∙◌, ap, sym, subst, ℕ, ◌+◌, ◌<◌, ◌≤◌, true, false, is_some, Some, None, List, [], ◌∷◌, ◌++◌, length, get_or, take, refl, append_assoc}
+use Rattle.std.proofs.lemmas.List.{append-nil, take_all, take_more}
+use Rattle.tree_model.specs.declared.events.Event.{Event}
+use Rattle.tree_model.specs.declared.trees.TreeEntry.{TreeEntry}
+use Rattle.tree_model.specs.declared.events.Event.TheVariants.{Settle}
+use Rattle.tree_model.specs.Trees.{IsTree}
+use Rattle.world_law.specs.Refusals.{Refusal}
+use Rattle.world_law.specs.Runs.{IsOpened}
+use Rattle.world_law.specs.Worlds.{WorldState}
+use Rattle.tree_world.specs.Worlds.{state}
+use Rattle.crash_engine.specs.declared.auditing.Audited.{Audited}
+use Rattle.crash_engine.specs.declared.run.Run.{Run}
+use Rattle.crash_engine.specs.declared.trial.Found.{Found}
+use Rattle.crash_engine.specs.Audits.{Audits, asks_by}
+use Rattle.crash_engine.specs.Runs.{HasCome}
+use Rattle.crash_engine.proofs.Going.{ran}
+use Rattle.crash_engine.specs.declared.points.Point.{Point}
+use Rattle.crash_engine.specs.declared.trial.Trial.{Trial}
+use Rattle.crash_engine.specs.Points.{crash_of, points_in}
+use Rattle.crash_engine.specs.Trials.{Adds, AddsTrials, AreTried, EndsWith, Ran, Tries}
+
+-- what a run comes to is a run of the model
+pub comes_to : (tree : List TreeEntry) (start : WorldState) (given : List Event) (run : Run) → IsTree tree → IsOpened start tree
+    → HasCome start given run → Ran tree given run.refusal (state run.world)
+comes_to tree start given run is opens h = ran tree start (state run.world) given run.refusal run.given is opens h
+
+-- its tree is still one
+pub still_tree : (tree : List TreeEntry) (start : WorldState) (given : List Event) (run : Run) → IsTree tree → IsOpened start tree
+    → HasCome start given run → IsTree run.world.tree
+still_tree tree start given run is opens h = subst IsTree (sym (comes_to tree start given run is opens h).run.tree_is) is
+
+-- a crash was tried
+pub tried_so : (tree : List TreeEntry) (events : List Event) (p : Point) (a : Audited) (crash asks : List Event) (start : WorldState)
+    (middle end : Run) (f : Found) → IsTree tree → IsOpened start tree → HasCome start (events ++ crash) middle → crash ≡ crash_of p
+    → Audits (state middle.world) a → asks ≡ asks_by a → HasCome start (((events ++ crash) ++ asks) ++ Settle ∷ []) end
+    → EndsWith (state end.world) end.refusal f → Tries tree events p f
+tried_so tree events p a crash asks start middle end f is opens crashes of_crash audits of_asks ends found = record {
+  early = middle.refusal;
+  middle = state middle.world;
+  crashes = comes_to tree start (events ++ crash_of p) middle is opens (subst (λ es. HasCome start (events ++ es) middle) of_crash crashes);
+  audit = a;
+  audits = audits;
+  refusal = end.refusal;
+  end = state end.world;
+  ran = comes_to tree start (((events ++ crash_of p) ++ asks_by a) ++ Settle ∷ []) end is opens
+      (subst (λ es. HasCome start (((events ++ es) ++ asks_by a) ++ Settle ∷ []) end) of_crash
+      (subst (λ es. HasCome start (((events ++ crash) ++ es) ++ Settle ∷ []) end) of_asks ends));
+  ends = found;
+}
+
+one_more : (tree : List TreeEntry) (events : List Event) (ps : List Point) (ts : List Trial) (p : Point) (t : Trial) → AreTried tree events ps ts
+    → t.events ≡ length events → t.point ≡ p → Tries tree events p t.found → AreTried tree events (ps ++ p ∷ []) (ts ++ t ∷ [])
+one_more tree events [] [] p t are count at tries = (count, at, tries, tt)
+one_more tree events [] (u ∷ ts) p t are count at tries = absurd are
+one_more tree events (o ∷ ps) [] p t are count at tries = absurd are
+one_more tree events (o ∷ ps) (u ∷ ts) p t are count at tries = (are.0, are.1, are.2, one_more tree events ps ts p t are.3 count at tries)
+
+pub none_tried : (tree : List TreeEntry) (events : List Event) (old : List Trial) → AddsTrials tree events [] old old
+none_tried tree events old = ([], sym (append-nil old), tt)
+
+pub tried_more : (tree : List TreeEntry) (events : List Event) (ps : List Point) (i : ℕ) (p : Point) (t : Trial) (old mid new : List Trial)
+    → i < length ps → p ≡ get_or ps i p → new ≡ mid ++ t ∷ [] → t.events ≡ length events → t.point ≡ p → Tries tree events p t.found
+    → AddsTrials tree events (take i ps) old mid → AddsTrials tree events (take (i + 1) ps) old new
+tried_more tree events ps i p t old mid new within is pushed count at tries before = (
+  before.0 ++ t ∷ [],
+  pushed ∙ ap (λ xs. xs ++ t ∷ []) before.1 ∙ append_assoc old before.0 (t ∷ []),
+  subst (λ qs. AreTried tree events qs (before.0 ++ t ∷ []))
+      (sym (take_more ps i p within ∙ ap (λ q. take i ps ++ q ∷ []) (sym is)))
+      (one_more tree events (take i ps) before.0 p t before.2 count at tries),
+)
+
+-- all points behind these events were tried
+pub all_tried : (tree : List TreeEntry) (events : List Event) (now : WorldState) (refusal : Refusal) (ps : List Point) (old new : List Trial)
+    → is_some refusal ≡ false → Ran tree events refusal now → ps ≡ points_in now
+    → AddsTrials tree events ps old new → Adds tree events None old new
+all_tried tree events now (Some r) ps old new is ran points tried = absurd (cc)
+all_tried tree events now None ps old new is ran points tried = (
+  tried.0,
+  tried.1,
+  record {
+    state = now;
+    ran = ran;
+    tried = subst (λ qs. AreTried tree events qs tried.0) points tried.2;
+  },
+)
+
+-- an event was refused
+pub refused_adds : (tree : List TreeEntry) (events : List Event) (now : WorldState) (refusal : Refusal) (old : List Trial)
+    → is_some refusal ≡ true → Ran tree events refusal now → Adds tree events refusal old old
+refused_adds tree events now None old is ran = absurd (cc)
+refused_adds tree events now (Some r) old is ran = (refl, (now, ran))
+
+-- all of these points were
+pub all_points : (tree : List TreeEntry) (events : List Event) (ps : List Point) (i : ℕ) (old new : List Trial) → length ps ≤ i
+    → AddsTrials tree events (take i ps) old new → AddsTrials tree events ps old new
+all_points tree events ps i old new past tried = subst (λ qs. AddsTrials tree events qs old new) (take_all i ps past) tried

@@ -1,0 +1,50 @@
+-- What the logs of a tree say of its cases.
+use Rattle.std.specs.Prelude.{◌≡◌, Bool, true, false, Some, List, [], map, filter}
+use Rattle.tree_model.specs.declared.names.Case.{Case}
+use Rattle.tree_model.specs.declared.events.Act.TheVariants.{Ask}
+use Rattle.tree_model.specs.declared.events.Event.{Event}
+use Rattle.tree_model.specs.declared.events.Event.TheVariants.{Act}
+use Rattle.tree_model.specs.declared.trees.TreeEntry.{TreeEntry}
+use Rattle.logs_script.specs.declared.line.ProcessLog.{ProcessLog}
+use Rattle.logs_script.specs.Faults.{first_damage}
+use Rattle.audit_cases.specs.declared.kinds.Own.{Own}
+use Rattle.audit_cases.specs.declared.kinds.Own.TheVariants.{InDoubt}
+use Rattle.tree_audit.specs.Reports.{IsReport}
+use Rattle.tree_audit.specs.declared.report.Line.{Line}
+use Rattle.world_law.specs.Worlds.{WorldState}
+use Rattle.tree_engine.specs.Logs.{AreLogs}
+use Rattle.crash_engine.specs.declared.auditing.Audited.{Audited}
+use Rattle.crash_engine.specs.declared.auditing.Audited.TheVariants.{Damaged, Report}
+
+-- what an audit of these logs of this tree finds
+abbrev pub AuditsAs : List TreeEntry → List ProcessLog → Audited → Type 0
+AuditsAs tree logs (Report r) = IsReport tree logs r
+AuditsAs tree logs (Damaged q place) = first_damage tree logs ≡ Some (q, place)
+
+-- what an audit finds of the logs that the processes of a tree keep
+pub record Audits (w : WorldState) (a : Audited) : Type 0 where
+  pub logs : List ProcessLog
+  pub are : AreLogs w w.tree logs
+  pub says : AuditsAs w.tree logs a
+
+-- by its own records a case is in doubt
+abbrev pub stands_in_doubt : Own → Bool
+stands_in_doubt InDoubt = true
+stands_in_doubt _ = false
+
+-- the cases in doubt, in the order of the lines
+abbrev pub doubts_in : List Line → List Case
+doubts_in ls = map (λ l. l.case) (filter (λ l. stands_in_doubt l.own) ls)
+
+-- the cases that show a mismatch, in the order of the lines
+abbrev pub mismatched_in : List Line → List Case
+mismatched_in ls = map (λ l. l.case) (filter (λ l. l.mismatch) ls)
+
+-- the questions for these cases
+abbrev pub asks_for : List Case → List Event
+asks_for cs = map (λ c. Act (Ask c)) cs
+
+-- the questions for all cases in doubt; none, where a log is damaged
+abbrev pub asks_by : Audited → List Event
+asks_by (Report r) = asks_for (doubts_in r.lines.items)
+asks_by (Damaged q place) = []

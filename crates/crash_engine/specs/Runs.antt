@@ -1,0 +1,18 @@
+-- A run that goes on until an event is refused.
+use Rattle.std.specs.Prelude.{◌≡◌, ℕ, None, List, length}
+use Rattle.tree_model.specs.declared.events.Event.{Event}
+use Rattle.world_law.specs.Refusals.{IsForItself, LeadsTo, Refusal}
+use Rattle.world_law.specs.Worlds.{WorldState}
+use Rattle.tree_world.specs.Worlds.{state}
+use Rattle.crash_engine.specs.declared.run.Run.{Run}
+
+-- so many given events led from one state to another, up to the refused one, if one was
+pub record ComesTo (start : WorldState) (given : List Event) (refusal : Refusal) (count : ℕ)
+    (now : WorldState) : Type 0 where
+  pub leads : LeadsTo start given refusal now
+  pub number : refusal ≡ None → count ≡ length given
+  pub itself : IsForItself refusal
+
+-- the events that a run was given led from this state to where it stands
+abbrev pub HasCome : WorldState → List Event → Run → Type 0
+HasCome start given run = ComesTo start given run.refusal run.given (state run.world)

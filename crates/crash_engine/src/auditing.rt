@@ -1,0 +1,94 @@
+//! What the logs of a tree say of its cases.
+
+ghost use Rattle.std.specs.Prelude.{◌≡◌, IfErr, IfOk};
+ghost use Rattle.tree_model.specs.Trees.{IsTree};
+ghost use Rattle.tree_world.specs.Worlds.{state};
+ghost use Rattle.crash_engine.specs.Audits.{Audits, asks_by, asks_for as asks_of_cases, doubts_in, mismatched_in, stands_in_doubt};
+
+use audit_cases::Own;
+use log_store::MemoryStore;
+use report_io::Failure;
+use std::alloc::{AllocError, Global};
+use tree_audit::{AuditError, Line, Report, audit};
+use tree_engine::logs_left;
+use tree_model::{Act, Case, Event, ProcessId};
+use tree_world::World;
+
+/// What an audit of the logs of a tree finds: a report, or the first log that is damaged, and where.
+#[derive(Drop)]
+pub enum Audited {
+    Report(Report),
+    Damaged(ProcessId, usize),
+}
+
+/// The cases that an audit shows in doubt, and those that it shows decided otherwise, in the order of its lines.
+#[derive(Drop)]
+pub struct Left {
+    pub in_doubt: Vec<Case>,
+    pub mismatches: Vec<Case>,
+}
+
+/// Audits the logs that the processes of a tree keep.
+pub(crate) fn audit_of(alloc: Global, world: &World<MemoryStore>) -> Result<Audited, Failure>
+    requires { IsTree (state world.now).tree }
+    ensures audits { IfOk result (λ audited. Audits (state world.now) audited) }
+    ensures memory { IfErr result (λ e. e ≡ Failure.Memory) }
+{
+    let logs = logs_left(alloc, world)?;
+    match audit(alloc, world.tree(), &logs) {
+        Ok(report) => Ok(Audited::Report(report)),
+        Err(AuditError::Damaged(process, place)) => Ok(Audited::Damaged(process, place)),
+        Err(AuditError::Memory) => Err(Failure::Memory),
+    }
+}
+
+fn is_in_doubt(line: &Line) -> bool
+    ensures { result ≡ stands_in_doubt line.now.own }
+{
+    matches!(line.own, Own::InDoubt)
+}
+
+/// The cases in doubt.
+pub(crate) fn doubts_of(alloc: Global, lines: &[Line]) -> Result<Vec<Case>, AllocError>
+    ensures { IfOk result (λ cases. cases.items ≡ doubts_in lines.now) }
+{
+    lines
+        .iter()
+        .filter(|line| is_in_doubt(line))
+        .map(|line| line.case)
+        .collect(alloc)
+}
+
+/// The cases that show a mismatch.
+pub(crate) fn mismatches_of(alloc: Global, lines: &[Line]) -> Result<Vec<Case>, AllocError>
+    ensures { IfOk result (λ cases. cases.items ≡ mismatched_in lines.now) }
+{
+    lines
+        .iter()
+        .filter(|line| line.mismatch)
+        .map(|line| line.case)
+        .collect(alloc)
+}
+
+/// The questions for these cases.
+fn asks_for(alloc: Global, cases: &[Case]) -> Result<Vec<Event>, AllocError>
+    ensures { IfOk result (λ asks. asks.items ≡ asks_of_cases cases.now) }
+{
+    cases
+        .iter()
+        .map(|case| Event::Act(Act::Ask(*case)))
+        .collect(alloc)
+}
+
+/// The questions for all cases in doubt; none, where a log is damaged.
+pub(crate) fn asks_of(alloc: Global, audited: &Audited) -> Result<Vec<Event>, AllocError>
+    ensures { IfOk result (λ asks. asks.items ≡ asks_by audited.now) }
+{
+    match audited {
+        Audited::Damaged(_, _) => Ok(Vec::new(alloc)),
+        Audited::Report(report) => {
+            let cases = doubts_of(alloc, &report.lines)?;
+            asks_for(alloc, &cases)
+        }
+    }
+}

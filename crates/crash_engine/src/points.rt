@@ -1,0 +1,58 @@
+//! Where crashes are tried.
+
+ghost use Rattle.std.specs.Prelude.{◌≡◌, ◌++◌, IfOk, OnOk};
+ghost use Rattle.tree_world.specs.Worlds.{state};
+ghost use Rattle.crash_engine.specs.Points.{crash_of, points_at, points_in};
+
+use log_store::MemoryStore;
+use std::alloc::{AllocError, Global};
+use tree_model::{Event, ProcessId};
+use tree_world::World;
+
+/// A crash that is tried: this process restarts, and keeps so many bytes behind its forced front.
+#[derive(Clone, Copy, PartialEq, Eq)]
+pub struct Point {
+    pub process: ProcessId,
+    pub keep: u64,
+}
+
+/// The points of a process whose unforced records take so many bytes: it keeps none of them, or the first, and so on to all.
+/// 2^64 bytes are taken for want of memory.
+fn push_points(points: &mut Vec<Point>, process: ProcessId, sizes: &[u64]) -> Result<(), AllocError>
+    ensures { OnOk result (points.new.items ≡ points.old.items ++ points_at process sizes.now) }
+{
+    let mut keep: u64 = 0;
+    for size in sizes {
+        points.push(Point { process, keep })?;
+        let Some(next) = keep.checked_add(*size) else {
+            return Err(AllocError);
+        };
+        keep = next;
+    }
+    points.push(Point { process, keep })?;
+    Ok(())
+}
+
+/// The points of a tree as it stands: for each process, in the order of the tree, each number of its unforced records that a
+/// crash may leave.
+#[tactic(auto, unfolding(crate::specs::Points::points_in))]
+pub fn points_of(alloc: Global, world: &World<MemoryStore>) -> Result<Vec<Point>, AllocError>
+    ensures { IfOk result (λ points. points.items ≡ points_in (state world.now)) }
+{
+    let mut points = Vec::new(alloc);
+    for entry in world.tree().entries() {
+        let sizes = world.unforced_sizes(entry.id)?;
+        push_points(&mut points, entry.id, &sizes)?;
+    }
+    Ok(points)
+}
+
+/// The events of a crash: the restart, and all that comes of it.
+pub(crate) fn crash_events(alloc: Global, point: Point) -> Result<Vec<Event>, AllocError>
+    ensures { IfOk result (λ events. events.items ≡ crash_of point) }
+{
+    let mut events = Vec::new(alloc);
+    events.push(Event::Restart(point.process, Some(point.keep)))?;
+    events.push(Event::Settle)?;
+    Ok(events)
+}

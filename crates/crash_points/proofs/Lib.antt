@@ -1,3 +1,0 @@
-pub mod Going
-pub mod PointLaws
-pub mod Trying

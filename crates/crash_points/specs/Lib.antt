@@ -1,4 +1,0 @@
-pub mod Audits
-pub mod Points
-pub mod Runs
-pub mod Trials

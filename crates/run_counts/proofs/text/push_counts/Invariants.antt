@@ -1,6 +1,0 @@
-use Rattle.std.proofs.Common.{◌≡◌, ◌++◌, take}
-use Rattle.run_counts.specs.Texts.{rows_text}
-use Rattle.run_counts.proofs.text.push_counts.Given as goal
-
-abbrev pub invariant-loop-row : goal.invariant-loop-row
-invariant-loop-row l = l.out.items ≡ l.initial.out.items ++ rows_text (take l.row-index l.row-items)

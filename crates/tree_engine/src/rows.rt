@@ -1,0 +1,102 @@
+//! The counts of all processes of a tree.
+
+ghost use Rattle.std.specs.Prelude.{◌≡◌, ◌++◌, ◌∷◌, [], IfOk, List, OnOk, map};
+ghost use Rattle.tree_model.specs.declared.events.Entry.{Entry as AnyEntry};
+ghost use Rattle.tree_model.specs.declared.trees.TreeEntry.{TreeEntry as AnyTreeEntry};
+ghost use Rattle.tree_model.specs.Names.{same_process};
+ghost use Rattle.tree_engine.specs.Counts.{row_behind, rows_of};
+
+use crate::counts::Counts;
+use std::alloc::{AllocError, Global};
+use std::marker::Model;
+use tree_model::{Entry, ProcessId, TreeEntry};
+
+/// What one process has written and sent.
+#[derive(Clone, Copy, PartialEq, Eq)]
+pub struct ProcessCounts {
+    pub process: ProcessId,
+    pub counts: Counts,
+}
+
+/// Whether a step is of this process.
+#[tactic(auto, unfolding(tree_model::specs::Names::same_process))]
+fn is_at(entry: &Entry, process: ProcessId) -> bool
+    ensures { result ≡ same_process entry.now.step.process process }
+{
+    entry.step.process == process
+}
+
+impl ProcessCounts {
+    /// The same behind a step more. Sums of 2^64 are taken for want of memory.
+    fn behind(self, entry: &Entry) -> Result<ProcessCounts, AllocError>
+        ensures { IfOk result (λ row. row ≡ row_behind entry.now self) }
+    {
+        if !is_at(entry, self.process) {
+            return Ok(self);
+        }
+        match self.counts.plus(Counts::of(&entry.reaction)) {
+            None => Err(AllocError),
+            Some(counts) => Ok(ProcessCounts {
+                process: self.process,
+                counts,
+            }),
+        }
+    }
+}
+
+/// What each process of a tree has written and sent, in the order of the tree. Contracts see the list.
+#[derive(Drop)]
+pub struct RunCounts {
+    rows: Vec<ProcessCounts>,
+}
+
+impl Model for RunCounts {
+    ghost use Rattle.std.specs.Prelude.{List};
+    ghost use Rattle.tree_engine.specs.declared.rows.ProcessCounts.{ProcessCounts};
+
+    ghost Value = { List ProcessCounts };
+
+    ghost view = { λ c. c.rows.items };
+}
+
+/// The rows behind a step more.
+fn add_entry(rows: &mut [ProcessCounts], entry: &Entry) -> Result<(), AllocError>
+    ensures { OnOk result (rows.new ≡ map (row_behind entry.now) rows.old) }
+{
+    for row in rows.iter_mut() {
+        *row = row.behind(entry)?;
+    }
+    Ok(())
+}
+
+impl RunCounts {
+    /// Before the first step of a run of these processes.
+    #[tactic(auto, unfolding(crate::specs::Counts::rows_of))]
+    pub fn new(alloc: Global, processes: &[TreeEntry]) -> Result<RunCounts, AllocError>
+        ensures { IfOk result (λ counts. counts ≡ rows_of processes.now []) }
+    {
+        let mut rows = Vec::new(alloc);
+        for entry in processes {
+            rows.push(ProcessCounts {
+                process: entry.id,
+                counts: Counts::none(),
+            })?;
+        }
+        Ok(RunCounts { rows })
+    }
+
+    /// Counts a step more of the run. Where memory is refused, or a sum is 2^64 or more, it counts nothing that can be told.
+    pub fn add(&mut self, entry: &Entry) -> Result<(), AllocError>
+        ensures { OnOk result ((tree : List AnyTreeEntry) (entries : List AnyEntry)
+            → self.old ≡ rows_of tree entries → self.new ≡ rows_of tree (entries ++ entry.now ∷ [])) }
+    {
+        add_entry(self.rows.as_mut_slice(), entry)
+    }
+
+    /// The counts, as a slice.
+    pub fn rows(&self) -> &[ProcessCounts]
+        ensures { result.now ≡ self.now }
+    {
+        self.rows.as_slice()
+    }
+}

@@ -1,4 +1,0 @@
-pub mod Rebasing
-pub mod Promises
-pub mod Deciding
-pub mod Trims

@@ -1,4 +1,0 @@
-//! What a trim keeps of a manager's data: laws alone.
-#![tactic(auto)]
-
-pub mod law;
