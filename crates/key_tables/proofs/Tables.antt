@@ -9,10 +9,10 @@ use Rattle.key_tables.specs.Tables.{Becomes, list_at, same_key, table_of}
 abbrev pub key_test : List ℕ → Vec ℕ → Bool
 key_test k q = same_key k q.items
 
-tests_key : (l : List ℕ) (q r : Vec ℕ) → key_test l q ≡ true → key_test l r ≡ same_key q.items r.items
+pub tests_key : (l : List ℕ) (q r : Vec ℕ) → key_test l q ≡ true → key_test l r ≡ same_key q.items r.items
 tests_key l q r e = let one : l ≡ q.items = search rules in ap (λ j. same_key j r.items) one
 
-apart_keys : (k l : List ℕ) → same_key k l ≡ false → (q : Vec ℕ) → key_test k q ≡ true → key_test l q ≡ false
+pub apart_keys : (k l : List ℕ) → same_key k l ≡ false → (q : Vec ℕ) → key_test k q ≡ true → key_test l q ≡ false
 apart_keys k l differs q e = by_test (key_test l q) refl
   where
     by_test : (b : Bool) → key_test l q ≡ b → b ≡ false

@@ -2,7 +2,6 @@
 use Rattle.std.specs.Prelude.{⊤, ℕ, ◌&&◌, ◌||◌, not, nat_lt, Bool, true, false, if◌then◌else◌, is_some, unwrap_or, map, List, [], ◌∷◌, Option, Some, None, length}
 use Rattle.std.specs.Map.{lookup, remove_entry}
 use Rattle.indexmap.specs.IndexMap.{insert_entry}
-use Rattle.xa_xid.specs.Xids.{XidParts}
 use Rattle.xa_xid.specs.declared.xid.Xid.{Xid}
 use Rattle.xa_xid.specs.contracts.xid.XidPartialEq.TheImpl as names
 use Rattle.tree_model.specs.declared.names.ProcessId.{ProcessId}

@@ -1,8 +1,10 @@
 //! What the records of a log have said so far, and which may follow.
 
-ghost use Rattle.std.specs.Prelude.{◌≡◌, IfOk, IfErr, OnOk, OnErr, None, Some, length, option_map};
+ghost use Rattle.std.specs.Prelude.{◌≡◌, ℕ, List, [], IfOk, IfErr, OnOk, OnErr, None, Some, false, true, length, option_map};
+ghost use Rattle.key_tables.specs.Tables.{same_key};
 ghost use Rattle.tree_model.specs.Records.{same_bytes};
 ghost use Rattle.tree_model.specs.Store.{key_below};
+ghost use Rattle.log_order.specs.Holders.{holder_of, holds_at};
 ghost use Rattle.log_order.specs.Orders.{
   IsPlain,
   after,
@@ -67,6 +69,9 @@ pub enum Data {
     Pair(Bytes),
 }
 
+/// The branch that promised each key last. A key whose branch is not open any more stays listed.
+type Holders = IndexMap<Vec<u8>, Xid>;
+
 /// What the records of a log have said so far.
 #[derive(Drop)]
 pub struct Seen {
@@ -75,14 +80,18 @@ pub struct Seen {
     before: Data,
     ranks: IndexMap<Xid, u8>,
     live: IndexMap<Xid, Promise>,
+    holders: Holders,
 }
 
 impl Model for Seen {
+    ghost use Rattle.log_order.specs.Holders.{IsKept};
     ghost use Rattle.log_order.specs.Orders.{SeenLog};
 
     ghost Value = { SeenLog };
 
     ghost view = { λ s. record { boot = s.boot; before = s.before; ranks = s.ranks.entries; live = s.live.entries } };
+
+    ghost invariant = { λ s. IsKept s.holders.entries s.live.entries };
 }
 
 /// The most branches that are open or heuristic at a time.
@@ -160,6 +169,37 @@ impl Promise {
     }
 }
 
+/// Lists a key for a branch, in place of the one that it was listed for.
+fn list_key(alloc: Global, holders: &mut Holders, key: &[u8], xid: &Xid) -> Result<(), AllocError>
+    ensures others { (k : List ℕ) → same_key key.now k ≡ false
+        → holder_of holders.new.entries k ≡ holder_of holders.old.entries k }
+    ensures listed { OnOk result (holder_of holders.new.entries key.now ≡ Some xid.now) }
+{
+    let key = Vec::from_slice(alloc, key)?;
+    let _ = holders.insert(key, *xid)?;
+    Ok(())
+}
+
+/// Lists the keys of these writes for a branch.
+fn list_keys(
+    alloc: Global,
+    holders: &mut Holders,
+    writes: &[Write],
+    xid: &Xid,
+) -> Result<(), AllocError>
+    ensures others { (k : List ℕ) → names_key writes.now k ≡ false
+        → holder_of holders.new.entries k ≡ holder_of holders.old.entries k }
+    ensures listed { OnOk result ((k : List ℕ) → names_key writes.now k ≡ true
+        → holder_of holders.new.entries k ≡ Some xid.now) }
+{
+    let mut rest = writes;
+    while let [write, behind @ ..] = rest {
+        list_key(alloc, holders, write.key.as_slice(), xid)?;
+        rest = behind;
+    }
+    Ok(())
+}
+
 impl Seen {
     /// Nothing. It takes no memory.
     pub fn new(alloc: Global) -> Self
@@ -171,6 +211,7 @@ impl Seen {
             before: Data::Other,
             ranks: IndexMap::new(alloc),
             live: IndexMap::new(alloc),
+            holders: IndexMap::new(alloc),
         }
     }
 
@@ -212,17 +253,27 @@ impl Seen {
         Ok(left)
     }
 
-    /// Whether an open branch promised a write of this key.
-    #[tactic(auto, unfolding(crate::specs::Orders::key_open))]
+    /// Whether a branch is open, with a write of this key.
+    fn holds(&self, xid: &Xid, key: &[u8]) -> bool
+        ensures { result ≡ holds_at (found self.now xid.now) key.now }
+    {
+        match self.live.get(xid) {
+            None => false,
+            Some(promise) => promise.holds(key),
+        }
+    }
+
+    /// Whether an open branch promised a write of this key: if one did, the key is listed for it.
     fn key_open(&self, key: &[u8]) -> bool
         ensures { result ≡ key_open (promises self.now) key.now }
     {
-        for promise in self.live.values() {
-            if promise.holds(key) {
-                return true;
-            }
+        if self.live.len() == 0 {
+            return false;
         }
-        false
+        match self.holders.get(key) {
+            None => false,
+            Some(xid) => self.holds(xid, key),
+        }
     }
 
     /// Whether no open branch promised a write of a key of these.
@@ -270,10 +321,26 @@ impl Seen {
         self.live.get(xid).map(|promise| promise.mark)
     }
 
-    fn set_mark(&mut self, xid: Xid, mark: Mark, writes: Writes) -> Result<(), ReadFault>
-        ensures ok { OnOk result (self.new ≡ with_promise self.old xid (record { mark = mark; writes = writes })) }
+    /// A branch is not open any more: an operator decided it, or it was told the outcome since.
+    fn set_mark(&mut self, xid: Xid, mark: Mark) -> Result<(), ReadFault>
+        requires { opens mark ≡ false }
+        ensures ok { OnOk result (self.new ≡ with_promise self.old xid (record { mark = mark; writes = [] })) }
         ensures err { IfErr result (λ e. e ≡ ReadFault.Memory) }
     {
+        let writes = Sequence::new(self.alloc);
+        self.live.insert(xid, Promise { mark, writes })?;
+        self.before = Data::Other;
+        Ok(())
+    }
+
+    /// A branch promises writes whose keys are free.
+    fn promise(&mut self, xid: Xid, writes: Writes) -> Result<(), ReadFault>
+        requires { keys_free (promises self.old) writes ≡ true }
+        ensures ok { OnOk result (self.new ≡ with_promise self.old xid (record { mark = Mark.Open; writes = writes })) }
+        ensures err { IfErr result (λ e. e ≡ ReadFault.Memory) }
+    {
+        list_keys(self.alloc, &mut self.holders, writes.as_slice(), &xid)?;
+        let mark = Mark::Open;
         self.live.insert(xid, Promise { mark, writes })?;
         self.before = Data::Other;
         Ok(())
@@ -285,7 +352,7 @@ impl Seen {
     {
         let room = !self.live.contains_key(&xid) && self.live.len() < BRANCHES;
         if room && keys_once(writes.as_slice()) && self.keys_free(writes.as_slice()) {
-            self.set_mark(xid, Mark::Open, writes)
+            self.promise(xid, writes)
         } else {
             Err(ReadFault::Malformed)
         }
@@ -321,7 +388,7 @@ impl Seen {
         ensures err { IfErr result (λ e. e ≡ ReadFault.Malformed → decided self.old xid ≡ None) }
     {
         match self.mark(&xid) {
-            Some(Mark::Open) => self.set_mark(xid, Mark::Decided, Sequence::new(self.alloc)),
+            Some(Mark::Open) => self.set_mark(xid, Mark::Decided),
             _ => Err(ReadFault::Malformed),
         }
     }
@@ -331,7 +398,7 @@ impl Seen {
         ensures err { IfErr result (λ e. e ≡ ReadFault.Malformed → told self.old xid ≡ None) }
     {
         match self.mark(&xid) {
-            Some(Mark::Decided) => self.set_mark(xid, Mark::Told, Sequence::new(self.alloc)),
+            Some(Mark::Decided) => self.set_mark(xid, Mark::Told),
             _ => Err(ReadFault::Malformed),
         }
     }
