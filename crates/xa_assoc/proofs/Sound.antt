@@ -115,7 +115,7 @@ pub own_state-none : (a : AssocList) (t : ℕ) (x : Xid) (b : Bool) → active_o
 unfolding state2
 own_state-none a t x b none seat = state2_is a t x ∙ ap (λ o. state2 (option_map_or (λ z. same z x) o false) (has_seat a t x)) none ∙ ap (λ c. state2 false c) seat
 
-seat_is : (a b : Seat) → same_seat a b ≡ true → a ≡ b
+pub seat_is : (a b : Seat) → same_seat a b ≡ true → a ≡ b
 seat_is a b h = search rules
 
 seat_refl : (a : Seat) → same_seat a a ≡ true

@@ -4,7 +4,8 @@ ghost use Rattle.std.specs.Prelude.{◌≡◌, ◌≢◌, ◌≤◌, ◌<◌, �
 ghost use Rattle.xa_assoc.specs.Associations.{AssocList, active_of, has_seat, own_state, moved_of, Moves, Turns, Settles, Recounts, has_some, is_holder, is_active, has_room, Steps, start_plan, resume_plan, moved_plan, suspend_plan, end_plan, has_active, has_suspended, IsBare};
 
 use crate::held::{OfBranch, Seat};
-use indexmap::{IndexMap, IndexSet};
+use crate::seats::{Seats, count, recount};
+use indexmap::IndexMap;
 use std::alloc::{AllocError, Global};
 use std::marker::Model;
 use xa_codes::Code;
@@ -18,7 +19,7 @@ const THREADS: usize = 256;
 #[derive(Drop)]
 pub struct Associations {
     active: IndexMap<u32, Option<Xid>>,
-    suspended: IndexSet<Seat>,
+    suspended: Seats,
     migrated: IndexMap<Xid, u64>,
     migrates: bool,
 }
@@ -28,9 +29,9 @@ impl Model for Associations {
 
     ghost Value = { AssocList };
 
-    ghost view = { λ a. record { holders = a.active.entries; seats = a.suspended.keys; moved = a.migrated.entries; migrates = a.migrates } };
+    ghost view = { λ a. record { holders = a.active.entries; seats = a.suspended; moved = a.migrated.entries; migrates = a.migrates } };
 
-    ghost invariant = { λ a. IsSound (record { holders = a.active.entries; seats = a.suspended.keys; moved = a.migrated.entries; migrates = a.migrates }) };
+    ghost invariant = { λ a. IsSound (record { holders = a.active.entries; seats = a.suspended; moved = a.migrated.entries; migrates = a.migrates }) };
 }
 
 impl Associations {
@@ -43,7 +44,7 @@ impl Associations {
     {
         Associations {
             active: IndexMap::new(alloc),
-            suspended: IndexSet::new(alloc),
+            suspended: Seats::new(alloc),
             migrated: IndexMap::new(alloc),
             migrates,
         }
@@ -73,7 +74,10 @@ impl Associations {
     fn migrations(&self, xid: &Xid) -> u64
         ensures { result ≡ moved_of self.now xid.now }
     {
-        self.migrated.get(xid).copied().unwrap_or(0)
+        if self.migrated.is_empty() {
+            return 0;
+        }
+        count(&self.migrated, xid)
     }
 
     /// Whether a thread holds any association.
@@ -87,7 +91,7 @@ impl Associations {
     fn has_suspended(&self, thread: u32) -> bool
         ensures { result ≡ has_some self.now.seats thread }
     {
-        self.suspended.iter().any(|seat| seat.thread == thread)
+        self.suspended.has_thread(thread)
     }
 
     /// Whether a thread may hold one association more.
@@ -253,7 +257,7 @@ impl Associations {
     fn is_suspended(&self, xid: &Xid) -> bool
         ensures { result ≡ has_suspended self.now xid.now }
     {
-        self.suspended.iter().any(|seat| seat.xid == *xid)
+        self.suspended.has_branch(xid)
     }
 
     /// Whether there are no associations at all.
@@ -331,7 +335,7 @@ impl Associations {
         requires free { active_of self.old thread ≡ None }
         ensures { Moves self.old self.new thread xid.now AssocState.T2 AssocState.T1 }
     {
-        let _ = self.suspended.shift_remove(&Seat { thread, xid: *xid });
+        self.suspended.remove(&Seat { thread, xid: *xid });
         let _ = self.active.insert(thread, Some(*xid)).unwrap();
     }
 
@@ -350,7 +354,7 @@ impl Associations {
         ensures turns { Turns self.old self.new thread xid.now AssocState.T2 AssocState.T0 }
         ensures holder { is_holder self.new thread ≡ true }
     {
-        let _ = self.suspended.shift_remove(&Seat { thread, xid: *xid });
+        self.suspended.remove(&Seat { thread, xid: *xid });
     }
 
     /// Counts how often a branch is suspended for migration.
@@ -359,11 +363,7 @@ impl Associations {
         ensures err { OnErr result (self.new ≡ self.old) }
         ensures succeeds { count ≤ moved_of self.old xid.now → IsOk result }
     {
-        if count == 0 {
-            let _ = self.migrated.shift_remove(xid);
-        } else {
-            self.migrated.insert(*xid, count)?;
-        }
+        recount(&mut self.migrated, *xid, count)?;
         Ok(())
     }
 

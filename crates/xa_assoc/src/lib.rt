@@ -11,6 +11,7 @@
 mod associations;
 mod held;
 mod law;
+mod seats;
 
 pub use associations::Associations;
 pub use held::OfBranch;
