@@ -40,7 +40,7 @@ count_removed p (x ∷ seats) s h = by_place (position (same_seat s) (x ∷ seat
     by_place : (r : Option ℕ) → position (same_seat s) (x ∷ seats) ≡ r
         → count_by p (option_map_or (λ i. swap_remove (x ∷ seats) i x) r (x ∷ seats)) + cond (p s) 1 0 ≡ count_by p (x ∷ seats)
     by_place None at = absurd (let some : position (same_seat s) (x ∷ seats) ≡ Some (position_or_len (same_seat s) (x ∷ seats))
-            = ap (λ b. cond b (Some (position_or_len (same_seat s) (x ∷ seats))) None) (any_placed (same_seat s) (x ∷ seats) ∙ h) in cc)
+        = ap (λ b. cond b (Some (position_or_len (same_seat s) (x ∷ seats))) None) (any_placed (same_seat s) (x ∷ seats) ∙ h) in cc)
     by_place (Some i) at =
         let found = position-Some (same_seat s) (x ∷ seats) i x at in
         let one : s ≡ get_or (x ∷ seats) i x = seat_is s (get_or (x ∷ seats) i x) found.1 in
@@ -92,5 +92,5 @@ module _ {K : Type 0} (eq : K → K → Bool) (of : Seat → K) (is : (a b : K) 
           → count_of eq new k ≡ count_by (λ o. eq (of o) k) gone
       by_test true one rest =
           subst (λ l. count_by (λ o. eq (of o) l) gone + 1 ≡ count_by (λ o. eq (of o) l) seats
-              → count_of eq new l ≡ count_by (λ o. eq (of o) l) gone) (is (of s) k one) at_own rest
+          → count_of eq new l ≡ count_by (λ o. eq (of o) l) gone) (is (of s) k one) at_own rest
       by_test false apart rest = let same_count = others k apart in let was = counted k in omega (arith, same_count, was, rest)
