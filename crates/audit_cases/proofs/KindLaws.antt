@@ -267,8 +267,9 @@ module _ (c : Case) (rs : List Record) where
   aborting = has_or (is_rolled_back c) (is_abort c) rs
 
   decision_by_kinds : decision_in (kinds_of c rs)
-      ≡ decision_by (has (is_learnt_commit c) rs) (has (is_abort_learnt c) rs) (has (is_promise c) rs)
-  decision_by_kinds = λ i. decision_by (sym commits i) (sym aborts i) (sym promises i)
+      ≡ decision_by (has (is_learnt_commit c) rs) (has (is_abort_learnt c) rs)
+      (has (is_promise c) rs || has (is_end c) rs)
+  decision_by_kinds = λ i. decision_by (sym commits i) (sym aborts i) (sym promises i || has (is_end c) rs)
 
   pub own_is : own_in (kinds_of c rs) ≡ own_of c rs
   own_is = λ i.

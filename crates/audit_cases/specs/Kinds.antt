@@ -95,10 +95,10 @@ kinds_after k (Pair key value) = k
 
 -- What follows from them.
 
--- the case's own decision, or what it was told; none where it is in doubt
+-- the case's own decision, or what it was told; none where it is in doubt, or ended with no decision
 abbrev pub decision_in : Kinds → Option Outcome
 decision_in k = decision_by ((k.committed || k.commit) || k.told_commit)
-    ((k.rolled_back || k.told_abort) || k.abort) (k.prepared || k.prepare)
+    ((k.rolled_back || k.told_abort) || k.abort) ((k.prepared || k.prepare) || k.ended)
 
 -- how the case stands
 abbrev pub own_in : Kinds → Own

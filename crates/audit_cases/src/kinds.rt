@@ -96,8 +96,8 @@ impl Kinds {
         self.prepared || self.prepare
     }
 
-    /// The case's own decision, or what it was told; none where it is in doubt. A case that neither decided nor promised will
-    /// abort.
+    /// The case's own decision, or what it was told; none where it is in doubt, or ended with no decision, as one whose
+    /// children all voted READ. A case that collects votes and has not come further will abort.
     pub fn decision(self) -> Option<Outcome>
         ensures { result ≡ decision_in self }
     {
@@ -107,7 +107,7 @@ impl Kinds {
         if self.rolled_back || self.told_abort || self.abort {
             return Some(Outcome::Aborted);
         }
-        if self.promised() {
+        if self.promised() || self.ended {
             return None;
         }
         Some(Outcome::Aborted)

@@ -17,15 +17,16 @@ use Rattle.audit_engine.specs.declared.steps.Deed.{Deed}
 use Rattle.audit_engine.specs.declared.steps.Deed.TheVariants.{Ask, Restart}
 use Rattle.audit_engine.specs.declared.steps.Found.{Found}
 use Rattle.audit_engine.specs.declared.steps.Found.TheVariants.{Kept, Nothing}
-use Rattle.audit_engine.specs.declared.steps.Stands.TheVariants.{Collecting, Prepare}
+use Rattle.audit_engine.specs.declared.steps.Stands.TheVariants.{Collecting, Ended, Prepare}
 use Rattle.audit_engine.specs.declared.steps.Step.{Step}
 use Rattle.audit_engine.specs.Namings.{AreNamed, Founds, finds, found_at}
 
 -- The steps.
 
--- the case that is in doubt itself, and so asks in its turn
+-- the case that is in doubt itself, or ended with no decision, and so asks in its turn
 abbrev pub asks_on : Found → Option Case
 asks_on (Kept c Prepare) = Some c
+asks_on (Kept c Ended) = Some c
 asks_on _ = None
 
 -- the steps of the case that asks in its turn, if there is one

@@ -19,7 +19,7 @@ use Rattle.audit_engine.specs.declared.steps.Deed.TheVariants.{Ask, Restart}
 use Rattle.audit_engine.specs.declared.steps.Found.{Found}
 use Rattle.audit_engine.specs.declared.steps.Found.TheVariants.{Kept, Nothing}
 use Rattle.audit_engine.specs.declared.steps.Stands.{Stands}
-use Rattle.audit_engine.specs.declared.steps.Stands.TheVariants.{Abort, Collecting, Commit, Prepare}
+use Rattle.audit_engine.specs.declared.steps.Stands.TheVariants.{Abort, Collecting, Commit, Ended, Prepare}
 use Rattle.audit_engine.specs.declared.steps.Step.{Step}
 use Rattle.audit_engine.specs.Chains.{chain_of, deed_behind}
 use Rattle.audit_engine.specs.Lines.{line_text}
@@ -31,6 +31,7 @@ abbrev pub stands_word : Stands → List ℕ
 stands_word Commit = codes "Commit"
 stands_word Abort = codes "Abort"
 stands_word Prepare = codes "Prepare"
+stands_word Ended = codes "End"
 stands_word Collecting = codes "Collecting"
 
 -- the ticket of a case, or at the root its transaction

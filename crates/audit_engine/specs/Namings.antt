@@ -12,18 +12,19 @@ use Rattle.audit_cases.specs.Sayings.{first_naming}
 use Rattle.audit_engine.specs.declared.steps.Found.{Found}
 use Rattle.audit_engine.specs.declared.steps.Found.TheVariants.{Kept, Nothing}
 use Rattle.audit_engine.specs.declared.steps.Stands.{Stands}
-use Rattle.audit_engine.specs.declared.steps.Stands.TheVariants.{Abort, Collecting, Commit, Prepare}
+use Rattle.audit_engine.specs.declared.steps.Stands.TheVariants.{Abort, Collecting, Commit, Ended, Prepare}
 
--- by whether a coordinator's case has a Commit, an Abort or a Prepare: what stands of it
-abbrev pub stands_by : Bool → Bool → Bool → Stands
-stands_by true _ _ = Commit
-stands_by false true _ = Abort
-stands_by false false true = Prepare
-stands_by false false false = Collecting
+-- by whether a coordinator's case has a Commit, an Abort, a Prepare or an End: what stands of it
+abbrev pub stands_by : Bool → Bool → Bool → Bool → Stands
+stands_by true _ _ _ = Commit
+stands_by false true _ _ = Abort
+stands_by false false true _ = Prepare
+stands_by false false false true = Ended
+stands_by false false false false = Collecting
 
 -- what stands of a coordinator's case
 abbrev pub stands_in : Kinds → Stands
-stands_in k = stands_by k.commit k.abort k.prepare
+stands_in k = stands_by k.commit k.abort k.prepare k.ended
 
 -- what is found where this is the first case that names the ticket, or none does
 abbrev pub found_by : Option (Case × CaseNote) → Found

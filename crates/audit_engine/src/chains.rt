@@ -69,12 +69,12 @@ fn find(namings: &TreeNamings, process: ProcessId, case: &Case) -> Found
     }
 }
 
-/// The case that is in doubt itself, and so asks in its turn.
+/// The case that is in doubt itself, or ended with no decision, and so asks in its turn.
 fn asks_next(found: Found) -> Option<Case>
     ensures { result ≡ asks_on found }
 {
     match found {
-        Found::Kept(case, Stands::Prepare) => Some(case),
+        Found::Kept(case, Stands::Prepare | Stands::Ended) => Some(case),
         _ => None,
     }
 }

@@ -35,6 +35,7 @@ fn stands_word(stands: Stands) -> &'static str
         Stands::Commit => "Commit",
         Stands::Abort => "Abort",
         Stands::Prepare => "Prepare",
+        Stands::Ended => "End",
         Stands::Collecting => "Collecting",
     }
 }

@@ -10,7 +10,8 @@ use std::alloc::{AllocError, Global};
 use std::marker::Model;
 use tree_model::{Case, ProcessId};
 
-/// What stands of a case at a coordinator: a decision before a promise, a promise before the votes that it asks for.
+/// What stands of a case at a coordinator: a decision before a promise, a promise before an end with no decision, and that
+/// before the votes that it asks for.
 fn stands_of(kinds: Kinds) -> Stands
     ensures { result ≡ stands_in kinds }
 {
@@ -20,6 +21,8 @@ fn stands_of(kinds: Kinds) -> Stands
         Stands::Abort
     } else if kinds.prepare {
         Stands::Prepare
+    } else if kinds.ended {
+        Stands::Ended
     } else {
         Stands::Collecting
     }

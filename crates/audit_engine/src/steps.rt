@@ -11,6 +11,8 @@ pub enum Stands {
     Abort,
     /// It promised, and no more: it is in doubt itself.
     Prepare,
+    /// It ended with no decision, as one whose children all voted READ.
+    Ended,
     /// It asked for votes, and no more: a restart of its process aborts it.
     Collecting,
 }

@@ -10,7 +10,8 @@ pub struct Line {
     pub case: Case,
     /// How the case stands by the records of its own process.
     pub own: Own,
-    /// Its own decision, or what it was told; none where it is in doubt. A case that neither decided nor promised will abort.
+    /// Its own decision, or what it was told; none where it is in doubt, or ended with no decision. One that collects votes,
+    /// and has not come further, will abort.
     pub decision: Option<Outcome>,
     /// How its transaction ends.
     pub outcome: Outcome,

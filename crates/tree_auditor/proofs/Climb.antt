@@ -8,7 +8,7 @@ use Rattle.tree_model.specs.declared.names.Ticket.{Ticket}
 use Rattle.tree_model.specs.declared.names.Txn.{Txn}
 use Rattle.tree_model.specs.declared.trees.TreeEntry.{TreeEntry}
 use Rattle.tree_model.specs.Names.{child_case, process_of}
-use Rattle.tree_model.specs.Records.{has, is_abort, is_commit, is_forgot, is_prepare}
+use Rattle.tree_model.specs.Records.{has, is_abort, is_commit, is_end, is_forgot, is_prepare}
 use Rattle.tree_model.specs.Nodes.{Node, is_listed, kept, place_of, role_of}
 use Rattle.tree_model.specs.Outcomes.{is_commit_outcome, is_joined_message, outcome_of, sent}
 use Rattle.tree_model.specs.Trees.{level_within}
@@ -28,6 +28,7 @@ use Rattle.tree_headline.proofs.Ends.{has_either, issues_in}
 use Rattle.tree_headline.proofs.Pairs.{joined_pair}
 use Rattle.tree_headline.proofs.Parts.{case_parts}
 use Rattle.tree_auditor.specs.Audits.{AllUp, Logs, asked_above, decided_or, decision_by, is_abort_learnt, logs_of_world, naming_case, outcome_within, own_decision, said_above}
+use Rattle.tree_auditor.proofs.Endings.{none_ended}
 use Rattle.tree_auditor.proofs.Naming.{named_is, named_none, naming_tells}
 use Rattle.tree_auditor.proofs.Sinces.{own_same}
 use Rattle.tree_auditor.proofs.RootLines.{learnt_abort, learnt_commit}
@@ -81,15 +82,16 @@ module _ (tree : List TreeEntry) (w : World) (h : WorldHolds tree w) (up : AllUp
 
     parent_own : own_decision c (kept (w.at (process_of c)))
         ≡ decision_by (has (is_learnt_commit c) (kept (w.at (process_of c))))
-        (has (is_abort_learnt c) (kept (w.at (process_of c)))) (has (is_promise c) (kept (w.at
-        (process_of c))))
+        (has (is_abort_learnt c) (kept (w.at (process_of c))))
+        (has (is_promise c) (kept (w.at (process_of c))) || has (is_end c) (kept (w.at (process_of c))))
     parent_own = own_same (role_of tree (process_of c)) n c (h.nodes
         (process_of c) pair.parent.listed).lasts
 
     child_own : own_decision (child_case c.txn t) (kept (w.at t.child))
         ≡ decision_by (has (is_learnt_commit (child_case c.txn t)) (kept (w.at t.child)))
         (has (is_abort_learnt (child_case c.txn t)) (kept (w.at t.child)))
-        (has (is_promise (child_case c.txn t)) (kept (w.at t.child)))
+        (has (is_promise (child_case c.txn t)) (kept (w.at t.child))
+        || has (is_end (child_case c.txn t)) (kept (w.at t.child)))
     child_own = own_same (role_of tree t.child) k d (h.nodes t.child pair.listed).lasts
 
     named_so : (b : Bool) → has (is_naming c t) (kept (w.at (process_of c))) ≡ b
@@ -128,12 +130,27 @@ module _ (tree : List TreeEntry) (w : World) (h : WorldHolds tree w) (up : AllUp
         if_abort e (inr f) = if_undecided e (none_so (is_prepare c) (is_promise c) (kept n)
             (prepare_promises c) f)
 
+        -- it has not ended
+        own_in_doubt : own_decision c (kept (w.at (process_of c)))
+            ≡ decision_by (has (is_learnt_commit c) (kept (w.at (process_of c))))
+            (has (is_abort_learnt c) (kept (w.at (process_of c)))) (has (is_promise c) (kept (w.at
+            (process_of c))))
+        own_in_doubt =
+            parent_own
+            ∙ ap (decision_by (has (is_learnt_commit c) (kept n)) (has (is_abort_learnt c) (kept n)))
+            (or_none (has (is_promise c) (kept n)) (has (is_end c) (kept n))
+            (none_ended c.txn.presumption r holds doubt))
+          where
+            or_none : (a b : Bool) → b ≡ false → (a || b) ≡ a
+            or_none true b e = refl
+            or_none false b e = e
+
         -- one that has not promised answers by itself
         unpromised_says : (j : ℕ) → has (is_promise c) (kept (w.at (process_of c))) ≡ false
             → outcome_within (suc j) tree (logs_of_world w) c ≡ outcome_of w c.txn
         unpromised_says j e =
             ap (λ (o : Option Outcome). decided_or o
-            (asked_above (outcome_within j tree logs) tree logs c.txn c.ticket)) parent_own
+            (asked_above (outcome_within j tree logs) tree logs c.txn c.ticket)) own_in_doubt
             ∙ by_own w c.txn (has (is_learnt_commit c) (kept n)) (has (is_abort_learnt c) (kept n))
             (has (is_promise c) (kept n)) if_commit if_abort e _
 
@@ -143,7 +160,7 @@ module _ (tree : List TreeEntry) (w : World) (h : WorldHolds tree w) (up : AllUp
         root_says j f =
             ap (λ (o : Option Ticket). decided_or (own_decision c (kept n))
             (asked_above (outcome_within j tree logs) tree logs c.txn o)) f
-            ∙ (ap (λ (o : Option Outcome). decided_or o Aborted) parent_own
+            ∙ (ap (λ (o : Option Outcome). decided_or o Aborted) own_in_doubt
             ∙ by_own_or_abort w c.txn (has (is_learnt_commit c) (kept n)) (has (is_abort_learnt c) (kept n))
             (has (is_promise c) (kept n)) if_commit if_abort
             (λ e. if_undecided e ((common_of c.txn.presumption r holds).root_promises_nobody
@@ -252,7 +269,7 @@ module _ (tree : List TreeEntry) (w : World) (h : WorldHolds tree w) (up : AllUp
             ap (λ (o : Option Outcome). decided_or o
             (asked_above (outcome_within j tree logs) tree logs c.txn (Some t))) child_own
             ∙ by_tests (has (is_learnt_commit d) (kept k)) (has (is_abort_learnt d) (kept k))
-            (has (is_promise d) (kept k)) refl refl promised
+            (has (is_promise d) (kept k) || has (is_end d) (kept k)) refl refl (left _ _ promised)
           where
             by_tests : (a b p : Bool) → has (is_learnt_commit (child_case c.txn t)) (kept (w.at t.child))
                 ≡ a

@@ -1,5 +1,5 @@
 -- The root's lines: what it decided, by itself.
-use Rattle.std.proofs.Common.{◌≡◌, ◌∙◌, ◌⊎◌, inl, inr, Bool, true, false, Option, List, refl, ap, arith, if◌then◌else◌}
+use Rattle.std.proofs.Common.{◌≡◌, ◌∙◌, ◌⊎◌, inl, inr, ◌||◌, Bool, true, false, Option, List, refl, ap, arith, if◌then◌else◌}
 use Rattle.tree_model.specs.declared.names.Case.{Case}
 use Rattle.tree_model.specs.declared.names.Outcome.{Outcome}
 use Rattle.tree_model.specs.declared.names.Outcome.TheVariants.{Committed, Aborted}
@@ -7,7 +7,7 @@ use Rattle.tree_model.specs.declared.names.Txn.{Txn}
 use Rattle.tree_model.specs.declared.records.Record.{Record}
 use Rattle.tree_model.specs.declared.trees.TreeEntry.{TreeEntry}
 use Rattle.tree_model.specs.Names.{root_case}
-use Rattle.tree_model.specs.Records.{has, is_abort, is_collecting, is_commit}
+use Rattle.tree_model.specs.Records.{has, is_abort, is_collecting, is_commit, is_end}
 use Rattle.tree_model.specs.Nodes.{Role, AtRoot, Node, kept, role_of}
 use Rattle.tree_model.specs.Outcomes.{is_commit_outcome, outcome_of}
 use Rattle.tree_model.specs.World.{IsRun, Made, World}
@@ -170,6 +170,6 @@ module _ (tree : List TreeEntry) (es : List Made) (w : World) (run : IsRun tree 
         ap (λ (o : Option Outcome). decided_or o Aborted)
         (own_same (role_of tree x.root) n c (all_last tree es w run x.root))
         ∙ by_records (has (is_learnt_commit c) (kept n)) (has (is_abort_learnt c) (kept n))
-        (has (is_promise c) (kept n))
+        (has (is_promise c) (kept n) || has (is_end c) (kept n))
         (λ e. kept_commit (learnt_commit c (kept n) none_of_branch e))
         (λ e. undecided line (no_commit (has (is_learnt_commit c) (kept n)) refl e))

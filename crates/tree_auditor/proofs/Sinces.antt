@@ -148,13 +148,14 @@ of_decided d AbortedOutcome r e = grind arith
 
 module _ (role : Role) (n : Node) (d : Case) (l : Lasts role (logs_of n)) where
   pub own_same : own_decision d (kept n)
-      ≡ decision_by (has (is_learnt_commit d) (kept n)) (has (is_abort_learnt d) (kept n)) (has
-      (is_promise d) (kept n))
+      ≡ decision_by (has (is_learnt_commit d) (kept n)) (has (is_abort_learnt d) (kept n))
+      (has (is_promise d) (kept n) || has (is_end d) (kept n))
   own_same =
       rw (
         reads_same role n d l (is_learnt_commit d) (of_commit d),
         reads_same role n d l (is_abort_learnt d) (of_abort d),
         reads_same role n d l (is_promise d) (of_promise d),
+        reads_same role n d l (is_end d) (of_end d),
       ) refl
 
   pub line_same : (r : Role) → has_line_in r d (since_promise d (kept n)) ≡ has_line_in r d (kept n)

@@ -47,8 +47,8 @@ is_case_at tree q c =
 abbrev pub is_abort_learnt : Case → Record → Bool
 is_abort_learnt c r = is_learnt_abort c r || is_abort c r
 
--- by whether a commit is decided or told, an abort is, and a promise stands: a case that neither decided
--- nor promised will abort; one that promised, and no more, asks its parent
+-- by whether a commit is decided or told, an abort is, and a promise or an End stands: a case with none of
+-- these collects votes, and will abort; one that promised, or ended read-only, and no more, asks its parent
 abbrev pub decision_by : Bool → Bool → Bool → Option Outcome
 decision_by true _ _ = Some Committed
 decision_by false true _ = Some Aborted
@@ -65,7 +65,7 @@ abbrev pub own_decision : Case → List Record → Option Outcome
 own_decision c rs =
     let kept_of = since_promise c rs in
     decision_by (has (is_learnt_commit c) kept_of) (has (is_abort_learnt c) kept_of)
-    (has (is_promise c) kept_of)
+    (has (is_promise c) kept_of || has (is_end c) kept_of)
 
 -- The recursion upward.
 
