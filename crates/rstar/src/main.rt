@@ -248,8 +248,13 @@ fn perform(rt: &HostRuntime, request: Request) -> u8 {
 /// Reads the command line and runs it.
 fn status_of(rt: &HostRuntime) -> u8 {
     let alloc = rt.alloc();
-    let Ok(args) = std::env::args(rt) else {
-        return 1;
+    let args = match std::env::args(rt) {
+        Ok(args) => args,
+        Err(error) if error.kind() == io::ErrorKind::OutOfMemory => return 4,
+        Err(_) => {
+            let told = eprintln!(rt; "error: invalid UTF-8 was detected in one or more arguments");
+            return if told.is_ok() { 1 } else { 4 };
+        }
     };
     let words: Result<Vec<String>, _> = args.collect(alloc);
     let Ok(words) = words else {
