@@ -112,8 +112,8 @@ fn push_steps(
     }
 }
 
-/// The steps from a case upward: each ticket asks its parent, up to a case that is not in doubt itself, or of which nothing
-/// is kept.
+/// The steps from a case upward: each ticket asks its parent, up to a case that has a decision or collects votes, or to where
+/// no kept case names the ticket.
 pub fn steps_of(
     alloc: Global,
     tree: &Tree,
