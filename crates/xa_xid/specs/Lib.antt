@@ -1,6 +1,7 @@
 pub mod Errors
 pub mod Part
 pub mod Xids
+pub mod Digests
 pub mod Bytes
 pub mod Numerals
 pub mod HexText

@@ -2,6 +2,7 @@
 #![tactic(auto)]
 
 mod bytes;
+pub mod digest;
 mod error;
 pub mod hexadecimal;
 pub mod numeral;

@@ -3,11 +3,9 @@
 ghost use Rattle.std.specs.Prelude.{◌≡◌, ◌≤◌, length, nat_eq};
 ghost use Rattle.std.specs.Cmp.Lexicographic.{pointwise, nat_list_eq_equiv};
 ghost use Rattle.std.specs.Cmp.{partial_equiv_from_equiv};
-ghost use Rattle.std.specs.Cmp.Rules.{hashing};
-ghost use Rattle.std.specs.Hash as fed;
-ghost use Rattle.std.proofs.Common.{rules};
+ghost use Rattle.xa_xid.specs.Digests.{part_digest};
 
-use std::hash::{Hash, Hasher};
+use crate::digest::mixed;
 use std::marker::Model;
 
 /// At most 64 bytes.
@@ -53,6 +51,18 @@ impl Part {
     {
         &self.bytes[..self.len as usize]
     }
+
+    /// A digest with the part mixed in: its length, then its bytes, eight at a time.
+    pub fn digest(&self, before: u64) -> u64
+        ensures { result ≡ part_digest before self.now }
+    {
+        let (eights, _) = self.bytes.as_chunks::<8>();
+        let mut digest = mixed(before, self.len as u64);
+        for bytes in &eights[..(self.len as usize).div_ceil(8)] {
+            digest = mixed(digest, u64::from_le_bytes(*bytes));
+        }
+        digest
+    }
 }
 
 impl PartialEq for Part {
@@ -67,14 +77,4 @@ impl PartialEq for Part {
 
 impl Eq for Part {
     ghost laws = { nat_list_eq_equiv };
-}
-
-impl Hash for Part {
-    ghost hash_input = { fed.slice fed.u8 };
-
-    ghost respects_eq = { Prim.search (hashing, rules) };
-
-    fn hash<H: Hasher>(&self, state: &mut H) {
-        self.as_slice().hash(state);
-    }
 }

@@ -1,18 +1,23 @@
 //! XIDs.
 
 ghost use Rattle.std.specs.Prelude.{◌≡◌, ◌↔◌, IsTrue, IfOk, IfErr, Some, None, length};
+ghost use Rattle.std.specs.Cmp.Rules.{hashing};
+ghost use Rattle.std.specs.Hash as fed;
+ghost use Rattle.std.proofs.Common.{rules};
+ghost use Rattle.xa_xid.specs.Digests.{xid_digest};
 ghost use Rattle.xa_xid.specs.Xids.{branch_fault, xid_fault};
 ghost use Rattle.xa_xid.specs.declared.xid.Xid.{Xid as AnyXid};
 
 use crate::error::XidError;
 use crate::part::Part;
+use std::hash::{Hash, Hasher};
 use std::marker::Model;
 
 /// The name of a transaction branch (C193, chapter 4): a format, a global transaction's name of 1 to
 /// 64 bytes and a branch's name of at most 64 bytes; or the null XID, which names none.
 ///
 /// C193 asks 1 to 64 bytes of both names; a branch's name of 0 bytes is a widening of this profile.
-#[derive(Clone, Copy, Debug, PartialEq, Eq, Hash)]
+#[derive(Clone, Copy, Debug, PartialEq, Eq)]
 pub struct Xid {
     format: i32,
     gtrid: Part,
@@ -90,6 +95,26 @@ impl Xid {
         ensures sound { IsXid self.now }
     {
         (self.format, self.gtrid.as_slice(), self.bqual.as_slice())
+    }
+
+    /// A number made of all that the XID has, to be hashed.
+    #[tactic(auto, unfolding(crate::specs::Digests::xid_digest))]
+    pub fn digest(&self) -> u64
+        ensures { result ≡ xid_digest self.now }
+    {
+        let format = self.format.cast_unsigned() as u64;
+        self.bqual.digest(self.gtrid.digest(format))
+    }
+}
+
+/// One number is fed, made of all that an XID has.
+impl Hash for Xid {
+    ghost hash_input = { λ x. fed.u64 (xid_digest x) };
+
+    ghost respects_eq = { Prim.search (hashing, rules) };
+
+    fn hash<H: Hasher>(&self, state: &mut H) {
+        state.write_u64(self.digest());
     }
 }
 
