@@ -1,5 +1,6 @@
 pub mod Errors
 pub mod Names
+pub mod Digests
 pub mod Branches
 pub mod NameLaws
 pub mod Texts

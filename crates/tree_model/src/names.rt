@@ -1,12 +1,18 @@
 //! Processes, transactions, tickets and cases.
 
 ghost use Rattle.std.specs.Prelude.{◌≡◌};
+ghost use Rattle.std.specs.Cmp.Rules.{hashing};
+ghost use Rattle.std.specs.Hash as fed;
+ghost use Rattle.std.proofs.Common.{rules};
+ghost use Rattle.tree_model.specs.Digests.{ticket_digest, txn_digest};
 ghost use Rattle.tree_model.specs.Names.{same_case, same_ticket, same_txn};
 ghost use Rattle.tree_model.specs.declared.names.Case.{Case as AnyCase};
 ghost use Rattle.tree_model.specs.declared.names.Ticket.{Ticket as AnyTicket};
 ghost use Rattle.tree_model.specs.declared.names.Txn.{Txn as AnyTxn};
 
 use crate::lists::Sequence;
+use std::hash::{Hash, Hasher};
+use xa_xid::digest::mixed;
 
 /// A process of the tree, by its number.
 #[derive(Clone, Copy, PartialEq, Eq, PartialOrd, Ord, Hash)]
@@ -20,7 +26,7 @@ pub enum Kind {
 }
 
 /// What an inquiry gets where its case has left no information (R*: Presumed Abort, Presumed Commit).
-#[derive(Clone, Copy, PartialEq, Eq, Hash)]
+#[derive(Clone, Copy, PartialEq, Eq)]
 pub enum Presumption {
     PresumeAbort,
     PresumeCommit,
@@ -35,7 +41,7 @@ pub enum Outcome {
 
 /// A transaction's name: the root that began it, the root's boot, its number in that boot (both from 1), and the
 /// presumption that the root chose.
-#[derive(Clone, Copy, PartialEq, Eq, Hash)]
+#[derive(Clone, Copy, PartialEq, Eq)]
 pub struct Txn {
     pub root: ProcessId,
     pub boot: u64,
@@ -51,11 +57,35 @@ impl Txn {
     {
         self == other
     }
+
+    /// A number made of all that the name has, to be hashed.
+    #[tactic(auto, unfolding(crate::specs::Digests::txn_digest))]
+    pub fn digest(&self) -> u64
+        ensures { result ≡ txn_digest self.now }
+    {
+        let presumption = match self.presumption {
+            Presumption::PresumeAbort => 0,
+            Presumption::PresumeCommit => 1,
+        };
+        let root = mixed(presumption, self.root.0 as u64);
+        mixed(mixed(root, self.boot), self.sequence)
+    }
+}
+
+/// One number is fed, made of all that the name has.
+impl Hash for Txn {
+    ghost hash_input = { λ x. fed.u64 (txn_digest x) };
+
+    ghost respects_eq = { Prim.search (hashing, rules) };
+
+    fn hash<H: Hasher>(&self, state: &mut H) {
+        state.write_u64(self.digest());
+    }
 }
 
 /// A child's promise to take part in one case of its parent: the child, its boot, and the number in that boot
 /// (both from 1). It is issued once and never again.
-#[derive(Clone, Copy, PartialEq, Eq, Hash)]
+#[derive(Clone, Copy, PartialEq, Eq)]
 pub struct Ticket {
     pub child: ProcessId,
     pub boot: u64,
@@ -69,6 +99,25 @@ impl Ticket {
         ensures { result ≡ same_ticket self.now other.now }
     {
         self == other
+    }
+
+    /// A number made of all that the name has, to be hashed.
+    #[tactic(auto, unfolding(crate::specs::Digests::ticket_digest))]
+    pub fn digest(&self) -> u64
+        ensures { result ≡ ticket_digest self.now }
+    {
+        mixed(mixed(self.child.0 as u64, self.boot), self.number)
+    }
+}
+
+/// One number is fed, made of all that the name has.
+impl Hash for Ticket {
+    ghost hash_input = { λ x. fed.u64 (ticket_digest x) };
+
+    ghost respects_eq = { Prim.search (hashing, rules) };
+
+    fn hash<H: Hasher>(&self, state: &mut H) {
+        state.write_u64(self.digest());
     }
 }
 
