@@ -65,13 +65,27 @@ impl Part {
     }
 }
 
+/// Whether two arrays are equal, eight bytes at a time.
+fn are_equal(a: &[u8; 64], b: &[u8; 64]) -> bool
+    ensures { result ≡ pointwise nat_eq a.now b.now }
+{
+    let (eights, _) = a.as_chunks::<8>();
+    let (others, _) = b.as_chunks::<8>();
+    for i in 0..8 {
+        if u64::from_le_bytes(eights[i]) != u64::from_le_bytes(others[i]) {
+            return false;
+        }
+    }
+    true
+}
+
 impl PartialEq for Part {
     ghost eq = { pointwise nat_eq };
 
     ghost laws = { partial_equiv_from_equiv nat_list_eq_equiv };
 
     fn eq(&self, other: &Part) -> bool {
-        self.as_slice() == other.as_slice()
+        self.len == other.len && are_equal(&self.bytes, &other.bytes)
     }
 }
 
