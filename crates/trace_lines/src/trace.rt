@@ -291,7 +291,8 @@ pub fn trace_text(alloc: Global, entries: &[Entry]) -> Result<Vec<u8>, AllocErro
     Ok(out)
 }
 
-fn push_begun(out: &mut Vec<u8>, begun: &Option<Txn>) -> Result<(), AllocError>
+/// The line of a transaction that began, if one did.
+pub fn push_begun(out: &mut Vec<u8>, begun: &Option<Txn>) -> Result<(), AllocError>
     ensures { OnOk result (out.new.items ≡ out.old.items ++ lines_text (begun_lines begun.now)) }
 {
     match begun {
@@ -304,7 +305,8 @@ fn push_begun(out: &mut Vec<u8>, begun: &Option<Txn>) -> Result<(), AllocError>
     }
 }
 
-fn push_written(out: &mut Vec<u8>, process: u32, written: &[Logged]) -> Result<(), AllocError>
+/// The lines of records that a process made.
+pub fn push_written(out: &mut Vec<u8>, process: u32, written: &[Logged]) -> Result<(), AllocError>
     ensures { OnOk result (out.new.items ≡ out.old.items ++ lines_text (logged_lines process written.now)) }
 {
     for logged in written {
@@ -314,7 +316,8 @@ fn push_written(out: &mut Vec<u8>, process: u32, written: &[Logged]) -> Result<(
     Ok(())
 }
 
-fn push_conclusion(out: &mut Vec<u8>, told: &Option<Told>) -> Result<(), AllocError>
+/// The line of what was told, if anything was.
+pub fn push_conclusion(out: &mut Vec<u8>, told: &Option<Told>) -> Result<(), AllocError>
     ensures { OnOk result (out.new.items ≡ out.old.items ++ lines_text (told_lines told.now)) }
 {
     match told {
@@ -326,7 +329,8 @@ fn push_conclusion(out: &mut Vec<u8>, told: &Option<Told>) -> Result<(), AllocEr
     }
 }
 
-fn push_messages(out: &mut Vec<u8>, sent: u64, messages: &[Envelope]) -> Result<(), AllocError>
+/// The lines of messages before which so many were sent.
+pub fn push_messages(out: &mut Vec<u8>, sent: u64, messages: &[Envelope]) -> Result<(), AllocError>
     requires { sent + length messages.now < 2 ^ 64 }
     ensures { OnOk result (out.new.items ≡ out.old.items ++ lines_text (envelope_lines sent messages.now)) }
 {
@@ -339,7 +343,8 @@ fn push_messages(out: &mut Vec<u8>, sent: u64, messages: &[Envelope]) -> Result<
     Ok(())
 }
 
-fn push_kept(out: &mut Vec<u8>, process: u32, kept: &Option<u64>) -> Result<(), AllocError>
+/// The line of what a trim kept, if it was one.
+pub fn push_kept(out: &mut Vec<u8>, process: u32, kept: &Option<u64>) -> Result<(), AllocError>
     ensures { OnOk result (out.new.items ≡ out.old.items ++ lines_text (kept_lines process kept.now)) }
 {
     match kept {

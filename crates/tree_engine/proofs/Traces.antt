@@ -1,10 +1,14 @@
 -- The rest of a run's steps, from one on.
-use Rattle.std.proofs.Common.{◌≡◌, ◌∙◌, ap, sym, ℕ, zero, suc, ◌+◌, ◌≤◌, Option, Some, None, List, [], ◌∷◌, ◌++◌, drop, take, length, refl, arith}
+use Rattle.std.proofs.Common.{◌≡◌, ◌∙◌, ap, sym, ℕ, zero, suc, ◌+◌, ◌≤◌, Option, Some, None, List, [], ◌∷◌, ◌++◌, drop, take, length, option_map, refl, arith}
 use Rattle.std.proofs.lemmas.List.{append-nil, append_assoc}
 use Rattle.std.specs.Prelude.{slice_get}
 use Rattle.tree_model.specs.declared.events.Entry.{Entry}
 use Rattle.trace_lines.specs.Trace.{entries_text, entry_text}
-use Rattle.tree_engine.specs.Trees.{AddsStep}
+use Rattle.tree_model.specs.declared.events.Reaction.{Reaction}
+use Rattle.tree_model.specs.declared.names.ProcessId.{ProcessId}
+use Rattle.world_journal.specs.Shown.{entry_part, shown_part}
+use Rattle.world_journal.specs.declared.shown.Shown.{Shown}
+use Rattle.tree_engine.specs.Trees.{AddsStep, part_text}
 
 -- the step at a place and those behind it
 pub dropped_at : (es : List Entry) (k : ℕ) (e : Entry) → slice_get es k ≡ Some e → drop k es ≡ e ∷ drop (k + 1) es
@@ -65,3 +69,17 @@ pub all_added : (es : List Entry) (k sent : ℕ) (old all : List ℕ) → length
     → old ≡ all
 all_added es k sent old all past so =
     sym (append-nil old) ∙ ap (λ xs. old ++ entries_text sent xs) (sym (dropped_all es k past)) ∙ so
+
+-- The step at a place, as the journal shows it.
+
+pub adds_shown : (o : Option Entry) (shown : Option Shown) (step : Shown) (old new : List ℕ) (sent next : ℕ)
+    → shown ≡ Some step → option_map shown_part shown ≡ option_map entry_part o
+    → next ≡ sent + length step.messages.now → new ≡ old ++ part_text sent (shown_part step)
+    → AddsStep o old new sent (Some next)
+unfolding entry_text
+adds_shown None shown step old new sent next some is size text = absurd (cc)
+adds_shown (Some e) shown step old new sent next some is size text =
+    let same : shown_part step ≡ entry_part e = cc in (
+      size ∙ ap (λ (p : ProcessId × Reaction). sent + length p.1.messages) same,
+      text ∙ ap (λ (p : ProcessId × Reaction). old ++ part_text sent p) same,
+    )

@@ -5,6 +5,9 @@ use Rattle.std.specs.Fmt.{decimal}
 use Rattle.tree_model.specs.declared.trees.TreeEntry.{TreeEntry}
 use Rattle.tree_model.specs.declared.events.Entry.{Entry}
 use Rattle.tree_model.specs.declared.events.Event.{Event}
+use Rattle.tree_model.specs.declared.events.Reaction.{Reaction}
+use Rattle.tree_model.specs.declared.names.ProcessId.{ProcessId}
+use Rattle.tree_model.specs.Texts.{reaction_lines}
 use Rattle.tree_model.specs.Errors.{step_error_number}
 use Rattle.tree_model.specs.Trees.{tree_error_number}
 use Rattle.tree_model.specs.World.{Made, World}
@@ -13,7 +16,7 @@ use Rattle.link_script.specs.declared.script.ScriptFault.TheVariants.{Utf8, Tree
 use Rattle.link_script.specs.Inputs.{IsScript, IsScriptFault}
 use Rattle.tree_engine.specs.Counts.{rows_of}
 use Rattle.tree_engine.specs.Texts.{rows_text}
-use Rattle.trace_lines.specs.Trace.{entries_text, entry_text}
+use Rattle.trace_lines.specs.Trace.{entries_text, entry_text, lines_text}
 use Rattle.report_io.specs.declared.status.Status.{Status}
 use Rattle.report_io.specs.declared.status.Status.TheVariants.{Ended, Refused, Stopped}
 use Rattle.world_law.specs.Refusals.{IsRunOf, LeadsTo, Refusal, RefusesIn}
@@ -36,6 +39,10 @@ opened_text tree = flat_map (λ e. opening_text e.id.0) tree
 -- the trace of a run, up to where it has come: the lines of its processes' opening, and those of its steps
 abbrev pub trace_of : WorldState → List ℕ
 trace_of w = opened_text w.tree ++ entries_text 0 w.entries
+
+-- the lines of a process's reaction before which so many messages were sent
+abbrev pub part_text : ℕ → ProcessId × Reaction → List ℕ
+part_text sent p = lines_text (reaction_lines p.0.0 sent p.1)
 
 -- the lines of a step, if there is one, were added behind so many messages, and then so many are sent
 abbrev pub AddsStep : Option Entry → List ℕ → List ℕ → ℕ → Option ℕ → Type 0

@@ -1,17 +1,19 @@
 //! The trace of a run.
 
 ghost use Rattle.std.specs.Prelude.{◌≡◌, ◌+◌, ◌++◌, IfErr, IfOk, OnOk, length, slice_get, string_bytes};
-ghost use Rattle.trace_lines.specs.Trace.{entries_text, entry_text};
+ghost use Rattle.trace_lines.specs.Trace.{entries_text};
+ghost use Rattle.world_journal.specs.Shown.{shown_part};
 ghost use Rattle.tree_world.specs.Worlds.{state};
-ghost use Rattle.tree_engine.specs.Trees.{AddsStep, IsNumbered, ending, last_line, opened_text, opening_text, refused_text, trace_of};
+ghost use Rattle.tree_engine.specs.Trees.{AddsStep, IsNumbered, ending, last_line, opened_text, opening_text, part_text, refused_text, trace_of};
 
 use crate::tree::Refusal;
 use log_store::MemoryStore;
 use report_io::{Failure, Status};
 use std::alloc::{AllocError, Global};
-use trace_lines::push_entry;
+use trace_lines::{push_begun, push_conclusion, push_kept, push_messages, push_written};
 use tree_model::{Entry, TreeEntry};
 use tree_world::World;
+use world_journal::Shown;
 
 /// The trace of what the tree has come to, and how its run ended.
 pub(crate) fn trace(
@@ -81,15 +83,21 @@ fn opening_line(alloc: Global, process: u64) -> Result<String, AllocError>
 pub(crate) fn discard(_entry: Entry) {}
 
 /// The lines of a step, behind so many messages. How many were sent with its own. 2^64 messages are taken for want of memory.
-fn push_step(out: &mut Vec<u8>, sent: u64, entry: &Entry) -> Result<u64, Failure>
-    ensures sent { IfOk result (λ next. next ≡ sent + length entry.now.reaction.messages) }
-    ensures text { OnOk result (out.new.items ≡ out.old.items ++ entry_text sent entry.now) }
+#[tactic(auto, unfolding(trace_lines::specs::Trace::entry_text))]
+fn push_step(out: &mut Vec<u8>, sent: u64, step: &Shown) -> Result<u64, Failure>
+    ensures sent { IfOk result (λ next. next ≡ sent + length step.now.messages.now) }
+    ensures text { OnOk result (out.new.items ≡ out.old.items ++ part_text sent (shown_part step.now)) }
     ensures memory { IfErr result (λ e. e ≡ Failure.Memory) }
 {
-    let Some(next) = sent.checked_add(entry.reaction.messages.len() as u64) else {
+    let Some(next) = sent.checked_add(step.messages.len() as u64) else {
         return Err(Failure::Memory);
     };
-    push_entry(out, sent, entry)?;
+    let process = step.process.0;
+    push_begun(out, &step.begun)?;
+    push_written(out, process, step.written)?;
+    push_conclusion(out, &step.told)?;
+    push_messages(out, sent, step.messages)?;
+    push_kept(out, process, &step.kept)?;
     Ok(next)
 }
 
@@ -103,14 +111,9 @@ fn push_place(
     ensures text { IfOk result (AddsStep (slice_get (state world.now).entries place) out.old.items out.new.items sent) }
     ensures memory { IfErr result (λ e. e ≡ Failure.Memory) }
 {
-    let Some(entry) = world.entry(place)? else {
-        return Ok(None);
-    };
-    let pushed = push_step(out, sent, &entry);
-    discard(entry);
-    match pushed {
-        Ok(next) => Ok(Some(next)),
-        Err(failure) => Err(failure),
+    match world.shown(place) {
+        None => Ok(None),
+        Some(step) => Ok(Some(push_step(out, sent, &step)?)),
     }
 }
 

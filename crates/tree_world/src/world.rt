@@ -6,6 +6,7 @@ ghost use Rattle.world_law.specs.Worlds.{Applies, Stops};
 ghost use Rattle.world_law.specs.Runs.{Leads, LeadsUntil};
 ghost use Rattle.world_law.specs.Ties.{FollowsBehindFaults, GoesOnBehindFaults};
 ghost use Rattle.world_law.specs.Sayings.{Agrees, AnswersTruly, Consents, IsByOperatorsAlone, KeepsMismatches, SaidBehindFaults};
+ghost use Rattle.world_journal.specs.Shown.{entry_part, shown_part};
 ghost use Rattle.tree_world.specs.Nodes.{SpellsLogBy, live_at, node_in};
 ghost use Rattle.tree_world.specs.Worlds.{logs_at, state};
 
@@ -14,6 +15,7 @@ use log_store::LogStore;
 use std::alloc::AllocError;
 use std::marker::Model;
 use tree_model::{Entry, Envelope, Event, LogRecord, ProcessId, StepError, Tree};
+use world_journal::Shown;
 
 /// A tree of processes, each with its log in a store; every message ever sent, with the mark whether it was delivered; and
 /// every step that was made.
@@ -46,6 +48,13 @@ impl<L: LogStore> World<L> {
         ensures { IfOk result (λ found. found ≡ slice_get (state self.now).entries place) }
     {
         self.running.journal.entry(place)
+    }
+
+    /// What the step at this place shows, from 0, as the journal has it; None, where so many were not made.
+    pub fn shown(&self, place: usize) -> Option<Shown<'_>>
+        ensures { option_map shown_part result ≡ option_map entry_part (slice_get (state self.now).entries place) }
+    {
+        self.running.journal.shown(place)
     }
 
     /// The tree.

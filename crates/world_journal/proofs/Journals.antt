@@ -4,6 +4,7 @@ use Rattle.std.proofs.lemmas.List.{append-nil, append_assoc, map-append, map_pus
 use Rattle.std.specs.Prelude.{slice_get}
 use Rattle.tree_model.specs.declared.messages.Envelope.{Envelope}
 use Rattle.tree_model.specs.declared.events.Act.{Act}
+use Rattle.tree_model.specs.declared.events.Entry.{Entry}
 use Rattle.tree_model.specs.declared.events.Happening.{Happening}
 use Rattle.tree_model.specs.declared.events.Happening.TheVariants.{Input as Handles, Restart as Restarting, Trim as Trimming}
 use Rattle.tree_model.specs.declared.events.Input.TheVariants.{Act as ActInput, Message as MessageInput}
@@ -16,7 +17,8 @@ use Rattle.world_journal.specs.declared.short_step.ShortStep.{ShortStep}
 use Rattle.world_journal.specs.declared.short_step.Aside.{Aside}
 use Rattle.world_journal.specs.declared.short_step.Cause.{Cause}
 use Rattle.world_journal.specs.declared.short_step.Cause.TheVariants.{Act as ActCause, Message as MessageCause, Restart as RestartCause, Trim as TrimCause}
-use Rattle.world_journal.specs.Journals.{AreNamed, IsSent, IsWhole, Stock, act_by, aside_by, aside_in, asides_by, cause_by, entries_of, entry_by, entry_in, happening_in, last_messages, message_at, message_by, message_in, message_with, messages_of, named_by, names, reaction_by, somes}
+use Rattle.world_journal.specs.Journals.{AreNamed, IsSent, IsWhole, Stock, act_by, aside_by, aside_in, asides_by, cause_by, entries_of, entry_by, entry_in, happening_in, last_messages, message_at, message_by, message_in, message_with, messages_of, named_by, names, reaction_by, somes, step_part}
+use Rattle.world_journal.specs.Shown.{entry_part}
 
 -- the messages of a step that was just entered
 pub of_entered : (es : List ShortStep) (e : ShortStep) → last_messages (es ++ e ∷ []) ≡ e.messages
@@ -349,3 +351,28 @@ entry_found s k x w is =
 pub entry_past : (s : Stock) (k : ℕ) → IsWhole s → slice_get s.steps k ≡ None → slice_get (entries_of s) k ≡ None
 entry_past s k w is =
     ap (λ xs. slice_get xs k) (entries_are s w) ∙ mapped_past (entry_in s) s.steps w.entries k w.read is
+
+-- What a step shows.
+
+mapped_some : {A B : Type 0} (f : A → Option B) (xs : List A) (ys : List B) (k : ℕ) (x : A) → map f xs ≡ map Some ys
+    → slice_get xs k ≡ Some x → (y : B) × (f x ≡ Some y) × (slice_get ys k ≡ Some y)
+mapped_some f [] ys k x h is = absurd (cc)
+mapped_some f (z ∷ xs) [] k x h is = absurd (cc)
+mapped_some f (z ∷ xs) (y ∷ ys) zero x h is =
+    let first : f z ≡ Some y = cc in let same : z ≡ x = cc in (y, rw (sym same) first, refl)
+mapped_some f (z ∷ xs) (y ∷ ys) (suc k) x h is =
+    let others : map f xs ≡ map Some ys = cc in mapped_some f xs ys k x others is
+
+part_of_entry : (x : ShortStep) (h : Option Happening) (a : Option Aside) (e : Entry) → entry_by x h a ≡ Some e
+    → option_map (step_part x) a ≡ Some (entry_part e)
+part_of_entry x None a e is = absurd (cc)
+part_of_entry x (Some h) None e is = absurd (cc)
+part_of_entry x (Some h) (Some a) e is = ap (option_map entry_part) is
+
+-- the part of the entry in its place
+pub part_found : (s : Stock) (k : ℕ) (x : ShortStep) → IsWhole s → slice_get s.steps k ≡ Some x
+    → option_map (step_part x) (aside_in s.asides x.aside) ≡ option_map entry_part (slice_get (entries_of s) k)
+part_found s k x w is =
+    let found = mapped_some (entry_in s) s.steps w.entries k x w.read is in
+    part_of_entry x (happening_in s.acts s.steps s.posted x.cause) (aside_in s.asides x.aside) found.0 found.1
+    ∙ sym (ap (λ o. option_map entry_part o) (ap (λ xs. slice_get xs k) (entries_are s w) ∙ found.2))

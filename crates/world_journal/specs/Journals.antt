@@ -118,6 +118,10 @@ abbrev pub reaction_by : ShortStep → Aside → Reaction
 reaction_by x a =
     record { begun = a.begun; written = x.written; told = a.told; messages = x.messages; kept = a.kept }
 
+-- the process of a step, and its reaction
+abbrev pub step_part : ShortStep → Aside → ProcessId × Reaction
+step_part x a = (x.process, reaction_by x a)
+
 -- the journal's entry of a step, where it is known what happened and what else it showed
 abbrev pub entry_by : ShortStep → Option Happening → Option Aside → Option Entry
 entry_by x None a = None

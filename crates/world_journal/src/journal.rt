@@ -7,11 +7,13 @@ ghost use Rattle.tree_model.specs.declared.events.Reaction.{Reaction as AnyReact
 ghost use Rattle.tree_model.specs.Plays.{sent_as};
 ghost use Rattle.world_law.specs.Worlds.{least_open as least_open_in, step_entry, undelivered};
 ghost use Rattle.world_journal.specs.Journals.{Enters, IsReady, IsSent, Keeps, last_messages as last_messages_of, marked_by, names, taken_up};
+ghost use Rattle.world_journal.specs.Shown.{entry_part, shown_part};
 
 use crate::marks::Marks;
 use crate::short_step::{
-    Aside, Posted, ShortStep, copy_to, entry_of, keep_act, keep_aside, message_of,
+    Aside, Posted, ShortStep, copy_to, entry_of, keep_act, keep_aside, message_of, shown_of,
 };
+use crate::shown::Shown;
 use std::alloc::{AllocError, Global};
 use std::marker::Model;
 use tree_model::{Act, Entry, Envelope, Happening, Input, ProcessId, Reaction, StepError};
@@ -96,6 +98,16 @@ impl Journal {
                 &self.posted,
                 step,
             ),
+        }
+    }
+
+    /// What the step at this place shows, from 0; None, where so many were not made.
+    pub fn shown(&self, place: usize) -> Option<Shown<'_>>
+        ensures { option_map shown_part result ≡ option_map entry_part (slice_get self.now.entries place) }
+    {
+        match self.steps.get(place) {
+            None => None,
+            Some(step) => shown_of(&self.asides, step),
         }
     }
 

@@ -5,5 +5,7 @@
 mod journal;
 mod marks;
 mod short_step;
+mod shown;
 
 pub use journal::Journal;
+pub use shown::Shown;

@@ -1,10 +1,12 @@
 //! A step as the journal keeps it: what stands elsewhere too is named by its place.
 
-ghost use Rattle.std.specs.Prelude.{◌≡◌, ◌++◌, ◌<◌, IfOk, OnOk, length, slice_get};
+ghost use Rattle.std.specs.Prelude.{◌≡◌, ◌++◌, ◌<◌, IfOk, OnOk, length, option_map, slice_get};
 ghost use Rattle.std.specs.Option.{option_copied};
 ghost use Rattle.std.specs.Vec.{vec_capacity, vec_len};
-ghost use Rattle.world_journal.specs.Journals.{Stock, act_by, aside_by, aside_in, asides_by, cause_by, entry_in, happening_in, is_bare as is_bare_of, message_at as message_named, message_by, named_by, reaction_by};
+ghost use Rattle.world_journal.specs.Journals.{Stock, act_by, aside_by, aside_in, asides_by, cause_by, entry_in, happening_in, is_bare as is_bare_of, message_at as message_named, message_by, named_by, reaction_by, step_part};
+ghost use Rattle.world_journal.specs.Shown.{shown_part};
 
+use crate::shown::Shown;
 use std::alloc::{AllocError, Global};
 use tree_model::{
     Act, Entry, Envelope, Envelopes, Happening, Input, Logged, ProcessId, Reaction, Sequence, Step,
@@ -195,6 +197,21 @@ pub(crate) fn entry_of(
         },
         reaction,
     }))
+}
+
+/// What a step shows; None, where what its reaction has besides is not there.
+pub(crate) fn shown_of<'a>(asides: &[Aside], step: &'a ShortStep) -> Option<Shown<'a>>
+    ensures { option_map shown_part result ≡ option_map (step_part step.now) (aside_in asides.now step.now.aside) }
+{
+    let aside = aside_at(asides, step.aside)?;
+    Some(Shown {
+        process: step.process,
+        begun: aside.begun,
+        written: step.written.as_slice(),
+        told: aside.told,
+        messages: step.messages.as_slice(),
+        kept: aside.kept,
+    })
 }
 
 /// Keeps an act, where it was one and there is room: the cause of what happened.
