@@ -110,6 +110,7 @@ pub fn rebuilt(records: Vec<LogRecord>, alloc: Global) -> Result<(KeyStore, u64)
         Err(error) => return Err(replay_error(error)),
     };
     let Some(boot) = next_boot(replayed.boot) else {
+        drop(replayed);
         return Err(RestartError::Exhausted);
     };
     match stored(replayed, alloc) {
@@ -145,7 +146,14 @@ impl Ready {
     pub(crate) fn into_in_doubt(self) -> Vec<Xid>
         ensures { result ≡ self.in_doubt }
     {
-        let Ready { in_doubt, .. } = self;
+        let Ready {
+            store,
+            in_doubt,
+            opened,
+            ..
+        } = self;
+        drop(store);
+        drop(opened);
         in_doubt
     }
 }
@@ -175,7 +183,10 @@ pub(crate) fn ready_for(records: Vec<LogRecord>, alloc: Global) -> Result<Ready,
             in_doubt,
             opened,
         }),
-        Err(_) => Err(RestartError::Memory),
+        Err(_) => {
+            drop(store);
+            Err(RestartError::Memory)
+        }
     }
 }
 
@@ -235,6 +246,9 @@ pub(crate) fn started<L: LogStore>(
     let (store, boot) = rebuilt(records, alloc)?;
     match write_boot(log, boot, alloc) {
         Ok(()) => Ok((store, boot)),
-        Err(error) => Err(error),
+        Err(error) => {
+            drop(store);
+            Err(error)
+        }
     }
 }
