@@ -7,12 +7,16 @@ ghost use Rattle.tree_engine.specs.Trees.{IsNumbered, counts_text, ending, last_
 
 use crate::rows::RunCounts;
 use crate::text::push_counts;
-use crate::trace::{discard, trace};
+use crate::trace::trace;
 use crate::tree::Refusal;
 use log_store::MemoryStore;
 use report_io::{Failure, Status};
 use std::alloc::{AllocError, Global};
+use tree_model::Entry;
 use tree_world::World;
+
+/// Lets go of a step.
+fn discard(_entry: Entry) {}
 
 /// The counts of all steps that were made, each of which is made anew once.
 fn counted(alloc: Global, world: &World<MemoryStore>) -> Result<RunCounts, AllocError>

@@ -11,7 +11,7 @@ use log_store::MemoryStore;
 use report_io::{Failure, Status};
 use std::alloc::{AllocError, Global};
 use trace_lines::{push_begun, push_conclusion, push_kept, push_messages, push_written};
-use tree_model::{Entry, TreeEntry};
+use tree_model::TreeEntry;
 use tree_world::World;
 use world_journal::Shown;
 
@@ -78,9 +78,6 @@ fn opening_line(alloc: Global, process: u64) -> Result<String, AllocError>
     line.push_str("Opened 1 forced\n")?;
     Ok(line)
 }
-
-/// Lets go of a step.
-pub(crate) fn discard(_entry: Entry) {}
 
 /// The lines of a step, behind so many messages. How many were sent with its own. 2^64 messages are taken for want of memory.
 #[tactic(auto, unfolding(trace_lines::specs::Trace::entry_text))]
