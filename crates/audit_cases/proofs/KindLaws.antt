@@ -10,8 +10,8 @@ use Rattle.tree_model.specs.declared.records.Record.TheVariants.{Opened, Collect
 use Rattle.tree_model.specs.Names.{same_case}
 use Rattle.tree_model.specs.Records.{has, is_abort, is_collecting, is_commit, is_committed, is_decided, is_end, is_forgot, is_prepare, is_prepared, is_rolled_back}
 use Rattle.tree_model.specs.Nodes.{Role, AtRoot, Below, AtLeaf}
-use Rattle.tree_readings.specs.ReadingOf.{is_committing, is_learnt_abort, is_learnt_commit, is_promise, is_told_of}
-use Rattle.tree_auditor.specs.Audits.{decision_by, has_line_in, is_abort_learnt, own_decision, since_promise}
+use Rattle.tree_pairs.specs.readings.ReadingOf.{is_committing, is_learnt_abort, is_learnt_commit, is_promise, is_told_of}
+use Rattle.tree_headline.specs.auditor.Audits.{decision_by, has_line_in, is_abort_learnt, own_decision, since_promise}
 use Rattle.inquire_core.proofs.Summaries.{is_of}
 use Rattle.audit_cases.specs.declared.kinds.Kinds.{Kinds}
 use Rattle.audit_cases.specs.Kinds.{decided_in, decision_in, is_aborting, kinds_after, kinds_of, line_in, no_kinds, own_by, own_in, own_of}

@@ -16,7 +16,7 @@ use Rattle.tree_model.specs.Names.{same_case}
 use Rattle.tree_model.specs.Records.{cases_in, has_case, named_by, named_in, record_case, with_case, with_record}
 use Rattle.tree_model.proofs.Equality.{case_equality}
 use Rattle.tree_model.proofs.NameTests.{case_tells}
-use Rattle.tree_auditor.specs.Audits.{since_promise}
+use Rattle.tree_headline.specs.auditor.Audits.{since_promise}
 use Rattle.inquire_core.proofs.Readings.{apart_back, is_same, same_is}
 use Rattle.inquire_core.proofs.Summaries.{is_case, is_of}
 use Rattle.audit_cases.specs.Kinds.{kinds_after, kinds_of}

@@ -7,8 +7,8 @@ use Rattle.tree_model.specs.declared.records.Record.{Record}
 use Rattle.tree_model.specs.declared.records.Record.TheVariants.{Opened, Collecting, Prepare, Commit, Abort, End, Prepared, Committed, RolledBack, Direct, HeurCommit, HeurRollback, Told, Forgot, Base, Pair}
 use Rattle.tree_model.specs.Records.{has, is_abort, is_collecting, is_commit, is_committed, is_decided, is_end, is_forgot, is_prepare, is_prepared, is_rolled_back}
 use Rattle.tree_model.specs.Nodes.{Role, AtRoot, Below, AtLeaf}
-use Rattle.tree_readings.specs.ReadingOf.{is_committing, is_promise, is_told_of}
-use Rattle.tree_auditor.specs.Audits.{decision_by}
+use Rattle.tree_pairs.specs.readings.ReadingOf.{is_committing, is_promise, is_told_of}
+use Rattle.tree_headline.specs.auditor.Audits.{decision_by}
 use Rattle.audit_cases.specs.declared.kinds.Kinds.{Kinds}
 use Rattle.audit_cases.specs.declared.kinds.Own.{Own}
 use Rattle.audit_cases.specs.declared.kinds.Own.TheVariants as own

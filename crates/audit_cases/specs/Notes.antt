@@ -12,7 +12,7 @@ use Rattle.tree_model.specs.declared.trees.TreeEntry.{TreeEntry}
 use Rattle.tree_model.specs.contracts.names.CasePartialEq.TheImpl as cases
 use Rattle.tree_model.specs.Nodes.{Place, role_by}
 use Rattle.tree_model.specs.Records.{cases_in, named_by, record_case}
-use Rattle.tree_auditor.specs.Audits.{since_promise}
+use Rattle.tree_headline.specs.auditor.Audits.{since_promise}
 use Rattle.audit_cases.specs.declared.kinds.Kinds.{Kinds}
 use Rattle.audit_cases.specs.Kinds.{kinds_after, kinds_of, no_kinds}
 

@@ -9,7 +9,7 @@ use Rattle.tree_model.specs.declared.names.Ticket.{Ticket}
 use Rattle.tree_model.specs.declared.names.Txn.{Txn}
 use Rattle.tree_model.specs.Names.{child_case, presumed, same_txn}
 use Rattle.tree_model.specs.Records.{in_list}
-use Rattle.tree_auditor.specs.Audits.{decided_or}
+use Rattle.tree_headline.specs.auditor.Audits.{decided_or}
 use Rattle.audit_cases.specs.Kinds.{decision_in}
 use Rattle.audit_cases.specs.Notes.{CaseNote, Table, same}
 

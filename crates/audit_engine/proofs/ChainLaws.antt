@@ -9,7 +9,7 @@ use Rattle.tree_model.specs.declared.trees.TreeEntry.{TreeEntry}
 use Rattle.tree_model.specs.Names.{process_of, same_process}
 use Rattle.tree_model.specs.Nodes.{is_listed}
 use Rattle.tree_model.specs.Trees.{IsTree, entry_parent, parent_of}
-use Rattle.tree_auditor.specs.Audits.{Logs}
+use Rattle.tree_headline.specs.auditor.Audits.{Logs}
 use Rattle.audit_cases.specs.Notes.{Table, notes_of}
 use Rattle.tree_audit.specs.Tables.{AreNotes, TreeTables, same_id}
 use Rattle.tree_audit.proofs.Passes.{apart_of, listed_more, lookup_inserted, same_is, same_self}

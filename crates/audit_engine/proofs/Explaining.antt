@@ -9,7 +9,7 @@ use Rattle.tree_model.specs.declared.names.Ticket.{Ticket}
 use Rattle.tree_model.specs.declared.trees.TreeEntry.{TreeEntry}
 use Rattle.tree_model.specs.Names.{presumed, process_of}
 use Rattle.tree_model.specs.Texts.{case_text, outcome_word}
-use Rattle.tree_auditor.specs.Audits.{Logs}
+use Rattle.tree_headline.specs.auditor.Audits.{Logs}
 use Rattle.tree_audit.specs.Reports.{mismatches_in}
 use Rattle.tree_audit.specs.Tables.{AreNotes, TreeTables}
 use Rattle.tree_audit.specs.declared.report.Line.{Line}

@@ -7,7 +7,7 @@ use Rattle.link_script.specs.declared.script.ScriptFault.{ScriptFault}
 use Rattle.logs_script.specs.declared.line.ProcessLog.{ProcessLog}
 use Rattle.logs_script.specs.Logs.{IsLogsFault, IsLogsText}
 use Rattle.logs_script.specs.Faults.{damage_text, fault_text, first_damage}
-use Rattle.tree_auditor.specs.Audits.{Logs}
+use Rattle.tree_headline.specs.auditor.Audits.{Logs}
 use Rattle.tree_audit.specs.Reports.{kept_lists, lines_of, mismatches_in}
 use Rattle.tree_audit.specs.Truths.{AreTrueOfRuns}
 use Rattle.tree_audit.specs.declared.report.Line.{Line}

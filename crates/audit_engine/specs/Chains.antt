@@ -10,7 +10,7 @@ use Rattle.tree_model.specs.declared.trees.TreeEntry.{TreeEntry}
 use Rattle.tree_model.specs.Names.{process_of}
 use Rattle.tree_model.specs.Nodes.{is_listed}
 use Rattle.tree_model.specs.Trees.{parent_of}
-use Rattle.tree_auditor.specs.Audits.{Logs}
+use Rattle.tree_headline.specs.auditor.Audits.{Logs}
 use Rattle.audit_cases.specs.Notes.{Table, notes_of}
 use Rattle.tree_audit.specs.Tables.{same_id}
 use Rattle.audit_engine.specs.declared.steps.Deed.{Deed}

@@ -1,7 +1,7 @@
 //! The steps from a case upward.
 
 ghost use Rattle.std.specs.Prelude.{◌≡◌, ◌++◌, ◌∷◌, [], IfOk, OnOk, length, take};
-ghost use Rattle.tree_auditor.specs.Audits.{Logs};
+ghost use Rattle.tree_headline.specs.auditor.Audits.{Logs};
 ghost use Rattle.tree_model.specs.Names.{process_of as process_in};
 ghost use Rattle.tree_model.specs.Trees.{IsTree};
 ghost use Rattle.std.specs.Map.{lookup};

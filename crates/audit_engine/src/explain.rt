@@ -1,7 +1,7 @@
 //! Why a case stands as its line says, and what to do.
 
 ghost use Rattle.std.specs.Prelude.{◌≡◌, ◌++◌, IfOk, OnOk};
-ghost use Rattle.tree_auditor.specs.Audits.{Logs};
+ghost use Rattle.tree_headline.specs.auditor.Audits.{Logs};
 ghost use Rattle.tree_model.specs.Names.{process_of as process_in};
 ghost use Rattle.tree_model.specs.Trees.{IsTree};
 ghost use Rattle.audit_engine.specs.Chains.{AreNamings};

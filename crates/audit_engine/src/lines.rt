@@ -2,7 +2,7 @@
 
 ghost use Rattle.std.specs.Prelude.{◌≡◌, ◌++◌, OnOk, IfOk};
 ghost use Rattle.std.specs.List.{flat_map};
-ghost use Rattle.tree_auditor.specs.Audits.{Logs};
+ghost use Rattle.tree_headline.specs.auditor.Audits.{Logs};
 ghost use Rattle.tree_model.specs.Trees.{IsTree};
 ghost use Rattle.tree_audit.specs.Reports.{mismatches_in};
 ghost use Rattle.tree_audit.specs.Tables.{AreNotes};

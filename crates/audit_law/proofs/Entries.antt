@@ -8,8 +8,8 @@ use Rattle.tree_model.specs.declared.events.Reaction.{Reaction}
 use Rattle.tree_model.specs.declared.names.ProcessId.{ProcessId}
 use Rattle.tree_model.specs.declared.trees.TreeEntry.{TreeEntry}
 use Rattle.tree_model.specs.World.{Made, journal_of}
-use Rattle.world_law.specs.Runs.{IsOpened, Leads}
-use Rattle.world_law.specs.Worlds.{Applies, Settles, WorldState, least_open, settles_by, step_entry}
+use Rattle.core_law.specs.worlds.Runs.{IsOpened, Leads}
+use Rattle.core_law.specs.worlds.Worlds.{Applies, Settles, WorldState, least_open, settles_by, step_entry}
 use Rattle.audit_law.proofs.Unfailed.{NoneFailed}
 
 -- in no step of these entries a device failed

@@ -9,8 +9,8 @@ use Rattle.tree_model.specs.Trees.{IsTree, lists_twice, times_listed}
 use Rattle.logs_script.specs.declared.line.ProcessLog.{ProcessLog}
 use Rattle.logs_script.specs.Laws.{AreFirst}
 use Rattle.logs_script.specs.Logs.{bytes_of, each_has_log, has_log}
-use Rattle.logs_spelling.specs.Fits.{FitsEntry, FitsLogs}
-use Rattle.world_law.specs.Worlds.{WorldState}
+use Rattle.logs_script.specs.spelling.Fits.{FitsEntry, FitsLogs}
+use Rattle.core_law.specs.worlds.Worlds.{WorldState}
 use Rattle.tree_world.specs.Nodes.{SpellsLogBy}
 use Rattle.tree_engine.specs.Logs.{AreByteLogs, AreLogs}
 use Rattle.tree_audit.proofs.TreePlaces.{counted, here_once, how_many, itself, no_more, times_both}

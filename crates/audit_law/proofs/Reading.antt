@@ -7,7 +7,7 @@ use Rattle.tree_model.specs.declared.trees.TreeEntry.{TreeEntry}
 use Rattle.tree_model.specs.Names.{same_process}
 use Rattle.log_text.specs.Frames.{Cut, first_frame}
 use Rattle.log_text.specs.Reading.{read_record}
-use Rattle.log_order.specs.Logs.{LogReading, Whole, Damaged, read_log}
+use Rattle.log_rules.specs.order.Logs.{LogReading, Whole, Damaged, read_log}
 use Rattle.logs_script.specs.Faults.{damage_or, first_damage}
 use Rattle.logs_script.specs.Places.{Placed, and_placed, placed_by, placed_in}
 use Rattle.logs_script.proofs.PlaceLaws.{places_tell}

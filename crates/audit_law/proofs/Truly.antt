@@ -15,26 +15,26 @@ use Rattle.logs_script.specs.declared.line.ProcessLog.{ProcessLog}
 use Rattle.logs_script.specs.Logs.{IsLogsText, bytes_of}
 use Rattle.link_script.specs.Inputs.{IsScript}
 use Rattle.logs_script.specs.Faults.{Damage, damage_text, first_damage}
-use Rattle.log_order.specs.Logs.{read_log}
-use Rattle.logs_spelling.specs.Fits.{FitsEntry, FitsTree}
-use Rattle.logs_spelling.proofs.OneWay.{read_has_no_fault, read_in_one_way}
-use Rattle.logs_spelling.proofs.Read.{table_fits}
-use Rattle.logs_spelling.proofs.Written.{written_is_read}
+use Rattle.log_rules.specs.order.Logs.{read_log}
+use Rattle.logs_script.specs.spelling.Fits.{FitsEntry, FitsTree}
+use Rattle.logs_script.proofs.spelling.OneWay.{read_has_no_fault, read_in_one_way}
+use Rattle.logs_script.proofs.spelling.Read.{table_fits}
+use Rattle.logs_script.proofs.spelling.Written.{written_is_read}
 use Rattle.rec_log.specs.Sights.{body, records_of}
 use Rattle.rec_log.specs.Texts.{records_in}
 use Rattle.report_io.specs.declared.status.Status.TheVariants.{Ended}
 use Rattle.core_model.specs.States.{CoreState}
 use Rattle.core_law.specs.Fits.{KeepsOwn}
-use Rattle.world_law.proofs.Kept.{keeps_own}
-use Rattle.world_law.specs.Refusals.{LeadsTo, Refusal}
-use Rattle.world_law.specs.Runs.{IsOpened}
-use Rattle.world_law.specs.Ties.{Follows}
-use Rattle.world_law.specs.Worlds.{WorldState}
+use Rattle.core_law.proofs.worlds.Kept.{keeps_own}
+use Rattle.core_law.specs.worlds.Refusals.{LeadsTo, Refusal}
+use Rattle.core_law.specs.worlds.Runs.{IsOpened}
+use Rattle.core_law.specs.worlds.Ties.{Follows}
+use Rattle.core_law.specs.worlds.Worlds.{WorldState}
 use Rattle.tree_world.specs.Nodes.{SpellsLogBy, log_kind}
 use Rattle.tree_engine.specs.declared.tree.Output.TheVariants.{Logs}
 use Rattle.tree_engine.specs.Logs.{AreLogs, LeavesLogs}
 use Rattle.tree_engine.specs.Trees.{Tells, ending}
-use Rattle.world_law.specs.Sayings.{Saying}
+use Rattle.core_law.specs.worlds.Sayings.{Saying}
 use Rattle.tree_audit.specs.Reports.{entry_kind, kept_lists, mismatches_in, whole_records}
 use Rattle.tree_audit.specs.Truths.{AreKeptBehind, AreTrue}
 use Rattle.tree_audit.proofs.TreePlaces.{listed_entry, named_so, not_found, role_if}

@@ -8,8 +8,8 @@ use Rattle.tree_model.specs.declared.trees.TreeEntry.{TreeEntry}
 use Rattle.tree_model.specs.Nodes.{Effect, Node, Place, entries_written, is_any_forced, kept, place_of}
 use Rattle.tree_model.specs.World.{IsRun, Made, Move, World, makes, opens}
 use Rattle.tree_model.proofs.RunLaws.{makes_at}
-use Rattle.tree_turns.specs.Steps.{StepOf, failed_in, failed_passing, failed_reopening, failed_trimming, handled, passed, reopened, trimmed}
-use Rattle.tree_turns.proofs.Steps.{step_of}
+use Rattle.tree_pairs.specs.turns.Steps.{StepOf, failed_in, failed_passing, failed_reopening, failed_trimming, handled, passed, reopened, trimmed}
+use Rattle.tree_pairs.proofs.turns.Steps.{step_of}
 use Rattle.tree_nodes.proofs.Worlds.{put}
 
 -- in none of these moves a device failed

@@ -15,7 +15,7 @@ use Rattle.audit_engine.specs.declared.ending.Ending.{Ending}
 use Rattle.report_io.specs.declared.status.Status.TheVariants.{Ended}
 use Rattle.tree_engine.specs.declared.tree.Output.TheVariants.{Logs}
 use Rattle.tree_engine.specs.Trees.{RunsScript}
-use Rattle.world_law.specs.Sayings.{Saying}
+use Rattle.core_law.specs.worlds.Sayings.{Saying}
 
 -- the report tells lines that are true in this world, in as much detail as was asked for, and the audit ends as
 -- one does with so many mismatches

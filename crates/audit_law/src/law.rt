@@ -1,6 +1,6 @@
 //! What an audit tells of the logs that a run of a tree script left.
 
-ghost use Rattle.world_law.specs.Sayings.{IsOne, KeepsHeadline};
+ghost use Rattle.core_law.specs.worlds.Sayings.{IsOne, KeepsHeadline};
 ghost use Rattle.audit_law.specs.Laws.{AuditsOfLeftLogsAreTrue};
 
 /// Whatever `rstar audit` writes of the logs that `rstar tree --logs` left of a run is true of just that run: each case's

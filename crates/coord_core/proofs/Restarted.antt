@@ -10,7 +10,7 @@ use Rattle.tree_model.specs.Restarts.{data_records}
 use Rattle.tree_model.specs.Standings.{CoordinatorView, unknown_branch}
 use Rattle.live_table.specs.Tables.{case_of, entry_at}
 use Rattle.log_text.specs.Made.{frame_record}
-use Rattle.log_trim.specs.Trims.{front_of_trim}
+use Rattle.log_rules.specs.trim.Trims.{front_of_trim}
 use Rattle.rec_log.specs.Sights.{LogState, NotRestarted as LogNotRestarted, NotRewritten, Restarts as LogRestarts, left_by, records_of}
 use Rattle.rec_log.specs.Trimming.{Trimmed, trim_of}
 use Rattle.rec_log.specs.declared.log.LogError.{LogError}

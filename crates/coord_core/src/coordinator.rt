@@ -7,7 +7,7 @@ ghost use Rattle.coord_table.specs.Cases.{FitsGiven, ticket_in, view_in};
 ghost use Rattle.coord_turns.specs.Takes.{IsAt};
 ghost use Rattle.tree_model.specs.declared.names.Kind.TheVariants as kind;
 ghost use Rattle.std.specs.List.{AllByRecursion};
-ghost use Rattle.log_sound.specs.Sound.{IsSound};
+ghost use Rattle.log_rules.specs.sound.Sound.{IsSound};
 ghost use Rattle.rec_log.specs.Sights.{ReadsAs, left_by, records_of, whole_within};
 ghost use Rattle.core_model.specs.States.{HasNumbers};
 ghost use Rattle.coord_core.specs.States.{state};

@@ -10,11 +10,11 @@ use Rattle.tree_model.specs.LogNames.{in_log, is_own_record, own_by, own_records
 use Rattle.tree_model.specs.Nodes.{AtLeaf, AtRoot, Below, Place, Role}
 use Rattle.tree_model.specs.Records.{has, is_opened, record_case}
 use Rattle.tree_model.specs.Restarts.{data_records, trimmed}
-use Rattle.log_trim.specs.Trims.{front_of_trim, last_opened, opened_after, stays, staying}
-use Rattle.log_sound.specs.Sound.{IsSound}
-use Rattle.log_law.specs.ReadTrims.{Coordinates}
-use Rattle.log_law.proofs.Trimmed.{coordinators_read_trims}
-use Rattle.log_law.proofs.ManagerTrims.{managers_read_trims}
+use Rattle.log_rules.specs.trim.Trims.{front_of_trim, last_opened, opened_after, stays, staying}
+use Rattle.log_rules.specs.sound.Sound.{IsSound}
+use Rattle.log_rules.specs.reads.ReadTrims.{Coordinates}
+use Rattle.log_rules.proofs.reads.Trimmed.{coordinators_read_trims}
+use Rattle.log_rules.proofs.reads.ManagerTrims.{managers_read_trims}
 use Rattle.core_model.specs.Makes.{kind_of_role}
 use Rattle.core_law.proofs.OwnRecords.{both_so}
 use Rattle.core_law.proofs.Records.{map_append}

@@ -17,7 +17,7 @@ use Rattle.tree_model.specs.Records.{boot_of, has, is_abort, is_collecting, is_c
 use Rattle.tree_model.specs.Restarts.{case_stays, data_records, is_known, is_open, recorded_view, stays, staying, trimmed, trims}
 use Rattle.tree_model.specs.Standings.{CoordinatorView, Decided, Finished, ManagerView, Mark, Promised, ToldOf, Unmarked, coordinator_standing, coordinator_view, known_view, manager_view, mark_after, mark_of, marked_branch, phase_standing, standing_by, unknown_view, view_at as standing_view}
 use Rattle.tree_model.specs.Views.{IsOpenAlike}
-use Rattle.log_law.specs.ReadTrims.{Coordinates}
+use Rattle.log_rules.specs.reads.ReadTrims.{Coordinates}
 use Rattle.tree_nodes.specs.Marks.{is_branch_record}
 use Rattle.tree_nodes.specs.WorldHolds.{is_of, is_record_of}
 use Rattle.tree_nodes.proofs.Boots.{trims_memory}

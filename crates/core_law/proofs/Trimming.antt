@@ -14,7 +14,7 @@ use Rattle.tree_model.specs.Restarts.{trim_effect, trim_fails, trimmed, trims}
 use Rattle.tree_model.specs.World.{Refuses, fault_effect, node_makes, trim_makes}
 use Rattle.tree_nodes.proofs.Boots.{trimmed_boot, trims_memory}
 use Rattle.rec_log.specs.Sights.{Kept, LogSight, records_of}
-use Rattle.log_law.specs.ReadTrims.{Coordinates}
+use Rattle.log_rules.specs.reads.ReadTrims.{Coordinates}
 use Rattle.core_model.specs.Restarting.{NotTrimmed, Trims, trimmed_log}
 use Rattle.core_model.specs.States.{CoreState, logged, parent}
 use Rattle.core_model.specs.Views.{SameView}

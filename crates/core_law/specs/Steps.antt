@@ -13,7 +13,7 @@ use Rattle.tree_model.specs.declared.events.StepError.TheVariants.{Device, Faile
 use Rattle.tree_model.specs.Nodes.{DataAnswer, Effect, Node, ReadsOnly, reaction_of}
 use Rattle.tree_model.specs.Reactions.{is_passed_over}
 use Rattle.tree_model.specs.World.{Makes as Leaves, Move, Refuses, node_makes}
-use Rattle.log_sound.specs.Sound.{IsSound}
+use Rattle.log_rules.specs.sound.Sound.{IsSound}
 use Rattle.rec_log.specs.Sights.{records_of, whole_within}
 use Rattle.core_model.specs.States.{CoreState}
 use Rattle.core_model.specs.Makes.{IsBroken, IsRefused, Makes, kind_of_role}

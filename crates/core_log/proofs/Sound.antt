@@ -2,9 +2,9 @@
 use Rattle.tree_model.specs.declared.names.Kind.{Kind}
 use Rattle.tree_model.specs.declared.records.LogRecord.{LogRecord}
 use Rattle.log_text.specs.Payloads.{FitsFrame}
-use Rattle.log_sound.specs.Sound.{IsSound}
-use Rattle.log_sound.proofs.Records.{records_read_back}
-use Rattle.log_sound.proofs.Sizes.{records_fit_frames}
+use Rattle.log_rules.specs.sound.Sound.{IsSound}
+use Rattle.log_rules.proofs.sound.Records.{records_read_back}
+use Rattle.log_rules.proofs.sound.Sizes.{records_fit_frames}
 use Rattle.rec_log.specs.Sights.{IsRecord}
 
 pub sound_is_record : (p : Kind) (l : LogRecord) → IsSound p l → IsRecord p l

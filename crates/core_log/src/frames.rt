@@ -5,7 +5,7 @@ ghost use Rattle.tree_model.specs.declared.names.Kind.{Kind as AnyKind};
 ghost use Rattle.tree_model.specs.declared.records.Branch.{Branch as AnyBranch};
 ghost use Rattle.tree_model.specs.LogNames.{in_log};
 ghost use Rattle.log_text.specs.Made.{frame_record};
-ghost use Rattle.log_sound.specs.Sound.{AreSoundTickets, IsSound, IsSoundName, IsSoundTicket};
+ghost use Rattle.log_rules.specs.sound.Sound.{AreSoundTickets, IsSound, IsSoundName, IsSoundTicket};
 ghost use Rattle.rec_log.specs.Sights.{IsRecord};
 
 use log_text::Frame;

@@ -7,10 +7,10 @@ use Rattle.tree_model.specs.declared.events.StepError.{StepError}
 use Rattle.tree_model.specs.declared.events.StepError.TheVariants.{Memory, Device}
 use Rattle.tree_model.specs.declared.trees.TreeEntry.{TreeEntry}
 use Rattle.tree_model.specs.Trees.{IsTree}
-use Rattle.world_law.specs.Refusals.{Refusal}
-use Rattle.world_law.specs.Runs.{IsOpened, Leads, LeadsUntil}
-use Rattle.world_law.specs.Worlds.{WorldState}
-use Rattle.world_law.proofs.Whole.{run_of}
+use Rattle.core_law.specs.worlds.Refusals.{Refusal}
+use Rattle.core_law.specs.worlds.Runs.{IsOpened, Leads, LeadsUntil}
+use Rattle.core_law.specs.worlds.Worlds.{WorldState}
+use Rattle.core_law.proofs.worlds.Whole.{run_of}
 use Rattle.crash_engine.specs.Runs.{ComesTo}
 use Rattle.crash_engine.specs.Trials.{Ran}
 

@@ -3,7 +3,7 @@ use Rattle.std.proofs.Common.{◌≡◌, sym, subst, ℕ, suc, ◌+◌, ◌<◌,
 use Rattle.tree_model.specs.declared.events.Event.{Event}
 use Rattle.tree_model.specs.declared.trees.TreeEntry.{TreeEntry}
 use Rattle.link_script.specs.Inputs.{IsScript}
-use Rattle.world_law.specs.Refusals.{Refusal}
+use Rattle.core_law.specs.worlds.Refusals.{Refusal}
 use Rattle.crash_engine.specs.Trials.{Adds, GoesOver, GoesThrough, IsRefused, TriesAll}
 use Rattle.crash_engine.specs.declared.trial.Trial.{Trial}
 use Rattle.crash_engine.specs.Crashes.{IsCrashReport, TriesScript}

@@ -5,9 +5,9 @@ use Rattle.tree_model.specs.declared.events.Event.{Event}
 use Rattle.tree_model.specs.declared.trees.TreeEntry.{TreeEntry}
 use Rattle.tree_model.specs.declared.events.Event.TheVariants.{Settle}
 use Rattle.tree_model.specs.Trees.{IsTree}
-use Rattle.world_law.specs.Refusals.{Refusal}
-use Rattle.world_law.specs.Runs.{IsOpened}
-use Rattle.world_law.specs.Worlds.{WorldState}
+use Rattle.core_law.specs.worlds.Refusals.{Refusal}
+use Rattle.core_law.specs.worlds.Runs.{IsOpened}
+use Rattle.core_law.specs.worlds.Worlds.{WorldState}
 use Rattle.tree_world.specs.Worlds.{state}
 use Rattle.crash_engine.specs.declared.auditing.Audited.{Audited}
 use Rattle.crash_engine.specs.declared.run.Run.{Run}

@@ -3,7 +3,7 @@ use Rattle.std.specs.Prelude.{◌≡◌, ℕ, List}
 use Rattle.tree_model.specs.declared.events.Event.{Event}
 use Rattle.tree_model.specs.declared.trees.TreeEntry.{TreeEntry}
 use Rattle.link_script.specs.Inputs.{IsScript}
-use Rattle.world_law.specs.Refusals.{Refusal}
+use Rattle.core_law.specs.worlds.Refusals.{Refusal}
 use Rattle.tree_engine.specs.Trees.{RefusesScript}
 use Rattle.crash_engine.specs.Trials.{GoesOver}
 use Rattle.crash_engine.specs.declared.trial.Trial.{Trial}

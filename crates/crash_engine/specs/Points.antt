@@ -5,7 +5,7 @@ use Rattle.tree_model.specs.declared.names.ProcessId.{ProcessId}
 use Rattle.tree_model.specs.declared.events.Event.{Event}
 use Rattle.tree_model.specs.declared.events.Event.TheVariants.{Restart, Settle}
 use Rattle.rec_log.specs.Sights.{record_size}
-use Rattle.world_law.specs.Worlds.{WorldState}
+use Rattle.core_law.specs.worlds.Worlds.{WorldState}
 use Rattle.tree_world.specs.Unforced.{unforced_by}
 use Rattle.crash_engine.specs.declared.points.Point.{Point}
 

@@ -1,8 +1,8 @@
 -- A run that goes on until an event is refused.
 use Rattle.std.specs.Prelude.{◌≡◌, ℕ, None, List, length}
 use Rattle.tree_model.specs.declared.events.Event.{Event}
-use Rattle.world_law.specs.Refusals.{IsForItself, LeadsTo, Refusal}
-use Rattle.world_law.specs.Worlds.{WorldState}
+use Rattle.core_law.specs.worlds.Refusals.{IsForItself, LeadsTo, Refusal}
+use Rattle.core_law.specs.worlds.Worlds.{WorldState}
 use Rattle.tree_world.specs.Worlds.{state}
 use Rattle.crash_engine.specs.declared.run.Run.{Run}
 

@@ -5,7 +5,7 @@ use Rattle.std.specs.Fmt.{decimal}
 use Rattle.tree_model.specs.declared.names.Case.{Case}
 use Rattle.tree_model.specs.Errors.{step_error_number}
 use Rattle.tree_model.specs.Texts.{case_text}
-use Rattle.world_law.specs.Refusals.{Refusal}
+use Rattle.core_law.specs.worlds.Refusals.{Refusal}
 use Rattle.tree_engine.specs.Trees.{refused_text}
 use Rattle.crash_engine.specs.declared.auditing.Left.{Left}
 use Rattle.crash_engine.specs.declared.points.Point.{Point}

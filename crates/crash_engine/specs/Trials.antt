@@ -4,9 +4,9 @@ use Rattle.tree_model.specs.declared.events.Event.{Event}
 use Rattle.tree_model.specs.declared.events.Event.TheVariants.{Settle}
 use Rattle.tree_model.specs.declared.events.StepError.{StepError}
 use Rattle.tree_model.specs.declared.trees.TreeEntry.{TreeEntry}
-use Rattle.world_law.specs.Refusals.{IsRunOf, LeadsTo, Refusal}
-use Rattle.world_law.specs.Runs.{IsOpened}
-use Rattle.world_law.specs.Worlds.{WorldState}
+use Rattle.core_law.specs.worlds.Refusals.{IsRunOf, LeadsTo, Refusal}
+use Rattle.core_law.specs.worlds.Runs.{IsOpened}
+use Rattle.core_law.specs.worlds.Worlds.{WorldState}
 use Rattle.crash_engine.specs.Audits.{Audits, asks_by, doubts_in, mismatched_in}
 use Rattle.crash_engine.specs.Points.{crash_of, points_in}
 use Rattle.crash_engine.specs.declared.auditing.Audited.{Audited}

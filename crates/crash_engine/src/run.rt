@@ -3,8 +3,8 @@
 ghost use Rattle.std.specs.Prelude.{◌≡◌, ◌+◌, ◌++◌, [], IfErr, IfOk, List, OnOk};
 ghost use Rattle.tree_model.specs.declared.events.Event.{Event as AnyEvent};
 ghost use Rattle.tree_model.specs.Trees.{IsTree};
-ghost use Rattle.world_law.specs.Runs.{IsOpened};
-ghost use Rattle.world_law.specs.Worlds.{WorldState};
+ghost use Rattle.core_law.specs.worlds.Runs.{IsOpened};
+ghost use Rattle.core_law.specs.worlds.Worlds.{WorldState};
 ghost use Rattle.tree_world.specs.Worlds.{state};
 ghost use Rattle.crash_engine.specs.Runs.{HasCome};
 

@@ -5,7 +5,7 @@ use Rattle.std.proofs.lemmas.Grind.{common_steps}
 use Rattle.xa_tables.specs.declared.states.BranchState.{BranchState}
 use Rattle.xa_xid.specs.declared.xid.Xid.{Xid}
 use Rattle.xa_states.specs.Answers.{Takes as TakesRow}
-use Rattle.log_order.specs.Orders.{names_key}
+use Rattle.log_rules.specs.order.Orders.{names_key}
 use Rattle.tree_model.specs.declared.records.Write.{Write}
 use Rattle.tree_model.specs.Records.{same_bytes}
 use Rattle.tree_model.specs.Plays.{with_write}
@@ -16,8 +16,8 @@ use Rattle.kv_locks.specs.declared.holders.Mode.{Mode}
 use Rattle.kv_locks.specs.declared.holders.Mode.TheVariants.{Exclusive, Shared}
 use Rattle.kv_locks.specs.Locks.{LockTable, Releases, Takes, blocked_by, given, holders_of, holds, same, without}
 use Rattle.kv_locks.proofs.Holding.{holds_given, holds_without, same_is as locks_same, without_itself}
-use Rattle.kv_writes.specs.Writes.{Leaves, SameWrites, WriteTable, writes_of}
-use Rattle.kv_writes.proofs.Lists.{with_write_names}
+use Rattle.kv_store.specs.writes.Writes.{Leaves, SameWrites, WriteTable, writes_of}
+use Rattle.kv_store.proofs.writes.Lists.{with_write_names}
 use Rattle.kv_turns.specs.declared.turns.Turn.{Turn}
 use Rattle.xa_heur.specs.Cases.{decision_in}
 use Rattle.kv_core.specs.Ends.{TakesTurn, known_behind}

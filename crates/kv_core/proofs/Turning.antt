@@ -14,7 +14,7 @@ use Rattle.tree_model.specs.declared.names.Outcome.TheVariants.{Aborted, Committ
 use Rattle.tree_model.specs.declared.records.Branch.{Branch}
 use Rattle.tree_model.specs.declared.records.Write.{Write}
 use Rattle.log_text.specs.Parts.{name_in}
-use Rattle.kv_writes.specs.Writes.{writes_of}
+use Rattle.kv_store.specs.writes.Writes.{writes_of}
 use Rattle.kv_turns.specs.declared.turns.Turn.{Turn}
 use Rattle.kv_turns.specs.Turns.{decide_turn, tell_turn, turn_of}
 use Rattle.kv_core.specs.Stores.{IsTidy, KeySight, is_decided, state_of}

@@ -19,7 +19,7 @@ use Rattle.tree_model.specs.declared.names.Outcome.TheVariants as outcome
 use Rattle.tree_model.specs.declared.records.Write.{Write}
 use Rattle.kv_locks.specs.Locks.{Releases}
 use Rattle.kv_store.specs.Versions.{Publishes, SameData, Stages}
-use Rattle.kv_writes.specs.Writes.{Leaves, writes_of}
+use Rattle.kv_store.specs.writes.Writes.{Leaves, writes_of}
 use Rattle.kv_turns.specs.declared.turns.Turn.{Turn}
 use Rattle.kv_turns.specs.declared.entries.Entry.{Entry}
 use Rattle.kv_turns.specs.declared.entries.Entry.TheVariants.{HeurCommit, HeurRollback, Told, Forgot}

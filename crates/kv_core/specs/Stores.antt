@@ -7,11 +7,11 @@ use Rattle.xa_states.specs.declared.states.States.{States}
 use Rattle.xa_states.specs.Answers.{Same, state_at}
 use Rattle.xa_states.specs.Restored.{Restored}
 use Rattle.xa_heur.specs.Cases.{DecisionTable, SameDecisions, decision_in}
-use Rattle.log_order.specs.Orders.{names_key}
+use Rattle.log_rules.specs.order.Orders.{names_key}
 use Rattle.kv_locks.specs.declared.holders.Mode.TheVariants.{Exclusive}
 use Rattle.kv_locks.specs.Locks.{LockTable, holders_of, holds}
 use Rattle.kv_store.specs.Versions.{VersionTable}
-use Rattle.kv_writes.specs.Writes.{SameWrites, WriteTable, writes_of}
+use Rattle.kv_store.specs.writes.Writes.{SameWrites, WriteTable, writes_of}
 
 -- what a contract sees: the tables of calls, what each branch at work has written, the locks, the data, and what
 -- operators decided

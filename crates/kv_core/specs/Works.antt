@@ -12,7 +12,7 @@ use Rattle.kv_locks.specs.declared.holders.Mode.{Mode}
 use Rattle.kv_locks.specs.declared.holders.Mode.TheVariants.{Exclusive, Shared}
 use Rattle.kv_locks.specs.Locks.{Takes, blocked_by, holders_of}
 use Rattle.kv_store.specs.Versions.{value_at}
-use Rattle.kv_writes.specs.Writes.{Leaves, is_of, is_within_limit, writes_of}
+use Rattle.kv_store.specs.writes.Writes.{Leaves, is_of, is_within_limit, writes_of}
 use Rattle.kv_core.specs.Stores.{KeySight, SameStore, state_of}
 
 -- a branch that a thread is active in is at work (in S1), or its work failed (in S4)

@@ -2,7 +2,7 @@
 
 ghost use Rattle.std.specs.Prelude.{◌≡◌, ◌≤◌, ◌<◌, ◌+◌, ◌^◌, ◌↔◌, not, IsTrue, Contains, MatchResult, IfOk, IfErr, OnOk, OnErr, Some, None, option_map, true, false};
 ghost use Rattle.kv_locks.specs.declared.holders.Mode.TheVariants as mode;
-ghost use Rattle.kv_writes.specs.Writes.{AreWrites, writes_of};
+ghost use Rattle.kv_store.specs.writes.Writes.{AreWrites, writes_of};
 ghost use Rattle.xa_states.specs.Answers.{Answers, Closes, Opens, Recovers, Wanted, map_ok};
 ghost use Rattle.xa_states.specs.Ready.{is_closed, is_work_verb, leaves};
 ghost use Rattle.xa_tables.specs.Calls.{legal};
@@ -17,8 +17,8 @@ ghost use Rattle.kv_core.specs.Ends.{CanNote, IsDue, IsListed, IsOff, IsTurn, Pu
 
 use kv_locks::{LockError, Locks, Mode};
 use kv_store::Versions;
+use kv_store::writes::BranchWrites;
 use kv_turns::{Entry, Turn, branch_of};
-use kv_writes::BranchWrites;
 use std::alloc::{AllocError, Global};
 use std::marker::Model;
 use tree_model::{Bytes, Outcome, Sequence, Write};

@@ -3,8 +3,8 @@ use Rattle.std.proofs.Common.{◌≡◌, ◌∙◌, ◌∷◌, [], ◌++◌, ℕ
 use Rattle.tree_model.specs.declared.names.Kind.TheVariants.{Manager}
 use Rattle.tree_model.specs.declared.records.LogRecord.{LogRecord}
 use Rattle.tree_model.specs.Records.{same_bytes}
-use Rattle.log_order.specs.Logs.{Whole, read_log}
-use Rattle.log_order.specs.Orders.{SeenLog, nothing_seen}
+use Rattle.log_rules.specs.order.Logs.{Whole, read_log}
+use Rattle.log_rules.specs.order.Orders.{SeenLog, nothing_seen}
 use Rattle.rec_log.specs.Sights.{records_of}
 use Rattle.kv_replay.specs.Replays.{seen_after, seen_of}
 use Rattle.core_model.specs.Opening.{first_opened}

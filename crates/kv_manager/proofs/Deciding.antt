@@ -26,7 +26,7 @@ use Rattle.manager_model.specs.Deciding.{DecideFails, Decides, NotDecided, decis
 use Rattle.manager_model.specs.declared.errors.DecideError.{DecideError}
 use Rattle.manager_model.specs.declared.errors.DecideError.TheVariants.{Device, Failed, Memory, NotInDoubt}
 use Rattle.kv_store.specs.Versions.{SameData}
-use Rattle.kv_writes.specs.Writes.{writes_of}
+use Rattle.kv_store.specs.writes.Writes.{writes_of}
 use Rattle.kv_turns.specs.declared.entries.Entry.{Entry}
 use Rattle.kv_turns.specs.declared.turns.Turn.{Turn}
 use Rattle.kv_turns.specs.Turns.{decide_turn, entry_record, heur_entry}

@@ -20,7 +20,7 @@ use Rattle.xa_manager.specs.declared.errors.WorkError.TheVariants.{Memory, NotAs
 use Rattle.tree_model.specs.Store.{Data}
 use Rattle.kv_store.specs.Versions.{SameData, VersionTable, value_at}
 use Rattle.kv_replay.specs.Folds.{AreData}
-use Rattle.kv_writes.specs.Writes.{writes_of}
+use Rattle.kv_store.specs.writes.Writes.{writes_of}
 use Rattle.xa_heur.specs.Cases.{decision_in, decision_or}
 use Rattle.kv_core.specs.Stores.{KeySight, SameStore, is_decided, state_of}
 use Rattle.kv_core.specs.Ends.{Reserves, SameButData, known_of}

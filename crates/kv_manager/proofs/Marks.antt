@@ -16,9 +16,9 @@ use Rattle.tree_model.specs.Records.{boot_after, boot_of, record_branch, same_br
 use Rattle.tree_model.specs.Standings.{Mark, Unmarked, Promised, Decided as DecidedMark, ToldOf, Finished, mark_after, mark_of}
 use Rattle.tree_model.specs.Store.{Data, no_data, stored, stored_after, writes_of as promised_of}
 use Rattle.log_text.proofs.NameReading.{same_xid_is, same_xid_refl}
-use Rattle.log_order.specs.declared.seen.Mark.TheVariants.{Open, Decided, Told}
-use Rattle.log_order.specs.declared.seen.Promise.{Promise}
-use Rattle.log_order.specs.Orders.{SeenLog, after, boot_rises, followed, found, is_heuristic, is_open, is_opened, is_untold, keys_free, keys_once, nothing_seen, opens, promised, promised_by, promises, rank_in, rises, same, with_promise, without_promise}
+use Rattle.log_rules.specs.declared.order.seen.Mark.TheVariants.{Open, Decided, Told}
+use Rattle.log_rules.specs.declared.order.seen.Promise.{Promise}
+use Rattle.log_rules.specs.order.Orders.{SeenLog, after, boot_rises, followed, found, is_heuristic, is_open, is_opened, is_untold, keys_free, keys_once, nothing_seen, opens, promised, promised_by, promises, rank_in, rises, same, with_promise, without_promise}
 use Rattle.kv_replay.specs.Folds.{by_xid, data_of, renamed_by}
 use Rattle.kv_replay.specs.Replays.{seen_after, seen_of}
 use Rattle.kv_replay.proofs.Lawful.{IsLawful, lawful_after, lawful_of, never_seen}

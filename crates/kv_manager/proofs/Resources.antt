@@ -43,7 +43,7 @@ use Rattle.manager_model.specs.Ends.{Broke, Fails, Failed, Finishes, Limited, Ma
 use Rattle.kv_locks.specs.declared.holders.Mode.{Mode}
 use Rattle.kv_locks.specs.declared.holders.Mode.TheVariants.{Exclusive, Shared}
 use Rattle.kv_locks.specs.Locks.{blocked_by, holders_of}
-use Rattle.kv_writes.specs.Writes.{SameWrites, is_within_limit, writes_of}
+use Rattle.kv_store.specs.writes.Writes.{SameWrites, is_within_limit, writes_of}
 use Rattle.kv_turns.specs.declared.entries.Entry.{Entry}
 use Rattle.kv_turns.specs.declared.turns.Turn.{Turn}
 use Rattle.kv_turns.specs.Turns.{entry_of, tell_turn, turn_of}

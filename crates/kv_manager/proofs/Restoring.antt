@@ -13,13 +13,13 @@ use Rattle.xa_states.specs.Restored.{Restored, restore_refusal, state_left, stat
 use Rattle.tree_model.specs.declared.records.Branch.TheVariants.{Foreign}
 use Rattle.tree_model.specs.declared.records.LogRecord.{LogRecord}
 use Rattle.tree_model.specs.Store.{Data, writes_of as promised_of}
-use Rattle.log_order.specs.declared.seen.Promise.{Promise}
-use Rattle.log_order.specs.Orders.{SeenLog, found, is_open, left_by, names_key, opens, promised, promised_by, same}
+use Rattle.log_rules.specs.declared.order.seen.Promise.{Promise}
+use Rattle.log_rules.specs.order.Orders.{SeenLog, found, is_open, left_by, names_key, opens, promised, promised_by, same}
 use Rattle.kv_locks.specs.declared.holders.Mode.TheVariants.{Exclusive}
 use Rattle.kv_locks.specs.Locks.{LockTable, holders_of, holds}
 use Rattle.kv_store.specs.Pairs.{keys_rise}
 use Rattle.kv_store.specs.Versions.{VersionTable}
-use Rattle.kv_writes.specs.Writes.{WriteTable, writes_of}
+use Rattle.kv_store.specs.writes.Writes.{WriteTable, writes_of}
 use Rattle.kv_replay.specs.Folds.{AreData, data_of}
 use Rattle.kv_replay.specs.Replays.{HoldPromises, Leaves, seen_of}
 use Rattle.kv_replay.specs.declared.fault.ReplayError.{ReplayError}

@@ -11,14 +11,14 @@ use Rattle.tree_model.specs.declared.records.Record.{Record}
 use Rattle.tree_model.specs.declared.records.Record.TheVariants.{Opened, Collecting, Prepare, Commit, Abort, End, Prepared, Committed, RolledBack, Direct, HeurCommit, HeurRollback, Told, Forgot, Base, Pair}
 use Rattle.tree_model.specs.Restarts.{is_open}
 use Rattle.tree_model.specs.Store.{base_records, pair_record, writes_of as promised_of}
-use Rattle.log_sound.specs.Sound.{IsSound, IsSoundEntry}
+use Rattle.log_rules.specs.sound.Sound.{IsSound, IsSoundEntry}
 use Rattle.rec_log.specs.Sights.{LogState, records_of}
 use Rattle.rec_log.specs.Trimming.{Trimmed}
 use Rattle.rec_log.specs.Trimming as rec_log
 use Rattle.kv_store.specs.Pairs.{keys_rise}
 use Rattle.kv_locks.specs.Locks.{LockTable}
 use Rattle.kv_store.specs.Versions.{VersionTable}
-use Rattle.kv_writes.specs.Writes.{WriteTable}
+use Rattle.kv_store.specs.writes.Writes.{WriteTable}
 use Rattle.xa_heur.specs.Cases.{DecisionTable}
 use Rattle.tree_model.specs.Standings.{Decided, Finished, Mark, Promised, ToldOf, Unmarked}
 use Rattle.kv_core.specs.Ends.{known_of}

@@ -29,13 +29,13 @@ use Rattle.tree_model.specs.ManagerRows.{is_acknowledged}
 use Rattle.tree_model.specs.Standings.{Decided, Finished, Mark, Promised, ToldOf, Unmarked, mark_after, mark_of}
 use Rattle.tree_model.specs.Store.{Data, commits, stored, stored_after, writes_of as promised_of}
 use Rattle.log_text.proofs.NameReading.{same_xid_is, same_xid_refl}
-use Rattle.log_sound.proofs.CutNames.{name_again}
+use Rattle.log_rules.proofs.sound.CutNames.{name_again}
 use Rattle.rec_log.specs.Sights.{Breaks, LogSight, left_by, longer, records_of}
 use Rattle.kv_store.specs.Pairs.{found_in, keys_rise}
 use Rattle.kv_store.specs.Versions.{Applies, VersionTable, written}
 use Rattle.kv_store.proofs.Pairs.{writes_pairs}
 use Rattle.kv_store.proofs.Stages.{applies as applies_staged}
-use Rattle.kv_writes.specs.Writes.{AreWrites, Leaves, writes_of}
+use Rattle.kv_store.specs.writes.Writes.{AreWrites, Leaves, writes_of}
 use Rattle.kv_turns.specs.declared.entries.Entry.{Entry}
 use Rattle.kv_turns.specs.declared.entries.Entry.TheVariants.{Prepared, Committed, RolledBack, Direct, HeurCommit, HeurRollback, Told, Forgot}
 use Rattle.kv_turns.specs.declared.turns.Turn.{Turn}

@@ -13,7 +13,7 @@ use Rattle.manager_model.specs.Sights.{ManagerSight}
 use Rattle.kv_locks.specs.declared.holders.Mode.{Mode}
 use Rattle.kv_locks.specs.declared.holders.Mode.TheVariants.{Exclusive, Shared}
 use Rattle.kv_locks.specs.Locks.{blocked_by, holders_of}
-use Rattle.kv_writes.specs.Writes.{writes_of}
+use Rattle.kv_store.specs.writes.Writes.{writes_of}
 use Rattle.kv_core.specs.Stores.{KeySight, has_numbers}
 use Rattle.kv_core.specs.Ends.{known_of}
 use Rattle.kv_core.specs.Works.{is_too_long, limit_refusal, unless_locked}

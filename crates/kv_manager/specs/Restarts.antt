@@ -6,12 +6,12 @@ use Rattle.xa_branch.specs.Branches.{in_doubt}
 use Rattle.xa_states.specs.Restored.{Restored, restore_refusal}
 use Rattle.tree_model.specs.declared.records.LogRecord.{LogRecord}
 use Rattle.tree_model.specs.declared.records.Record.TheVariants.{Opened}
-use Rattle.log_order.specs.Orders.{SeenLog, left_by as in_doubt_by, promised}
+use Rattle.log_rules.specs.order.Orders.{SeenLog, left_by as in_doubt_by, promised}
 use Rattle.tree_model.specs.declared.names.Kind.TheVariants.{Manager}
 use Rattle.log_text.specs.Made.{frame_record}
 use Rattle.rec_log.specs.Openings.{NotOpened, Opens}
 use Rattle.rec_log.specs.Sights.{Breaks, IsRecord, LogState, RestartBreaks, Restarts, left_by, log_state, records_of}
-use Rattle.kv_writes.specs.Writes.{writes_of}
+use Rattle.kv_store.specs.writes.Writes.{writes_of}
 use Rattle.kv_replay.specs.declared.fault.ReplayError.{ReplayError}
 use Rattle.kv_replay.specs.declared.fault.ReplayError.TheVariants as replays
 use Rattle.kv_replay.specs.Folds.{AreData, data_of}

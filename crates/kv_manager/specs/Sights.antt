@@ -11,7 +11,7 @@ use Rattle.kv_store.specs.Pairs.{keys_rise}
 use Rattle.kv_replay.specs.Folds.{AreData, data_of}
 use Rattle.kv_replay.specs.Decisions.{decided_in, says_decided}
 use Rattle.kv_store.specs.Versions.{SameData}
-use Rattle.kv_writes.specs.Writes.{SameWrites, writes_of}
+use Rattle.kv_store.specs.writes.Writes.{SameWrites, writes_of}
 use Rattle.xa_states.specs.Answers.{Same}
 use Rattle.manager_model.specs.Restarting.{mark_at}
 use Rattle.xa_heur.specs.declared.decision.Decision.{Decision}

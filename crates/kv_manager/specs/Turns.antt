@@ -16,7 +16,7 @@ use Rattle.kv_turns.specs.declared.entries.Entry.{Entry}
 use Rattle.kv_turns.specs.declared.entries.Entry.TheVariants.{Prepared, Direct}
 use Rattle.kv_turns.specs.declared.turns.Turn.{Turn}
 use Rattle.kv_turns.specs.Turns.{applies, entry_record}
-use Rattle.kv_writes.specs.Writes.{writes_of}
+use Rattle.kv_store.specs.writes.Writes.{writes_of}
 use Rattle.xa_manager.specs.declared.errors.WorkError.{WorkError}
 use Rattle.xa_manager.specs.declared.errors.WorkError.TheVariants.{RmFail}
 use Rattle.xa_heur.specs.Cases.{Notes, decision_in}

@@ -16,10 +16,10 @@ use Rattle.tree_model.specs.Restarts.{is_open}
 use Rattle.tree_model.specs.Standings.{Decided, Finished, Mark, Promised, ToldOf, Unmarked, mark_after, mark_of}
 use Rattle.tree_model.specs.Store.{Data, stored_after, writes_of}
 use Rattle.log_text.proofs.NameReading.{same_xid_is, same_xid_refl}
-use Rattle.log_trim.specs.declared.lives.Said.{Said}
-use Rattle.log_trim.specs.declared.lives.Said.TheVariants.{Nothing, Over, Waits}
-use Rattle.log_trim.specs.Tables.{is_live, is_prepared, log_name, said_after, same}
-use Rattle.log_trim.specs.Trims.{is_name, is_of, prepares, said_behind, said_of, staying, stays, stays_by}
+use Rattle.log_rules.specs.declared.trim.lives.Said.{Said}
+use Rattle.log_rules.specs.declared.trim.lives.Said.TheVariants.{Nothing, Over, Waits}
+use Rattle.log_rules.specs.trim.Tables.{is_live, is_prepared, log_name, said_after, same}
+use Rattle.log_rules.specs.trim.Trims.{is_name, is_of, prepares, said_behind, said_of, staying, stays, stays_by}
 use Rattle.kv_replay.specs.Folds.{by_xid}
 use Rattle.kv_replay.proofs.Lookups.{same_is, same_itself, true_is_false}
 use Rattle.kv_pairs.specs.Keeping.{is_managers, mark_at}

@@ -5,9 +5,9 @@ use Rattle.tree_model.specs.declared.names.Kind.TheVariants.{Manager}
 use Rattle.tree_model.specs.declared.records.LogRecord.{LogRecord}
 use Rattle.tree_model.specs.declared.records.Record.TheVariants.{Pair}
 use Rattle.log_text.specs.Payloads.{FitsFrame}
-use Rattle.log_sound.specs.Sound.{IsSound}
-use Rattle.log_sound.proofs.Sizes.{records_fit_frames}
-use Rattle.log_sound.proofs.Records.{records_read_back}
+use Rattle.log_rules.specs.sound.Sound.{IsSound}
+use Rattle.log_rules.proofs.sound.Sizes.{records_fit_frames}
+use Rattle.log_rules.proofs.sound.Records.{records_read_back}
 use Rattle.rec_log.specs.Sights.{AreRecords, IsRecord}
 use Rattle.kv_pairs.specs.Keeping.{unnamed}
 

@@ -16,7 +16,7 @@ use Rattle.tree_model.specs.Records.{is_opened, record_branch}
 use Rattle.tree_model.specs.Restarts.{is_open}
 use Rattle.tree_model.specs.Standings.{Mark, Unmarked, mark_after, mark_of}
 use Rattle.tree_model.specs.Store.{Data, base_records, no_data, pair_record, stored, stored_after, writes_of}
-use Rattle.log_trim.specs.Trims.{front_of_trim, last_opened, opened_after, staying}
+use Rattle.log_rules.specs.trim.Trims.{front_of_trim, last_opened, opened_after, staying}
 use Rattle.kv_store.specs.Pairs.{keys_rise}
 use Rattle.kv_replay.specs.Decisions.{decided_in}
 use Rattle.kv_replay.specs.Folds.{by_xid, data_of, renamed_by}

@@ -9,7 +9,7 @@ use Rattle.tree_model.specs.declared.records.Record.TheVariants.{Collecting, Pre
 use Rattle.tree_model.specs.Restarts.{is_open}
 use Rattle.tree_model.specs.Standings.{Mark, mark_of}
 use Rattle.tree_model.specs.Store.{base_records, writes_of}
-use Rattle.log_trim.specs.Trims.{front_of_trim}
+use Rattle.log_rules.specs.trim.Trims.{front_of_trim}
 use Rattle.kv_store.specs.Pairs.{keys_rise}
 use Rattle.kv_replay.specs.Folds.{by_xid, data_of}
 use Rattle.kv_replay.specs.Decisions.{decided_in}

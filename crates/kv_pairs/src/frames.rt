@@ -3,7 +3,7 @@
 ghost use Rattle.std.specs.Prelude.{◌≡◌, ◌∷◌, IfOk, map};
 ghost use Rattle.tree_model.specs.declared.names.Kind.TheVariants as kind;
 ghost use Rattle.log_text.specs.Made.{frame_record};
-ghost use Rattle.log_sound.specs.Sound.{IsSound};
+ghost use Rattle.log_rules.specs.sound.Sound.{IsSound};
 ghost use Rattle.std.specs.Bool.{Decides};
 ghost use Rattle.rec_log.specs.Sights.{AreRecords};
 ghost use Rattle.tree_model.specs.Store.{pair_record};

@@ -12,10 +12,10 @@ use Rattle.kv_locks.specs.declared.locks.LockError.{LockError}
 use Rattle.kv_locks.specs.declared.locks.LockError.TheVariants.{Held}
 use Rattle.kv_locks.specs.Locks.{Gives, LockTable, Refuses, blocked_by, holders_of}
 use Rattle.kv_store.proofs.Order.{bytes_are_same, same_is as key_is, same_itself as key_itself}
-use Rattle.kv_writes.specs.Writes.{Leaves, WriteTable, writes_of}
+use Rattle.kv_store.specs.writes.Writes.{Leaves, WriteTable, writes_of}
 use Rattle.tree_model.specs.declared.records.LogRecord.{LogRecord}
-use Rattle.log_order.specs.declared.seen.Promise.{Promise}
-use Rattle.log_order.specs.Orders.{SeenLog, found, is_open, left_by, names_key, opens, promised, promised_by, same}
+use Rattle.log_rules.specs.declared.order.seen.Promise.{Promise}
+use Rattle.log_rules.specs.order.Orders.{SeenLog, found, is_open, left_by, names_key, opens, promised, promised_by, same}
 use Rattle.kv_replay.specs.declared.fault.ReplayError.{ReplayError}
 use Rattle.kv_replay.specs.declared.fault.ReplayError.TheVariants.{Memory, Malformed, Exhausted}
 use Rattle.kv_replay.specs.Replays.{AreFree, Fails, HoldFails, IsOrderly, LocksKeys, RestoreFails, Restores, seen_of}

@@ -14,10 +14,10 @@ use Rattle.tree_model.specs.LogNames.{name_xid}
 use Rattle.tree_model.specs.Records.{record_branch, same_branch, same_xid}
 use Rattle.tree_model.specs.Store.{Data, applied, commits, no_data, stored, stored_after, writes_of as writes_promised}
 use Rattle.log_text.proofs.NameReading.{same_xid_is, same_xid_refl}
-use Rattle.log_order.specs.declared.seen.Mark.{Mark}
-use Rattle.log_order.specs.declared.seen.Mark.TheVariants.{Open, Decided, Told}
-use Rattle.log_order.specs.declared.seen.Promise.{Promise}
-use Rattle.log_order.specs.Orders.{SeenLog, after, boot_rises, followed, found, is_heuristic, is_open, is_opened, is_untold, keys_free, keys_once, names_key, nothing_seen, opens, promised, promised_by, promises, rank_in, rises, same, with_promise, without_promise}
+use Rattle.log_rules.specs.declared.order.seen.Mark.{Mark}
+use Rattle.log_rules.specs.declared.order.seen.Mark.TheVariants.{Open, Decided, Told}
+use Rattle.log_rules.specs.declared.order.seen.Promise.{Promise}
+use Rattle.log_rules.specs.order.Orders.{SeenLog, after, boot_rises, followed, found, is_heuristic, is_open, is_opened, is_untold, keys_free, keys_once, names_key, nothing_seen, opens, promised, promised_by, promises, rank_in, rises, same, with_promise, without_promise}
 use Rattle.kv_store.specs.Pairs.{keys_rise}
 use Rattle.kv_store.specs.Versions.{pair_write}
 use Rattle.kv_store.proofs.Pairs.{writes_pairs}

@@ -6,8 +6,8 @@ use Rattle.std.specs.List.{AllByRecursion, IsDistinct}
 use Rattle.std.specs.Map.{keys_of, lookup, remove_entry}
 use Rattle.indexmap.specs.IndexMap.{insert_entry}
 use Rattle.xa_xid.specs.declared.xid.Xid.{Xid}
-use Rattle.log_order.specs.declared.seen.Promise.{Promise}
-use Rattle.log_order.specs.Orders.{same}
+use Rattle.log_rules.specs.declared.order.seen.Promise.{Promise}
+use Rattle.log_rules.specs.order.Orders.{same}
 
 pub same_is : (a b : Xid) → same a b ≡ true → a ≡ b
 same_is a b h = search rules

@@ -10,8 +10,8 @@ use Rattle.tree_model.specs.declared.records.Write.{Write}
 use Rattle.tree_model.specs.LogNames.{name_xid}
 use Rattle.tree_model.specs.Records.{record_branch}
 use Rattle.tree_model.specs.Store.{Data, applied, commits, stored_after, with_pair, writes_of as writes_promised}
-use Rattle.log_order.specs.Orders.{SeenLog, after, followed, found, is_open, is_opened, promised, with_promise, without_promise}
-use Rattle.log_order.specs.declared.seen.Mark.TheVariants.{Decided}
+use Rattle.log_rules.specs.order.Orders.{SeenLog, after, followed, found, is_open, is_opened, promised, with_promise, without_promise}
+use Rattle.log_rules.specs.declared.order.seen.Mark.TheVariants.{Decided}
 use Rattle.kv_store.specs.Pairs.{keys_rise}
 use Rattle.kv_store.specs.Versions.{Applies, Sets, VersionTable, pair_write, value_at, value_by, written}
 use Rattle.kv_store.proofs.Pairs.{writes_pairs}

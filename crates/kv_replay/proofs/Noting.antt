@@ -14,7 +14,7 @@ use Rattle.tree_model.specs.declared.records.Record.TheVariants.{Opened, Collect
 use Rattle.tree_model.specs.Records.{same_branch, same_xid}
 use Rattle.tree_model.specs.Standings.{Decided, Finished, Mark, Promised, ToldOf, Unmarked, mark_after, mark_of}
 use Rattle.tree_model.specs.LogNames.{name_xid}
-use Rattle.log_order.specs.Orders.{same}
+use Rattle.log_rules.specs.order.Orders.{same}
 use Rattle.log_text.proofs.NameReading.{same_xid_is, same_xid_refl}
 use Rattle.kv_replay.specs.Decisions.{KnowDecided, NotesRecord, known_after, says_decided}
 use Rattle.kv_replay.specs.Folds.{by_xid}

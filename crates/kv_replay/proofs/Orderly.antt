@@ -5,10 +5,10 @@ use Rattle.std.specs.Map.{keys_of, lookup}
 use Rattle.xa_xid.specs.declared.xid.Xid.{Xid}
 use Rattle.tree_model.specs.declared.records.Write.{Write}
 use Rattle.tree_model.specs.Records.{same_bytes}
-use Rattle.log_order.specs.declared.seen.Mark.{Mark}
-use Rattle.log_order.specs.declared.seen.Mark.TheVariants.{Open}
-use Rattle.log_order.specs.declared.seen.Promise.{Promise}
-use Rattle.log_order.specs.Orders.{SeenLog, found, holds, key_open, keys_free, keys_once, names_key, opens, promised, promised_by, promises, same, with_promise, without_promise}
+use Rattle.log_rules.specs.declared.order.seen.Mark.{Mark}
+use Rattle.log_rules.specs.declared.order.seen.Mark.TheVariants.{Open}
+use Rattle.log_rules.specs.declared.order.seen.Promise.{Promise}
+use Rattle.log_rules.specs.order.Orders.{SeenLog, found, holds, key_open, keys_free, keys_once, names_key, opens, promised, promised_by, promises, same, with_promise, without_promise}
 use Rattle.kv_store.proofs.Order.{same_is as key_is}
 use Rattle.kv_replay.specs.Replays.{IsOrderly}
 use Rattle.kv_replay.proofs.Lookups.{Live, apart_turns, distinct_out, distinct_put, found_out, found_put, same_is, same_itself, true_is_false}

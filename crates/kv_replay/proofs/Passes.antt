@@ -6,7 +6,7 @@ use Rattle.log_text.specs.declared.records.ReadFault.{ReadFault}
 use Rattle.log_text.specs.declared.records.ReadFault.TheVariants as fault
 use Rattle.tree_model.specs.declared.records.LogRecord.{LogRecord}
 use Rattle.tree_model.specs.Store.{Data, no_data, stored, stored_after}
-use Rattle.log_order.specs.Orders.{SeenLog, after, nothing_seen}
+use Rattle.log_rules.specs.order.Orders.{SeenLog, after, nothing_seen}
 use Rattle.kv_store.specs.Versions.{VersionTable, value_at, value_by}
 use Rattle.kv_store.specs.Pairs.{found_in}
 use Rattle.kv_replay.specs.declared.fault.ReplayError.{ReplayError}

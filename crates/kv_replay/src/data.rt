@@ -6,7 +6,7 @@ ghost use Rattle.kv_replay.specs.Replays.{CommitFails, KeepsBefore, TakeFails, T
 
 use crate::fault::ReplayError;
 use kv_store::Versions;
-use log_order::Seen;
+use log_rules::order::Seen;
 use log_text::name_xid;
 use std::alloc::{AllocError, Global};
 use tree_model::{Bytes, LogRecord, Record, Write};

@@ -2,16 +2,16 @@
 
 ghost use Rattle.std.specs.Prelude.{◌≡◌, true, IfOk, IfErr, OnOk};
 ghost use Rattle.std.specs.Bool.{Decides};
-ghost use Rattle.kv_writes.specs.Writes.{AreWrites, Leaves};
-ghost use Rattle.log_order.specs.Orders.{keys_once, left_by};
-ghost use Rattle.log_sound.specs.Sound.{IsSoundWrite};
+ghost use Rattle.kv_store.specs.writes.Writes.{AreWrites, Leaves};
+ghost use Rattle.log_rules.specs.order.Orders.{keys_once, left_by};
+ghost use Rattle.log_rules.specs.sound.Sound.{IsSoundWrite};
 ghost use Rattle.kv_replay.specs.declared.fault.ReplayError.TheVariants as error;
 ghost use Rattle.kv_replay.specs.Replays.{AreFree, HoldFails, IsOrderly, LocksKeys, RestoreFails, Restores};
 
 use crate::fault::ReplayError;
 use kv_locks::{LockError, Locks};
-use kv_writes::BranchWrites;
-use log_order::Seen;
+use kv_store::writes::BranchWrites;
+use log_rules::order::Seen;
 use std::alloc::Global;
 use tree_model::Write;
 use xa_xid::Xid;

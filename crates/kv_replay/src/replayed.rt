@@ -1,7 +1,7 @@
 //! The pass over the records of a log.
 
 ghost use Rattle.std.specs.Prelude.{◌≡◌, false, Some, IfOk, IfErr, OnOk};
-ghost use Rattle.log_order.specs.Orders.{after};
+ghost use Rattle.log_rules.specs.order.Orders.{after};
 ghost use Rattle.kv_replay.specs.Replays.{Fails, KeepsBefore, Leaves, Reads, TakeFails, Takes};
 
 use crate::data;
@@ -10,8 +10,8 @@ use crate::heuristic::decided;
 use crate::promises::{InDoubt, in_doubt};
 use kv_locks::Locks;
 use kv_store::Versions;
-use kv_writes::BranchWrites;
-use log_order::Seen;
+use kv_store::writes::BranchWrites;
+use log_rules::order::Seen;
 use std::alloc::Global;
 use tree_model::LogRecord;
 use xa_heur::Heuristics;

@@ -1,2 +1,3 @@
 pub mod Versions
 pub mod Pairs
+pub mod writes

@@ -13,6 +13,7 @@
 pub mod law;
 mod version;
 mod versions;
+pub mod writes;
 
 pub use version::Version;
 pub use versions::{Gone, Versions};

@@ -4,7 +4,7 @@ use Rattle.tree_model.specs.declared.names.Kind.TheVariants.{Manager}
 use Rattle.tree_model.specs.declared.records.Write.{Write}
 use Rattle.std.specs.Prelude.{List}
 use Rattle.log_text.specs.Parts.{name_in}
-use Rattle.log_sound.specs.Sound.{AreSoundWrites, IsSound, IsSoundName}
+use Rattle.log_rules.specs.sound.Sound.{AreSoundWrites, IsSound, IsSoundName}
 use Rattle.kv_turns.specs.declared.entries.Entry.{Entry}
 use Rattle.kv_turns.specs.declared.entries.Entry.TheVariants.{Prepared, Committed, RolledBack, Direct, HeurCommit, HeurRollback, Told, Forgot}
 use Rattle.kv_turns.specs.Turns.{AreSome, IsEntry, entry_record}

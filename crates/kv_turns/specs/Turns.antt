@@ -21,7 +21,7 @@ use Rattle.tree_model.specs.ManagerRows.{is_acknowledged}
 use Rattle.xa_heur.specs.declared.decision.Decision.{Decision}
 use Rattle.xa_heur.specs.Decisions.{heur_code}
 use Rattle.log_text.specs.Parts.{name_in}
-use Rattle.kv_writes.specs.Writes.{AreWrites}
+use Rattle.kv_store.specs.writes.Writes.{AreWrites}
 use Rattle.kv_turns.specs.declared.entries.Entry.{Entry}
 use Rattle.kv_turns.specs.declared.entries.Entry.TheVariants.{Prepared, Committed, RolledBack, Direct, HeurCommit, HeurRollback, Told, Forgot}
 use Rattle.kv_turns.specs.declared.turns.Turn.{Turn}

@@ -4,7 +4,7 @@ ghost use Rattle.std.specs.Prelude.{◌≡◌, IfOk};
 ghost use Rattle.tree_model.specs.declared.names.Kind.TheVariants as kind;
 ghost use Rattle.log_text.specs.Made.{frame_record};
 ghost use Rattle.log_text.specs.Parts.{name_in};
-ghost use Rattle.log_sound.specs.Sound.{IsSound, IsSoundName};
+ghost use Rattle.log_rules.specs.sound.Sound.{IsSound, IsSoundName};
 ghost use Rattle.kv_turns.specs.Turns.{IsEntry, applies, entry_of, entry_record, heur_entry, presumption_of};
 
 use log_text::{Frame, name_in};

@@ -11,7 +11,7 @@ use Rattle.tree_model.specs.Texts.{kind_word}
 use Rattle.link_script.specs.declared.script.ScriptFault.{ScriptFault}
 use Rattle.logs_script.specs.declared.line.ProcessLog.{ProcessLog}
 use Rattle.logs_script.specs.Logs.{IsLogsFault, IsLogsText, bytes_of}
-use Rattle.log_order.specs.Logs.{LogReading, Whole, Damaged, read_log}
+use Rattle.log_rules.specs.order.Logs.{LogReading, Whole, Damaged, read_log}
 use Rattle.report_io.specs.declared.status.Status.{Status}
 use Rattle.report_io.specs.declared.status.Status.TheVariants.{Ended, Refused, Stopped}
 use Rattle.log_engine.specs.Lines.{record_words}

@@ -6,11 +6,11 @@ use Rattle.tree_model.specs.declared.records.LogRecord.{LogRecord}
 use Rattle.log_text.specs.Frames.{Cut, first_frame, frame_text}
 use Rattle.log_text.specs.Payloads.{kind_byte, payload_text, record_text, records_text}
 use Rattle.log_text.specs.Reading.{read_record}
-use Rattle.log_order.specs.Logs.{Damaged, LogReading, Whole, read_frames, record_by, seen_by, with_first}
-use Rattle.log_order.specs.Orders.{SeenLog, after, nothing_seen}
-use Rattle.log_sound.specs.Written.{AreBytes, IsWrittenAs}
-use Rattle.log_sound.proofs.Cuts.{bytes_behind, none_some, number_again, some_is}
-use Rattle.log_sound.proofs.CutRecords.{read_is_written}
+use Rattle.log_rules.specs.order.Logs.{Damaged, LogReading, Whole, read_frames, record_by, seen_by, with_first}
+use Rattle.log_rules.specs.order.Orders.{SeenLog, after, nothing_seen}
+use Rattle.log_rules.specs.sound.Written.{AreBytes, IsWrittenAs}
+use Rattle.log_rules.proofs.sound.Cuts.{bytes_behind, none_some, number_again, some_is}
+use Rattle.log_rules.proofs.sound.CutRecords.{read_is_written}
 use Rattle.rec_log.proofs.Frames.{Cuts, cuts, own_frame}
 use Rattle.rec_log.proofs.Openings.{step_read, torn_read, with_all, with_all_damaged, with_all_whole}
 use Rattle.log_grammar.specs.Grammar.{Begins, BytesReadAsText, HasFrame, IsDamagedAt, IsText, IsWrong, admitted, and_then}

@@ -7,9 +7,9 @@ use Rattle.tree_model.specs.declared.records.LogRecord.{LogRecord}
 use Rattle.log_text.specs.Frames.{Cut, first_frame}
 use Rattle.log_text.specs.Payloads.{kind_byte, payload_text, records_text}
 use Rattle.log_text.specs.Reading.{read_record}
-use Rattle.log_order.specs.Logs.{Damaged, Whole, read_frames}
-use Rattle.log_order.specs.Orders.{SeenLog, after, nothing_seen}
-use Rattle.log_sound.specs.Written.{AreBytes}
+use Rattle.log_rules.specs.order.Logs.{Damaged, Whole, read_frames}
+use Rattle.log_rules.specs.order.Orders.{SeenLog, after, nothing_seen}
+use Rattle.log_rules.specs.sound.Written.{AreBytes}
 
 -- what has been seen behind more, where it may stand so far
 abbrev pub and_then : Option SeenLog → (SeenLog → Option SeenLog) → Option SeenLog

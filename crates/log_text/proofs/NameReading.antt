@@ -18,7 +18,7 @@ use Rattle.tree_model.specs.declared.names.Txn.{Txn}
 use Rattle.tree_model.specs.declared.records.Branch.TheVariants.{Foreign}
 use Rattle.tree_model.specs.Branches.{branch_format, branch_parts, below_bytes, txn_bytes, ticket_bytes, FitsTxn, FitsBelow}
 use Rattle.tree_model.specs.Records.{same_bytes, same_xid}
-use Rattle.tree_xids.proofs.BranchLaws.{txn_again, ticket_again, txn_is, ticket_is, length-ticket_bytes}
+use Rattle.log_text.proofs.xids.BranchLaws.{txn_again, ticket_again, txn_is, ticket_is, length-ticket_bytes}
 use Rattle.log_text.specs.Parts.{Front, Name, below_in, case_name, name_by, name_at, name_in, presumption_in, txn_in, xid_at}
 
 -- Bytes are numbers below 256, also behind a front.

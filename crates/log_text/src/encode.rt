@@ -24,11 +24,11 @@ ghost use Rattle.log_text.specs.Payloads.{
   writes_text,
 };
 
+use crate::xids::branch_xid;
 use std::alloc::{AllocError, Global};
 use tree_model::{
     Branch, Bytes, LogRecord, Outcome, ProcessId, Record, Ticket, Tickets, Write, Writes,
 };
-use tree_xids::branch_xid;
 use xa_xid::Xid;
 
 /// How many bytes a frame is thought to have. A longer one grows.

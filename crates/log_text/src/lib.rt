@@ -6,6 +6,7 @@ mod frames;
 mod names;
 mod parts;
 mod records;
+pub mod xids;
 
 pub use encode::{Frame, name_xid};
 pub use frames::{HEADER, first_frame};

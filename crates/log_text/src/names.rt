@@ -5,8 +5,8 @@ ghost use Rattle.tree_model.specs.Branches.{branch_parts};
 ghost use Rattle.xa_xid.specs.Xids.{IsXid};
 ghost use Rattle.log_text.specs.Parts.{name_at, name_in};
 
+use crate::xids::read_branch;
 use tree_model::{Branch, Case, ProcessId, Ticket, Txn};
-use tree_xids::read_branch;
 use xa_xid::Xid;
 
 /// The name of a transaction at its root.

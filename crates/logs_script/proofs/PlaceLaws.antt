@@ -7,8 +7,8 @@ use Rattle.tree_model.specs.declared.records.LogRecord.{LogRecord}
 use Rattle.tree_model.specs.Records.{same_bytes}
 use Rattle.log_text.specs.Frames.{Cut, first_frame, header}
 use Rattle.log_text.specs.Reading.{read_record}
-use Rattle.log_order.specs.Logs.{LogReading, Whole, Damaged, frame_by, read_frames, read_log, record_by, seen_by, with_first}
-use Rattle.log_order.specs.Orders.{SeenLog, after, nothing_seen}
+use Rattle.log_rules.specs.order.Logs.{LogReading, Whole, Damaged, frame_by, read_frames, read_log, record_by, seen_by, with_first}
+use Rattle.log_rules.specs.order.Orders.{SeenLog, after, nothing_seen}
 use Rattle.rec_log.proofs.Frames.{Cuts, cuts, taken}
 use Rattle.logs_script.specs.Places.{Placed, PlacesTell, and_placed, placed, placed_by, placed_in, placed_records}
 

@@ -8,7 +8,7 @@ use Rattle.link_script.specs.declared.script.ScriptFault.{ScriptFault}
 use Rattle.link_script.specs.declared.script.ScriptFault.TheVariants.{Utf8, TreeText, Tree, TooLong, Line}
 use Rattle.logs_script.specs.declared.line.ProcessLog.{ProcessLog}
 use Rattle.logs_script.specs.Logs.{bytes_of}
-use Rattle.log_order.specs.Logs.{LogReading, Whole, Damaged, read_log}
+use Rattle.log_rules.specs.order.Logs.{LogReading, Whole, Damaged, read_log}
 
 -- a log that is damaged, and where
 abbrev pub Damage : Type 0

@@ -4,3 +4,4 @@ pub mod Lines
 pub mod Logs
 pub mod Trees
 pub mod Laws
+pub mod spelling

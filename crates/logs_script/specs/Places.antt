@@ -4,7 +4,7 @@ use Rattle.tree_model.specs.declared.names.Kind.{Kind}
 use Rattle.tree_model.specs.declared.records.LogRecord.{LogRecord}
 use Rattle.log_text.specs.Frames.{Cut, first_frame}
 use Rattle.log_text.specs.Reading.{read_record}
-use Rattle.log_order.specs.Logs.{Whole, read_log}
+use Rattle.log_rules.specs.order.Logs.{Whole, read_log}
 
 -- a record and the place of its first byte
 pub record Placed : Type 0 where

@@ -6,6 +6,7 @@ pub mod law;
 mod line;
 pub mod places;
 mod reading;
+pub mod spelling;
 mod writing;
 
 pub use faults::{damaged, refusal};

@@ -5,7 +5,7 @@ use Rattle.xa_states.specs.Answers.{Same}
 use Rattle.tree_model.specs.declared.records.LogRecord.{LogRecord}
 use Rattle.tree_model.specs.declared.records.Record.{Record}
 use Rattle.tree_model.specs.Store.{base_records}
-use Rattle.log_trim.specs.Trims.{front_of_trim}
+use Rattle.log_rules.specs.trim.Trims.{front_of_trim}
 use Rattle.rec_log.specs.Sights.{LogSight, records_of}
 use Rattle.core_model.specs.States.{forced_sight}
 use Rattle.manager_model.specs.Sights.{ManagerSight, SameData, SameManager}

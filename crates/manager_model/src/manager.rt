@@ -11,7 +11,7 @@ ghost use Rattle.manager_model.specs.Deciding.{Decides, NotDecided};
 ghost use Rattle.manager_model.specs.Restarting.{NotRestarted, Restarts};
 ghost use Rattle.manager_model.specs.Trimming.{NotTrimmed, Trims};
 ghost use Rattle.rec_log.specs.Sights.{left_by, records_of};
-ghost use Rattle.log_sound.specs.Sound.{IsSound};
+ghost use Rattle.log_rules.specs.sound.Sound.{IsSound};
 ghost use Rattle.tree_model.specs.declared.names.Kind.TheVariants as kind;
 
 use crate::errors::{DecideError, RestartError, TrimError};

@@ -5,8 +5,8 @@ use Rattle.tree_model.specs.declared.names.Kind.{Kind}
 use Rattle.tree_model.specs.declared.records.LogRecord.{LogRecord}
 use Rattle.log_text.specs.Frames.{Cut, first_frame}
 use Rattle.log_text.specs.Reading.{read_record}
-use Rattle.log_order.specs.Orders.{SeenLog, after, nothing_seen}
-use Rattle.log_order.specs.Logs.{LogReading, Whole, Damaged, frame_by, read_frames, record_by, seen_by, with_first}
+use Rattle.log_rules.specs.order.Orders.{SeenLog, after, nothing_seen}
+use Rattle.log_rules.specs.order.Logs.{LogReading, Whole, Damaged, frame_by, read_frames, record_by, seen_by, with_first}
 use Rattle.rec_log.specs.Texts.{and_records, is_whole, records_in, whole_if}
 use Rattle.rec_log.specs.Openings.{Ends, after_frame}
 use Rattle.rec_log.proofs.Frames.{Cuts, cut_there, cuts, more_records, more_whole, nothing_whole, no_records, step, step_whole, taken}

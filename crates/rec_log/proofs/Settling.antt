@@ -5,8 +5,8 @@ use Rattle.std.proofs.lemmas.Bool.Decides.{nat_tests}
 use Rattle.tree_model.specs.declared.names.Kind.{Kind}
 use Rattle.tree_model.specs.Records.{same_bytes}
 use Rattle.log_text.specs.Frames.{header}
-use Rattle.log_order.specs.Orders.{nothing_seen}
-use Rattle.log_order.specs.Logs.{LogReading, Whole, Damaged, read_frames, read_log}
+use Rattle.log_rules.specs.order.Orders.{nothing_seen}
+use Rattle.log_rules.specs.order.Logs.{LogReading, Whole, Damaged, read_frames, read_log}
 use Rattle.rec_log.specs.Texts.{is_whole, records_in, whole_size}
 use Rattle.rec_log.specs.Sights.{body, bytes_behind, front, kept_of, log_state}
 use Rattle.rec_log.specs.Openings.{Ends, IsFound, Opens, Settles, StaysForced}

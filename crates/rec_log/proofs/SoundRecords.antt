@@ -5,10 +5,10 @@ use Rattle.tree_model.specs.declared.names.Kind.{Kind}
 use Rattle.tree_model.specs.declared.records.LogRecord.{LogRecord}
 use Rattle.log_text.specs.Frames.{Cut, cut_at, first_frame}
 use Rattle.log_text.specs.Reading.{read_record}
-use Rattle.log_sound.specs.Sound.{IsSound}
-use Rattle.log_sound.specs.Written.{AreBytes}
-use Rattle.log_sound.proofs.Cuts.{bytes_behind, none_some, some_is}
-use Rattle.log_sound.proofs.ReadSound.{first_bytes, read_is_sound}
+use Rattle.log_rules.specs.sound.Sound.{IsSound}
+use Rattle.log_rules.specs.sound.Written.{AreBytes}
+use Rattle.log_rules.proofs.sound.Cuts.{bytes_behind, none_some, some_is}
+use Rattle.log_rules.proofs.sound.ReadSound.{first_bytes, read_is_sound}
 use Rattle.rec_log.specs.Texts.{and_records, records_by, records_in}
 
 -- the payload of a frame is bytes

@@ -6,9 +6,9 @@ use Rattle.tree_model.specs.declared.records.LogRecord.{LogRecord}
 use Rattle.log_text.specs.Frames.{Cut, cut_at, first_frame, header}
 use Rattle.log_text.specs.Payloads.{records_text}
 use Rattle.log_text.specs.Reading.{read_record}
-use Rattle.log_trim.specs.Tables.{Table, keeps, lives_of, picked}
-use Rattle.log_trim.specs.Trims.{front_of_trim, last_opened, opened_after}
-use Rattle.log_trim.proofs.Picks.{picks_what_stays}
+use Rattle.log_rules.specs.trim.Tables.{Table, keeps, lives_of, picked}
+use Rattle.log_rules.specs.trim.Trims.{front_of_trim, last_opened, opened_after}
+use Rattle.log_rules.proofs.trim.Picks.{picks_what_stays}
 use Rattle.rec_log.specs.Texts.{and_records, is_whole, records_in, whole_if}
 use Rattle.rec_log.specs.Sights.{AreRecords, LogState, NotRewritten, Rewritten, body, log_state, records_of}
 use Rattle.rec_log.specs.Trimming.{Fronts, Holds, Spells, Trimmed, trim_of}

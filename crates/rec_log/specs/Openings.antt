@@ -3,8 +3,8 @@ use Rattle.std.specs.Prelude.{◌≡◌, ◌<◌, ◌≤◌, ◌⊎◌, ⊤, ℕ
 use Rattle.tree_model.specs.declared.names.Kind.{Kind}
 use Rattle.tree_model.specs.declared.records.LogRecord.{LogRecord}
 use Rattle.log_store.specs.Stores.{SameStore}
-use Rattle.log_order.specs.Logs.{Whole, Damaged, read_frames, read_log}
-use Rattle.log_order.specs.Orders.{SeenLog, after, nothing_seen}
+use Rattle.log_rules.specs.order.Logs.{Whole, Damaged, read_frames, read_log}
+use Rattle.log_rules.specs.order.Orders.{SeenLog, after, nothing_seen}
 use Rattle.rec_log.specs.Texts.{is_whole, records_in}
 use Rattle.rec_log.specs.Sights.{LogSight, LogState, bytes_behind, kept_of, records_of}
 use Rattle.log_text.specs.Frames.{header}

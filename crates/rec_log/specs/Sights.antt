@@ -5,7 +5,7 @@ use Rattle.tree_model.specs.declared.records.LogRecord.{LogRecord}
 use Rattle.log_text.specs.Frames.{header}
 use Rattle.log_text.specs.Payloads.{FitsFrame, kind_byte, payload_text, record_text, records_text}
 use Rattle.log_text.specs.Reading.{read_record}
-use Rattle.log_sound.specs.Sound.{IsSound}
+use Rattle.log_rules.specs.sound.Sound.{IsSound}
 use Rattle.rec_log.specs.Texts.{records_in, is_whole, whole_size}
 use Rattle.rec_log.specs.declared.log.LogError.{LogError}
 use Rattle.rec_log.specs.declared.log.LogError.TheVariants.{Memory, Device}

@@ -2,7 +2,7 @@
 
 ghost use Rattle.std.specs.Prelude.{◌≡◌, ◌≤◌, ◌<◌, ◌+◌, ◌++◌, ◌∷◌, [], true, false, IfOk, IfErr, OnOk, OnErr, is_some, length, map, take};
 ghost use Rattle.std.specs.List.{AllByRecursion};
-ghost use Rattle.log_sound.specs.Sound.{IsSound};
+ghost use Rattle.log_rules.specs.sound.Sound.{IsSound};
 ghost use Rattle.log_text.specs.Reading.{read_record};
 ghost use Rattle.log_text.specs.Frames.{header};
 ghost use Rattle.log_text.specs.Made.{frame_record};

@@ -6,7 +6,7 @@ ghost use Rattle.log_text.specs.Frames.{header};
 ghost use Rattle.rec_log.specs.Openings.{Ends, IsFault, IsFound, IsNoLog, after_frame};
 ghost use Rattle.tree_model.specs.Records.{same_bytes};
 
-use log_order::Seen;
+use log_rules::order::Seen;
 use log_text::{HEADER, ReadFault, first_frame, read_record};
 use std::alloc::Global;
 use thiserror::Error;
@@ -70,7 +70,7 @@ pub enum Found {
 }
 
 /// What these bytes are.
-#[tactic(auto, unfolding(log_order::specs::Logs::read_log))]
+#[tactic(auto, unfolding(log_rules::order::specs::Logs::read_log))]
 pub fn find(kind: Kind, bytes: &[u8], alloc: Global) -> Result<Found, OpenError>
     ensures ok { IfOk result (λ found. IsFound kind bytes.now found) }
     ensures err { IfErr result (λ e. IsNoLog kind bytes.now e) }

@@ -4,15 +4,15 @@ ghost use Rattle.std.specs.Prelude.{◌≡◌, ◌≤◌, ◌++◌, [], IfOk, On
 ghost use Rattle.log_text.specs.Frames.{header};
 ghost use Rattle.log_text.specs.Made.{frame_record};
 ghost use Rattle.log_text.specs.Payloads.{records_text};
-ghost use Rattle.log_trim.specs.Trims.{front_of_trim, last_opened};
-ghost use Rattle.log_trim.specs.Tables.{lives_of, picked};
+ghost use Rattle.log_rules.specs.trim.Trims.{front_of_trim, last_opened};
+ghost use Rattle.log_rules.specs.trim.Tables.{lives_of, picked};
 ghost use Rattle.rec_log.specs.Sights.{AreRecords};
 ghost use Rattle.rec_log.specs.Texts.{records_in};
 ghost use Rattle.rec_log.specs.Trimming.{Fronts, Holds, Spells};
 
 use crate::log::{push_frames, records_in};
+use log_rules::trim::Lives;
 use log_text::{Frame, HEADER, first_frame};
-use log_trim::Lives;
 use std::alloc::{AllocError, Global};
 use tree_model::{Kind, LogRecord, Record};
 

@@ -19,11 +19,11 @@ use Rattle.tree_model.specs.Records.{branch_case, record_case, same_branch, same
 use Rattle.tree_model.specs.Standings.{unknown_view}
 use Rattle.tree_model.specs.Store.{Data, applied, base_records, no_data, pair_record, stored, stored_after, with_pair, writes_of}
 use Rattle.log_text.proofs.NameReading.{same_xid_is, same_xid_refl}
-use Rattle.log_trim.specs.Tables.{same}
-use Rattle.log_trim.specs.Trims.{front_of_trim}
-use Rattle.log_trim.proofs.Names.{same_by_parts}
-use Rattle.log_sound.specs.Sound.{IsSound, IsSoundName}
-use Rattle.log_law.proofs.Branches.{alike, read_as, read_name}
+use Rattle.log_rules.specs.trim.Tables.{same}
+use Rattle.log_rules.specs.trim.Trims.{front_of_trim}
+use Rattle.log_rules.proofs.trim.Names.{same_by_parts}
+use Rattle.log_rules.specs.sound.Sound.{IsSound, IsSoundName}
+use Rattle.log_rules.proofs.reads.Branches.{alike, read_as, read_name}
 use Rattle.rec_log.specs.Sights.{records_of}
 use Rattle.core_model.specs.Restarting.{NotTrimmed, Trims, trimmed_log}
 use Rattle.core_model.specs.States.{SameCore, forced_sight}

@@ -11,7 +11,7 @@ use Rattle.tree_model.specs.Nodes.{is_listed}
 use Rattle.tree_model.specs.Records.{cases_in}
 use Rattle.tree_model.specs.Trees.{IsTree, entry_parent, has_unknown_parent, is_unlisted, level_within, levels_above, one_more, parent_of}
 use Rattle.tree_nodes.proofs.Levels.{climbs}
-use Rattle.tree_auditor.specs.Audits.{Logs, is_case_at}
+use Rattle.tree_headline.specs.auditor.Audits.{Logs, is_case_at}
 use Rattle.audit_cases.specs.Notes.{Table, notes_of}
 use Rattle.audit_cases.specs.Sayings.{AreSaid, Outcomes}
 use Rattle.tree_audit.specs.Tables.{Adds, AllTrue, AreNotes, SaidFor, Says, SaysAbove, SaysTruly, StillSaid, TreeOutcomes, TreeTables, above_of, has_above, has_said, same_id}

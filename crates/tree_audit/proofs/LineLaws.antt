@@ -7,7 +7,7 @@ use Rattle.tree_model.specs.declared.trees.TreeEntry.{TreeEntry}
 use Rattle.tree_model.specs.Nodes.{is_listed, role_by, role_of}
 use Rattle.tree_model.specs.Records.{cases_in, has, is_decided}
 use Rattle.tree_model.specs.Trees.{IsTree}
-use Rattle.tree_auditor.specs.Audits.{Logs, audited, has_line, has_line_in, is_case_at, own_decision, since_promise}
+use Rattle.tree_headline.specs.auditor.Audits.{Logs, audited, has_line, has_line_in, is_case_at, own_decision, since_promise}
 use Rattle.audit_cases.specs.Kinds.{decided_in, kinds_of, line_in, own_of}
 use Rattle.audit_cases.specs.Notes.{CaseNote, note_of}
 use Rattle.audit_cases.specs.Sayings.{Outcomes, outcome_in}

@@ -17,7 +17,7 @@ use Rattle.tree_model.specs.Names.{process_of, same_process}
 use Rattle.tree_model.specs.Nodes.{Role, AtRoot, Below, AtLeaf, is_listed, role_by, role_of}
 use Rattle.tree_model.specs.Records.{cases_in, has_case, record_case, with_case, with_record}
 use Rattle.tree_model.specs.Trees.{IsTree, root_of}
-use Rattle.tree_auditor.specs.Audits.{has_place, is_case_at, is_root_role}
+use Rattle.tree_headline.specs.auditor.Audits.{has_place, is_case_at, is_root_role}
 use Rattle.audit_cases.specs.Notes.{IsRecordAt, is_coordinators, place_at}
 use Rattle.tree_audit.proofs.RecordsAt.{AllAt}
 use Rattle.tree_audit.proofs.TreePlaces.{IsFound, is_one, role_if, root_on_top}

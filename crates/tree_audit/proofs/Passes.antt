@@ -15,7 +15,7 @@ use Rattle.tree_model.specs.Nodes.{is_listed, place_of}
 use Rattle.tree_model.specs.Records.{cases_in, record_case}
 use Rattle.tree_model.specs.Trees.{IsTree}
 use Rattle.tree_model.specs.contracts.names.ProcessIdPartialEq.TheImpl as processes
-use Rattle.log_order.specs.Logs.{LogReading, Whole, Damaged, read_log}
+use Rattle.log_rules.specs.order.Logs.{LogReading, Whole, Damaged, read_log}
 use Rattle.logs_script.specs.Faults.{damage_or, first_damage}
 use Rattle.logs_script.specs.Places.{Placed, placed, placed_in}
 use Rattle.logs_script.proofs.PlaceLaws.{places_tell}
@@ -26,7 +26,7 @@ use Rattle.rec_log.specs.declared.opening.Found.{Found}
 use Rattle.rec_log.specs.declared.opening.Found.TheVariants.{Empty, Sound}
 use Rattle.rec_log.specs.declared.opening.OpenError.{OpenError}
 use Rattle.rec_log.specs.declared.opening.OpenError.TheVariants.{Memory, Device, Damaged as DamagedError}
-use Rattle.tree_auditor.specs.Audits.{is_case_at}
+use Rattle.tree_headline.specs.auditor.Audits.{is_case_at}
 use Rattle.audit_cases.specs.Notes.{Table, noted, notes_of, place_at}
 use Rattle.audit_cases.proofs.NoteLaws.{noted_all}
 use Rattle.tree_audit.specs.declared.report.AuditError.{AuditError}

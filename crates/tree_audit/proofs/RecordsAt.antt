@@ -11,7 +11,7 @@ use Rattle.tree_model.specs.declared.records.Write.{Write}
 use Rattle.log_text.specs.Frames.{Cut, first_frame}
 use Rattle.log_text.specs.Parts.{Front, Name, key_at, name_at, value_at, writes_of}
 use Rattle.log_text.specs.Reading.{bare, below, branch_record, manager_record, of_branch, named, pair_by, pair_of, read_record, told, unnamed, writing}
-use Rattle.log_order.specs.Logs.{Whole, read_log}
+use Rattle.log_rules.specs.order.Logs.{Whole, read_log}
 use Rattle.logs_script.specs.Places.{Placed, and_placed, placed_by, placed_in}
 use Rattle.logs_script.proofs.PlaceLaws.{places_tell}
 use Rattle.audit_cases.specs.Notes.{IsRecordAt, is_coordinators}

@@ -11,7 +11,7 @@ use Rattle.tree_model.specs.Nodes.{is_listed, role_by, role_of}
 use Rattle.tree_model.specs.Records.{has, is_decided}
 use Rattle.tree_model.specs.Trees.{IsTree}
 use Rattle.tree_nodes.specs.WorldHolds.{parent_in}
-use Rattle.tree_auditor.specs.Audits.{Logs, asked_above, audited, decided_or, has_line, has_line_in, has_place, is_case_at, naming_case, outcome_within, own_decision, said_above, since_promise}
+use Rattle.tree_headline.specs.auditor.Audits.{Logs, asked_above, audited, decided_or, has_line, has_line_in, has_place, is_case_at, naming_case, outcome_within, own_decision, said_above, since_promise}
 use Rattle.audit_cases.specs.Kinds.{own_of}
 use Rattle.tree_audit.specs.Reports.{line_of, other}
 use Rattle.tree_audit.specs.declared.report.Line.{Line}

@@ -16,9 +16,9 @@ use Rattle.tree_nodes.specs.WorldHolds.{is_record_of}
 use Rattle.tree_nodes.proofs.RootLogs.{recorded_case}
 use Rattle.tree_nodes.proofs.Tests.{both, case_is, either, has-cons, right}
 use Rattle.tree_nodes.proofs.Worlds.{has_other}
-use Rattle.tree_auditor.specs.Audits.{AuditsAreTrue, Logs, ShowsMismatch, audited, has_line, is_case_at, logs_of_world, since_promise}
-use Rattle.tree_auditor.proofs.Audit.{audits_are_true}
-use Rattle.tree_runs.proofs.Headline.{the_world_holds}
+use Rattle.tree_headline.specs.auditor.Audits.{AuditsAreTrue, Logs, ShowsMismatch, audited, has_line, is_case_at, logs_of_world, since_promise}
+use Rattle.tree_headline.proofs.auditor.Audit.{audits_are_true}
+use Rattle.tree_headline.proofs.runs.Headline.{the_world_holds}
 use Rattle.logs_script.specs.declared.line.ProcessLog.{ProcessLog}
 use Rattle.tree_audit.specs.declared.report.Line.{Line}
 use Rattle.tree_audit.specs.Reports.{kept_lists, line_of, lines_at, lines_of, other}

@@ -13,11 +13,11 @@ use Rattle.tree_model.specs.LogNames.{own_records}
 use Rattle.tree_model.specs.Names.{process_of, same_process}
 use Rattle.tree_model.specs.Nodes.{place_of}
 use Rattle.tree_model.specs.Records.{cases_in, has, is_decided}
-use Rattle.log_order.specs.Logs.{LogReading, Whole, Damaged, read_log}
+use Rattle.log_rules.specs.order.Logs.{LogReading, Whole, Damaged, read_log}
 use Rattle.logs_script.specs.Faults.{first_damage}
 use Rattle.logs_script.specs.declared.line.ProcessLog.{ProcessLog}
 use Rattle.logs_script.specs.Logs.{bytes_of}
-use Rattle.tree_auditor.specs.Audits.{Logs, ShowsMismatch, audited, has_line, own_decision, since_promise}
+use Rattle.tree_headline.specs.auditor.Audits.{Logs, ShowsMismatch, audited, has_line, own_decision, since_promise}
 use Rattle.audit_cases.specs.Kinds.{own_of}
 use Rattle.tree_audit.specs.declared.report.AuditError.{AuditError}
 use Rattle.tree_audit.specs.declared.report.AuditError.TheVariants as error

@@ -16,9 +16,9 @@ use Rattle.tree_model.specs.Names.{child_case}
 use Rattle.tree_model.specs.Nodes.{Role, is_listed, role_by}
 use Rattle.tree_model.specs.Records.{cases_in}
 use Rattle.tree_model.specs.Trees.{is_unlisted, level_within}
-use Rattle.log_order.specs.Logs.{Whole, Damaged, read_log}
+use Rattle.log_rules.specs.order.Logs.{Whole, Damaged, read_log}
 use Rattle.logs_script.specs.Places.{placed_in}
-use Rattle.tree_auditor.specs.Audits.{Logs, audited, is_case_at, naming_case}
+use Rattle.tree_headline.specs.auditor.Audits.{Logs, audited, is_case_at, naming_case}
 use Rattle.audit_cases.specs.Kinds.{decided_in, decision_in, line_in, own_in}
 use Rattle.audit_cases.specs.Notes.{CaseNote, Table, noted, notes_of, place_at, same}
 use Rattle.audit_cases.specs.Sayings.{AreSaid, Outcomes, outcome_in}

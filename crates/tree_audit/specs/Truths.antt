@@ -9,7 +9,7 @@ use Rattle.tree_model.specs.Nodes.{is_listed, kept}
 use Rattle.tree_model.specs.Outcomes.{DecisionStands, Mismatch, outcome_of}
 use Rattle.tree_model.specs.World.{IsRun, Made, World}
 use Rattle.logs_script.specs.declared.line.ProcessLog.{ProcessLog}
-use Rattle.tree_auditor.specs.Audits.{AllUp, Logs}
+use Rattle.tree_headline.specs.auditor.Audits.{AllUp, Logs}
 use Rattle.tree_audit.specs.Reports.{kept_lists}
 use Rattle.tree_audit.specs.declared.report.Line.{Line}
 

@@ -5,7 +5,7 @@ ghost use Rattle.std.specs.Option.{option_copied};
 ghost use Rattle.tree_model.specs.Trees.{IsTree};
 ghost use Rattle.tree_audit.specs.Reports.{IsNoReport, IsReport, lines_of as lines_in_logs, mismatches_in, other as other_of};
 ghost use Rattle.tree_audit.specs.Truths.{AreTrueOfRuns};
-ghost use Rattle.tree_auditor.specs.Audits.{Logs};
+ghost use Rattle.tree_headline.specs.auditor.Audits.{Logs};
 ghost use Rattle.tree_audit.specs.Tables.{AreNotes, all_lines, entry_lines, line_by, lines_in};
 ghost use Rattle.tree_model.specs.Nodes.{role_by};
 

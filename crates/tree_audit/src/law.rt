@@ -1,7 +1,7 @@
 //! Laws of the lines of an audit.
 
 ghost use Rattle.std.specs.Prelude.{List};
-ghost use Rattle.tree_auditor.specs.Audits.{Logs};
+ghost use Rattle.tree_headline.specs.auditor.Audits.{Logs};
 ghost use Rattle.tree_audit.specs.Reports.{LinesTellMismatches};
 ghost use Rattle.tree_model.specs.declared.trees.TreeEntry.{TreeEntry};
 

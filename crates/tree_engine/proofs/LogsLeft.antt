@@ -4,7 +4,7 @@ use Rattle.std.proofs.Common.{◌≡◌, sym, subst, ℕ, ◌+◌, ◌<◌, List
 use Rattle.std.proofs.lemmas.List.{take_more}
 use Rattle.tree_model.specs.declared.trees.TreeEntry.{TreeEntry}
 use Rattle.logs_script.specs.declared.line.ProcessLog.{ProcessLog}
-use Rattle.world_law.specs.Worlds.{WorldState}
+use Rattle.core_law.specs.worlds.Worlds.{WorldState}
 use Rattle.tree_world.specs.Nodes.{SpellsLogBy}
 use Rattle.tree_engine.specs.Logs.{AreByteLogs, AreLogs}
 

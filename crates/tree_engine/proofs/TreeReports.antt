@@ -4,11 +4,11 @@ use Rattle.tree_model.specs.declared.trees.TreeEntry.{TreeEntry}
 use Rattle.tree_model.specs.declared.events.Event.{Event}
 use Rattle.tree_model.specs.World.{Made, World}
 use Rattle.tree_model.specs.Trees.{IsTree}
-use Rattle.world_law.specs.Refusals.{IsForItself, LeadsTo, Refusal}
-use Rattle.world_law.specs.Runs.{IsOpened}
-use Rattle.world_law.specs.Sayings.{KeepsHeadline, Saying}
-use Rattle.world_law.proofs.Whole.{run_of}
-use Rattle.world_law.specs.Worlds.{WorldState}
+use Rattle.core_law.specs.worlds.Refusals.{IsForItself, LeadsTo, Refusal}
+use Rattle.core_law.specs.worlds.Runs.{IsOpened}
+use Rattle.core_law.specs.worlds.Sayings.{KeepsHeadline, Saying}
+use Rattle.core_law.proofs.worlds.Whole.{run_of}
+use Rattle.core_law.specs.worlds.Worlds.{WorldState}
 use Rattle.link_script.specs.Inputs.{IsScript}
 use Rattle.report_io.specs.declared.status.Status.{Status}
 use Rattle.report_io.specs.declared.status.Status.TheVariants.{Ended, Refused, Stopped}

@@ -4,7 +4,7 @@ use Rattle.std.specs.List.{AllByRecursion}
 use Rattle.tree_model.specs.declared.trees.TreeEntry.{TreeEntry}
 use Rattle.logs_script.specs.declared.line.ProcessLog.{ProcessLog}
 use Rattle.logs_script.specs.Trees.{logs_text}
-use Rattle.world_law.specs.Worlds.{WorldState}
+use Rattle.core_law.specs.worlds.Worlds.{WorldState}
 use Rattle.tree_world.specs.Nodes.{SpellsLogBy}
 
 -- for each of these processes, in order, one log, whose bytes read as what the process keeps

@@ -19,11 +19,11 @@ use Rattle.tree_engine.specs.Texts.{rows_text}
 use Rattle.trace_lines.specs.Trace.{entries_text, entry_text, lines_text}
 use Rattle.report_io.specs.declared.status.Status.{Status}
 use Rattle.report_io.specs.declared.status.Status.TheVariants.{Ended, Refused, Stopped}
-use Rattle.world_law.specs.Refusals.{IsRunOf, LeadsTo, Refusal, RefusesIn}
-use Rattle.world_law.specs.Runs.{IsOpened}
-use Rattle.world_law.specs.Sayings.{Saying}
-use Rattle.world_law.specs.Ties.{Follows}
-use Rattle.world_law.specs.Worlds.{WorldState}
+use Rattle.core_law.specs.worlds.Refusals.{IsRunOf, LeadsTo, Refusal, RefusesIn}
+use Rattle.core_law.specs.worlds.Runs.{IsOpened}
+use Rattle.core_law.specs.worlds.Sayings.{Saying}
+use Rattle.core_law.specs.worlds.Ties.{Follows}
+use Rattle.core_law.specs.worlds.Worlds.{WorldState}
 use Rattle.tree_engine.specs.declared.tree.Output.{Output}
 use Rattle.tree_engine.specs.declared.tree.Output.TheVariants.{Counts, Logs, Trace}
 use Rattle.tree_engine.specs.Logs.{LeavesLogs}

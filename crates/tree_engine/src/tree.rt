@@ -5,8 +5,8 @@ ghost use Rattle.std.specs.Io.KnownBytes.{Appends, Keeps};
 ghost use Rattle.tree_model.specs.Trees.{IsTree};
 ghost use Rattle.report_io.specs.declared.status.Status.{Status as AnyStatus};
 ghost use Rattle.report_io.specs.Streams.{IsInput, WritesFront};
-ghost use Rattle.world_law.specs.Runs.{IsOpened};
-ghost use Rattle.world_law.specs.Sayings.{Agrees, AnswersTruly, Consents, IsByOperatorsAlone, IsOne, KeepsHeadline, KeepsMismatches};
+ghost use Rattle.core_law.specs.worlds.Runs.{IsOpened};
+ghost use Rattle.core_law.specs.worlds.Sayings.{Agrees, AnswersTruly, Consents, IsByOperatorsAlone, IsOne, KeepsHeadline, KeepsMismatches};
 ghost use Rattle.tree_world.specs.Worlds.{state};
 ghost use Rattle.tree_engine.specs.Trees.{IsNumbered, IsTreeReport, Plays, Tells, ending, fault_text};
 

@@ -20,7 +20,7 @@ use Rattle.tree_model.specs.Trees.{IsTree}
 use Rattle.tree_model.specs.World.{World}
 use Rattle.tree_pairs.proofs.Chain.{asked, waits}
 use Rattle.tree_pairs.proofs.Promises.{abort_refuses, refused_parent, true_commit}
-use Rattle.tree_readings.specs.ReadingOf.{gives_case, is_prepare_message}
+use Rattle.tree_pairs.specs.readings.ReadingOf.{gives_case, is_prepare_message}
 use Rattle.tree_nodes.specs.ProcessSteps.{Above, FromAbove}
 use Rattle.tree_nodes.specs.WorldHolds.{IsPair, IsParentRole, WorldHolds, is_about, pair_reading, takes_part}
 use Rattle.tree_nodes.proofs.GivenCases.{sent_other}

@@ -1,7 +1,7 @@
 -- The two readings of one coordinator's case, in one world.
 use Rattle.std.proofs.Common.{◌≡◌, Bool, true, false, ◌&&◌, refl}
 use Rattle.tree_pairs.specs.Chain.{IsBelow}
-use Rattle.tree_readings.specs.ReadingOf.{reading_from, ParentHalf, ChildHalf, Wire, is_participant, is_born}
+use Rattle.tree_pairs.specs.readings.ReadingOf.{reading_from, ParentHalf, ChildHalf, Wire, is_participant, is_born}
 use Rattle.tree_nodes.proofs.ChildOf.{child_of}
 
 pub is_below : (root manager outcome above part committed aborts : Bool) (up p : ParentHalf) (k : ChildHalf)

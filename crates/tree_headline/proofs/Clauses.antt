@@ -18,7 +18,7 @@ use Rattle.tree_pairs.specs.Invariant.{Common}
 use Rattle.tree_pairs.specs.Reading.{Reading}
 use Rattle.tree_pairs.specs.Standing.{VotedFor}
 use Rattle.tree_pairs.proofs.Promises.{voted}
-use Rattle.tree_readings.specs.ReadingOf.{gives_case}
+use Rattle.tree_pairs.specs.readings.ReadingOf.{gives_case}
 use Rattle.tree_nodes.specs.Numbers.{IsIssuer}
 use Rattle.tree_nodes.specs.WorldHolds.{Begins, NeverCommits, RoleHolds, WorldHolds, is_record_of, pair_reading}
 use Rattle.tree_nodes.proofs.PairOf.{given}

@@ -22,7 +22,7 @@ use Rattle.tree_pairs.specs.Promises.{TrueAnswers as PairAnswers}
 use Rattle.tree_pairs.specs.Reading.{Reading}
 use Rattle.tree_pairs.specs.Standing.{IsInDoubt}
 use Rattle.tree_pairs.proofs.Promises.{abort_true_answers, commit_true_answers}
-use Rattle.tree_readings.specs.ReadingOf.{is_learnt_abort, is_learnt_commit, is_promise}
+use Rattle.tree_pairs.specs.readings.ReadingOf.{is_learnt_abort, is_learnt_commit, is_promise}
 use Rattle.tree_nodes.specs.WorldHolds.{InvariantOf, WorldHolds, is_about, pair_reading}
 use Rattle.tree_nodes.proofs.GivenCases.{sent_other}
 use Rattle.tree_nodes.proofs.PairOf.{common_of, given, is_free}

@@ -22,8 +22,8 @@ use Rattle.tree_model.specs.World.{World}
 use Rattle.tree_pairs.specs.Invariant.{Common}
 use Rattle.tree_pairs.specs.Reading.{Reading, is_live}
 use Rattle.tree_pairs.proofs.Promises.{refused_child}
-use Rattle.tree_readings.specs.ReadingOf.{is_committing, is_dead, is_learnt_abort, is_promise, phase_by}
-use Rattle.tree_turns.specs.Written.{is_coordinators}
+use Rattle.tree_pairs.specs.readings.ReadingOf.{is_committing, is_dead, is_learnt_abort, is_promise, phase_by}
+use Rattle.tree_pairs.specs.turns.Written.{is_coordinators}
 use Rattle.tree_nodes.specs.Lasts.{Manages, Nested, RoleLasts, logs_of}
 use Rattle.tree_nodes.specs.Numbers.{IsIssuer}
 use Rattle.tree_nodes.specs.WorldHolds.{Issues, RoleHolds, WorldHolds, is_record_of, pair_reading}

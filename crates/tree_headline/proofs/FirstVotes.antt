@@ -7,7 +7,7 @@ use Rattle.tree_model.specs.declared.standings.Vote.{Vote}
 use Rattle.tree_model.specs.declared.standings.Vote.TheVariants.{Yes as VoteYes, No as VoteNo, Read as VoteRead}
 use Rattle.tree_model.specs.Names.{same_case, same_ticket}
 use Rattle.tree_model.specs.Outcomes.{consents, first_vote, vote_in}
-use Rattle.tree_readings.specs.ReadingOf.{is_vote}
+use Rattle.tree_pairs.specs.readings.ReadingOf.{is_vote}
 use Rattle.tree_nodes.proofs.Tests.{left, right}
 
 vote_is : (u v : Vote) → Some u ≡ Some v → u ≡ v

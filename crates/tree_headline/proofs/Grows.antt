@@ -17,9 +17,9 @@ use Rattle.tree_model.specs.Nodes.{Role, AtRoot, Below, AtLeaf, Effect, Node, Pl
 use Rattle.tree_model.specs.Restarts.{crashed, reopens, trim_fails, trimmed as trimmed_log}
 use Rattle.tree_model.specs.Outcomes.{has_accepted, is_joined_message, is_read_message, is_yes_message, sent}
 use Rattle.tree_model.specs.World.{Move}
-use Rattle.tree_readings.specs.ReadingOf.{gives_case, is_prepare_message}
-use Rattle.tree_readings.proofs.Lists.{sent-append}
-use Rattle.tree_turns.specs.Steps.{StepOf, handled, failed_in, passed, failed_passing, reopened, failed_reopening, trimmed, failed_trimming}
+use Rattle.tree_pairs.specs.readings.ReadingOf.{gives_case, is_prepare_message}
+use Rattle.tree_pairs.proofs.readings.Lists.{sent-append}
+use Rattle.tree_pairs.specs.turns.Steps.{StepOf, handled, failed_in, passed, failed_passing, reopened, failed_reopening, trimmed, failed_trimming}
 use Rattle.tree_nodes.specs.WorldHolds.{AllGo, Cascades, Coordinates, GoesBy, IsFree, Issues, NodeHolds, RoleHolds, gives_other}
 use Rattle.tree_nodes.proofs.Tests.{both, either, in_second, right}
 use Rattle.tree_nodes.proofs.GivenCases.{same_of}

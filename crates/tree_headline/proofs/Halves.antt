@@ -16,8 +16,8 @@ use Rattle.tree_model.specs.World.{World}
 use Rattle.tree_pairs.specs.Keeps.{Follows}
 use Rattle.tree_pairs.specs.Reading.{Reading}
 use Rattle.tree_pairs.proofs.Later.{later-now}
-use Rattle.tree_readings.specs.ReadingOf.{ChildHalf, ParentHalf, Wire, child_half, is_root_ticket, parent_half, reading_from, wire}
-use Rattle.tree_readings.proofs.OtherSteps.{or_none}
+use Rattle.tree_pairs.specs.readings.ReadingOf.{ChildHalf, ParentHalf, Wire, child_half, is_root_ticket, parent_half, reading_from, wire}
+use Rattle.tree_pairs.proofs.readings.OtherSteps.{or_none}
 use Rattle.tree_nodes.specs.ProcessSteps.{outcome_in, seen_above, seen_below}
 use Rattle.tree_nodes.specs.WorldHolds.{InvariantOf, IsChildRole, IsFree, IsPair, IsParentRole, WorldHolds, pair_reading, takes_part}
 use Rattle.tree_headline.specs.ProcessLaws.{StepKeeps}

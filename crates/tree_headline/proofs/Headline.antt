@@ -4,7 +4,7 @@ use Rattle.tree_model.specs.declared.trees.TreeEntry.{TreeEntry}
 use Rattle.tree_model.specs.Outcomes.{Headline}
 use Rattle.tree_model.specs.Trees.{IsTree}
 use Rattle.tree_model.specs.World.{IsRun, Made, World}
-use Rattle.tree_turns.proofs.Operators.{by_operator_alone}
+use Rattle.tree_pairs.proofs.turns.Operators.{by_operator_alone}
 use Rattle.tree_nodes.specs.WorldHolds.{WorldHolds}
 use Rattle.tree_nodes.proofs.Worlds.{mismatches_stand}
 use Rattle.tree_headline.specs.ProcessLaws.{ProcessLaws}

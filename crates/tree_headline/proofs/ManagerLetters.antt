@@ -26,10 +26,10 @@ use Rattle.tree_model.specs.Reactions.{leaf_of}
 use Rattle.tree_model.specs.Restarts.{inquires_by, is_open, left_of, manager_resumes, recorded_branch, reopens, untold_inquiry}
 use Rattle.tree_model.specs.Standings.{Mark, Unmarked, Promised, Decided, ToldOf, Finished, mark_of, marked_branch}
 use Rattle.tree_model.specs.World.{InputStands, IsSent, Move, Stands}
-use Rattle.tree_readings.specs.ReadingOf.{gives_case}
-use Rattle.tree_turns.specs.LeafTurns.{Hears, LeafTurn, Waits, acknowledges, acknowledges_told, asks, decided, decides, does_nothing, drops, forgets, gives_again, gives_fresh, mark_at, notes, obeys, promised, refuses, repeats_yes, votes_no, votes_read, votes_yes}
-use Rattle.tree_turns.specs.Steps.{StepOf, heard_in, handled, failed_in, passed, failed_passing, reopened, failed_reopening, trimmed, failed_trimming}
-use Rattle.tree_turns.proofs.Steps.{turn_of}
+use Rattle.tree_pairs.specs.readings.ReadingOf.{gives_case}
+use Rattle.tree_pairs.specs.turns.LeafTurns.{Hears, LeafTurn, Waits, acknowledges, acknowledges_told, asks, decided, decides, does_nothing, drops, forgets, gives_again, gives_fresh, mark_at, notes, obeys, promised, refuses, repeats_yes, votes_no, votes_read, votes_yes}
+use Rattle.tree_pairs.specs.turns.Steps.{StepOf, heard_in, handled, failed_in, passed, failed_passing, reopened, failed_reopening, trimmed, failed_trimming}
+use Rattle.tree_pairs.proofs.turns.Steps.{turn_of}
 use Rattle.tree_nodes.specs.Lasts.{Nested, logs_of}
 use Rattle.tree_nodes.specs.Marks.{is_branch_record}
 use Rattle.tree_nodes.specs.WorldHolds.{AboutGiven, AllGo, GoesBy, IsChildRole, IsParent, Issues, is_about, is_record_of}

@@ -8,13 +8,13 @@ use Rattle.tree_model.specs.Outcomes.{Headline}
 use Rattle.tree_model.specs.Trees.{IsTree}
 use Rattle.tree_model.specs.World.{IsRun, Made, Move, Stands, World, makes, world_makes}
 use Rattle.tree_model.proofs.RunLaws.{makes_at}
-use Rattle.tree_turns.specs.Steps.{StepOf}
-use Rattle.tree_turns.proofs.Steps.{step_of}
+use Rattle.tree_pairs.specs.turns.Steps.{StepOf}
+use Rattle.tree_pairs.proofs.turns.Steps.{step_of}
 use Rattle.tree_nodes.specs.Numbers.{IsIssuer}
 use Rattle.tree_nodes.specs.WorldHolds.{Issues, NodeHolds, WorldHolds}
 use Rattle.tree_nodes.proofs.ManagersHold.{managers_hold}
 use Rattle.tree_nodes.proofs.Unlisted.{makes_listed}
-use Rattle.tree_children.proofs.ManagerProcess.{manager_process}
+use Rattle.tree_steps.proofs.children.ManagerProcess.{manager_process}
 use Rattle.tree_headline.specs.ProcessLaws.{CoordinatorLaws, IsCoordinator, ProcessLaws, StepKeeps}
 use Rattle.tree_headline.proofs.Ends.{issues_in}
 use Rattle.tree_headline.proofs.Headline.{headline}

@@ -17,7 +17,7 @@ use Rattle.tree_model.specs.Views.{IsOpenAlike}
 use Rattle.tree_model.specs.World.{opened_world}
 use Rattle.tree_pairs.specs.Opened.{opened}
 use Rattle.tree_pairs.proofs.Opened.{opened_abort, opened_commit}
-use Rattle.tree_readings.specs.ReadingOf.{ChildHalf, ParentHalf, child_half, child_half_at, is_dead, is_root_ticket, parent_half, parent_half_at, reading_from, wire}
+use Rattle.tree_pairs.specs.readings.ReadingOf.{ChildHalf, ParentHalf, child_half, child_half_at, is_dead, is_root_ticket, parent_half, parent_half_at, reading_from, wire}
 use Rattle.tree_nodes.specs.WorldHolds.{Begins, Branches, Cascades, Coordinates, InvariantOf, Issues, NamesBy, NodeHolds, RoleHolds, WorldHolds, pair_reading, part_within, takes_part}
 use Rattle.tree_nodes.proofs.Lasting.{opened_lasts}
 

@@ -16,7 +16,7 @@ use Rattle.tree_pairs.specs.Keeps.{Follows}
 use Rattle.tree_pairs.specs.Reading.{Reading}
 use Rattle.tree_pairs.specs.Standing.{Consents}
 use Rattle.tree_pairs.proofs.Chain.{consented, down}
-use Rattle.tree_readings.specs.ReadingOf.{child_half, parent_half, wire}
+use Rattle.tree_pairs.specs.readings.ReadingOf.{child_half, parent_half, wire}
 use Rattle.tree_nodes.specs.WorldHolds.{InvariantOf, IsFree, IsPair, WorldHolds, pair_reading, takes_part}
 use Rattle.tree_nodes.proofs.PairOf.{common_of}
 use Rattle.tree_headline.proofs.Halves.{half_moves}

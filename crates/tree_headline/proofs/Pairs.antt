@@ -15,7 +15,7 @@ use Rattle.tree_model.specs.Trees.{IsTree}
 use Rattle.tree_model.specs.World.{World}
 use Rattle.tree_pairs.specs.Chain.{IsBelow}
 use Rattle.tree_pairs.specs.Reading.{Reading}
-use Rattle.tree_readings.specs.ReadingOf.{ChildHalf, ParentHalf, child_half, gives_case, is_born, is_participant, is_root_ticket, parent_half, reading_from, wire}
+use Rattle.tree_pairs.specs.readings.ReadingOf.{ChildHalf, ParentHalf, child_half, gives_case, is_born, is_participant, is_root_ticket, parent_half, reading_from, wire}
 use Rattle.tree_nodes.specs.Lasts.{Coordinates as NoManagersRecord, RoleLasts, logs_of}
 use Rattle.tree_nodes.specs.WorldHolds.{IsPair, IsParentRole, PairHolds, RoleHolds, WorldHolds, has_begun, pair_reading, takes_part}
 use Rattle.tree_nodes.proofs.GivenCases.{joined_gives, sent_other}

@@ -15,7 +15,7 @@ use Rattle.tree_model.specs.Trees.{IsTree}
 use Rattle.tree_model.specs.World.{World}
 use Rattle.tree_pairs.specs.Keeps.{Follows}
 use Rattle.tree_pairs.specs.Reading.{Reading}
-use Rattle.tree_readings.specs.ReadingOf.{child_half, gives_case, is_root_ticket, parent_half, wire}
+use Rattle.tree_pairs.specs.readings.ReadingOf.{child_half, gives_case, is_root_ticket, parent_half, wire}
 use Rattle.tree_nodes.specs.WorldHolds.{InvariantOf, IsFree, IsPair, JoinedOnce, NodeHolds, WorldHolds, pair_reading, takes_part}
 use Rattle.tree_nodes.proofs.PairOf.{common_of, is_free, is_pair}
 use Rattle.tree_headline.specs.ProcessLaws.{StepKeeps}

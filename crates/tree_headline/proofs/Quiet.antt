@@ -11,7 +11,7 @@ use Rattle.tree_model.specs.declared.trees.TreeEntry.{TreeEntry}
 use Rattle.tree_model.specs.Names.{child_case, process_of, same_case, same_ticket}
 use Rattle.tree_model.specs.Nodes.{Role, AtRoot, Below, AtLeaf, Place, role_of}
 use Rattle.tree_model.specs.Outcomes.{is_joined_message, is_outcome_message, is_read_message, is_yes_message, sent}
-use Rattle.tree_readings.specs.ReadingOf.{gives_case, is_ack_message, is_inquiry_message, is_no_message, is_prepare_message, no_wire, Wire, wire}
+use Rattle.tree_pairs.specs.readings.ReadingOf.{gives_case, is_ack_message, is_inquiry_message, is_no_message, is_prepare_message, no_wire, Wire, wire}
 use Rattle.tree_nodes.specs.ProcessSteps.{Elsewhere}
 use Rattle.tree_nodes.specs.WorldHolds.{AllGo, GoesBy, GoesDown, GoesUp, IsChildRole, IsPair}
 use Rattle.tree_nodes.proofs.GivenCases.{same_of}

@@ -17,9 +17,9 @@ use Rattle.tree_model.specs.Restarts.{coordinator_resumes, left_of, recorded_vie
 use Rattle.tree_model.specs.Records.{cases_in}
 use Rattle.tree_model.specs.Standings.{CoordinatorView}
 use Rattle.tree_model.specs.World.{Move}
-use Rattle.tree_turns.specs.Steps.{StepOf, TurnAt, heard_in, handled, failed_in, passed, failed_passing, reopened, failed_reopening, trimmed, failed_trimming}
-use Rattle.tree_turns.specs.Written.{AllSent, Sends, Writes, down, for_act, for_child, for_parent, gives, invites, presumes, upward, writes_nothing}
-use Rattle.tree_turns.proofs.Steps.{turn_of}
+use Rattle.tree_pairs.specs.turns.Steps.{StepOf, TurnAt, heard_in, handled, failed_in, passed, failed_passing, reopened, failed_reopening, trimmed, failed_trimming}
+use Rattle.tree_pairs.specs.turns.Written.{AllSent, Sends, Writes, down, for_act, for_child, for_parent, gives, invites, presumes, upward, writes_nothing}
+use Rattle.tree_pairs.proofs.turns.Steps.{turn_of}
 use Rattle.tree_headline.specs.ProcessLaws.{AllFrom, IsCoordinator}
 
 sent_from : (s : Seat) (l : Envelope) → Sends s l → l.from ≡ s.me

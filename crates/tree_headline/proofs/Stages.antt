@@ -10,7 +10,7 @@ use Rattle.tree_pairs.specs.Standing.{Consents}
 use Rattle.tree_pairs.proofs.CascadedAbort as under_abort
 use Rattle.tree_pairs.proofs.CascadedCommit as under_commit
 use Rattle.tree_pairs.proofs.Later.{later-later, later-now}
-use Rattle.tree_readings.specs.ReadingOf.{ChildHalf, ParentHalf, Wire, reading_from}
+use Rattle.tree_pairs.specs.readings.ReadingOf.{ChildHalf, ParentHalf, Wire, reading_from}
 use Rattle.tree_nodes.specs.WorldHolds.{InvariantOf}
 
 keeps_taking_part : (p : Presumption) → Keeps (InvariantOf p) MayTakePart takes_part

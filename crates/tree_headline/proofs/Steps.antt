@@ -15,9 +15,9 @@ use Rattle.tree_model.specs.Outcomes.{has_accepted, is_commit_outcome, sent}
 use Rattle.tree_model.specs.Trees.{IsTree}
 use Rattle.tree_model.specs.World.{Continues, IsRun, Made, Move, Stands, World, goes_on, makes, opened_world, opens, put_at, stays, world_makes}
 use Rattle.tree_model.proofs.RunLaws.{makes_at}
-use Rattle.tree_readings.proofs.ReadingSteps.{same_process-refl}
-use Rattle.tree_turns.specs.Steps.{StepOf}
-use Rattle.tree_turns.proofs.Steps.{step_of}
+use Rattle.tree_pairs.proofs.readings.ReadingSteps.{same_process-refl}
+use Rattle.tree_pairs.specs.turns.Steps.{StepOf}
+use Rattle.tree_pairs.proofs.turns.Steps.{step_of}
 use Rattle.tree_pairs.proofs.Later.{later-later, later-now}
 use Rattle.tree_nodes.specs.WorldHolds.{AllLater, IsFree, JoinedOnce, WorldHolds, pair_reading}
 use Rattle.tree_nodes.proofs.JoinedOnce.{tickets_have_one_case}

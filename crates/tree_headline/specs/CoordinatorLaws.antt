@@ -10,7 +10,7 @@ use Rattle.tree_model.specs.Nodes.{AtRoot, Below, Effect, Node, Place, place_of,
 use Rattle.tree_model.specs.Outcomes.{sent}
 use Rattle.tree_model.specs.Records.{has}
 use Rattle.tree_model.specs.World.{IsRun, Made, Move, Stands, World, world_makes}
-use Rattle.tree_readings.specs.ReadingOf.{gives_case, is_prepare_message, is_promise}
+use Rattle.tree_pairs.specs.readings.ReadingOf.{gives_case, is_prepare_message, is_promise}
 use Rattle.tree_nodes.specs.ProcessSteps.{ChildStep, ParentStep}
 use Rattle.tree_nodes.specs.WorldHolds.{AboutGiven, AllGo, Begins, Cascades, Coordinates, WorldHolds, is_record_of}
 

@@ -1,2 +1,4 @@
 pub mod ProcessLaws
 pub mod CoordinatorLaws
+pub mod auditor
+pub mod runs

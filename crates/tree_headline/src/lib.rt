@@ -1,4 +1,6 @@
 //! From the laws of single processes to the headline. The functions do nothing: each one's contract is a law.
 #![tactic(auto)]
 
+pub mod auditor;
 pub mod law;
+pub mod runs;

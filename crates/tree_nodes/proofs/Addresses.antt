@@ -23,8 +23,8 @@ use Rattle.tree_model.specs.ManagerRows.{Leaf, is_acknowledged}
 use Rattle.tree_model.specs.Reactions.{leaf_of, seat_of}
 use Rattle.tree_model.specs.Outcomes.{sent, is_yes_message}
 use Rattle.tree_model.specs.Restarts.{resumes, resumes_by, coordinator_resumes, manager_resumes, inquires_by, untold_inquiry, recorded_view, recorded_branch}
-use Rattle.tree_turns.specs.LeafTurns.{LeafTurn, does_nothing, gives_again, gives_fresh, votes_yes, votes_read, votes_no, repeats_yes, refuses, obeys, notes, acknowledges_told, acknowledges, drops, asks, decides, forgets}
-use Rattle.tree_turns.specs.Written.{IsForCase, IsFromCase, Sends, down, upward, invites, AllSent, Writes, writes_nothing, for_act, for_child, for_parent, presumes, gives}
+use Rattle.tree_pairs.specs.turns.LeafTurns.{LeafTurn, does_nothing, gives_again, gives_fresh, votes_yes, votes_read, votes_no, repeats_yes, refuses, obeys, notes, acknowledges_told, acknowledges, drops, asks, decides, forgets}
+use Rattle.tree_pairs.specs.turns.Written.{IsForCase, IsFromCase, Sends, down, upward, invites, AllSent, Writes, writes_nothing, for_act, for_child, for_parent, presumes, gives}
 use Rattle.tree_nodes.specs.Owns.{is_own_case, GoesToOwner, AllGoToOwners}
 use Rattle.tree_nodes.proofs.Tests.{either}
 use Rattle.tree_nodes.proofs.Memories.{same_self}

@@ -18,11 +18,11 @@ use Rattle.tree_model.specs.ManagerRows.{Leaf, ends_record, decides_record}
 use Rattle.tree_model.specs.Reactions.{leaf_of}
 use Rattle.tree_model.specs.Restarts.{reopens, stays, staying, data_records, trimmed, left_of, restarted, trims, trim_fails}
 use Rattle.tree_model.specs.World.{Move}
-use Rattle.tree_turns.specs.LeafTurns.{LeafTurn, does_nothing, gives_again, gives_fresh, votes_yes, votes_read, votes_no, repeats_yes, refuses, obeys, notes, acknowledges_told, acknowledges, drops, asks, decides, forgets}
-use Rattle.tree_turns.specs.Written.{is_coordinators, AtMostOne, wrote_none, wrote_one, Writes, writes_nothing, for_act, for_child, for_parent, presumes, gives}
-use Rattle.tree_turns.specs.Steps.{StepOf, heard_in, handled, failed_in, passed, failed_passing, reopened, failed_reopening, trimmed as trims_log, failed_trimming, TurnAt}
-use Rattle.tree_turns.proofs.Operators.{all_none}
-use Rattle.tree_turns.proofs.Steps.{turn_of}
+use Rattle.tree_pairs.specs.turns.LeafTurns.{LeafTurn, does_nothing, gives_again, gives_fresh, votes_yes, votes_read, votes_no, repeats_yes, refuses, obeys, notes, acknowledges_told, acknowledges, drops, asks, decides, forgets}
+use Rattle.tree_pairs.specs.turns.Written.{is_coordinators, AtMostOne, wrote_none, wrote_one, Writes, writes_nothing, for_act, for_child, for_parent, presumes, gives}
+use Rattle.tree_pairs.specs.turns.Steps.{StepOf, heard_in, handled, failed_in, passed, failed_passing, reopened, failed_reopening, trimmed as trims_log, failed_trimming, TurnAt}
+use Rattle.tree_pairs.proofs.turns.Operators.{all_none}
+use Rattle.tree_pairs.proofs.turns.Steps.{turn_of}
 use Rattle.tree_nodes.specs.Lasts.{Logs, logs_of, standing}
 use Rattle.tree_nodes.proofs.Tests.{neither, first_false, second_false, has-cons, has-nil, in_none}
 use Rattle.tree_nodes.proofs.Appends.{forces, writes, breaks, loses, replaces, either_logs, breaks_keeps}

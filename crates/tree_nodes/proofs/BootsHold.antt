@@ -5,7 +5,7 @@ use Rattle.tree_model.specs.declared.trees.TreeEntry.{TreeEntry}
 use Rattle.tree_model.specs.Nodes.{place_of, Node, opened_node}
 use Rattle.tree_model.specs.World.{World, Made, IsRun, opens, makes}
 use Rattle.tree_model.proofs.RunLaws.{makes_at}
-use Rattle.tree_turns.proofs.Steps.{step_of}
+use Rattle.tree_pairs.proofs.turns.Steps.{step_of}
 use Rattle.tree_nodes.specs.Lasts.{logs_of}
 use Rattle.tree_nodes.specs.WorldHolds.{Boots}
 use Rattle.tree_nodes.proofs.Boots.{Booted, still_booted, forced_below}

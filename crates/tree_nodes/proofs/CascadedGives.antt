@@ -24,15 +24,15 @@ use Rattle.tree_model.specs.Restarts.{left_of, reopens, restarted, restart_fails
 use Rattle.tree_model.specs.Outcomes.{sent, is_joined_message}
 use Rattle.tree_model.specs.World.{Move, Stands, InputStands}
 use Rattle.tree_model.proofs.RootRowLaws.{phase_collecting}
-use Rattle.tree_readings.specs.ReadingOf.{gives_case, is_promise, is_prepare_message}
-use Rattle.tree_readings.proofs.Lists.{sent-append}
-use Rattle.tree_readings.proofs.Memories.{memory_of-heard}
-use Rattle.tree_turns.specs.LeafTurns.{Hears}
-use Rattle.tree_turns.specs.CoordinatorTurns.{CoordinatorTurn, IsToCommit, commit_act, prepare_comes}
-use Rattle.tree_turns.specs.Steps.{StepOf, heard_in, handled, failed_in, passed, failed_passing, reopened, failed_reopening, trimmed as trims_log, failed_trimming, TurnOf}
-use Rattle.tree_turns.proofs.Operators.{reopens_none}
-use Rattle.tree_turns.proofs.Steps.{turn_of}
-use Rattle.tree_turns.proofs.CoordinatorReactions.{coordinator_turn_of}
+use Rattle.tree_pairs.specs.readings.ReadingOf.{gives_case, is_promise, is_prepare_message}
+use Rattle.tree_pairs.proofs.readings.Lists.{sent-append}
+use Rattle.tree_pairs.proofs.readings.Memories.{memory_of-heard}
+use Rattle.tree_pairs.specs.turns.LeafTurns.{Hears}
+use Rattle.tree_pairs.specs.turns.CoordinatorTurns.{CoordinatorTurn, IsToCommit, commit_act, prepare_comes}
+use Rattle.tree_pairs.specs.turns.Steps.{StepOf, heard_in, handled, failed_in, passed, failed_passing, reopened, failed_reopening, trimmed as trims_log, failed_trimming, TurnOf}
+use Rattle.tree_pairs.proofs.turns.Operators.{reopens_none}
+use Rattle.tree_pairs.proofs.turns.Steps.{turn_of}
+use Rattle.tree_pairs.proofs.turns.CoordinatorReactions.{coordinator_turn_of}
 use Rattle.tree_nodes.specs.Lasts.{Logs, logs_of, Nested}
 use Rattle.tree_nodes.specs.WorldHolds.{is_record_of}
 use Rattle.tree_nodes.proofs.Tests.{either, left, in_either, in_first, in_second, in_front, has-reverse, not_both, case_is}

@@ -9,8 +9,8 @@ use Rattle.tree_model.specs.Outcomes.{sent}
 use Rattle.tree_model.specs.Nodes.{Place, Role, Below, place_of, role_of, Node, opened_node}
 use Rattle.tree_model.specs.World.{World, Made, IsRun, opens, makes}
 use Rattle.tree_model.proofs.RunLaws.{makes_at}
-use Rattle.tree_turns.specs.Steps.{StepOf}
-use Rattle.tree_turns.proofs.Steps.{step_of}
+use Rattle.tree_pairs.specs.turns.Steps.{StepOf}
+use Rattle.tree_pairs.proofs.turns.Steps.{step_of}
 use Rattle.tree_nodes.specs.Numbers.{IsIssuer}
 use Rattle.tree_nodes.specs.WorldHolds.{Cascades, Issues}
 use Rattle.tree_nodes.proofs.CascadedGives.{still_gives}

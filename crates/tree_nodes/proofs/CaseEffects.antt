@@ -20,7 +20,7 @@ use Rattle.tree_model.specs.Standings.{belongs, own_cases}
 use Rattle.tree_model.specs.CoordinatorRows.{Row}
 use Rattle.tree_model.specs.Reactions.{row_effect}
 use Rattle.tree_model.specs.Views.{vote_message}
-use Rattle.tree_turns.specs.CoordinatorTurns.{CaseTurn, CoordinatorTurn, does_nothing, of_case, begins as begins_txn, gives_again, gives_fresh, presumes, IsOfNoCase, unticketed, belongs_nowhere, not_taken, ChildSays, votes, acknowledged, inquires, IsNotTaken}
+use Rattle.tree_pairs.specs.turns.CoordinatorTurns.{CaseTurn, CoordinatorTurn, does_nothing, of_case, begins as begins_txn, gives_again, gives_fresh, presumes, IsOfNoCase, unticketed, belongs_nowhere, not_taken, ChildSays, votes, acknowledged, inquires, IsNotTaken}
 use Rattle.tree_nodes.proofs.CaseSteps.{named_case, Concerns, by_name, by_child, turn_concerns, Silent, other_silent, Apart, stays, begins, unnamed_apart, named_apart, says_unnamed}
 use Rattle.tree_nodes.proofs.OwnCases.{child_belongs, child_nowhere}
 use Rattle.tree_nodes.proofs.Remembering.{role_below, coordinator_place, remembers_at, Opens, Asks, by_commit, by_prepare, Ends, by_act, by_abort, CountedVote, SameLists, Moves, keeps, asks, closes, takes, counts, opens, moves, none_counts}

@@ -5,7 +5,7 @@ use Rattle.tree_model.specs.declared.names.Case.{Case}
 use Rattle.tree_model.specs.declared.names.Ticket.{Ticket}
 use Rattle.tree_model.specs.declared.records.Record.{Record}
 use Rattle.tree_model.specs.Records.{has, is_collecting, is_prepare, is_commit, is_abort, is_end}
-use Rattle.tree_readings.specs.ReadingOf.{is_collecting_naming, is_prepare_naming, is_decision_naming}
+use Rattle.tree_pairs.specs.readings.ReadingOf.{is_collecting_naming, is_prepare_naming, is_decision_naming}
 use Rattle.tree_nodes.proofs.Tests.{either, in_first, in_either, not_both}
 use Rattle.tree_nodes.proofs.Worlds.{has_other}
 use Rattle.tree_nodes.proofs.CaseOrders as order

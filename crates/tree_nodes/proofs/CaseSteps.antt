@@ -26,8 +26,8 @@ use Rattle.tree_model.specs.Standings.{case_of_child}
 use Rattle.tree_model.specs.CoordinatorRows.{Row, tells_outcome}
 use Rattle.tree_model.specs.Reactions.{row_effect}
 use Rattle.tree_model.specs.Views.{vote_message}
-use Rattle.tree_readings.specs.ReadingOf.{is_vote}
-use Rattle.tree_turns.specs.CoordinatorTurns.{IsToCommit, commit_act, prepare_comes, IsToAbort, abort_act, abort_comes, HearsChild, HearsParent, Rests, invited_already, takes_nobody, counts_nothing, owes_nothing, knows_nothing, prepares_nothing, commits_nothing, aborts_nothing, CaseTurn, rests, invites, accepts, sends_work, finds_nobody, asks_for_votes, gives_up, counts_vote, reads_only, commits, promises, hears_no, aborts, passes_commit, passes_abort, repeats_yes, asks as asks_parent, refuses, acknowledges, waits_for_acks, ends, answers, ChildSays, votes, acknowledged, inquires}
+use Rattle.tree_pairs.specs.readings.ReadingOf.{is_vote}
+use Rattle.tree_pairs.specs.turns.CoordinatorTurns.{IsToCommit, commit_act, prepare_comes, IsToAbort, abort_act, abort_comes, HearsChild, HearsParent, Rests, invited_already, takes_nobody, counts_nothing, owes_nothing, knows_nothing, prepares_nothing, commits_nothing, aborts_nothing, CaseTurn, rests, invites, accepts, sends_work, finds_nobody, asks_for_votes, gives_up, counts_vote, reads_only, commits, promises, hears_no, aborts, passes_commit, passes_abort, repeats_yes, asks as asks_parent, refuses, acknowledges, waits_for_acks, ends, answers, ChildSays, votes, acknowledged, inquires}
 use Rattle.tree_nodes.specs.WorldHolds.{is_record_of}
 use Rattle.tree_nodes.proofs.Remembering.{Opens, Asks, by_commit, by_prepare, Ends, by_act, by_abort, CountedVote, SameLists, Moves, keeps, asks, closes, takes, counts, opens}
 use Rattle.tree_nodes.proofs.RootHistories.{took}

@@ -9,7 +9,7 @@ use Rattle.tree_model.specs.Records.{has, is_commit, is_abort, is_prepare, is_he
 use Rattle.tree_model.specs.Nodes.{Node, kept}
 use Rattle.tree_model.specs.Memory.{Memory}
 use Rattle.tree_pairs.specs.Reading.{is_live}
-use Rattle.tree_readings.specs.ReadingOf.{parent_half_at, child_half_at, ParentHalf, ChildHalf, is_promise, is_learnt_commit, is_learnt_abort, is_committing}
+use Rattle.tree_pairs.specs.readings.ReadingOf.{parent_half_at, child_half_at, ParentHalf, ChildHalf, is_promise, is_learnt_commit, is_learnt_abort, is_committing}
 use Rattle.tree_nodes.specs.Lasts.{Coordinates, Nested, logs_of}
 use Rattle.tree_nodes.specs.Marks.{is_branch_record, is_managers}
 use Rattle.tree_nodes.proofs.Worlds.{has_other}

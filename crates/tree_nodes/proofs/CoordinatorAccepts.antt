@@ -22,9 +22,9 @@ use Rattle.tree_model.specs.Standings.{CoordinatorView, coordinator_view}
 use Rattle.tree_model.specs.CoordinatorRows.{on_joined}
 use Rattle.tree_model.specs.Reactions.{Refused, Does, reacts, handles, act_is_listed, row_effect}
 use Rattle.tree_model.specs.Outcomes.{has_accepted}
-use Rattle.tree_readings.specs.ReadingOf.{is_vote}
-use Rattle.tree_turns.specs.CoordinatorTurns.{CountsVote, CoordinatorTurn}
-use Rattle.tree_turns.proofs.CoordinatorReactions.{coordinator_turn_of}
+use Rattle.tree_pairs.specs.readings.ReadingOf.{is_vote}
+use Rattle.tree_pairs.specs.turns.CoordinatorTurns.{CountsVote, CoordinatorTurn}
+use Rattle.tree_pairs.proofs.turns.CoordinatorReactions.{coordinator_turn_of}
 use Rattle.tree_nodes.proofs.Cases.{viewed}
 use Rattle.tree_nodes.proofs.CaseSteps.{heard_so}
 use Rattle.tree_nodes.proofs.CoordinatorKept.{Coordinated}

@@ -16,7 +16,7 @@ use Rattle.tree_model.specs.Records.{has, in_list, is_end, is_commit, is_abort, 
 use Rattle.tree_model.specs.Nodes.{Place, Node, Heard, kept}
 use Rattle.tree_model.specs.Memory.{Memory, Phase, Idle, Open, Asked, Over, memory_of, remembers, fresh_memory, voted_so}
 use Rattle.tree_model.specs.Outcomes.{has_accepted, has_heard_vote}
-use Rattle.tree_readings.specs.ReadingOf.{is_vote}
+use Rattle.tree_pairs.specs.readings.ReadingOf.{is_vote}
 use Rattle.tree_nodes.specs.WorldHolds.{is_record_of, is_naming}
 use Rattle.tree_nodes.proofs.CaseSteps.{heard_so}
 use Rattle.tree_nodes.proofs.Phases.{standing_at, Together, unrecorded_stands}

@@ -23,7 +23,7 @@ use Rattle.tree_model.specs.Memory.{Memory, Phase, Idle, Open, Asked, Over, memo
 use Rattle.tree_model.specs.Standings.{CoordinatorView, coordinator_view, view_at}
 use Rattle.tree_model.specs.CoordinatorRows.{Reason}
 use Rattle.tree_model.specs.Views.{vote_message}
-use Rattle.tree_turns.specs.CoordinatorTurns.{IsToCommit, commit_act, prepare_comes, IsToAbort, abort_act, abort_comes, CountsVote}
+use Rattle.tree_pairs.specs.turns.CoordinatorTurns.{IsToCommit, commit_act, prepare_comes, IsToAbort, abort_act, abort_comes, CountsVote}
 use Rattle.tree_nodes.proofs.Cases.{viewed}
 use Rattle.tree_nodes.proofs.OwnCases.{child_txn}
 use Rattle.tree_nodes.proofs.Phases.{standing_at}

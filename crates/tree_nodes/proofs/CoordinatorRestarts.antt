@@ -18,9 +18,9 @@ use Rattle.tree_model.specs.Standings.{phase_standing}
 use Rattle.tree_model.specs.Outcomes.{has_accepted}
 use Rattle.tree_model.specs.Restarts.{reopens, restarted, restart_fails, trims, trim_fails, trimmed, staying, case_stays, data_records}
 use Rattle.tree_model.specs.World.{Move}
-use Rattle.tree_turns.specs.Steps.{StepOf, heard_in, handled, failed_in, passed, failed_passing, reopened, failed_reopening, trimmed as trims_log, failed_trimming}
-use Rattle.tree_turns.proofs.Operators.{reopens_none}
-use Rattle.tree_turns.proofs.Steps.{turn_of}
+use Rattle.tree_pairs.specs.turns.Steps.{StepOf, heard_in, handled, failed_in, passed, failed_passing, reopened, failed_reopening, trimmed as trims_log, failed_trimming}
+use Rattle.tree_pairs.proofs.turns.Operators.{reopens_none}
+use Rattle.tree_pairs.proofs.turns.Steps.{turn_of}
 use Rattle.tree_nodes.specs.Lasts.{logs_of}
 use Rattle.tree_nodes.specs.WorldHolds.{is_naming}
 use Rattle.tree_nodes.proofs.Appends.{loses, breaks_keeps}

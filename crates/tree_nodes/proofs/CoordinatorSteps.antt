@@ -19,8 +19,8 @@ use Rattle.tree_model.specs.Standings.{coordinator_view}
 use Rattle.tree_model.specs.Reactions.{Does, reacts}
 use Rattle.tree_model.specs.Outcomes.{has_accepted, has_heard_vote}
 use Rattle.tree_model.proofs.ListLaws.{kept-after}
-use Rattle.tree_readings.specs.ReadingOf.{is_vote}
-use Rattle.tree_turns.specs.Steps.{TurnOf}
+use Rattle.tree_pairs.specs.readings.ReadingOf.{is_vote}
+use Rattle.tree_pairs.specs.turns.Steps.{TurnOf}
 use Rattle.tree_nodes.specs.Lasts.{Logs, logs_of, Nested}
 use Rattle.tree_nodes.specs.WorldHolds.{is_record_of, is_naming}
 use Rattle.tree_nodes.proofs.Appends.{either_logs, breaks_keeps}

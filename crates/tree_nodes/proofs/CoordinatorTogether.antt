@@ -23,7 +23,7 @@ use Rattle.tree_model.specs.Memory.{Memory, Phase, Idle, Open, Asked, Over, memo
 use Rattle.tree_model.specs.Standings.{CoordinatorView, coordinator_view, phase_standing}
 use Rattle.tree_model.specs.CoordinatorRows.{Reason, Row, tells_outcome}
 use Rattle.tree_model.proofs.StandingLaws.{active_facts, phase_active}
-use Rattle.tree_turns.specs.CoordinatorTurns.{IsToCommit, IsToAbort, HearsParent, Acknowledges, commit_presumed_abort, commit_again, abort_presumed_commit, abort_again, Refuses, unknown_refuses, aborting_refuses, Decided, by_commit, by_abort, voted, Consents, votes_yes, votes_read, CountsVote, Rests, invited_already, takes_nobody, counts_nothing, owes_nothing, knows_nothing, prepares_nothing, commits_nothing, aborts_nothing, CaseTurn, rests, invites, accepts, sends_work, finds_nobody, asks_for_votes, gives_up, counts_vote, reads_only, commits, promises, hears_no, aborts, passes_commit, passes_abort, repeats_yes, asks, refuses, acknowledges, waits_for_acks, ends, answers}
+use Rattle.tree_pairs.specs.turns.CoordinatorTurns.{IsToCommit, IsToAbort, HearsParent, Acknowledges, commit_presumed_abort, commit_again, abort_presumed_commit, abort_again, Refuses, unknown_refuses, aborting_refuses, Decided, by_commit, by_abort, voted, Consents, votes_yes, votes_read, CountsVote, Rests, invited_already, takes_nobody, counts_nothing, owes_nothing, knows_nothing, prepares_nothing, commits_nothing, aborts_nothing, CaseTurn, rests, invites, accepts, sends_work, finds_nobody, asks_for_votes, gives_up, counts_vote, reads_only, commits, promises, hears_no, aborts, passes_commit, passes_abort, repeats_yes, asks, refuses, acknowledges, waits_for_acks, ends, answers}
 use Rattle.tree_nodes.proofs.Cases.{viewed}
 use Rattle.tree_nodes.proofs.Phases.{standing_at, Together, open_ends, open_asks, asked_ends, open_collects, Closed, ends_together, commits_together, aborts_together, prepares_together}
 use Rattle.tree_nodes.proofs.CoordinatorPhases.{then_remembers, stands, active_accepted, collecting_accepted, collecting_votes, commit_phase, abort_phase, prepare_left, abort_left, commit_left, uncounted, vote_phase, ack_left, joined_left, inquiry_left, join_left, ask_left, work_left}

@@ -23,8 +23,8 @@ use Rattle.tree_model.specs.CoordinatorRows.{on_vote}
 use Rattle.tree_model.specs.Outcomes.{has_accepted}
 use Rattle.tree_model.specs.Reactions.{Refused, Does, reacts, handles, act_is_listed, row_effect, seat_of, vote_for}
 use Rattle.tree_model.specs.Views.{vote_message}
-use Rattle.tree_readings.specs.ReadingOf.{is_vote}
-use Rattle.tree_turns.specs.CoordinatorTurns.{CountsVote}
+use Rattle.tree_pairs.specs.readings.ReadingOf.{is_vote}
+use Rattle.tree_pairs.specs.turns.CoordinatorTurns.{CountsVote}
 use Rattle.tree_nodes.specs.WorldHolds.{is_record_of}
 use Rattle.tree_nodes.proofs.Cases.{viewed}
 use Rattle.tree_nodes.proofs.CaseEffects.{Alone, Listed}

@@ -17,9 +17,9 @@ use Rattle.tree_model.specs.Outcomes.{sent, has_accepted, is_joined_message}
 use Rattle.tree_model.specs.Standings.{belongs, coordinator_view, own_cases}
 use Rattle.tree_model.specs.World.{World, Made, IsRun, opens as opens_world, makes}
 use Rattle.tree_model.proofs.RunLaws.{makes_at}
-use Rattle.tree_readings.specs.ReadingOf.{gives_case}
-use Rattle.tree_turns.specs.Steps.{StepOf}
-use Rattle.tree_turns.proofs.Steps.{step_of}
+use Rattle.tree_pairs.specs.readings.ReadingOf.{gives_case}
+use Rattle.tree_pairs.specs.turns.Steps.{StepOf}
+use Rattle.tree_pairs.proofs.turns.Steps.{step_of}
 use Rattle.tree_nodes.specs.CaseOrder.{CaseInOrder, IsCoordinator}
 use Rattle.tree_nodes.specs.Lasts.{logs_of, Lasts, Nested}
 use Rattle.tree_nodes.specs.Numbers.{IsIssuer}

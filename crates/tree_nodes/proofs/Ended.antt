@@ -9,7 +9,7 @@ use Rattle.tree_model.specs.Records.{has, is_commit, is_abort, is_collecting}
 use Rattle.tree_model.specs.Nodes.{Place, Node, kept}
 use Rattle.tree_model.specs.Memory.{memory_of}
 use Rattle.tree_model.specs.Outcomes.{is_told_aborted}
-use Rattle.tree_readings.specs.ReadingOf.{is_told_of_txn}
+use Rattle.tree_pairs.specs.readings.ReadingOf.{is_told_of_txn}
 use Rattle.tree_nodes.specs.Lasts.{Logs, logs_of, standing}
 use Rattle.tree_nodes.specs.WorldHolds.{is_record_of}
 use Rattle.tree_nodes.proofs.CoordinatorKept.{IsLive}

@@ -16,8 +16,8 @@ use Rattle.tree_model.specs.Nodes.{Place, Node, kept}
 use Rattle.tree_model.specs.Memory.{Idle, Open, memory_of}
 use Rattle.tree_model.specs.Standings.{Mark, Unmarked, mark_of, mark_after}
 use Rattle.tree_model.specs.Outcomes.{sent, is_joined_message}
-use Rattle.tree_readings.specs.ReadingOf.{gives_case, is_promise, is_prepare_message}
-use Rattle.tree_readings.proofs.Lists.{sent-append}
+use Rattle.tree_pairs.specs.readings.ReadingOf.{gives_case, is_promise, is_prepare_message}
+use Rattle.tree_pairs.proofs.readings.Lists.{sent-append}
 use Rattle.tree_nodes.specs.Marks.{is_branch_record}
 use Rattle.tree_nodes.specs.WorldHolds.{is_record_of}
 use Rattle.tree_nodes.proofs.Tests.{either, left, right}

@@ -11,8 +11,8 @@ use Rattle.tree_model.specs.Records.{has, is_collecting}
 use Rattle.tree_model.specs.Nodes.{Place, Node}
 use Rattle.tree_model.specs.Memory.{Idle, Asked, memory_of}
 use Rattle.tree_model.specs.Outcomes.{sent, has_accepted}
-use Rattle.tree_readings.specs.ReadingOf.{gives_case, is_promise, is_prepare_message}
-use Rattle.tree_readings.proofs.Lists.{sent-append}
+use Rattle.tree_pairs.specs.readings.ReadingOf.{gives_case, is_promise, is_prepare_message}
+use Rattle.tree_pairs.proofs.readings.Lists.{sent-append}
 use Rattle.tree_nodes.specs.WorldHolds.{is_record_of}
 use Rattle.tree_nodes.proofs.Tests.{either, right, case_is}
 use Rattle.tree_nodes.proofs.GivenCases.{IsGiven, given_still}

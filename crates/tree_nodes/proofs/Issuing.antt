@@ -15,10 +15,10 @@ use Rattle.tree_model.specs.Reactions.{reacts, Does}
 use Rattle.tree_model.specs.Restarts.{left_of, reopens, restarted, trims, trim_fails}
 use Rattle.tree_model.specs.Outcomes.{sent, is_joined_message}
 use Rattle.tree_model.specs.World.{Move}
-use Rattle.tree_readings.proofs.Lists.{sent-append, sent-nil}
-use Rattle.tree_readings.proofs.Memories.{memory_of-heard}
-use Rattle.tree_turns.specs.Steps.{StepOf, heard_in, handled, failed_in, passed, failed_passing, reopened, failed_reopening, trimmed as trims_log, failed_trimming, TurnOf}
-use Rattle.tree_turns.proofs.Steps.{turn_of}
+use Rattle.tree_pairs.proofs.readings.Lists.{sent-append, sent-nil}
+use Rattle.tree_pairs.proofs.readings.Memories.{memory_of-heard}
+use Rattle.tree_pairs.specs.turns.Steps.{StepOf, heard_in, handled, failed_in, passed, failed_passing, reopened, failed_reopening, trimmed as trims_log, failed_trimming, TurnOf}
+use Rattle.tree_pairs.proofs.turns.Steps.{turn_of}
 use Rattle.tree_nodes.specs.Lasts.{logs_of}
 use Rattle.tree_nodes.specs.Numbers.{IsIssuer}
 use Rattle.tree_nodes.specs.WorldHolds.{IsGivenOut}

@@ -19,9 +19,9 @@ use Rattle.tree_model.specs.Restarts.{left_of, reopens}
 use Rattle.tree_model.specs.Outcomes.{sent, is_joined_message}
 use Rattle.tree_model.specs.World.{World, Move, Made, IsRun, opens, makes}
 use Rattle.tree_model.proofs.RunLaws.{makes_at}
-use Rattle.tree_readings.proofs.Lists.{sent-append}
-use Rattle.tree_turns.specs.Steps.{StepOf, heard_in, handled, failed_in, passed, failed_passing, reopened, failed_reopening, trimmed, failed_trimming, TurnOf}
-use Rattle.tree_turns.proofs.Steps.{step_of, turn_of}
+use Rattle.tree_pairs.proofs.readings.Lists.{sent-append}
+use Rattle.tree_pairs.specs.turns.Steps.{StepOf, heard_in, handled, failed_in, passed, failed_passing, reopened, failed_reopening, trimmed, failed_trimming, TurnOf}
+use Rattle.tree_pairs.proofs.turns.Steps.{step_of, turn_of}
 use Rattle.tree_nodes.specs.Numbers.{IsIssuer}
 use Rattle.tree_nodes.specs.WorldHolds.{JoinedOnce}
 use Rattle.tree_nodes.proofs.Issuing.{Issued, self_at, next_is_new}

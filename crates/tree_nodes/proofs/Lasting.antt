@@ -14,10 +14,10 @@ use Rattle.tree_model.specs.Nodes.{Role, AtRoot, Below, AtLeaf, Place, Node, Hea
 use Rattle.tree_model.specs.Standings.{Unmarked}
 use Rattle.tree_model.specs.Restarts.{reopens, trim_fails}
 use Rattle.tree_model.specs.World.{Move}
-use Rattle.tree_turns.specs.Written.{is_coordinators, AtMostOne, wrote_none, wrote_one, Writes, writes_nothing, for_act, for_child, for_parent, presumes, gives}
-use Rattle.tree_turns.specs.Steps.{StepOf, heard_in, handled, failed_in, passed, failed_passing, reopened, failed_reopening, trimmed as trims_log, failed_trimming, TurnAt, TurnOf}
-use Rattle.tree_turns.proofs.Steps.{turn_of}
-use Rattle.tree_turns.proofs.Operators.{reopens_none}
+use Rattle.tree_pairs.specs.turns.Written.{is_coordinators, AtMostOne, wrote_none, wrote_one, Writes, writes_nothing, for_act, for_child, for_parent, presumes, gives}
+use Rattle.tree_pairs.specs.turns.Steps.{StepOf, heard_in, handled, failed_in, passed, failed_passing, reopened, failed_reopening, trimmed as trims_log, failed_trimming, TurnAt, TurnOf}
+use Rattle.tree_pairs.proofs.turns.Steps.{turn_of}
+use Rattle.tree_pairs.proofs.turns.Operators.{reopens_none}
 use Rattle.tree_nodes.specs.Marks.{in_order_from, is_branch_record, is_managers}
 use Rattle.tree_nodes.specs.Lasts.{Logs, logs_of, standing, Nested, Manages, Coordinates, RoleLasts, Lasts}
 use Rattle.tree_nodes.proofs.Tests.{not_both, neither, in_none, front_none, has-reverse, has-nil}

@@ -24,12 +24,12 @@ use Rattle.tree_model.specs.Reactions.{reacts, Does}
 use Rattle.tree_model.specs.Restarts.{is_open, left_of, reopens, restarted, restart_fails, data_records, trimmed, trims, trim_fails}
 use Rattle.tree_model.specs.Outcomes.{sent, is_joined_message}
 use Rattle.tree_model.specs.World.{Move, Stands, InputStands}
-use Rattle.tree_readings.specs.ReadingOf.{gives_case, is_promise, is_prepare_message}
-use Rattle.tree_readings.proofs.Lists.{sent-append}
-use Rattle.tree_readings.proofs.Memories.{memory_of-heard}
-use Rattle.tree_turns.specs.LeafTurns.{mark_at}
-use Rattle.tree_turns.specs.Steps.{StepOf, heard_in, handled, failed_in, passed, failed_passing, reopened, failed_reopening, trimmed as trims_log, failed_trimming, TurnOf}
-use Rattle.tree_turns.proofs.Steps.{turn_of}
+use Rattle.tree_pairs.specs.readings.ReadingOf.{gives_case, is_promise, is_prepare_message}
+use Rattle.tree_pairs.proofs.readings.Lists.{sent-append}
+use Rattle.tree_pairs.proofs.readings.Memories.{memory_of-heard}
+use Rattle.tree_pairs.specs.turns.LeafTurns.{mark_at}
+use Rattle.tree_pairs.specs.turns.Steps.{StepOf, heard_in, handled, failed_in, passed, failed_passing, reopened, failed_reopening, trimmed as trims_log, failed_trimming, TurnOf}
+use Rattle.tree_pairs.proofs.turns.Steps.{turn_of}
 use Rattle.tree_nodes.specs.Lasts.{Logs, logs_of, Lasts}
 use Rattle.tree_nodes.specs.Marks.{branch_is, is_branch_record}
 use Rattle.tree_nodes.specs.WorldHolds.{is_record_of, is_of}

@@ -18,8 +18,8 @@ use Rattle.tree_model.specs.CoordinatorRows.{tells_outcome}
 use Rattle.tree_model.specs.ManagerRows.{Leaf, ends_record, decides_record}
 use Rattle.tree_model.specs.Reactions.{leaf_of}
 use Rattle.tree_model.specs.Restarts.{is_open}
-use Rattle.tree_readings.specs.ReadingOf.{is_promise}
-use Rattle.tree_turns.specs.LeafTurns.{LeafTurn, Hears, mark_at, IsActive, IsDecided, untold, told, does_nothing, gives_again, gives_fresh, votes_yes, votes_read, votes_no, repeats_yes, refuses, obeys, notes, acknowledges_told, acknowledges, drops, asks, decides, forgets}
+use Rattle.tree_pairs.specs.readings.ReadingOf.{is_promise}
+use Rattle.tree_pairs.specs.turns.LeafTurns.{LeafTurn, Hears, mark_at, IsActive, IsDecided, untold, told, does_nothing, gives_again, gives_fresh, votes_yes, votes_read, votes_no, repeats_yes, refuses, obeys, notes, acknowledges_told, acknowledges, drops, asks, decides, forgets}
 use Rattle.tree_nodes.specs.Lasts.{Logs, standing}
 use Rattle.tree_nodes.proofs.Appends.{either_logs}
 

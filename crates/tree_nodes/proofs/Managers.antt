@@ -1,5 +1,5 @@
 -- A manager's log through each kind of step.
-use Rattle.tree_turns.specs.Written.{is_coordinators}
+use Rattle.tree_pairs.specs.turns.Written.{is_coordinators}
 use Rattle.std.proofs.Common.{◌≡◌, ◌∙◌, ◌||◌, ◌⊎◌, inl, inr, ℕ, Bool, true, false, Some, List, [], ◌∷◌, ◌++◌, take, drop, refl, sym, ap, subst, append_assoc, arith}
 use Rattle.std.specs.Prelude.{reverse}
 use Rattle.std.proofs.lemmas.List.{append-nil, take-append-drop}
@@ -16,7 +16,7 @@ use Rattle.tree_model.specs.Records.{has, is_branch, is_decided, is_forgot, is_p
 use Rattle.tree_model.specs.Nodes.{AtLeaf, Place, Node, Heard, Effect, Written, entries_written, is_any_forced}
 use Rattle.tree_model.specs.Standings.{Mark, Unmarked, mark_of}
 use Rattle.tree_model.specs.Restarts.{data_records, trimmed}
-use Rattle.tree_turns.specs.LeafTurns.{LeafTurn, IsDecided, untold, told, mark_at, does_nothing, gives_again, gives_fresh, votes_yes, votes_read, votes_no, repeats_yes, refuses, obeys, notes, acknowledges_told, acknowledges, drops, asks, decides, forgets}
+use Rattle.tree_pairs.specs.turns.LeafTurns.{LeafTurn, IsDecided, untold, told, mark_at, does_nothing, gives_again, gives_fresh, votes_yes, votes_read, votes_no, repeats_yes, refuses, obeys, notes, acknowledges_told, acknowledges, drops, asks, decides, forgets}
 use Rattle.tree_nodes.specs.Marks.{in_order_from, branch_is, may_follow}
 use Rattle.tree_nodes.specs.Lasts.{Logs, logs_of, standing, Nested, Manages}
 use Rattle.tree_nodes.proofs.Tests.{in_first, in_second, in_either, in_none, has-nil, front_none, has-reverse}

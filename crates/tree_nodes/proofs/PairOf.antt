@@ -20,7 +20,7 @@ use Rattle.tree_model.specs.Outcomes.{sent, is_joined_message, is_commit_outcome
 use Rattle.tree_model.specs.World.{World}
 use Rattle.tree_pairs.specs.Reading.{Reading}
 use Rattle.tree_pairs.specs.Invariant.{Common}
-use Rattle.tree_readings.specs.ReadingOf.{gives_case, is_committing}
+use Rattle.tree_pairs.specs.readings.ReadingOf.{gives_case, is_committing}
 use Rattle.tree_nodes.specs.WorldHolds.{IsPair, gives_other, InvariantOf, pair_reading, AllGo, GoesBy, JoinedOnce, WorldHolds, RoleHolds, is_record_of}
 
 either : (a b : Bool) → (a || b) ≡ true → (a ≡ true) ⊎ (b ≡ true)

@@ -29,8 +29,8 @@ use Rattle.tree_model.specs.Reactions.{leaf_of, seat_of}
 use Rattle.tree_model.specs.Outcomes.{sent, is_yes_message}
 use Rattle.tree_model.specs.Restarts.{is_open, resumes, resumes_by, coordinator_resumes, manager_resumes, inquires_by, untold_inquiry, recorded_view, recorded_branch}
 use Rattle.tree_model.specs.World.{InputStands}
-use Rattle.tree_turns.specs.LeafTurns.{LeafTurn, Hears, mark_at, IsOpenBranch, waits, by_operator, IsDecided, untold, told, does_nothing, gives_again, gives_fresh, votes_yes, votes_read, votes_no, repeats_yes, refuses, obeys, notes, acknowledges_told, acknowledges, drops, asks, decides, forgets}
-use Rattle.tree_turns.specs.Written.{Writes, AllSent, writes_nothing, for_act, for_child, for_parent, presumes, gives}
+use Rattle.tree_pairs.specs.turns.LeafTurns.{LeafTurn, Hears, mark_at, IsOpenBranch, waits, by_operator, IsDecided, untold, told, does_nothing, gives_again, gives_fresh, votes_yes, votes_read, votes_no, repeats_yes, refuses, obeys, notes, acknowledges_told, acknowledges, drops, asks, decides, forgets}
+use Rattle.tree_pairs.specs.turns.Written.{Writes, AllSent, writes_nothing, for_act, for_child, for_parent, presumes, gives}
 use Rattle.tree_nodes.specs.Marks.{is_branch_record, may_follow, in_order_from}
 use Rattle.tree_nodes.specs.Lasts.{logs_of, Manages}
 use Rattle.tree_nodes.specs.Owns.{is_own_case, is_foreign, AllGoToOwners}

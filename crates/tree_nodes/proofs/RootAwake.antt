@@ -12,7 +12,7 @@ use Rattle.tree_model.specs.Names.{same_case, root_case}
 use Rattle.tree_model.specs.NameLaws.{same_case-refl}
 use Rattle.tree_model.specs.Records.{none_of}
 use Rattle.tree_model.specs.Memory.{Memory, Phase, Idle, Open, Asked, Over, root_remembers, next_txn, all_voted, phase_after}
-use Rattle.tree_readings.specs.ReadingOf.{is_begun}
+use Rattle.tree_pairs.specs.readings.ReadingOf.{is_begun}
 use Rattle.tree_nodes.proofs.Remembering.{Opens, by_begin, by_join, Moves, keeps, asks, closes, takes, counts, opens, moves}
 
 module _ (me : ProcessId) (boot : ℕ) (c : Case) (m : Memory) where

@@ -13,9 +13,9 @@ use Rattle.tree_model.specs.Memory.{Idle, memory_of}
 use Rattle.tree_model.specs.Views.{root_place}
 use Rattle.tree_model.specs.World.{World, Made, IsRun, opens, makes}
 use Rattle.tree_model.proofs.RunLaws.{makes_at}
-use Rattle.tree_readings.specs.ReadingOf.{is_begun, is_told_of_txn}
-use Rattle.tree_turns.specs.Steps.{StepOf}
-use Rattle.tree_turns.proofs.Steps.{step_of}
+use Rattle.tree_pairs.specs.readings.ReadingOf.{is_begun, is_told_of_txn}
+use Rattle.tree_pairs.specs.turns.Steps.{StepOf}
+use Rattle.tree_pairs.proofs.turns.Steps.{step_of}
 use Rattle.tree_nodes.specs.RootBegins.{OwnTransactions}
 use Rattle.tree_nodes.proofs.RootCases.{InHistory, recorded, accepted, begun, told, found_undecided, RootCases}
 use Rattle.tree_nodes.specs.WorldHolds.{IsGivenOut, is_record_of, has_begun}

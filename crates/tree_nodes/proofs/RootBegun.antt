@@ -19,9 +19,9 @@ use Rattle.tree_model.specs.Restarts.{is_undecided, reopens, restarted, restart_
 use Rattle.tree_model.specs.Views.{root_place}
 use Rattle.tree_model.specs.World.{Move}
 use Rattle.tree_model.proofs.ListLaws.{kept-after}
-use Rattle.tree_readings.specs.ReadingOf.{is_begun, is_told_of_txn}
-use Rattle.tree_turns.specs.Steps.{StepOf, heard_in, handled, failed_in, passed, failed_passing, reopened, failed_reopening, trimmed as trims_log, failed_trimming, TurnOf}
-use Rattle.tree_turns.proofs.Steps.{turn_of}
+use Rattle.tree_pairs.specs.readings.ReadingOf.{is_begun, is_told_of_txn}
+use Rattle.tree_pairs.specs.turns.Steps.{StepOf, heard_in, handled, failed_in, passed, failed_passing, reopened, failed_reopening, trimmed as trims_log, failed_trimming, TurnOf}
+use Rattle.tree_pairs.proofs.turns.Steps.{turn_of}
 use Rattle.tree_nodes.specs.Lasts.{logs_of, Nested}
 use Rattle.tree_nodes.proofs.RootCases.{InHistory, recorded, RootCases}
 use Rattle.tree_nodes.specs.WorldHolds.{is_record_of, has_begun}

@@ -12,7 +12,7 @@ use Rattle.tree_model.specs.Nodes.{Place, Node, kept}
 use Rattle.tree_model.specs.Memory.{memory_of}
 use Rattle.tree_model.specs.Standings.{some_case}
 use Rattle.tree_model.specs.Outcomes.{has_accepted}
-use Rattle.tree_readings.specs.ReadingOf.{is_told_of_txn}
+use Rattle.tree_pairs.specs.readings.ReadingOf.{is_told_of_txn}
 use Rattle.tree_nodes.specs.WorldHolds.{IsGivenOut, is_record_of}
 
 -- the case is the root's, and its number was given out, where so many were begun in this boot

@@ -24,8 +24,8 @@ use Rattle.tree_model.specs.CoordinatorRows.{Row}
 use Rattle.tree_model.specs.Reactions.{row_effect, told_of}
 use Rattle.tree_model.specs.Restarts.{is_undecided, reopens, restarted, restart_fails}
 use Rattle.tree_model.specs.Views.{root_place, next_begun}
-use Rattle.tree_readings.specs.ReadingOf.{is_told_of_txn}
-use Rattle.tree_turns.specs.CoordinatorTurns.{CaseTurn, rests, invites, accepts, sends_work, finds_nobody, asks_for_votes, gives_up, counts_vote, reads_only, commits, promises, hears_no, aborts, passes_commit, passes_abort, repeats_yes, asks, refuses, acknowledges, waits_for_acks, ends, answers, CoordinatorTurn, does_nothing, of_case, begins, gives_again, gives_fresh, presumes}
+use Rattle.tree_pairs.specs.readings.ReadingOf.{is_told_of_txn}
+use Rattle.tree_pairs.specs.turns.CoordinatorTurns.{CaseTurn, rests, invites, accepts, sends_work, finds_nobody, asks_for_votes, gives_up, counts_vote, reads_only, commits, promises, hears_no, aborts, passes_commit, passes_abort, repeats_yes, asks, refuses, acknowledges, waits_for_acks, ends, answers, CoordinatorTurn, does_nothing, of_case, begins, gives_again, gives_fresh, presumes}
 use Rattle.tree_nodes.specs.Lasts.{Logs}
 use Rattle.tree_nodes.proofs.RootCases.{IsRoots, InHistory, recorded, accepted, begun, told, found_undecided}
 use Rattle.tree_nodes.specs.WorldHolds.{is_record_of}

@@ -19,15 +19,15 @@ use Rattle.tree_model.specs.Restarts.{trim_fails}
 use Rattle.tree_model.specs.World.{World, Move, Made, IsRun, opens, makes, InputStands, Stands}
 use Rattle.tree_model.specs.Outcomes.{sent, has_accepted, is_joined_message}
 use Rattle.tree_model.proofs.RunLaws.{makes_at}
-use Rattle.tree_turns.specs.CoordinatorTurns.{CaseTurn, rests, invites, accepts, sends_work, finds_nobody, asks_for_votes, gives_up, counts_vote, reads_only, commits, promises, hears_no, aborts, passes_commit, passes_abort, repeats_yes, asks, refuses, acknowledges, waits_for_acks, ends, answers, CoordinatorTurn, does_nothing, of_case, begins, gives_again, gives_fresh, presumes}
-use Rattle.tree_turns.specs.Steps.{StepOf, heard_in, handled, failed_in, passed, failed_passing, reopened, failed_reopening, trimmed as trims_log, failed_trimming}
-use Rattle.tree_turns.proofs.Steps.{step_of}
-use Rattle.tree_turns.proofs.CoordinatorReactions.{CoordinatorTurnAt, coordinator_turn_of}
+use Rattle.tree_pairs.specs.turns.CoordinatorTurns.{CaseTurn, rests, invites, accepts, sends_work, finds_nobody, asks_for_votes, gives_up, counts_vote, reads_only, commits, promises, hears_no, aborts, passes_commit, passes_abort, repeats_yes, asks, refuses, acknowledges, waits_for_acks, ends, answers, CoordinatorTurn, does_nothing, of_case, begins, gives_again, gives_fresh, presumes}
+use Rattle.tree_pairs.specs.turns.Steps.{StepOf, heard_in, handled, failed_in, passed, failed_passing, reopened, failed_reopening, trimmed as trims_log, failed_trimming}
+use Rattle.tree_pairs.proofs.turns.Steps.{step_of}
+use Rattle.tree_pairs.proofs.turns.CoordinatorReactions.{CoordinatorTurnAt, coordinator_turn_of}
 use Rattle.tree_nodes.specs.CaseOrder.{IsCoordinator}
 use Rattle.tree_nodes.proofs.Tests.{either, right}
 use Rattle.tree_nodes.proofs.Deliveries.{was_sent}
 use Rattle.tree_nodes.proofs.RootCases.{IsRoots, accepted}
-use Rattle.tree_readings.proofs.Lists.{sent-append}
+use Rattle.tree_pairs.proofs.readings.Lists.{sent-append}
 use Rattle.tree_nodes.proofs.RootHistories.{took}
 use Rattle.tree_nodes.proofs.RootNumbered.{all_root_cases}
 use Rattle.tree_nodes.proofs.Worlds.{put}

@@ -19,13 +19,13 @@ use Rattle.tree_model.specs.Standings.{CoordinatorView, coordinator_standing, ph
 use Rattle.tree_model.specs.Restarts.{recorded_view, restart_abort, aborts_collecting, coordinator_reopens, reopens, case_stays, stays, staying, trimmed, is_known}
 use Rattle.tree_model.proofs.StandingLaws.{NoRecords, view_standing}
 use Rattle.tree_model.proofs.RootRowLaws.{phase_collecting}
-use Rattle.tree_readings.proofs.Trimmed.{gone}
-use Rattle.tree_turns.proofs.Operators.{reopens_none}
+use Rattle.tree_pairs.proofs.readings.Trimmed.{gone}
+use Rattle.tree_pairs.proofs.turns.Operators.{reopens_none}
 use Rattle.tree_nodes.specs.WorldHolds.{is_record_of, is_of}
 use Rattle.tree_nodes.proofs.Tests.{not_both, has-nil, in_first, in_second, in_either, has-cons, either, left as first_of, right as last_of}
 use Rattle.tree_nodes.proofs.Trims.{trim_left}
 use Rattle.tree_nodes.proofs.Worlds.{has_other}
-use Rattle.tree_readings.proofs.Inquiries.{has_case-more, found}
+use Rattle.tree_pairs.proofs.readings.Inquiries.{has_case-more, found}
 use Rattle.tree_nodes.proofs.Phases.{standing_at, Together, Unrecorded, unrecorded_stands, collecting_undecided, active_unrecorded}
 
 -- A case with a record is one of the log's.

@@ -21,8 +21,8 @@ use Rattle.tree_model.specs.Outcomes.{is_told_aborted}
 use Rattle.tree_model.specs.Reactions.{Does, reacts}
 use Rattle.tree_model.proofs.ListLaws.{kept-after}
 use Rattle.tree_model.proofs.StandingLaws.{active_facts, phase_active}
-use Rattle.tree_turns.specs.CoordinatorTurns.{CoordinatorTurn}
-use Rattle.tree_turns.specs.Steps.{TurnOf}
+use Rattle.tree_pairs.specs.turns.CoordinatorTurns.{CoordinatorTurn}
+use Rattle.tree_pairs.specs.turns.Steps.{TurnOf}
 use Rattle.tree_nodes.specs.Lasts.{Logs, logs_of, Nested}
 use Rattle.tree_nodes.proofs.Appends.{forces, writes, either_logs, breaks_keeps}
 use Rattle.tree_nodes.proofs.Boots.{turn_none, boot_written}

@@ -21,10 +21,10 @@ use Rattle.tree_model.specs.Memory.{Memory, Idle, memory_of}
 use Rattle.tree_model.specs.Outcomes.{is_told_aborted}
 use Rattle.tree_model.specs.Restarts.{recorded_view, restart_abort, aborts_collecting, is_concluded, is_undecided, reopens, restarted, restart_fails, trims, trim_fails, trimmed, is_known}
 use Rattle.tree_model.specs.World.{Move}
-use Rattle.tree_readings.proofs.Trimmed.{gone}
-use Rattle.tree_turns.specs.Steps.{StepOf, heard_in, handled, failed_in, passed, failed_passing, reopened, failed_reopening, trimmed as trims_log, failed_trimming}
-use Rattle.tree_turns.proofs.Operators.{reopens_none}
-use Rattle.tree_turns.proofs.Steps.{turn_of}
+use Rattle.tree_pairs.proofs.readings.Trimmed.{gone}
+use Rattle.tree_pairs.specs.turns.Steps.{StepOf, heard_in, handled, failed_in, passed, failed_passing, reopened, failed_reopening, trimmed as trims_log, failed_trimming}
+use Rattle.tree_pairs.proofs.turns.Operators.{reopens_none}
+use Rattle.tree_pairs.proofs.turns.Steps.{turn_of}
 use Rattle.tree_nodes.specs.Lasts.{logs_of, Nested}
 use Rattle.tree_nodes.proofs.Appends.{loses, breaks_keeps}
 use Rattle.tree_nodes.proofs.Boots.{trims_memory}

@@ -20,9 +20,9 @@ use Rattle.tree_model.specs.World.{World, Move, Made, IsRun, opens, makes}
 use Rattle.tree_model.proofs.BeginLaws.{begun_step, begun_next}
 use Rattle.tree_model.proofs.ListLaws.{kept-after, memory_of-after}
 use Rattle.tree_model.proofs.RunLaws.{makes_at}
-use Rattle.tree_turns.specs.Steps.{StepOf, heard_in, handled, failed_in, passed, failed_passing, reopened, failed_reopening, trimmed as trims_log, failed_trimming, TurnOf}
-use Rattle.tree_turns.proofs.Steps.{step_of, turn_of}
-use Rattle.tree_turns.proofs.CoordinatorReactions.{coordinator_turn_of}
+use Rattle.tree_pairs.specs.turns.Steps.{StepOf, heard_in, handled, failed_in, passed, failed_passing, reopened, failed_reopening, trimmed as trims_log, failed_trimming, TurnOf}
+use Rattle.tree_pairs.proofs.turns.Steps.{step_of, turn_of}
+use Rattle.tree_pairs.proofs.turns.CoordinatorReactions.{coordinator_turn_of}
 use Rattle.tree_nodes.specs.Lasts.{Logs, logs_of, Nested}
 use Rattle.tree_nodes.specs.WorldHolds.{is_record_of}
 use Rattle.tree_nodes.proofs.Tests.{not_both, has-nil, has-reverse, in_first, in_second, in_either, in_front}

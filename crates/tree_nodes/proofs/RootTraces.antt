@@ -24,9 +24,9 @@ use Rattle.tree_model.specs.Standings.{coordinator_view, some_case}
 use Rattle.tree_model.specs.Reactions.{Refused, Does, reacts, handles, act_is_listed}
 use Rattle.tree_model.specs.Views.{root_place, next_begun, begin_effect}
 use Rattle.tree_model.proofs.BeginLaws.{same_begun}
-use Rattle.tree_readings.specs.ReadingOf.{is_begun, is_told_of_txn}
-use Rattle.tree_turns.specs.CoordinatorTurns.{CoordinatorTurn, does_nothing, of_case, begins, gives_again, gives_fresh, presumes}
-use Rattle.tree_turns.proofs.CoordinatorReactions.{coordinator_turn_of}
+use Rattle.tree_pairs.specs.readings.ReadingOf.{is_begun, is_told_of_txn}
+use Rattle.tree_pairs.specs.turns.CoordinatorTurns.{CoordinatorTurn, does_nothing, of_case, begins, gives_again, gives_fresh, presumes}
+use Rattle.tree_pairs.proofs.turns.CoordinatorReactions.{coordinator_turn_of}
 use Rattle.tree_nodes.specs.Lasts.{logs_of, Nested}
 use Rattle.tree_nodes.proofs.RootCases.{InHistory, recorded, RootCases}
 use Rattle.tree_nodes.specs.WorldHolds.{is_record_of, has_begun}

@@ -15,9 +15,9 @@ use Rattle.tree_model.specs.World.{World, Made, IsRun, opens, makes}
 use Rattle.tree_model.proofs.RunLaws.{makes_at}
 use Rattle.tree_model.proofs.StandingLaws.{active_facts, phase_active}
 use Rattle.tree_pairs.specs.Reading.{is_live}
-use Rattle.tree_readings.specs.ReadingOf.{phase_by}
-use Rattle.tree_turns.specs.Steps.{StepOf}
-use Rattle.tree_turns.proofs.Steps.{step_of}
+use Rattle.tree_pairs.specs.readings.ReadingOf.{phase_by}
+use Rattle.tree_pairs.specs.turns.Steps.{StepOf}
+use Rattle.tree_pairs.proofs.turns.Steps.{step_of}
 use Rattle.tree_nodes.specs.Lasts.{logs_of, Lasts}
 use Rattle.tree_nodes.specs.RootBegins.{OwnTransactions}
 use Rattle.tree_nodes.specs.WorldHolds.{Begins, NeverCommits, NodeHolds}

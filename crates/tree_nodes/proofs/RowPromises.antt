@@ -12,9 +12,9 @@ use Rattle.tree_model.specs.Memory.{has_child}
 use Rattle.tree_model.specs.Standings.{coordinator_view}
 use Rattle.tree_model.specs.CoordinatorRows.{Row}
 use Rattle.tree_model.specs.Reactions.{row_effect}
-use Rattle.tree_readings.specs.ReadingOf.{is_promise}
-use Rattle.tree_turns.specs.LeafTurns.{Hears}
-use Rattle.tree_turns.specs.CoordinatorTurns.{IsToCommit, CaseTurn, rests, invites, accepts, sends_work, finds_nobody, asks_for_votes, gives_up, counts_vote, reads_only, commits, promises, hears_no, aborts, passes_commit, passes_abort, repeats_yes, asks, refuses, acknowledges, waits_for_acks, ends, answers, CoordinatorTurn, does_nothing, of_case, begins, gives_again, gives_fresh, presumes}
+use Rattle.tree_pairs.specs.readings.ReadingOf.{is_promise}
+use Rattle.tree_pairs.specs.turns.LeafTurns.{Hears}
+use Rattle.tree_pairs.specs.turns.CoordinatorTurns.{IsToCommit, CaseTurn, rests, invites, accepts, sends_work, finds_nobody, asks_for_votes, gives_up, counts_vote, reads_only, commits, promises, hears_no, aborts, passes_commit, passes_abort, repeats_yes, asks, refuses, acknowledges, waits_for_acks, ends, answers, CoordinatorTurn, does_nothing, of_case, begins, gives_again, gives_fresh, presumes}
 use Rattle.tree_nodes.proofs.RootHistories.{took}
 use Rattle.tree_nodes.proofs.Tests.{case_is}
 

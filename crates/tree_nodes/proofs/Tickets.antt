@@ -23,9 +23,9 @@ use Rattle.tree_model.specs.CoordinatorRows.{Seat, post, tells_outcome}
 use Rattle.tree_model.specs.declared.events.StepError.TheVariants.{Failed, NoSuch}
 use Rattle.tree_model.specs.Reactions.{Reacts, reacts, handles, hears, act_is_listed, Does, Refused, leaf_of, leaf_joins, joins_with}
 use Rattle.tree_model.specs.Outcomes.{sent, is_joined_message}
-use Rattle.tree_turns.specs.LeafTurns.{LeafTurn, does_nothing, gives_again, gives_fresh, votes_yes, votes_read, votes_no, repeats_yes, refuses, obeys, notes, acknowledges_told, acknowledges, drops, asks, decides, forgets}
-use Rattle.tree_turns.specs.Written.{IsForCase, IsFromCase, Sends, down, upward, invites, AllSent, IsAnswer, is_active, is_next, Writes, writes_nothing, for_act, for_child, for_parent, presumes, gives}
-use Rattle.tree_turns.specs.Steps.{TurnAt}
+use Rattle.tree_pairs.specs.turns.LeafTurns.{LeafTurn, does_nothing, gives_again, gives_fresh, votes_yes, votes_read, votes_no, repeats_yes, refuses, obeys, notes, acknowledges_told, acknowledges, drops, asks, decides, forgets}
+use Rattle.tree_pairs.specs.turns.Written.{IsForCase, IsFromCase, Sends, down, upward, invites, AllSent, IsAnswer, is_active, is_next, Writes, writes_nothing, for_act, for_child, for_parent, presumes, gives}
+use Rattle.tree_pairs.specs.turns.Steps.{TurnAt}
 use Rattle.tree_nodes.specs.Numbers.{IsIssuer}
 use Rattle.tree_nodes.proofs.Tests.{either}
 use Rattle.tree_nodes.proofs.Selves.{Self, self_of, self_is, next_of, joins_self, starts_for, hears_self, issuer_self, root_self, self_after}

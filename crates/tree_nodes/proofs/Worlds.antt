@@ -14,7 +14,7 @@ use Rattle.tree_model.specs.Nodes.{Role, AtRoot, Below, AtLeaf, place_of, role_o
 use Rattle.tree_model.specs.Outcomes.{StandingMismatches, DecisionStands}
 use Rattle.tree_model.specs.World.{World, Made, IsRun, opens, makes, put_at}
 use Rattle.tree_model.proofs.RunLaws.{makes_at}
-use Rattle.tree_turns.proofs.Steps.{step_of}
+use Rattle.tree_pairs.proofs.turns.Steps.{step_of}
 use Rattle.tree_nodes.specs.Marks.{is_managers}
 use Rattle.tree_nodes.specs.Lasts.{logs_of, Nested, Coordinates, Lasts}
 use Rattle.tree_nodes.proofs.Tests.{either, left, right, in_first, last_or, not_both}

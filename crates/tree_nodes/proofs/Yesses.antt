@@ -19,8 +19,8 @@ use Rattle.tree_model.specs.Outcomes.{sent, is_yes_message, promise_is_forced, Y
 use Rattle.tree_model.specs.Restarts.{left_of, reopens, data_records, trim_fails}
 use Rattle.tree_model.specs.World.{World, Move, Made, IsRun, opens, makes, put_at, Stands, InputStands}
 use Rattle.tree_model.proofs.RunLaws.{makes_at, node_by_run}
-use Rattle.tree_turns.specs.Steps.{StepOf, heard_in, handled, failed_in, passed, failed_passing, reopened, failed_reopening, trimmed as trims_log, failed_trimming, TurnAt, TurnOf}
-use Rattle.tree_turns.proofs.Steps.{step_of, turn_of}
+use Rattle.tree_pairs.specs.turns.Steps.{StepOf, heard_in, handled, failed_in, passed, failed_passing, reopened, failed_reopening, trimmed as trims_log, failed_trimming, TurnAt, TurnOf}
+use Rattle.tree_pairs.proofs.turns.Steps.{step_of, turn_of}
 use Rattle.tree_nodes.specs.Lasts.{Logs, logs_of, RoleLasts, Lasts}
 use Rattle.tree_nodes.specs.Owns.{is_given_by, is_own_case, is_foreign, Owns, AllGoToOwners}
 use Rattle.tree_nodes.proofs.Tests.{not_both, in_first, in_second, in_either, in_front, front_none, in_none, has-reverse}

@@ -7,7 +7,7 @@ use Rattle.tree_model.specs.declared.records.Record.TheVariants.{Opened}
 use Rattle.tree_model.specs.Records.{has, is_decided, is_forgot, is_prepared}
 use Rattle.tree_model.specs.Nodes.{Role, AtLeaf, Node}
 use Rattle.tree_model.specs.Standings.{Unmarked}
-use Rattle.tree_turns.specs.Written.{is_coordinators}
+use Rattle.tree_pairs.specs.turns.Written.{is_coordinators}
 use Rattle.tree_nodes.specs.Marks.{in_order_from, is_managers}
 
 -- A process's log with its histories, and whether its device failed.

@@ -13,7 +13,7 @@ use Rattle.tree_model.specs.Standings.{coordinator_view}
 use Rattle.tree_model.specs.Outcomes.{sent, is_outcome_message}
 use Rattle.tree_pairs.specs.Keeps.{Follows}
 use Rattle.tree_pairs.specs.Reading.{Reading}
-use Rattle.tree_readings.specs.ReadingOf.{reading_from, is_root_ticket, parent_half, child_half, ParentHalf, ChildHalf, wire, no_wire, is_prepare_message}
+use Rattle.tree_pairs.specs.readings.ReadingOf.{reading_from, is_root_ticket, parent_half, child_half, ParentHalf, ChildHalf, wire, no_wire, is_prepare_message}
 use Rattle.tree_nodes.specs.WorldHolds.{IsPair, IsFree, InvariantOf}
 
 -- what the pair above a case says of it: PREPARE came only if it takes part, and what it was told in doubt

@@ -24,11 +24,11 @@ use Rattle.tree_model.specs.Views.{IsOpenAlike}
 use Rattle.tree_pairs.specs.Reading.{Reading}
 use Rattle.tree_pairs.specs.Invariant.{PresumedAbort, PresumedCommit}
 use Rattle.tree_pairs.specs.Keeps.{Later}
-use Rattle.tree_readings.specs.ReadingOf.{reading_of, is_root_ticket, gives_case, is_promise, is_collecting_naming, is_prepare_naming, is_decision_naming, is_prepare_message, is_vote}
+use Rattle.tree_pairs.specs.readings.ReadingOf.{reading_of, is_root_ticket, gives_case, is_promise, is_collecting_naming, is_prepare_naming, is_decision_naming, is_prepare_message, is_vote}
 use Rattle.tree_model.specs.declared.records.Branch.TheVariants.{Case as CaseBranch}
 use Rattle.tree_model.specs.Outcomes.{is_told_aborted}
 use Rattle.tree_pairs.specs.Reading.{is_live}
-use Rattle.tree_readings.specs.ReadingOf.{is_begun, is_told_of_txn, phase_by}
+use Rattle.tree_pairs.specs.readings.ReadingOf.{is_begun, is_told_of_txn, phase_by}
 use Rattle.tree_model.specs.Records.{is_collecting, is_prepare, is_end}
 use Rattle.tree_model.specs.Standings.{Unmarked}
 use Rattle.tree_model.specs.Outcomes.{sent, has_accepted, has_heard_vote, TakesPart, is_joined_message}

@@ -13,7 +13,7 @@ ghost use Rattle.tree_nodes.specs.CaseOrder.{CaseInOrder, IsCoordinator};
 ghost use Rattle.tree_nodes.specs.RootBegins.{OwnTransactions};
 ghost use Rattle.tree_nodes.specs.WorldHolds.{Begins, Boots, Cascades, Coordinates, IsPair, Issues, JoinedOnce, NodeHolds, WorldHolds, pair_reading};
 ghost use Rattle.tree_pairs.specs.Invariant.{Common};
-ghost use Rattle.tree_readings.specs.ReadingOf.{gives_case};
+ghost use Rattle.tree_pairs.specs.readings.ReadingOf.{gives_case};
 ghost use Rattle.tree_model.specs.World.{IsRun, Made, World};
 ghost use Rattle.tree_model.specs.declared.trees.TreeEntry.{TreeEntry};
 

@@ -17,3 +17,5 @@ pub mod StagesAbort
 pub mod StagesCommit
 pub mod Runs
 pub mod WrongMoves
+pub mod readings
+pub mod turns

@@ -4,4 +4,6 @@
 #![tactic(auto)]
 
 pub mod law;
+pub mod readings;
 pub mod rows;
+pub mod turns;

@@ -1,3 +1,4 @@
 pub mod FlatRuns
 pub mod TreeRuns
 pub mod DoubtRuns
+pub mod wrong

@@ -2,3 +2,4 @@
 #![tactic(auto)]
 
 pub mod law;
+pub mod wrong;

@@ -3,7 +3,7 @@ use Rattle.std.proofs.Common.{◌≡◌, ◌∙◌, [], ℕ, List, refl, sym, su
 use Rattle.tree_model.specs.declared.names.Kind.TheVariants.{Coordinator}
 use Rattle.tree_model.specs.declared.records.LogRecord.{LogRecord}
 use Rattle.tree_model.specs.Records.{same_bytes}
-use Rattle.log_order.specs.Logs.{Whole, read_log}
+use Rattle.log_rules.specs.order.Logs.{Whole, read_log}
 use Rattle.rec_log.specs.Openings.{Opens}
 use Rattle.rec_log.specs.Sights.{LogState, records_of}
 

@@ -4,7 +4,7 @@ use Rattle.tree_model.specs.declared.names.ProcessId.{ProcessId}
 use Rattle.tree_model.specs.declared.events.StepError.{StepError}
 use Rattle.tree_model.specs.declared.trees.TreeEntry.{TreeEntry}
 use Rattle.core_model.specs.States.{CoreState}
-use Rattle.world_law.specs.Worlds.{Same, WorldState}
+use Rattle.core_law.specs.worlds.Worlds.{Same, WorldState}
 use Rattle.world_journal.specs.Journals.{JournalState, Keeps}
 use Rattle.tree_world.proofs.Steps.{same_as_it_is}
 

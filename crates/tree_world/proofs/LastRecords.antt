@@ -7,8 +7,8 @@ use Rattle.std.proofs.lemmas.List.Elements.{All-from_recursion}
 use Rattle.tree_model.specs.declared.names.Kind.{Kind}
 use Rattle.tree_model.specs.declared.records.LogRecord.{LogRecord}
 use Rattle.log_text.specs.Payloads.{FitsFrame}
-use Rattle.log_sound.specs.Sound.{IsSound}
-use Rattle.log_sound.proofs.Sizes.{records_fit_frames}
+use Rattle.log_rules.specs.sound.Sound.{IsSound}
+use Rattle.log_rules.proofs.sound.Sizes.{records_fit_frames}
 use Rattle.rec_log.specs.Sights.{LogSight, left_by, records_of, whole_within}
 
 fits_by : (k : Kind) (xs ys : List LogRecord) → AllByRecursion (IsSound k) (xs ++ ys) → AllByRecursion FitsFrame ys

@@ -6,14 +6,14 @@ use Rattle.tree_model.specs.declared.trees.TreeEntry.{TreeEntry}
 use Rattle.tree_model.specs.Outcomes.{Headline}
 use Rattle.tree_model.specs.Trees.{IsTree}
 use Rattle.tree_model.specs.World.{Made, World, opened_world}
-use Rattle.world_law.specs.Worlds.{Applies, Stops, WorldState}
-use Rattle.world_law.specs.Runs.{IsOpened, Leads, LeadsUntil}
-use Rattle.world_law.specs.Ties.{FollowsBehindFaults, entered_of}
-use Rattle.world_law.specs.Sayings.{IsModelledTree, SaidBehindFaults, Saying}
-use Rattle.world_law.proofs.Events.{GoesOnIn, applied_on, leads_on, leads_until_on, stopped_on}
-use Rattle.world_law.proofs.Journals.{entered_hides, entered_shows, opened_behind_faults}
-use Rattle.world_law.proofs.Processes.{as_the_model}
-use Rattle.world_law.proofs.Whole.{modelled_behind_faults}
+use Rattle.core_law.specs.worlds.Worlds.{Applies, Stops, WorldState}
+use Rattle.core_law.specs.worlds.Runs.{IsOpened, Leads, LeadsUntil}
+use Rattle.core_law.specs.worlds.Ties.{FollowsBehindFaults, entered_of}
+use Rattle.core_law.specs.worlds.Sayings.{IsModelledTree, SaidBehindFaults, Saying}
+use Rattle.core_law.proofs.worlds.Events.{GoesOnIn, applied_on, leads_on, leads_until_on, stopped_on}
+use Rattle.core_law.proofs.worlds.Journals.{entered_hides, entered_shows, opened_behind_faults}
+use Rattle.core_law.proofs.worlds.Processes.{as_the_model}
+use Rattle.core_law.proofs.worlds.Whole.{modelled_behind_faults}
 
 -- from every run for which the first state stands, the second stands for one that goes on, of the same tree
 abbrev pub GoesOnFrom : WorldState → WorldState → Type 0

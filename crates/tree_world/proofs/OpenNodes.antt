@@ -8,7 +8,7 @@ use Rattle.tree_model.specs.Names.{same_process}
 use Rattle.tree_model.specs.NameLaws.{same_process_tells}
 use Rattle.tree_model.specs.Nodes.{is_listed, role_by, role_of}
 use Rattle.core_model.specs.States.{CoreState}
-use Rattle.world_law.specs.Runs.{IsOpened, NodeOpened}
+use Rattle.core_law.specs.worlds.Runs.{IsOpened, NodeOpened}
 use Rattle.world_journal.specs.Journals.{JournalState}
 use Rattle.tree_world.specs.declared.node.Node.{Node}
 use Rattle.tree_world.specs.Nodes.{core_of}

@@ -10,8 +10,8 @@ use Rattle.tree_model.specs.declared.trees.TreeEntry.{TreeEntry}
 use Rattle.tree_model.specs.Names.{same_process}
 use Rattle.core_model.specs.States.{CoreState}
 use Rattle.core_law.specs.Steps.{trim_reaction}
-use Rattle.world_law.specs.Worlds as worlds
-use Rattle.world_law.specs.Worlds.{HasFailed, Same, WorldState, step_entry, undelivered}
+use Rattle.core_law.specs.worlds.Worlds as worlds
+use Rattle.core_law.specs.worlds.Worlds.{HasFailed, Same, WorldState, step_entry, undelivered}
 use Rattle.tree_world.specs.declared.node.Node.{Node}
 use Rattle.tree_world.specs.Nodes.{MovesAt, SameNodes, core_of, node_in, nodes_at}
 use Rattle.tree_world.specs.Restarts.{NoRestart, NoRestartAt, NoTrim, NoTrimAt, RestartsAt, RestartsNode, TrimsAt, TrimsNode}

@@ -4,8 +4,8 @@ use Rattle.std.proofs.lemmas.List.{take_more, take_all}
 use Rattle.std.proofs.lemmas.Option.{slice_get_read}
 use Rattle.tree_model.specs.declared.events.Event.{Event}
 use Rattle.tree_model.specs.declared.events.StepError.{StepError}
-use Rattle.world_law.specs.Worlds.{Applies, Stops, WorldState}
-use Rattle.world_law.specs.Runs.{Leads, LeadsUntil}
+use Rattle.core_law.specs.worlds.Worlds.{Applies, Stops, WorldState}
+use Rattle.core_law.specs.worlds.Runs.{Leads, LeadsUntil}
 
 -- one event more was made
 leads_more : (first now new : WorldState) (made : List Event) (e : Event) → Leads first made now

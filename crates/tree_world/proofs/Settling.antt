@@ -3,7 +3,7 @@ use Rattle.std.proofs.Common.{◌≡◌, ◌∙◌, sym, ap, subst, refl, ℕ, z
 use Rattle.tree_model.specs.declared.events.Event.TheVariants.{Deliver}
 use Rattle.tree_model.specs.declared.events.StepError.{StepError}
 use Rattle.tree_model.specs.declared.events.StepError.TheVariants.{Memory}
-use Rattle.world_law.specs.Worlds.{Delivers, NoneDelivered, Same, Settles, SettleStops, Stops, WorldState, least_open, settles_by}
+use Rattle.core_law.specs.worlds.Worlds.{Delivers, NoneDelivered, Same, Settles, SettleStops, Stops, WorldState, least_open, settles_by}
 use Rattle.tree_world.proofs.Handling.{same_as_before}
 
 -- one delivery more, behind so many

@@ -11,7 +11,7 @@ use Rattle.tree_model.specs.Nodes.{DataAnswer}
 use Rattle.core_model.specs.States.{CoreState, SameCore}
 use Rattle.core_model.specs.Makes.{IsRefused}
 use Rattle.core_model.proofs.Alike.{same_view}
-use Rattle.world_law.specs.Worlds.{HandlesInput, RefusesAt, SameNode}
+use Rattle.core_law.specs.worlds.Worlds.{HandlesInput, RefusesAt, SameNode}
 use Rattle.tree_world.specs.declared.node.Node.{Node}
 use Rattle.tree_world.specs.Nodes.{MovesAt, NoStepAt, NotHandled, SameNodes, StepsAt, core_of, node_in, nodes_at}
 

@@ -19,7 +19,7 @@ use Rattle.core_model.specs.Makes.{IsBroken, NotMade}
 use Rattle.coord_core.specs.States as coordinators
 use Rattle.kv_manager.specs.Resources.{sight_of}
 use Rattle.sub_core.specs.Steps as managers
-use Rattle.world_law.specs.Worlds.{HandlesInput, RefusesAt, SameNode}
+use Rattle.core_law.specs.worlds.Worlds.{HandlesInput, RefusesAt, SameNode}
 use Rattle.tree_world.specs.declared.node.Node.{Node}
 use Rattle.tree_world.specs.declared.node.Node.TheVariants.{Coordinator, Manager}
 

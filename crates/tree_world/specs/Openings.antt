@@ -5,7 +5,7 @@ use Rattle.tree_model.specs.declared.trees.TreeEntry.{TreeEntry}
 use Rattle.tree_model.specs.Nodes.{Place, is_listed, role_by}
 use Rattle.core_model.specs.States.{CoreState}
 use Rattle.core_model.specs.Opening.{IsOpened as OpensAt}
-use Rattle.world_law.specs.Runs.{NodeOpened}
+use Rattle.core_law.specs.worlds.Runs.{NodeOpened}
 
 -- the process that sits there has opened an empty log
 pub record OpenedAt (place : Place) (s : CoreState) : Type 0 where

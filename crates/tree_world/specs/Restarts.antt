@@ -7,7 +7,7 @@ use Rattle.tree_model.specs.declared.events.StepError.TheVariants.{Memory, Devic
 use Rattle.core_model.specs.States.{CoreState, SameCore}
 use Rattle.core_model.specs.Restarting.{NotRestarted, NotTrimmed, Restarts, Trims}
 use Rattle.core_law.specs.Steps.{IsSoundLog, records_kept}
-use Rattle.world_law.specs.Worlds.{HasFailed, KeepsBytes}
+use Rattle.core_law.specs.worlds.Worlds.{HasFailed, KeepsBytes}
 use Rattle.tree_world.specs.Nodes.{MovesAt, SameNodes}
 
 -- the process restarts, and keeps so many of its unforced records

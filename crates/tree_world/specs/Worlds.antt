@@ -6,7 +6,7 @@ use Rattle.tree_model.specs.declared.events.Input.{Input}
 use Rattle.tree_model.specs.declared.events.StepError.{StepError}
 use Rattle.tree_model.specs.declared.events.StepError.TheVariants.{Memory, Device}
 use Rattle.tree_model.specs.declared.trees.TreeEntry.{TreeEntry}
-use Rattle.world_law.specs.Worlds.{DeviceFails, RefusesAt, Same, WorldState}
+use Rattle.core_law.specs.worlds.Worlds.{DeviceFails, RefusesAt, Same, WorldState}
 use Rattle.world_journal.specs.Journals.{JournalState}
 use Rattle.tree_world.specs.declared.node.Node.{Node}
 use Rattle.tree_world.specs.declared.running_tree.RunningTree.{RunningTree}

@@ -6,7 +6,7 @@ ghost use Rattle.core_model.specs.States.{HasNumbers};
 ghost use Rattle.coord_core.specs.States.{state as coordinator_state};
 ghost use Rattle.kv_manager.specs.Resources.{sight_of};
 ghost use Rattle.sub_core.specs.Steps.{state as manager_state};
-ghost use Rattle.world_law.specs.Worlds.{HandlesInput};
+ghost use Rattle.core_law.specs.worlds.Worlds.{HandlesInput};
 ghost use Rattle.tree_world.specs.Nodes.{NotHandled, SpellsLog, core_of, live_at};
 
 use coord_core::Coordinator;

@@ -9,8 +9,8 @@ ghost use Rattle.tree_model.specs.declared.names.ProcessId.{ProcessId as AnyProc
 ghost use Rattle.tree_model.specs.Names.{same_process};
 ghost use Rattle.tree_model.specs.Nodes.{Role, role_by};
 ghost use Rattle.tree_model.specs.Trees.{IsTree};
-ghost use Rattle.world_law.specs.Runs.{IsOpened};
-ghost use Rattle.world_law.specs.Sayings.{KeepsHeadline, SaidBehindFaults};
+ghost use Rattle.core_law.specs.worlds.Runs.{IsOpened};
+ghost use Rattle.core_law.specs.worlds.Sayings.{KeepsHeadline, SaidBehindFaults};
 ghost use Rattle.tree_world.specs.Openings.{AreOpened, OpenedAs, OpenedAt};
 ghost use Rattle.tree_world.specs.Nodes.{core_of, nodes_at};
 ghost use Rattle.tree_world.specs.Worlds.{state};

@@ -4,7 +4,7 @@ ghost use Rattle.std.specs.Prelude.{◌≡◌, IfErr, IfOk};
 ghost use Rattle.rec_log.specs.Sights.{left_by, records_of};
 ghost use Rattle.core_model.specs.Restarting.{NotRestarted, NotTrimmed, Restarts, Trims};
 ghost use Rattle.core_law.specs.Steps.{IsSoundLog, records_kept};
-ghost use Rattle.world_law.specs.Worlds.{KeepsBytes};
+ghost use Rattle.core_law.specs.worlds.Worlds.{KeepsBytes};
 ghost use Rattle.tree_world.specs.Nodes.{core_of};
 ghost use Rattle.tree_world.specs.Restarts.{NoRestart, NoTrim, RestartsNode, TrimsNode};
 

@@ -3,8 +3,8 @@
 ghost use Rattle.std.specs.Prelude.{◌≡◌, ◌<◌, [], IfErr, IfOk, OnOk, length, map};
 ghost use Rattle.tree_model.specs.Plays.{process_of_act};
 ghost use Rattle.core_law.specs.Steps.{trim_reaction};
-ghost use Rattle.world_law.specs.Worlds.{Applies, Stops, Steps};
-ghost use Rattle.world_law.specs.Runs.{Leads, LeadsUntil};
+ghost use Rattle.core_law.specs.worlds.Worlds.{Applies, Stops, Steps};
+ghost use Rattle.core_law.specs.worlds.Runs.{Leads, LeadsUntil};
 ghost use Rattle.world_journal.specs.Journals.{IsReady, IsSent, marked_by};
 ghost use Rattle.tree_world.specs.Worlds.{NotTaken, logs_at, running_state};
 

@@ -2,10 +2,10 @@
 
 ghost use Rattle.std.specs.Prelude.{◌≡◌, ◌<◌, ℕ, List, IfErr, IfOk, OnOk, length, map, option_map, slice_get};
 ghost use Rattle.tree_model.specs.World.{Made, World as ModelWorld};
-ghost use Rattle.world_law.specs.Worlds.{Applies, Stops};
-ghost use Rattle.world_law.specs.Runs.{Leads, LeadsUntil};
-ghost use Rattle.world_law.specs.Ties.{FollowsBehindFaults, GoesOnBehindFaults};
-ghost use Rattle.world_law.specs.Sayings.{Agrees, AnswersTruly, Consents, IsByOperatorsAlone, KeepsMismatches, SaidBehindFaults};
+ghost use Rattle.core_law.specs.worlds.Worlds.{Applies, Stops};
+ghost use Rattle.core_law.specs.worlds.Runs.{Leads, LeadsUntil};
+ghost use Rattle.core_law.specs.worlds.Ties.{FollowsBehindFaults, GoesOnBehindFaults};
+ghost use Rattle.core_law.specs.worlds.Sayings.{Agrees, AnswersTruly, Consents, IsByOperatorsAlone, KeepsMismatches, SaidBehindFaults};
 ghost use Rattle.world_journal.specs.Shown.{entry_part, shown_part};
 ghost use Rattle.tree_world.specs.Nodes.{SpellsLogBy, live_at, node_in};
 ghost use Rattle.tree_world.specs.Worlds.{logs_at, state};
@@ -26,7 +26,7 @@ pub struct World<L: LogStore> {
 
 impl<L: LogStore> Model for World<L> {
     ghost use Rattle.tree_world.specs.Worlds.{WorldValue, running_state, value_of};
-    ghost use Rattle.world_law.specs.Sayings.{IsModelledTree};
+    ghost use Rattle.core_law.specs.worlds.Sayings.{IsModelledTree};
 
     ghost Value = { WorldValue L };
 

@@ -11,7 +11,7 @@ use Rattle.tree_model.specs.declared.events.Input.TheVariants.{Act as ActInput, 
 use Rattle.tree_model.specs.declared.names.Txn.{Txn}
 use Rattle.tree_model.specs.declared.events.Told.{Told}
 use Rattle.tree_model.specs.Plays.{sent_as}
-use Rattle.world_law.specs.Worlds.{step_entry, undelivered}
+use Rattle.core_law.specs.worlds.Worlds.{step_entry, undelivered}
 use Rattle.world_journal.specs.declared.short_step.Posted.{Posted}
 use Rattle.world_journal.specs.declared.short_step.ShortStep.{ShortStep}
 use Rattle.world_journal.specs.declared.short_step.Aside.{Aside}

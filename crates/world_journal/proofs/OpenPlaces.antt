@@ -1,6 +1,6 @@
 -- The first mark that is not set.
 use Rattle.std.proofs.Common.{◌≡◌, ℕ, zero, suc, ◌+◌, ◌<◌, Bool, true, false, Some, None, List, [], ◌∷◌, length, get_or, take, replicate, refl, arith}
-use Rattle.world_law.specs.Worlds.{least_open}
+use Rattle.core_law.specs.worlds.Worlds.{least_open}
 
 -- the first of a list that begins with set marks is set
 head_set : (b : Bool) (bs : List Bool) (p : ℕ) → take (suc p) (b ∷ bs) ≡ replicate (suc p) true → b ≡ true

@@ -12,7 +12,7 @@ use Rattle.tree_model.specs.declared.events.Reaction.{Reaction}
 use Rattle.tree_model.specs.declared.events.Told.{Told}
 use Rattle.tree_model.specs.declared.events.Input.TheVariants.{Act as ActInput, Message as MessageInput}
 use Rattle.tree_model.specs.Plays.{sent_as}
-use Rattle.world_law.specs.Worlds.{entry_at, marks, step_entry, undelivered}
+use Rattle.core_law.specs.worlds.Worlds.{entry_at, marks, step_entry, undelivered}
 use Rattle.world_journal.specs.declared.short_step.Aside.{Aside}
 use Rattle.world_journal.specs.declared.short_step.Cause.{Cause}
 use Rattle.world_journal.specs.declared.short_step.Cause.TheVariants.{Act as ActCause, Message as MessageCause, Restart as RestartCause, Trim as TrimCause}

@@ -5,7 +5,7 @@ ghost use Rattle.std.specs.Option.{option_copied};
 ghost use Rattle.std.specs.Vec.{vec_capacity, vec_len};
 ghost use Rattle.tree_model.specs.declared.events.Reaction.{Reaction as AnyReaction};
 ghost use Rattle.tree_model.specs.Plays.{sent_as};
-ghost use Rattle.world_law.specs.Worlds.{least_open as least_open_in, step_entry, undelivered};
+ghost use Rattle.core_law.specs.worlds.Worlds.{least_open as least_open_in, step_entry, undelivered};
 ghost use Rattle.world_journal.specs.Journals.{Enters, IsReady, IsSent, Keeps, last_messages as last_messages_of, marked_by, names, taken_up};
 ghost use Rattle.world_journal.specs.Shown.{entry_part, shown_part};
 
@@ -38,7 +38,7 @@ pub struct Journal {
 impl Model for Journal {
     ghost use Rattle.std.specs.Prelude.{◌++◌, ◌-◌, length};
     ghost use Rattle.std.specs.Vec.{vec_capacity};
-    ghost use Rattle.world_law.specs.Worlds.{undelivered};
+    ghost use Rattle.core_law.specs.worlds.Worlds.{undelivered};
     ghost use Rattle.world_journal.specs.Journals.{AreNamed, IsWhole, JournalState, entries_of, messages_of, unposted};
 
     ghost Value = { JournalState };

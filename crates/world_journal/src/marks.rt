@@ -1,7 +1,7 @@
 //! Which messages were delivered.
 
 ghost use Rattle.std.specs.Prelude.{◌≡◌, ◌+◌, ◌<◌, ◌^◌, ◌++◌, ◌∷◌, [], Bool, true, false, OnOk, OnErr, IfSome, IfNone, None, Some, length, slice_set, take, replicate, ◌≤◌};
-ghost use Rattle.world_law.specs.Worlds.{least_open as least_open_in};
+ghost use Rattle.core_law.specs.worlds.Worlds.{least_open as least_open_in};
 
 use std::alloc::{AllocError, Global};
 use std::marker::Model;

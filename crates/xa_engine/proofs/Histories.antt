@@ -33,8 +33,8 @@ use Rattle.log_text.specs.Parts.{name_in}
 use Rattle.tree_model.specs.declared.names.Kind.TheVariants.{Manager}
 use Rattle.tree_model.specs.declared.names.Outcome.{Outcome}
 use Rattle.tree_model.specs.Records.{same_bytes}
-use Rattle.log_order.specs.Logs.{Whole, read_log}
-use Rattle.log_order.specs.Orders.{SeenLog, left_by as in_doubt_by, nothing_seen}
+use Rattle.log_rules.specs.order.Logs.{Whole, read_log}
+use Rattle.log_rules.specs.order.Orders.{SeenLog, left_by as in_doubt_by, nothing_seen}
 use Rattle.rec_log.specs.Openings.{Opens as OpensLog}
 use Rattle.rec_log.specs.Sights.{Kept, LogSight, LogState, RestartBreaks, left_by, records_of}
 use Rattle.tree_model.specs.Nodes.{Written, is_any_forced}
@@ -44,7 +44,7 @@ use Rattle.kv_turns.specs.declared.entries.Entry.{Entry}
 use Rattle.kv_turns.specs.declared.entries.Entry.TheVariants as entry
 use Rattle.kv_turns.specs.declared.turns.Turn.{Turn}
 use Rattle.kv_turns.specs.Turns.{entry_record, presumption_of, turn_of}
-use Rattle.kv_writes.specs.Writes.{writes_of}
+use Rattle.kv_store.specs.writes.Writes.{writes_of}
 use Rattle.kv_core.specs.Stores.{KeySight, MovesTables, state_of}
 use Rattle.kv_core.specs.Works.{IsRefused}
 use Rattle.kv_core.specs.Ends.{IsDue, known_of, wrote_some}
@@ -57,10 +57,10 @@ use Rattle.kv_manager.specs.Turns.{Calls, Fails, Finishes, Logs, Makes as MakesT
 use Rattle.kv_manager.specs.Restarts.{NotRestarted, RestartFails, Restarted, opened}
 use Rattle.kv_manager.specs.declared.restart.RestartError.{RestartError}
 use Rattle.kv_manager.specs.declared.restart.RestartError.TheVariants as restart_error
-use Rattle.xa_script.specs.declared.request.BranchCall.{BranchCall}
-use Rattle.xa_script.specs.declared.request.BranchCall.TheVariants.{Start, End, Prepare, Commit, Rollback, Forget}
-use Rattle.xa_script.specs.declared.request.Request.{Request}
-use Rattle.xa_script.specs.declared.request.Request.TheVariants.{Open, Close, Branch, Recover, Work, Restart, Trim, Decide}
+use Rattle.xa_engine.specs.declared.script.request.BranchCall.{BranchCall}
+use Rattle.xa_engine.specs.declared.script.request.BranchCall.TheVariants.{Start, End, Prepare, Commit, Rollback, Forget}
+use Rattle.xa_engine.specs.declared.script.request.Request.{Request}
+use Rattle.xa_engine.specs.declared.script.request.Request.TheVariants.{Open, Close, Branch, Recover, Work, Restart, Trim, Decide}
 use Rattle.xa_engine.specs.declared.answer.Answer.{Answer}
 use Rattle.xa_engine.specs.declared.answer.Answer.TheVariants as answer
 use Rattle.xa_engine.specs.Histories.{IsHistory, ShowEach, Shows, verb_of}

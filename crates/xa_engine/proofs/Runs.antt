@@ -7,9 +7,9 @@ use Rattle.xa_codes.specs.declared.code.Code.{Code}
 use Rattle.xa_tables.specs.declared.call.Verb.TheVariants as verb
 use Rattle.xa_xid.specs.declared.xid.Xid.{Xid}
 use Rattle.kv_manager.specs.Sights.{KvSight}
-use Rattle.xa_script.specs.declared.request.BranchCall.{BranchCall}
-use Rattle.xa_script.specs.declared.request.BranchCall.TheVariants.{Start, End}
-use Rattle.xa_script.specs.declared.request.Request.{Request}
+use Rattle.xa_engine.specs.declared.script.request.BranchCall.{BranchCall}
+use Rattle.xa_engine.specs.declared.script.request.BranchCall.TheVariants.{Start, End}
+use Rattle.xa_engine.specs.declared.script.request.Request.{Request}
 use Rattle.xa_engine.specs.declared.answer.Answer.{Answer}
 use Rattle.xa_engine.specs.Answers.{answer_text}
 use Rattle.xa_engine.specs.Makes.{CallsBranch, Joins, Makes}

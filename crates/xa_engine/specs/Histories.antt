@@ -6,10 +6,10 @@ use Rattle.xa_xid.specs.declared.xid.Xid.{Xid}
 use Rattle.xa_law.specs.Moves.{Move, Open as OpenMove, Close as CloseMove, Branch as BranchMove, Recover as RecoverMove, Work as WorkMove, Decide as DecideMove, Restart as RestartMove}
 use Rattle.xa_law.specs.Histories.{IsLegalHistory}
 use Rattle.kv_manager.specs.Sights.{KvSight}
-use Rattle.xa_script.specs.declared.request.BranchCall.{BranchCall}
-use Rattle.xa_script.specs.declared.request.BranchCall.TheVariants.{Start, End, Prepare, Commit, Rollback, Forget}
-use Rattle.xa_script.specs.declared.request.Request.{Request}
-use Rattle.xa_script.specs.declared.request.Request.TheVariants.{Open, Close, Branch, Recover, Work, Restart, Trim, Decide}
+use Rattle.xa_engine.specs.declared.script.request.BranchCall.{BranchCall}
+use Rattle.xa_engine.specs.declared.script.request.BranchCall.TheVariants.{Start, End, Prepare, Commit, Rollback, Forget}
+use Rattle.xa_engine.specs.declared.script.request.Request.{Request}
+use Rattle.xa_engine.specs.declared.script.request.Request.TheVariants.{Open, Close, Branch, Recover, Work, Restart, Trim, Decide}
 use Rattle.xa_engine.specs.declared.answer.Answer.{Answer}
 use Rattle.xa_engine.specs.declared.answer.Answer.TheVariants.{Code, Given, Done, Booted, NotBooted, Trimmed, NotTrimmed, NotDecided}
 

@@ -24,10 +24,10 @@ use Rattle.manager_model.specs.Deciding.{Decides as IsDecided, NotDecided}
 use Rattle.manager_model.specs.declared.errors.DecideError.TheVariants as decide_error
 use Rattle.manager_model.specs.Trimming.{NotTrimmed, Trims as TrimsLog}
 use Rattle.manager_model.specs.declared.errors.TrimError.TheVariants as trim_error
-use Rattle.xa_script.specs.declared.request.BranchCall.{BranchCall}
-use Rattle.xa_script.specs.declared.request.BranchCall.TheVariants.{Start, End, Prepare, Commit, Rollback, Forget}
-use Rattle.xa_script.specs.declared.request.Request.{Request}
-use Rattle.xa_script.specs.declared.request.Request.TheVariants.{Open, Close, Branch, Recover, Work, Restart, Trim, Decide}
+use Rattle.xa_engine.specs.declared.script.request.BranchCall.{BranchCall}
+use Rattle.xa_engine.specs.declared.script.request.BranchCall.TheVariants.{Start, End, Prepare, Commit, Rollback, Forget}
+use Rattle.xa_engine.specs.declared.script.request.Request.{Request}
+use Rattle.xa_engine.specs.declared.script.request.Request.TheVariants.{Open, Close, Branch, Recover, Work, Restart, Trim, Decide}
 use Rattle.xa_engine.specs.declared.answer.Answer.{Answer}
 use Rattle.xa_engine.specs.declared.answer.Answer.TheVariants as answer
 

@@ -6,10 +6,10 @@ use Rattle.report_io.specs.declared.status.Status.{Status}
 use Rattle.report_io.specs.declared.status.Status.TheVariants.{Ended, Refused, Stopped}
 use Rattle.kv_manager.specs.Sights.{KvSight}
 use Rattle.kv_manager.specs.Restarts.{RestoredFrom}
-use Rattle.xa_script.specs.declared.request.Request.{Request}
-use Rattle.xa_script.specs.declared.script.ScriptError.{ScriptError}
-use Rattle.xa_script.specs.declared.script.ScriptError.TheVariants.{Line, Utf8, TooLong}
-use Rattle.xa_script.specs.Scripts.{IsScript, IsScriptFault}
+use Rattle.xa_engine.specs.declared.script.request.Request.{Request}
+use Rattle.xa_engine.specs.declared.script.reading.ScriptError.{ScriptError}
+use Rattle.xa_engine.specs.declared.script.reading.ScriptError.TheVariants.{Line, Utf8, TooLong}
+use Rattle.xa_engine.specs.script.Scripts.{IsScript, IsScriptFault}
 use Rattle.xa_engine.specs.declared.answer.Answer.{Answer}
 use Rattle.xa_engine.specs.Answers.{answer_text}
 use Rattle.xa_engine.specs.Makes.{Makes}

@@ -7,6 +7,7 @@ ghost use Rattle.kv_manager.specs.Turns.{Calls, Refuses};
 ghost use Rattle.xa_engine.specs.Makes.{Boots, CallsBranch, Decides, IsRead, IsRefused, IsWritten, Makes, Scans, Trims, Works};
 
 use crate::answer::Answer;
+use crate::script::{BranchCall, Request};
 use kv_manager::{KvManager, RestartError};
 use log_store::MemoryStore;
 use manager_model::{DecideError, TrimError};
@@ -14,7 +15,6 @@ use std::alloc::AllocError;
 use tree_model::{Op, Outcome, Sequence};
 use xa_codes::{Code, Flags};
 use xa_manager::WorkError;
-use xa_script::{BranchCall, Request};
 use xa_xid::Xid;
 
 /// The manager of a script: its log is in memory.

@@ -2,7 +2,7 @@
 
 ghost use Rattle.std.specs.Prelude.{List};
 ghost use Rattle.kv_manager.specs.Sights.{KvSight};
-ghost use Rattle.xa_script.specs.declared.request.Request.{Request as AnyRequest};
+ghost use Rattle.xa_engine.specs.declared.script.request.Request.{Request as AnyRequest};
 ghost use Rattle.xa_engine.specs.declared.answer.Answer.{Answer as AnyAnswer};
 ghost use Rattle.xa_engine.specs.Histories.{IsHistory};
 ghost use Rattle.xa_engine.specs.Runs.{IsFresh, Leads};

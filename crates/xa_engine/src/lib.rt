@@ -4,6 +4,7 @@
 mod answer;
 mod calls;
 mod law;
+pub mod script;
 mod xa;
 
 pub use law::histories_are_legal;

@@ -8,13 +8,13 @@ ghost use Rattle.xa_engine.specs.Runs.{IsFresh, IsReport, Reports, Runs, Steps, 
 
 use crate::answer::push_answer;
 use crate::calls::{Manager, make};
+use crate::script::{Request, ScriptError, requests_of};
 use kv_manager::KvManager;
 use log_store::MemoryStore;
 use report_io::{Failure, Status, read_all, write_all};
 use std::alloc::{AllocError, Global};
 use std::io::{Read, Write};
 use trace_lines::{push, push_number};
-use xa_script::{Request, ScriptError, requests_of};
 
 /// Reads an XA script, makes its requests of a key store whose log is in memory, and writes their answers; or one line
 /// that says why the script is refused. After a failed read, or where memory is refused, nothing was written; after a

@@ -18,7 +18,7 @@ use Rattle.tree_model.specs.declared.names.Outcome.TheVariants.{Aborted, Committ
 use Rattle.tree_model.specs.declared.records.Branch.{Branch}
 use Rattle.log_text.specs.Parts.{name_in}
 use Rattle.kv_turns.specs.Turns.{tell_turn}
-use Rattle.kv_writes.specs.Writes.{writes_of}
+use Rattle.kv_store.specs.writes.Writes.{writes_of}
 use Rattle.kv_core.specs.Stores.{KeySight, state_of}
 use Rattle.kv_core.specs.Ends.{IsOff, Refused, Unlisted, known_of, wrote_some}
 use Rattle.xa_law.specs.Rows.{row_of, rows_of}

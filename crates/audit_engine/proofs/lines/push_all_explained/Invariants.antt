@@ -1,6 +1,6 @@
 use Rattle.std.proofs.Common.{◌≡◌, ◌++◌, drop}
 use Rattle.std.specs.List.{flat_map}
-use Rattle.tree_auditor.specs.Audits.{Logs}
+use Rattle.tree_headline.specs.auditor.Audits.{Logs}
 use Rattle.audit_engine.specs.Chains.{AreNamings}
 use Rattle.audit_engine.specs.Explanations.{explained_line}
 use Rattle.audit_engine.proofs.lines.push_all_explained.Given as goal

@@ -1,4 +1,4 @@
-use Rattle.world_law.specs.Sayings.{IsOne, KeepsHeadline}
+use Rattle.core_law.specs.worlds.Sayings.{IsOne, KeepsHeadline}
 use Rattle.audit_law.proofs.Truly.{audits_true}
 use Rattle.audit_law.proofs.law.audits_of_left_logs_are_true.Goals as goal
 

@@ -1,6 +1,6 @@
 use Rattle.std.proofs.Common.{◌≡◌, ◌∙◌, [], ap, is_some, false, true, rules, subst, sym}
 use Rattle.tree_world.specs.Worlds.{state}
-use Rattle.world_law.specs.Refusals.{Refusal}
+use Rattle.core_law.specs.worlds.Refusals.{Refusal}
 use Rattle.crash_engine.specs.Points.{points_in}
 use Rattle.crash_engine.specs.Trials.{Adds}
 use Rattle.crash_engine.proofs.Trying.{all_tried, comes_to, refused_adds}

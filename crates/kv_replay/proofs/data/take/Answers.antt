@@ -1,7 +1,7 @@
 use Rattle.std.proofs.Common.{rules, ◌≡◌, true, sym, subst, ◌∙◌}
 use Rattle.indexmap.proofs.MapLemmas.{OnOk-map}
 use Rattle.kv_store.specs.Versions.{Applies}
-use Rattle.log_order.specs.Orders.{is_open, found}
+use Rattle.log_rules.specs.order.Orders.{is_open, found}
 use Rattle.kv_replay.proofs.Making.{keeps_base, keeps_direct, keeps_pair, keeps_promise, never_settles, takes_base, takes_direct, takes_pair, takes_promise}
 use Rattle.kv_replay.proofs.data.take.Goals as goal
 

@@ -1,7 +1,7 @@
 use Rattle.std.proofs.Common.{◌∷◌, ◌+◌, ◌<◌, [], length, drop, sym, subst, ◌∙◌, arith}
 use Rattle.std.proofs.lemmas.List.{drop_all}
-use Rattle.kv_writes.specs.Writes.{Leaves}
-use Rattle.log_order.specs.Orders.{left_by, promised}
+use Rattle.kv_store.specs.writes.Writes.{Leaves}
+use Rattle.log_rules.specs.order.Orders.{left_by, promised}
 use Rattle.kv_replay.specs.Replays.{AreFree, LocksKeys}
 use Rattle.kv_replay.proofs.Holding.{IsRestoring, item_and_rest, restoring_begins, restoring_ends, restoring_goes_on, restoring_is_free, restoring_passes}
 use Rattle.kv_replay.proofs.promises.restore.Goals as goal

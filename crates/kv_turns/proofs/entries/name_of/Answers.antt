@@ -1,7 +1,7 @@
 use Rattle.std.proofs.Common.{sym, subst}
 use Rattle.log_text.specs.Parts.{Name}
-use Rattle.log_sound.specs.Sound.{IsSoundName}
-use Rattle.log_sound.proofs.OwnNames.{names_are_sound}
+use Rattle.log_rules.specs.sound.Sound.{IsSoundName}
+use Rattle.log_rules.proofs.sound.OwnNames.{names_are_sound}
 use Rattle.kv_turns.proofs.entries.name_of.Goals as goal
 
 pub returns-clause-sound : goal.returns-clause-sound

@@ -1,6 +1,6 @@
 use Rattle.std.proofs.Common.{◌∷◌, ◌∙◌, ◌++◌, ◌+◌, ap, sym, arith, drop, append-nil}
 use Rattle.std.proofs.lemmas.List.{at_drop_more, drop_all}
-use Rattle.log_order.specs.Logs.{read_log}
+use Rattle.log_rules.specs.order.Logs.{read_log}
 use Rattle.log_engine.specs.Reports.{held_text, shown_text}
 use Rattle.logs_script.specs.Faults.{damage_text, first_damage}
 use Rattle.log_engine.proofs.Shown.{damaged_here, no_log, none_damaged, shown_none, sound_found, sound_more, text_more}

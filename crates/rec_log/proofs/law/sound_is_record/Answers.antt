@@ -1,5 +1,5 @@
-use Rattle.log_sound.proofs.Records.{records_read_back}
-use Rattle.log_sound.proofs.Sizes.{records_fit_frames}
+use Rattle.log_rules.proofs.sound.Records.{records_read_back}
+use Rattle.log_rules.proofs.sound.Sizes.{records_fit_frames}
 use Rattle.rec_log.proofs.law.sound_is_record.Goals as goal
 
 pub returns : goal.returns

@@ -1,6 +1,6 @@
 use Rattle.std.proofs.Common.{◌≡◌, ◌≤◌, List, fold, length}
 use Rattle.tree_model.specs.declared.records.LogRecord.{LogRecord}
-use Rattle.log_trim.specs.Trims.{last_opened, opened_after}
+use Rattle.log_rules.specs.trim.Trims.{last_opened, opened_after}
 use Rattle.rec_log.specs.Texts.{records_in}
 use Rattle.rec_log.specs.Trimming.{Holds}
 use Rattle.rec_log.proofs.trimming.opened_frame.Given as goal

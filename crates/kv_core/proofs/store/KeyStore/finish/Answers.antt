@@ -1,7 +1,7 @@
 use Rattle.std.proofs.Common.{rules, ◌≡◌, ◌∙◌, sym, subst, true, false, refl, []}
 use Rattle.std.specs.Prelude.{MatchBool}
 use Rattle.kv_locks.specs.Locks.{Releases}
-use Rattle.kv_writes.specs.Writes.{Leaves}
+use Rattle.kv_store.specs.writes.Writes.{Leaves}
 use Rattle.xa_branch.specs.Branches.{is_known}
 use Rattle.kv_core.specs.Stores.{KeySight, is_let_go}
 use Rattle.kv_core.specs.Ends.{IsListed, IsTurn, TakesTurn}

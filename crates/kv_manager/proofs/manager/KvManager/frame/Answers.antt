@@ -1,9 +1,9 @@
 use Rattle.std.proofs.Common.{rules}
 use Rattle.tree_model.specs.declared.names.Kind.TheVariants.{Manager}
 use Rattle.log_text.specs.Made.{frame_record}
-use Rattle.log_sound.specs.Sound.{IsSound}
-use Rattle.log_sound.proofs.Records.{records_read_back}
-use Rattle.log_sound.proofs.Sizes.{records_fit_frames}
+use Rattle.log_rules.specs.sound.Sound.{IsSound}
+use Rattle.log_rules.proofs.sound.Records.{records_read_back}
+use Rattle.log_rules.proofs.sound.Sizes.{records_fit_frames}
 use Rattle.rec_log.specs.Sights.{IsRecord}
 use Rattle.kv_manager.specs.Turns.{HasWrites}
 use Rattle.kv_manager.proofs.Turns.{is_entry}

@@ -1,7 +1,7 @@
 use Rattle.std.proofs.Common.{rules, ◌∷◌, ◌∙◌, [], refl, sym, subst}
 use Rattle.rec_log.specs.Sights.{Breaks}
 use Rattle.kv_turns.specs.Turns.{entry_record}
-use Rattle.kv_writes.specs.Writes.{writes_of}
+use Rattle.kv_store.specs.writes.Writes.{writes_of}
 use Rattle.core_log.specs.Writes.{Writes}
 use Rattle.kv_core.specs.Ends.{PublishesWrites, SameButData, StagesWrites, TakesTurn}
 use Rattle.kv_manager.specs.Sights.{KvSight}

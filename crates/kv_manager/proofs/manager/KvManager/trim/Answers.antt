@@ -3,7 +3,7 @@ use Rattle.std.specs.List.{AllByRecursion}
 use Rattle.tree_model.specs.declared.names.Kind.TheVariants.{Manager}
 use Rattle.tree_model.specs.Store.{base_records}
 use Rattle.log_text.specs.Made.{frame_record}
-use Rattle.log_sound.specs.Sound.{IsSound}
+use Rattle.log_rules.specs.sound.Sound.{IsSound}
 use Rattle.rec_log.specs.Sights.{records_of}
 use Rattle.rec_log.specs.Trimming.{Trimmed}
 use Rattle.kv_pairs.specs.Keeping.{unnamed}

@@ -2,8 +2,8 @@ use Rattle.std.proofs.Common.{rules, ◌≡◌, subst}
 use Rattle.tree_model.specs.declared.names.Kind.TheVariants.{Manager}
 use Rattle.log_text.specs.Payloads.{FitsFrame}
 use Rattle.log_text.specs.Parts.{Name, name_in}
-use Rattle.log_sound.specs.Sound.{IsSoundName}
-use Rattle.log_sound.proofs.Sizes.{records_fit_frames}
+use Rattle.log_rules.specs.sound.Sound.{IsSoundName}
+use Rattle.log_rules.proofs.sound.Sizes.{records_fit_frames}
 use Rattle.kv_turns.specs.Turns.{entry_record}
 use Rattle.kv_turns.proofs.Sound.{sound_entry}
 use Rattle.kv_turns.proofs.entries.Entry.frame.Goals as goal

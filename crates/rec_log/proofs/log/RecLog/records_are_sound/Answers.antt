@@ -1,6 +1,6 @@
 use Rattle.std.proofs.Common.{◌∙◌, ap, subst, sym}
 use Rattle.std.specs.List.{AllByRecursion}
-use Rattle.log_sound.specs.Sound.{IsSound}
+use Rattle.log_rules.specs.sound.Sound.{IsSound}
 use Rattle.rec_log.specs.Texts.{records_in}
 use Rattle.rec_log.specs.Sights.{body, records_of}
 use Rattle.rec_log.proofs.Turns.{records_stand}

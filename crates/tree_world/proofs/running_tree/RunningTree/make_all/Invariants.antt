@@ -1,5 +1,5 @@
 use Rattle.std.proofs.Common.{take}
-use Rattle.world_law.specs.Runs.{Leads}
+use Rattle.core_law.specs.worlds.Runs.{Leads}
 use Rattle.tree_world.specs.Worlds.{running_state}
 use Rattle.tree_world.proofs.running_tree.RunningTree.make_all.Given as goal
 

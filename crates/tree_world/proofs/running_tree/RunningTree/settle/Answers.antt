@@ -1,7 +1,7 @@
 use Rattle.std.proofs.Common.{◌≡◌, None, Some, arith, rules}
 use Rattle.tree_model.specs.declared.events.Event.TheVariants.{Settle}
 use Rattle.tree_model.specs.declared.events.StepError.TheVariants.{Memory}
-use Rattle.world_law.specs.Worlds.{Stops, least_open}
+use Rattle.core_law.specs.worlds.Worlds.{Stops, least_open}
 use Rattle.tree_world.specs.Nodes.{nodes_at}
 use Rattle.tree_world.specs.Worlds.{running_state}
 use Rattle.tree_world.proofs.Handling.{no_success, passed_on, stays, world}

@@ -1,4 +1,4 @@
-use Rattle.world_law.specs.Worlds.{Settles}
+use Rattle.core_law.specs.worlds.Worlds.{Settles}
 use Rattle.tree_world.specs.Worlds.{running_state}
 use Rattle.tree_world.proofs.running_tree.RunningTree.settle.Given as goal
 

@@ -1,4 +1,4 @@
-use Rattle.world_law.specs.Sayings.{Agrees, AnswersTruly, Consents, IsByOperatorsAlone, KeepsMismatches}
+use Rattle.core_law.specs.worlds.Sayings.{Agrees, AnswersTruly, Consents, IsByOperatorsAlone, KeepsMismatches}
 use Rattle.tree_world.specs.Worlds.{running_state}
 use Rattle.tree_world.proofs.Modelled.{ran_from, says, stays_modelled}
 use Rattle.tree_world.proofs.world.World.run.Goals as goal

@@ -1,7 +1,7 @@
 use Rattle.std.proofs.Common.{subst}
 use Rattle.tree_world.specs.Nodes.{nodes_at}
 use Rattle.tree_world.specs.Openings.{AreOpened}
-use Rattle.world_law.specs.Sayings.{KeepsHeadline}
+use Rattle.core_law.specs.worlds.Sayings.{KeepsHeadline}
 use Rattle.tree_world.proofs.Modelled.{opened_modelled, says}
 use Rattle.tree_world.proofs.OpenNodes.{opened_tree}
 use Rattle.tree_world.proofs.world.World.with_stores.Goals as goal

@@ -1,5 +1,5 @@
 use Rattle.std.proofs.Common.{◌∙◌, ap, [], ◌∷◌, ◌++◌, rules}
-use Rattle.world_law.specs.Worlds.{step_entry}
+use Rattle.core_law.specs.worlds.Worlds.{step_entry}
 use Rattle.world_journal.specs.declared.short_step.ShortStep.{ShortStep}
 use Rattle.world_journal.specs.Journals.{JournalState, Stock, aside_of}
 use Rattle.world_journal.proofs.Journals.{entered, messages_more, named_behind, of_entered}

@@ -1,0 +1,88 @@
+-- What the model refuses, and what a whole run comes to.
+use Rattle.std.specs.Prelude.{◌≡◌, ◌≢◌, ⊤, ℕ, Option, Some, None, List, slice_get, if◌then◌else◌}
+use Rattle.tree_model.specs.declared.names.ProcessId.{ProcessId}
+use Rattle.tree_model.specs.declared.messages.Envelope.{Envelope}
+use Rattle.tree_model.specs.declared.events.Event.{Event}
+use Rattle.tree_model.specs.declared.events.Event.TheVariants.{Act as ActOf, Deliver, Settle, Restart, Trim}
+use Rattle.tree_model.specs.declared.events.Happening.TheVariants.{Input as Handles, Restart as Restarting, Trim as Trimming}
+use Rattle.tree_model.specs.declared.events.Input.{Input}
+use Rattle.tree_model.specs.declared.events.Input.TheVariants.{Act as ActInput, Message as MessageInput}
+use Rattle.tree_model.specs.declared.events.StepError.{StepError}
+use Rattle.tree_model.specs.declared.events.StepError.TheVariants.{Memory, Device, NoSuch}
+use Rattle.tree_model.specs.declared.trees.TreeEntry.{TreeEntry}
+use Rattle.tree_model.specs.Nodes.{DataAnswer, is_listed, place_of}
+use Rattle.tree_model.specs.Plays.{move_of, process_of_act, sent_as}
+use Rattle.tree_model.specs.Trees.{root_of}
+use Rattle.tree_model.specs.Outcomes.{Headline}
+use Rattle.tree_model.specs.World.{Made, Makes, Move, Refuses, Stepped, World, node_makes}
+use Rattle.core_law.specs.Steps.{quiet_move}
+use Rattle.core_law.specs.worlds.Worlds.{WorldState}
+use Rattle.core_law.specs.worlds.Runs.{Leads, LeadsUntil}
+use Rattle.core_law.specs.worlds.Ties.{Follows}
+
+-- why a move is refused, if it is
+abbrev pub refusal_in : Stepped → Option StepError
+refusal_in (Refuses e) = Some e
+refusal_in (Makes e n) = None
+
+-- why the model refuses a move: its process is not listed, or refuses it
+abbrev pub model_refusal : List TreeEntry → World → Move → Option StepError
+model_refusal tree w m =
+    let q = m.step.process in
+    if is_listed tree q then refusal_in (node_makes (place_of tree q) (w.at q) m) else Some NoSuch
+
+-- the model refuses the input at this process so, whatever the data of the process answer
+abbrev pub RefusesSo : List TreeEntry → World → ProcessId → Input → StepError → Type 0
+RefusesSo tree w q i e = (d : DataAnswer) → model_refusal tree w (move_of q (Handles i) d) ≡ Some e
+
+-- the model refuses to deliver this message with this number: there is none, or its process refuses it
+abbrev pub RefusesDelivery : List TreeEntry → World → ℕ → Option Envelope → StepError → Type 0
+RefusesDelivery tree w k None e = e ≡ NoSuch
+RefusesDelivery tree w k (Some l) e = RefusesSo tree w l.to (MessageInput k l.message) e
+
+-- the model refuses the event so: of a settle, one of its deliveries; of a restart, whichever records it
+-- keeps
+abbrev pub RefusesEvent : List TreeEntry → World → Event → StepError → Type 0
+RefusesEvent tree w (ActOf a) e = RefusesSo tree w (process_of_act (root_of tree) a) (ActInput a) e
+RefusesEvent tree w (Deliver k) e = RefusesDelivery tree w k (sent_as w.net k) e
+RefusesEvent tree w Settle e = (k : ℕ) × RefusesDelivery tree w k (sent_as w.net k) e
+RefusesEvent tree w (Restart q bytes) e = (k : ℕ)
+    → model_refusal tree w (quiet_move q (Restarting k) None) ≡ Some e
+RefusesEvent tree w (Trim q) e = model_refusal tree w (quiet_move q Trimming None) ≡ Some e
+
+-- the event behind those that were made is one that the model refuses so
+pub record RefusesNext (tree : List TreeEntry) (w : World) (events : List Event) (made : ℕ)
+    (e : StepError) : Type 0 where
+  pub event : Event
+  pub next : slice_get events made ≡ Some event
+  pub refused : RefusesEvent tree w event e
+
+-- how many events were made, and why the next was refused; or none was
+abbrev pub Refusal : Type 0
+Refusal = Option (ℕ × StepError)
+
+-- these events led one state to another: all of them, or those before the refused one
+abbrev pub LeadsTo : WorldState → List Event → Refusal → WorldState → Type 0
+LeadsTo start events None end = Leads start events end
+LeadsTo start events (Some refused) end = LeadsUntil start events refused.0 refused.1 end
+
+-- the refused event, where there is one, was refused for itself: not for memory, nor because a device failed
+abbrev pub IsForItself : Refusal → Type 0
+IsForItself None = ⊤
+IsForItself (Some refused) = (refused.1 ≢ Memory) × (refused.1 ≢ Device)
+
+-- the refused event, where there is one, is refused so by the model
+abbrev pub RefusesIn : List TreeEntry → World → List Event → Refusal → Type 0
+RefusesIn tree w events None = ⊤
+RefusesIn tree w events (Some refused) = RefusesNext tree w events refused.0 refused.1
+
+-- what the events come to is a run of the model, of which the headline holds, and a refused event is one that
+-- it refuses
+pub record IsRunOf (tree : List TreeEntry) (events : List Event) (refusal : Refusal)
+    (end : WorldState) : Type 0 where
+  pub moves : List Made
+  pub world : World
+  pub tree_is : end.tree ≡ tree
+  pub follows : Follows moves world end
+  pub headline : Headline tree moves world
+  pub refuses : RefusesIn tree world events refusal

@@ -1,0 +1,72 @@
+-- When a tree that runs stands for a run of the model.
+use Rattle.std.specs.Prelude.{◌≡◌, is_none, is_some, Some, List, ◌++◌, filter}
+use Rattle.tree_model.specs.declared.names.ProcessId.{ProcessId}
+use Rattle.tree_model.specs.declared.events.Entry.{Entry}
+use Rattle.tree_model.specs.Nodes.{is_listed, place_of}
+use Rattle.tree_model.specs.Outcomes.{Headline}
+use Rattle.tree_model.specs.World.{Continues, IsRun, Made, World, journal_of}
+use Rattle.core_model.specs.States.{CoreState}
+use Rattle.core_law.specs.Ties.{Stands}
+use Rattle.core_law.specs.worlds.Worlds.{WorldState}
+
+-- what a process keeps stands for a process of the model that sits there
+pub record StandsAt (w : World) (s : WorldState) (q : ProcessId) (c : CoreState) : Type 0 where
+  pub place : c.place ≡ place_of s.tree q
+  pub stands : Stands (w.at q) c
+
+-- the state of a tree stands for a run: its journal is the run's, its messages are the run's, and so is each
+-- process
+pub record Follows (es : List Made) (w : World) (s : WorldState) : Type 0 where
+  pub is_run : IsRun s.tree es w
+  pub shown : journal_of es ≡ s.entries
+  pub net : s.net ≡ w.net
+  pub nodes : (q : ProcessId) (c : CoreState) → s.node_at q ≡ Some c → StandsAt w s q c
+  pub listed : (q : ProcessId) → is_some (s.node_at q) ≡ is_listed s.tree q
+
+-- it stands for a run that goes on from these moves
+pub record GoesOn (es : List Made) (w : World) (s : WorldState) : Type 0 where
+  pub later : List Made
+  pub world : World
+  pub leads : Continues s.tree w later world
+  pub follows : Follows (later ++ es) world s
+
+-- the state stands for a run of the model, and the headline holds of it
+pub record IsModelled (s : WorldState) : Type 0 where
+  pub moves : List Made
+  pub world : World
+  pub follows : Follows moves world s
+  pub headline : Headline s.tree moves world
+
+-- Runs in which devices failed.
+
+-- the entries of steps in which no device failed
+abbrev pub unfailed : List Entry → List Entry
+unfailed xs = filter (λ x. is_none x.step.fault) xs
+
+-- what a tree enters of a run's moves: those in which no device failed
+abbrev pub entered_of : List Made → List Entry
+entered_of es = unfailed (journal_of es)
+
+-- The state of a tree stands for a run of which its journal shows so much: with every step of the run in its
+-- journal it would stand for the run, and in the journal that it has is what is to be shown of the moves.
+pub record FollowsBy (journal : List Made → List Entry) (es : List Made) (w : World)
+    (s : WorldState) : Type 0 where
+  pub follows : Follows es w (record s { entries = journal_of es })
+  pub shown : journal es ≡ s.entries
+
+-- the state of a tree stands for a run in which devices may have failed: its journal is the run's without the
+-- steps in which one did
+abbrev pub FollowsBehindFaults : List Made → World → WorldState → Type 0
+FollowsBehindFaults = FollowsBy entered_of
+
+-- it stands for a run that goes on from these moves, and of which its journal shows so much
+pub record GoesOnBy (journal : List Made → List Entry) (es : List Made) (w : World)
+    (s : WorldState) : Type 0 where
+  pub later : List Made
+  pub world : World
+  pub leads : Continues s.tree w later world
+  pub follows : FollowsBy journal (later ++ es) world s
+
+-- it stands for a run that goes on from these moves, and in which devices may have failed
+abbrev pub GoesOnBehindFaults : List Made → World → WorldState → Type 0
+GoesOnBehindFaults = GoesOnBy entered_of

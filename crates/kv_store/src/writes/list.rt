@@ -1,0 +1,53 @@
+//! The writes of one branch.
+
+ghost use Rattle.std.specs.Prelude.{◌≡◌, ◌<◌, IfOk, find, position};
+ghost use Rattle.std.specs.Vec.{vec_capacity, vec_len};
+ghost use Rattle.std.specs.Option.{option_copied};
+ghost use Rattle.tree_model.specs.Plays.{with_write};
+ghost use Rattle.kv_store.specs.writes.Writes.{is_of};
+
+use std::alloc::{AllocError, Global};
+use tree_model::Write;
+
+/// Whether a write is of this key.
+fn is_of(write: &Write, key: &[u8]) -> bool
+    ensures { result ≡ is_of key.now write.now }
+{
+    write.key.as_slice() == key
+}
+
+/// Where the write of a key stands.
+fn place_of(writes: &[Write], key: &[u8]) -> Option<usize>
+    ensures { result ≡ position (is_of key.now) writes.now }
+{
+    writes.iter().position(|write| is_of(write, key))
+}
+
+/// The write of a key.
+pub(crate) fn find<'a>(writes: &'a [Write], key: &[u8]) -> Option<&'a Write>
+    ensures { option_copied result ≡ find (is_of key.now) writes.now }
+{
+    writes.iter().find(|write| is_of(write, key))
+}
+
+/// Adds a write, in the place of an earlier one of its key.
+pub(crate) fn put(list: &mut Vec<Write>, write: Write)
+    requires { vec_len list.old < vec_capacity list.old }
+    ensures { list.new.items ≡ with_write list.old.items write.key write.value }
+{
+    match place_of(list, write.key.as_slice()) {
+        Some(place) => list[place] = write,
+        None => list.push(write).unwrap(),
+    }
+}
+
+/// The same writes again.
+pub(crate) fn copied(writes: &[Write], alloc: Global) -> Result<Vec<Write>, AllocError>
+    ensures { IfOk result (λ copy. copy.items ≡ writes.now) }
+{
+    let mut copy = Vec::with_capacity(alloc, writes.len())?;
+    for write in writes {
+        copy.push(write.copied(alloc)?)?;
+    }
+    Ok(copy)
+}

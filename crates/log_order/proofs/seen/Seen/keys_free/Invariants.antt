@@ -1,9 +1,0 @@
-use Rattle.std.proofs.Common.{◌≡◌, length}
-use Rattle.log_order.specs.Orders.{keys_free, promises}
-use Rattle.log_order.proofs.seen.Seen.keys_free.Given as goal
-
-abbrev pub invariant-loop-rest : goal.invariant-loop-rest
-invariant-loop-rest l = keys_free (promises l.fn.self) l.fn.writes ≡ keys_free (promises l.fn.self) l.rest
-
-abbrev pub decreases-loop-rest : goal.decreases-loop-rest
-decreases-loop-rest l = length l.rest

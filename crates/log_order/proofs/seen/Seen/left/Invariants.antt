@@ -1,6 +1,0 @@
-use Rattle.std.proofs.Common.{◌≡◌, ◌++◌, map, not}
-use Rattle.log_order.specs.Orders.{left_by, opens}
-use Rattle.log_order.proofs.seen.Seen.left.Given as goal
-
-abbrev pub invariant-loop-xid : goal.invariant-loop-xid
-invariant-loop-xid l = l.left.items ++ map (λ e. (e.0, not (opens e.1.mark))) l.xid-iterator ≡ left_by l.fn.self

@@ -1,0 +1,304 @@
+-- Bytes that were cut into parts: numbers, tickets, keys, values and writes.
+use Rattle.std.proofs.Common.{◌≡◌, ◌≤◌, ◌<◌, ◌+◌, ◌*◌, ◌^◌, ◌%◌, ◌/◌, ℕ, zero, suc, Bool, true, false, ◌&&◌, cond, nat_le, List, [], ◌∷◌, ◌++◌, length, take, drop, Option, Some, None, option_map, refl, sym, ap, subst, ◌∙◌, arith, append_assoc, append-nil, flat_map}
+use Rattle.std.specs.Prelude.{unwrap_or, ◌==◌}
+use Rattle.std.proofs.Math.Nat.{mul-add-mod_self_right, mod-eq_of_lt, mul-div_cancel}
+use Rattle.std.proofs.Math.Seq.{take-length}
+use Rattle.std.proofs.lemmas.Bool.Decides.{nat_tests}
+use Rattle.std.proofs.lemmas.Grind.{common_steps}
+use Rattle.std.proofs.lemmas.List.{get_or-drop, take-append-drop}
+use Rattle.byteorder.specs.Endian.{big_bytes, big_from, big_number}
+use Rattle.byteorder.specs.Numbers.{big_from-cons, big_from-lt, big_number-reads_back, length-bytes_high_first}
+use Rattle.tree_model.specs.declared.names.Ticket.{Ticket}
+use Rattle.tree_model.specs.declared.records.Write.{Write}
+use Rattle.log_text.specs.Parts.{Front, all_of, and_more, fits_ticket, key_at, left_at, piece_at, put_of, ticket_at, ticket_in, tickets_of, value_at, write_at, write_by, writes_of}
+use Rattle.log_text.specs.Payloads.{key_text, left_text, ticket_text, tickets_text, value_text, write_text, writes_text}
+use Rattle.log_rules.specs.sound.Written.{AreBytes}
+
+-- Bytes.
+
+pub bytes_behind : (n : ℕ) (xs : List ℕ) → AreBytes xs → AreBytes (drop n xs)
+bytes_behind n xs h i = subst (λ b. b < 256) (sym (get_or-drop n xs i 0)) (h (n + i))
+
+pub tail_bytes : (a : ℕ) (xs : List ℕ) → AreBytes (a ∷ xs) → AreBytes xs
+tail_bytes a xs h i = h (suc i)
+
+-- Numbers.
+
+-- a number's highest byte and the rest of it are one
+same_rest : (a b m r s : ℕ) → r < m → s < m → a * m + r ≡ b * m + s → r ≡ s
+same_rest a b m r s hr hs e =
+    sym (mod-eq_of_lt hr) ∙ sym (mul-add-mod_self_right a m r) ∙ ap (λ n. n % m) e
+    ∙ mul-add-mod_self_right b m s ∙ mod-eq_of_lt hs
+
+same_high : (a b m r s : ℕ) → r < m → s < m → a * m + r ≡ b * m + s → a ≡ b
+same_high a b m r s hr hs e =
+    let rest : r ≡ s = same_rest a b m r s hr hs e in
+    let product : a * m ≡ b * m = omega (arith, e, rest) in
+    let positive : 0 < m = omega (arith, hr) in
+    sym (mul-div_cancel a positive) ∙ ap (λ n. n / m) product ∙ mul-div_cancel b positive
+
+one_number : (n : ℕ) (xs ys : List ℕ) → AreBytes xs → AreBytes ys → n ≤ length xs → n ≤ length ys
+    → big_number n xs ≡ big_number n ys → take n xs ≡ take n ys
+one_number zero xs ys h k lx ly e = refl
+one_number (suc n) [] ys h k lx ly e = absurd (omega (arith, lx))
+one_number (suc n) (a ∷ xs) [] h k lx ly e = absurd (omega (arith, ly))
+one_number (suc n) (a ∷ xs) (b ∷ ys) h k lx ly e =
+    let here : a * 256 ^ n + big_from 0 n xs ≡ b * 256 ^ n + big_from 0 n ys =
+    ap (λ r. a * 256 ^ n + r) (sym (big_from-cons 0 n a xs)) ∙ e
+    ∙ ap (λ r. b * 256 ^ n + r) (big_from-cons 0 n b ys) in
+    let small = big_from-lt 0 n xs (tail_bytes a xs h) in
+    let small' = big_from-lt 0 n ys (tail_bytes b ys k) in
+    let high : a ≡ b = same_high a b (256 ^ n) (big_from 0 n xs) (big_from 0 n ys) small small' here in
+    let rest : take n xs ≡ take n ys = one_number n xs ys (tail_bytes a xs h) (tail_bytes b ys k)
+    (omega (arith, lx)) (omega (arith, ly))
+    (same_rest a b (256 ^ n) (big_from 0 n xs) (big_from 0 n ys) small small' here) in
+    ap (λ c. c ∷ take n xs) high ∙ ap (λ cs. b ∷ cs) rest
+
+pub number_bytes : (n x : ℕ) → AreBytes (big_bytes n x)
+number_bytes zero x i = omega arith
+number_bytes (suc n) x zero = byte_small n x
+  where
+    byte_small : (n x : ℕ) → Rattle.std.specs.Int.byte_at n x < 256
+    byte_small zero x = omega arith
+    byte_small (suc n) x = omega arith
+number_bytes (suc n) x (suc i) = number_bytes n x i
+
+-- the bytes of the number that is read are those that it was read from
+pub number_again : (n : ℕ) (xs : List ℕ) → AreBytes xs → n ≤ length xs
+    → big_bytes n (big_number n xs) ≡ take n xs
+number_again n xs h le =
+    let size : length (big_bytes n (big_number n xs)) ≡ n = length-bytes_high_first n (big_number n xs) in
+    let read : big_number n (big_bytes n (big_number n xs) ++ []) ≡ big_number n xs =
+    big_number-reads_back n (big_number n xs) [] (big_from-lt 0 n xs h) in
+    let same : take n (big_bytes n (big_number n xs)) ≡ take n xs =
+    one_number n (big_bytes n (big_number n xs)) xs (number_bytes n (big_number n xs)) h
+    (omega (arith, size)) le
+    (ap (big_number n) (sym (append-nil (big_bytes n (big_number n xs)))) ∙ read) in
+    sym (ap (λ k. take k (big_bytes n (big_number n xs))) (sym size)
+    ∙ take-length (big_bytes n (big_number n xs))) ∙ same
+
+-- What stands behind a test that passed.
+
+pub both : (a b : Bool) → (a && b) ≡ true → (a ≡ true) × (b ≡ true)
+both true true h = (refl, refl)
+both true false h = absurd (cc)
+both false b h = absurd (cc)
+
+pub some_is : {A : Type 0} (a b : A) → Some a ≡ Some b → a ≡ b
+some_is {A} a b h = ap (λ o. unwrap_or o a) h
+
+pub none_some : {A : Type 0} (a : A) → ◌≡◌ {A = Option A} None (Some a) → ⊥
+none_some a h = absurd (cc)
+
+-- what is given where a test passes
+pub passed : {A : Type 0} (b : Bool) (x y : A) → cond b (Some x) None ≡ Some y → (b ≡ true) × (x ≡ y)
+passed true x y h = (refl, some_is x y h)
+passed false x y h = absurd (none_some y h)
+
+pub at_most : (n m : ℕ) → nat_le n m ≡ true → n ≤ m
+at_most n m h = grind (arith, nat_tests)
+
+-- Tickets.
+
+plus_none : (m : ℕ) → m ≡ 0 + m
+plus_none m = omega arith
+
+drop_none : (m : ℕ) → ◌≡◌ {A = List ℕ} (drop m []) []
+drop_none zero = refl
+drop_none (suc m) = refl
+
+cut_twice : (n m : ℕ) (xs : List ℕ) → drop m (drop n xs) ≡ drop (n + m) xs
+cut_twice zero m xs = ap (λ k. drop k xs) (plus_none m)
+cut_twice (suc n) m [] = drop_none m ∙ sym (drop_none (suc n + m))
+cut_twice (suc n) m (x ∷ xs) = cut_twice n m xs ∙ ap (λ k. drop k (x ∷ xs)) (more n m)
+  where
+    more : (n m : ℕ) → suc (n + m) ≡ suc n + m
+    more n m = omega arith
+
+left_over : (n : ℕ) (xs : List ℕ) (k : ℕ) → n + k ≤ length xs → k ≤ length (drop n xs)
+left_over zero xs k h = omega (arith, h)
+left_over (suc n) [] k h = absurd (omega (arith, h))
+left_over (suc n) (x ∷ xs) k h = left_over n xs k (omega (arith, h))
+
+ticket_as_read : (xs : List ℕ) → AreBytes xs → 20 ≤ length xs → ticket_text (ticket_in xs) ++ drop 20 xs ≡ xs
+unfolding ticket_text
+ticket_as_read xs h le =
+    let child : big_bytes 4 (big_number 4 xs) ≡ take 4 xs = number_again 4 xs h (omega (arith, le)) in
+    let boot : big_bytes 8 (big_number 8 (drop 4 xs)) ≡ take 8 (drop 4 xs) =
+    number_again 8 (drop 4 xs) (bytes_behind 4 xs h) (left_over 4 xs 8 (omega (arith, le))) in
+    let number : big_bytes 8 (big_number 8 (drop 12 xs)) ≡ take 8 (drop 12 xs) =
+    number_again 8 (drop 12 xs) (bytes_behind 12 xs h) (left_over 12 xs 8 (omega (arith, le))) in
+    let c = big_bytes 4 (big_number 4 xs) in
+    let b = big_bytes 8 (big_number 8 (drop 4 xs)) in
+    let n = big_bytes 8 (big_number 8 (drop 12 xs)) in
+    append_assoc c (b ++ n) (drop 20 xs) ∙ ap (λ z. c ++ z) (append_assoc b n (drop 20 xs))
+    ∙ ap (λ z. c ++ (b ++ z)) (ap (λ y. y ++ drop 20 xs) number
+    ∙ ap (λ y. take 8 (drop 12 xs) ++ y) (sym (cut_twice 12 8 xs)) ∙ take-append-drop 8 (drop 12 xs))
+    ∙ ap (λ z. c ++ z) (ap (λ y. y ++ drop 12 xs) boot
+    ∙ ap (λ y. take 8 (drop 4 xs) ++ y) (sym (cut_twice 4 8 xs)) ∙ take-append-drop 8 (drop 4 xs))
+    ∙ ap (λ y. y ++ drop 4 xs) child ∙ take-append-drop 4 xs
+
+-- what was read at the front was written there, and bytes are left
+pub record IsCut {A : Type 0} (text : A → List ℕ) (xs : List ℕ) (p : A × List ℕ) : Type 0 where
+  pub written : xs ≡ text p.0 ++ p.1
+  pub bytes : AreBytes p.1
+
+pub ticket_cut : (xs : List ℕ) (p : Ticket × List ℕ) → AreBytes xs → ticket_at xs ≡ Some p
+    → IsCut ticket_text xs p
+unfolding ticket_at
+ticket_cut xs p h e =
+    let got = passed (nat_le 20 (length xs) && fits_ticket (ticket_in xs)) (ticket_in xs, drop 20 xs) p e in
+    let long : 20 ≤ length xs = at_most 20 (length xs)
+    (both (nat_le 20 (length xs)) (fits_ticket (ticket_in xs)) got.0).0 in
+    subst (λ q. IsCut ticket_text xs q) got.1
+    (record { written = sym (ticket_as_read xs h long); bytes = bytes_behind 20 xs h })
+
+-- Lists.
+
+-- the first was cut, and what all_of reads behind it
+rest_cut : {A : Type 0} (text : A → List ℕ) (xs : List ℕ) (p : A × List ℕ) (n : ℕ) (ys : List A)
+    (o : Option (List A))
+    → IsCut text xs p → option_map (λ zs. p.0 ∷ zs) o ≡ Some ys
+    → ((zs : List A) → o ≡ Some zs → (p.1 ≡ flat_map text zs) × (n ≡ length zs))
+    → (xs ≡ flat_map text ys) × (suc n ≡ length ys)
+rest_cut text xs p n ys None cut e more = absurd (none_some ys e)
+rest_cut {A} text xs p n ys (Some zs) cut e more =
+    let behind = more zs refl in
+    subst (λ (us : List A). (xs ≡ flat_map text us) × (suc n ≡ length us)) (some_is (p.0 ∷ zs) ys e)
+    (cut.written ∙ ap (λ t. text p.0 ++ t) behind.0, omega (arith, behind.1))
+
+first_cut : {A : Type 0} (at : List ℕ → Front A) (text : A → List ℕ)
+    → ((xs : List ℕ) (p : A × List ℕ) → AreBytes xs → at xs ≡ Some p → IsCut text xs p)
+    → (n : ℕ) (xs : List ℕ) (ys : List A) → AreBytes xs → (o : Front A) → at xs ≡ o
+    → and_more o (all_of at n) ≡ Some ys
+    → ((us : List ℕ) (zs : List A) → AreBytes us → all_of at n us ≡ Some zs
+    → (us ≡ flat_map text zs) × (n ≡ length zs))
+    → (xs ≡ flat_map text ys) × (suc n ≡ length ys)
+first_cut at text cuts n xs ys h None is e more = absurd (none_some ys e)
+first_cut at text cuts n xs ys h (Some p) is e more =
+    let cut = cuts xs p h is in
+    rest_cut text xs p n ys (all_of at n p.1) cut e (λ zs g. more p.1 zs cut.bytes g)
+
+pub all_cut : {A : Type 0} (at : List ℕ → Front A) (text : A → List ℕ)
+    → ((xs : List ℕ) (p : A × List ℕ) → AreBytes xs → at xs ≡ Some p → IsCut text xs p)
+    → (n : ℕ) (xs : List ℕ) (ys : List A) → AreBytes xs → all_of at n xs ≡ Some ys
+    → (xs ≡ flat_map text ys) × (n ≡ length ys)
+unfolding all_of
+all_cut {A} at text cuts zero [] ys h e = subst
+    (λ (zs : List A). ([] ≡ flat_map text zs) × (zero ≡ length zs)) (some_is [] ys e) (refl, refl)
+all_cut at text cuts zero (x ∷ xs) ys h e = absurd (none_some ys e)
+all_cut at text cuts (suc n) xs ys h e = first_cut at text cuts n xs ys h (at xs) refl e
+    (λ us zs k g. all_cut at text cuts n us zs k g)
+
+pub tickets_cut : (xs : List ℕ) (ts : List Ticket) → AreBytes xs → tickets_of xs ≡ Some ts
+    → tickets_text ts ≡ xs
+tickets_cut [] ts h e = absurd (none_some ts e)
+tickets_cut (count ∷ rest) ts h e =
+    let all = all_cut ticket_at ticket_text ticket_cut count rest ts (tail_bytes count rest h) e in
+    ap (λ n. n ∷ flat_map ticket_text ts) (sym all.1) ∙ ap (λ t. count ∷ t) (sym all.0)
+
+-- Keys, values and writes.
+
+pub piece_cut : (least most size : ℕ) (rest : List ℕ) (p : List ℕ × List ℕ)
+    → piece_at least most size rest ≡ Some p
+    → (rest ≡ p.0 ++ p.1) × ((length p.0 ≡ size) × (p.1 ≡ drop size rest))
+piece_cut least most size rest p e =
+    let got = passed (nat_le least size && nat_le size most && nat_le size (length rest))
+    (take size rest, drop size rest) p e in
+    let long : size ≤ length rest = at_most size (length rest) (grind (arith, common_steps)) in
+    subst (λ (q : List ℕ × List ℕ). (rest ≡ q.0 ++ q.1) × ((length q.0 ≡ size) × (q.1 ≡ drop size rest)))
+    got.1
+    (sym (take-append-drop size rest), (taken size rest long, refl))
+  where
+    taken : (n : ℕ) (xs : List ℕ) → n ≤ length xs → length (take n xs) ≡ n
+    taken zero xs h = refl
+    taken (suc n) [] h = absurd (omega (arith, h))
+    taken (suc n) (x ∷ xs) h = let e = taken n xs (omega (arith, h)) in omega (arith, e)
+
+pub key_cut : (xs : List ℕ) (p : List ℕ × List ℕ) → AreBytes xs → key_at xs ≡ Some p → IsCut key_text xs p
+key_cut [] p h e = absurd (none_some p e)
+key_cut (size ∷ rest) p h e =
+    let cut = piece_cut 1 64 size rest p e in
+    record {
+      written = ap (λ t. size ∷ t) cut.0 ∙ ap (λ n. n ∷ (p.0 ++ p.1)) (sym cut.1.0);
+      bytes = subst AreBytes (sym cut.1.1) (bytes_behind size rest (tail_bytes size rest h));
+    }
+
+pub value_cut : (xs : List ℕ) (p : List ℕ × List ℕ) → AreBytes xs → value_at xs ≡ Some p
+    → IsCut value_text xs p
+unfolding value_text
+value_cut [] p h e = absurd (none_some p e)
+value_cut (high ∷ []) p h e = absurd (none_some p e)
+value_cut (high ∷ low ∷ rest) p h e =
+    let size = high * 256 + low in
+    let cut = piece_cut 0 256 size rest p e in
+    let after = tail_bytes low rest (tail_bytes high (low ∷ rest) h) in
+    let number : big_number 2 (high ∷ low ∷ rest) ≡ size = omega arith in
+    let bytes : big_bytes 2 size ≡ high ∷ low ∷ [] =
+    ap (big_bytes 2) (sym number) ∙ number_again 2 (high ∷ low ∷ rest) h (omega arith) in
+    record {
+      written = ap (λ t. high ∷ low ∷ t) cut.0
+          ∙ ap (λ t. t ++ (p.0 ++ p.1)) (sym (ap (big_bytes 2) cut.1.0 ∙ bytes))
+          ∙ sym (append_assoc (big_bytes 2 (length p.0)) p.0 p.1);
+      bytes = subst AreBytes (sym cut.1.1) (bytes_behind size rest after);
+    }
+
+-- a value that is put is cut behind its byte 1
+put_cut : (key rest : List ℕ) (o : Front (List ℕ)) (p : Write × List ℕ) → value_at rest ≡ o → AreBytes rest
+    → put_of key o ≡ Some p
+    → (1 ∷ rest ≡ left_text p.0.value ++ p.1) × ((p.0.key ≡ key) × AreBytes p.1)
+put_cut key rest None p is h e = absurd (none_some p e)
+put_cut key rest (Some v) p is h e =
+    let cut = value_cut rest v h is in
+    subst (λ (q : Write × List ℕ). (1 ∷ rest ≡ left_text q.0.value ++ q.1) × ((q.0.key ≡ key) × AreBytes q.1))
+    (some_is _ p e)
+    (ap (λ t. 1 ∷ t) cut.written, (refl, cut.bytes))
+
+left_cut : (key xs : List ℕ) (p : Write × List ℕ) → AreBytes xs → left_at key xs ≡ Some p
+    → (xs ≡ left_text p.0.value ++ p.1) × ((p.0.key ≡ key) × AreBytes p.1)
+left_cut key [] p h e = absurd (none_some p e)
+left_cut key (how ∷ rest) p h e = by_how (how == 0) (how == 1) refl refl e
+  where
+    by_how : (a b : Bool) → (how == 0) ≡ a → (how == 1) ≡ b
+        → cond a (Some (record { key = key; value = None }, rest)) (cond b (put_of key (value_at rest)) None)
+        ≡ Some p
+        → (how ∷ rest ≡ left_text p.0.value ++ p.1) × ((p.0.key ≡ key) × AreBytes p.1)
+    by_how true b is other f =
+        let none : how ≡ 0 = grind (arith, nat_tests) in
+        subst (λ (q : Write × List ℕ). (how ∷ rest ≡ left_text q.0.value ++ q.1)
+        × ((q.0.key ≡ key) × AreBytes q.1)) (some_is _ p f)
+        (ap (λ n. n ∷ rest) none, (refl, tail_bytes how rest h))
+    by_how false true is other f =
+        let one : how ≡ 1 = grind (arith, nat_tests) in
+        let cut = put_cut key rest (value_at rest) p refl (tail_bytes how rest h) f in
+        (ap (λ n. n ∷ rest) one ∙ cut.0, cut.1)
+    by_how false false is other f = absurd (none_some p f)
+
+write_of_key : (xs : List ℕ) (o : Front (List ℕ)) (p : Write × List ℕ) → AreBytes xs → key_at xs ≡ o
+    → write_by o ≡ Some p → IsCut write_text xs p
+unfolding write_text
+write_of_key xs None p h is e = absurd (none_some p e)
+write_of_key xs (Some k) p h is e =
+    let key = key_cut xs k h is in
+    let left = left_cut k.0 k.1 p key.bytes e in
+    record {
+      written = key.written ∙ ap (λ t. key_text k.0 ++ t) left.0
+          ∙ sym (append_assoc (key_text k.0) (left_text p.0.value) p.1)
+          ∙ ap (λ j. (key_text j ++ left_text p.0.value) ++ p.1) (sym left.1.0);
+      bytes = left.1.1;
+    }
+
+pub write_cut : (xs : List ℕ) (p : Write × List ℕ) → AreBytes xs → write_at xs ≡ Some p
+    → IsCut write_text xs p
+unfolding write_at
+write_cut xs p h e = write_of_key xs (key_at xs) p h refl e
+
+pub writes_cut : (xs : List ℕ) (ws : List Write) → AreBytes xs → writes_of xs ≡ Some ws → writes_text ws ≡ xs
+writes_cut [] ws h e = absurd (none_some ws e)
+writes_cut (count ∷ rest) ws h e = by_count (nat_le 1 count && nat_le count 64) e
+  where
+    by_count : (b : Bool) → cond b (all_of write_at count rest) None ≡ Some ws → writes_text ws ≡ count ∷ rest
+    by_count true f =
+        let all = all_cut write_at write_text write_cut count rest ws (tail_bytes count rest h) f in
+        ap (λ n. n ∷ flat_map write_text ws) (sym all.1) ∙ ap (λ t. count ∷ t) (sym all.0)
+    by_count false f = absurd (none_some ws f)

@@ -1,0 +1,4 @@
+pub mod order
+pub mod trim
+pub mod sound
+pub mod reads

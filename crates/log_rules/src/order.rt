@@ -1,0 +1,5 @@
+//! The order of the records in a log.
+
+mod seen;
+
+pub use seen::Seen;

@@ -1,0 +1,3 @@
+//! What a process reads of its log: laws alone.
+
+pub mod law;

@@ -1,4 +1,0 @@
-//! Laws of the records that can stand in a log. The functions do nothing: each one's contract is a law.
-#![tactic(auto)]
-
-pub mod law;

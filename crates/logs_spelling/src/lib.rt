@@ -1,4 +1,0 @@
-//! A tree and its logs as text, as a law: what is written is read back, and what is read can be written.
-#![tactic(auto)]
-
-pub mod law;

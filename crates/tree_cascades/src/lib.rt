@@ -1,5 +1,0 @@
-//! What a step of a cascaded coordinator does to the pairs above it. The functions do nothing: each one's contract is a
-//! law.
-#![tactic(auto)]
-
-pub mod law;

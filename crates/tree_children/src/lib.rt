@@ -1,4 +1,0 @@
-//! What a step of a child does to the pairs of its tickets. The functions do nothing: each one's contract is a law.
-#![tactic(auto)]
-
-pub mod law;

@@ -1,4 +1,0 @@
-//! What a coordinator's restart and trim do to the pairs below it. The functions do nothing: each one's contract is a law.
-#![tactic(auto)]
-
-pub mod law;

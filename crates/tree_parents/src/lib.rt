@@ -1,4 +1,0 @@
-//! What a step of a coordinator does to the pairs below it. The functions do nothing: each one's contract is a law.
-#![tactic(auto)]
-
-pub mod law;

@@ -1,4 +1,0 @@
-//! The headline of every run of every tree. The functions do nothing: each one's contract is a law.
-#![tactic(auto)]
-
-pub mod law;

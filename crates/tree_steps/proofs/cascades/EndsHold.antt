@@ -1,0 +1,123 @@
+-- In every run a case of a cascaded coordinator that promised and ended was decided.
+use Rattle.std.proofs.Common.{◌≡◌, ◌∙◌, ℕ, zero, suc, true, false, Some, List, [], ◌++◌, take, drop, append_assoc, refl, sym, ap, subst}
+use Rattle.std.proofs.lemmas.List.{append-nil, take-append-drop}
+use Rattle.tree_model.specs.declared.names.Case.{Case}
+use Rattle.tree_model.specs.declared.names.ProcessId.{ProcessId}
+use Rattle.tree_model.specs.declared.records.Record.{Record}
+use Rattle.tree_model.specs.declared.standings.Standing.TheVariants.{Unknown}
+use Rattle.tree_model.specs.declared.trees.TreeEntry.{TreeEntry}
+use Rattle.tree_model.specs.Records.{has, is_end, is_prepare}
+use Rattle.tree_model.specs.Memory.{Idle}
+use Rattle.tree_model.specs.Nodes.{Below, Effect, Heard, Node, Place, Role, after, entries_written, is_any_forced, kept, opened_node, place_of, role_of}
+use Rattle.tree_model.specs.Restarts.{coordinator_reopens, is_known, left_of, recorded_view, trim_fails, trimmed}
+use Rattle.tree_model.specs.World.{IsRun, Made, Move, World, makes, opens}
+use Rattle.tree_model.proofs.RunLaws.{makes_at}
+use Rattle.tree_pairs.specs.turns.CoordinatorTurns.{CoordinatorTurn}
+use Rattle.tree_pairs.specs.turns.Steps.{StepOf, failed_in, failed_passing, failed_reopening, failed_trimming, handled, heard_in, passed, reopened, trimmed as trims_log}
+use Rattle.tree_pairs.proofs.turns.CoordinatorReactions.{coordinator_turn_of}
+use Rattle.tree_pairs.proofs.turns.Steps.{step_of}
+use Rattle.tree_nodes.specs.CaseOrder.{IsCoordinator}
+use Rattle.tree_nodes.specs.Lasts.{Logs, logs_of, standing}
+use Rattle.tree_nodes.proofs.Appends.{breaks_keeps, either_logs, loses}
+use Rattle.tree_nodes.proofs.CaseOrders.{AllFit}
+use Rattle.tree_nodes.proofs.CoordinatorLogs.{all_fit, fits_effect}
+use Rattle.tree_nodes.proofs.Phases.{standing_at}
+use Rattle.tree_nodes.proofs.RootLogs.{recorded_stands}
+use Rattle.tree_nodes.proofs.Tests.{both}
+use Rattle.tree_nodes.proofs.Worlds.{put}
+use Rattle.tree_steps.proofs.cascades.Ends.{EndsDecided, ends_all, ends_front, ends_more, ends_written, none_reopens, none_taken, turn_ends}
+use Rattle.tree_steps.proofs.cascades.Trimmed.{of_end, trimmed_has}
+
+-- an end is not kept through a trim
+ended_unknown : (c : Case) (rs : List Record) → has (is_end c) rs ≡ true
+    → is_known (recorded_view rs c).standing ≡ false
+ended_unknown c rs e = ap is_known (recorded_stands c rs ∙ stands)
+  where
+    stands : standing_at rs c Idle ≡ Unknown
+    stands = rw e refl
+
+ends_trimmed : (p : ProcessId) (rs : List Record) → EndsDecided (trimmed (Below p) rs)
+ends_trimmed p rs c e f =
+    let b = both (is_known (recorded_view rs c).standing) (has (is_end c) rs)
+    (sym (trimmed_has p c (is_end c) (of_end c) rs (λ k. refl)) ∙ e) in
+    absurd (let x = sym b.0 ∙ ended_unknown c rs b.1 in cc)
+
+module _ (p : ProcessId) (me : ProcessId) (tree : List TreeEntry) (n : Node) (fit : AllFit [] (kept n))
+    (old : EndsDecided (kept n)) where
+  abbrev place : Place
+  place = record { me = me; role = Below p; tree = tree }
+
+  abbrev Ends : Node → Type 0
+  Ends k = EndsDecided (kept k)
+
+  appended : (h : Heard) (e : Effect) → CoordinatorTurn place (Some p) n h e → Ends (after n h e)
+  appended h e t =
+      let new = entries_written e.written in
+      let all = ends_all (kept n) new old (fits_effect place (Some p) n h e t fit)
+      (turn_ends place (Some p) n h e t) in
+      either_logs n new (is_any_forced e.written) (λ (l : Logs). EndsDecided (standing l))
+      (λ b. subst EndsDecided (sym (append-nil (kept n ++ new))) all)
+      (λ b. subst EndsDecided (append_assoc n.forced n.unforced new) all)
+
+  left_whole : (k : ℕ) → (left_of n k ++ drop k n.unforced) ≡ kept n
+  left_whole k = append_assoc n.forced (take k n.unforced) (drop k n.unforced)
+      ∙ ap (λ l. n.forced ++ l) (take-append-drop k n.unforced)
+
+  pub ends_left : (k : ℕ) → EndsDecided (left_of n k)
+  ends_left k =
+      ends_front (left_of n k) (drop k n.unforced) (subst (AllFit []) (sym (left_whole k)) fit)
+      (subst EndsDecided (sym (left_whole k)) old)
+
+  trim_failed : (a : ℕ) → Ends (trim_fails place n a)
+  trim_failed zero = old
+  trim_failed (suc a) = subst EndsDecided (sym (append-nil (trimmed (Below p) (kept n))))
+      (ends_trimmed p (kept n))
+
+  pub ends_step : (m : Move) (e : Effect) (k : Node) → StepOf place n m e k → Ends k
+  ends_step m _ _ (handled i g hp np r) =
+      appended (heard_in m i) g (coordinator_turn_of place n (heard_in m i) g r)
+  ends_step m _ _ (failed_in i f g fl hp np r) =
+      let t = coordinator_turn_of place n (heard_in m i) g r in
+      let new = entries_written g.written in
+      subst EndsDecided (sym (breaks_keeps (logs_of n) new f.appended f.forced))
+      (ends_written (kept n) new f.appended old (fits_effect place (Some p) n (heard_in m i) g t fit)
+      (turn_ends place (Some p) n (heard_in m i) g t))
+  ends_step m _ _ (passed i hp r) = old
+  ends_step m _ _ (failed_passing i f fl hp r) = old
+  ends_step m _ _ (reopened k hp) =
+      let rs = left_of n k in
+      subst EndsDecided (sym (append-nil (rs ++ coordinator_reopens rs)))
+      (ends_more rs (coordinator_reopens rs) (λ c. none_reopens (is_end c) (λ j. refl) (λ d ts. refl) rs)
+      (λ c. none_reopens (is_prepare c) (λ j. refl) (λ d ts. refl) rs) (ends_left k))
+  ends_step m _ _ (failed_reopening k f fl hp) =
+      let rs = left_of n k in
+      let new = coordinator_reopens rs in
+      subst EndsDecided (sym (breaks_keeps (loses (logs_of n) k) new f.appended f.forced))
+      (ends_more rs (take f.appended new) (λ c. none_taken (is_end c) (λ j. refl)
+      (λ d ts. refl) f.appended rs)
+      (λ c. none_taken (is_prepare c) (λ j. refl) (λ d ts. refl) f.appended rs) (ends_left k))
+  ends_step m _ _ (trims_log hp up) =
+      subst EndsDecided (sym (append-nil (trimmed (Below p) (kept n)))) (ends_trimmed p (kept n))
+  ends_step m _ _ (failed_trimming f fl hp up) = trim_failed f.appended
+
+-- a log that is empty
+none_ends : EndsDecided (kept opened_node)
+unfolding has
+none_ends c e f = absurd (cc)
+
+pub all_end : (tree : List TreeEntry) (es : List Made) (w : World) → IsRun tree es w → (q p : ProcessId)
+    → role_of tree q ≡ Below p → EndsDecided (kept (w.at q))
+all_end tree _ _ opens q p below = none_ends
+all_end tree _ _ (makes es w m e w' run stands step) q p below =
+    let at = makes_at tree w m e w' step in
+    let x = m.step.process in
+    let P : ProcessId → Node → Type 0 = λ y k. (p : ProcessId) → role_of tree y ≡ Below p
+    → EndsDecided (kept k) in
+    subst (λ (z : World). P q (z.at q)) (sym at.world)
+    (put P x q at.node w.at
+    (λ r i. ends_step r x tree (w.at x)
+    (all_fit tree es w run x (subst IsCoordinator (sym i) tt))
+    (all_end tree es w run x r i) m e at.node
+    (subst (λ (z : Role). StepOf (record { me = x; role = z; tree = tree }) (w.at x) m e at.node) i
+    (step_of (place_of tree x) (w.at x) m e at.node at.made)))
+    (all_end tree es w run q)) p below

@@ -1,0 +1,381 @@
+-- The rows of the pair's case behind its promise, and of one that is over, keep the pair's invariant.
+use Rattle.std.proofs.Common.{◌≡◌, ◌∙◌, ◌⊎◌, inl, inr, ◌&&◌, ℕ, Bool, true, false, Some, List, [], ◌∷◌, refl, sym, ap, subst, arith}
+use Rattle.tree_model.specs.declared.names.Case.{Case}
+use Rattle.tree_model.specs.declared.names.Outcome.{Outcome}
+use Rattle.tree_model.specs.declared.names.Outcome.TheVariants.{Committed as CommittedOutcome, Aborted as AbortedOutcome}
+use Rattle.tree_model.specs.declared.names.Presumption.{Presumption}
+use Rattle.tree_model.specs.declared.names.Presumption.TheVariants.{PresumeAbort, PresumeCommit}
+use Rattle.tree_model.specs.declared.names.Ticket.{Ticket}
+use Rattle.tree_model.specs.declared.messages.Message.TheVariants.{Prepare, Yes, No, Commit, Abort, Ack, Inquire}
+use Rattle.tree_model.specs.declared.records.Record.TheVariants.{Commit as CommitRecord, Abort as AbortRecord}
+use Rattle.tree_model.specs.declared.standings.Standing.{Standing}
+use Rattle.tree_model.specs.declared.standings.Standing.TheVariants.{Unknown, Prepared, Committing, Aborting}
+use Rattle.tree_model.specs.declared.events.Input.TheVariants.{Message as MessageInput}
+use Rattle.tree_model.specs.NameLaws.{same_case-refl}
+use Rattle.tree_model.specs.Records.{has, is_abort, is_commit, is_end, is_prepare}
+use Rattle.tree_model.specs.CoordinatorRows.{Seat, each, post, prepared_abort_by, prepared_commit_by, sends, tells_outcome, up as up_letter}
+use Rattle.tree_model.specs.Nodes.{Effect, Place, kept}
+use Rattle.tree_model.specs.Outcomes.{is_outcome_message}
+use Rattle.tree_model.specs.Reactions.{row_effect, seat_of}
+use Rattle.tree_model.specs.Standings.{coordinator_view}
+use Rattle.tree_pairs.specs.ChildMoves as move
+use Rattle.tree_pairs.specs.Reading.{Reading, is_live}
+use Rattle.tree_pairs.specs.Standing.{IsForgotten, IsInDoubt}
+use Rattle.tree_pairs.specs.readings.ReadingOf.{Wire, phase_by}
+use Rattle.tree_pairs.specs.turns.CoordinatorTurns.{Acknowledges, Refuses, abort_again, abort_presumed_commit, aborting_refuses, commit_again, commit_presumed_abort, unknown_refuses}
+use Rattle.tree_nodes.specs.WorldHolds.{NamesBy}
+use Rattle.tree_nodes.proofs.Deliveries.{was_sent}
+use Rattle.tree_steps.proofs.children.Moves as moves
+use Rattle.tree_steps.proofs.children.Moves.{Fits}
+use Rattle.tree_steps.proofs.cascades.Halves.{OwnHalf, aborts, aborts_record, commits, commits_record, hardens, stands_so}
+use Rattle.tree_steps.proofs.cascades.Letters as letters
+use Rattle.tree_steps.proofs.cascades.Letters.{Said, hears, nothing, said_by}
+use Rattle.tree_steps.proofs.cascades.Opens.{live}
+use Rattle.tree_steps.proofs.cascades.Readings as readings
+use Rattle.tree_steps.proofs.cascades.Standings.{IsOver, aborting_facts, committing_facts, prepared_facts, unknown_facts}
+use Rattle.tree_steps.proofs.cascades.Turns.{Fine, R, Remembered, Then, Turn, d as own_case, fallen, forced_fine, hard, onward, place as place_in, plain_fine, q as half_in, r0, silent_fine, v as wire_in}
+use Rattle.tree_steps.proofs.cascades.TurnsVotes.{abort_sent, prepare_sent}
+
+closed_at : (f : Bool) (s u : Standing) → s ≡ u → is_live (phase_by false u) ≡ false
+    → is_live (phase_by f s) ≡ false
+closed_at true s u e g = refl
+closed_at false s u e g = ap (λ (x : Standing). is_live (phase_by false x)) e ∙ g
+
+and-false : (a : Bool) → (a && false) ≡ false
+and-false a = grind arith
+
+both_true : (a b : Bool) → a ≡ true → b ≡ true → (a && b) ≡ true
+both_true a b e f = grind arith
+
+first_no : (a b : Bool) → a ≡ false → (a && b) ≡ false
+first_no a b e = grind arith
+
+module _ (turn : Turn) where
+  open turn use {
+    c,
+    t,
+    p,
+    tree,
+    n,
+    h,
+    net,
+    up,
+    promise_written,
+    order,
+    end_decided,
+    stands,
+    pr,
+    of,
+    root,
+    outcome,
+    above,
+    half,
+    inv,
+  }
+
+  abbrev d : Case
+  d = own_case turn
+
+  abbrev place : Place
+  place = place_in turn
+
+  abbrev q : OwnHalf
+  q = half_in turn
+
+  abbrev v : Wire
+  v = wire_in turn
+
+  abbrev seat : Seat
+  seat = seat_of place (Some p) d
+
+  abbrev b : Bool
+  b = has (is_prepare d) n.life
+
+  closed_by : (s : Standing) → (coordinator_view place n d).standing ≡ s → is_live (phase_by false s) ≡ false
+      → q.is_open ≡ false
+  closed_by s e g = closed_at n.failed (coordinator_view place n d).standing s e g
+
+  -- a case that is closed stays closed
+  stays_closed : q.is_open ≡ false → live (Remembered turn).phase ≡ false
+  stays_closed e = elim (fallen turn (live (Remembered turn).phase) refl) [
+    | inl same ↦ same ∙ e
+    | inr closed ↦ closed
+  ]
+
+  pub commit_sent : (j : ℕ) → h.input ≡ MessageInput j (Commit d) → v.commit ≡ true
+  commit_sent j i = was_sent (is_outcome_message CommittedOutcome d) net t.child h.input j (Commit d) stands i
+      (same_case-refl d)
+
+  -- One word of a case that is closed.
+  closed_says : (e : Effect) → Then turn e → e.written ≡ [] → q.is_open ≡ false → (s : Said)
+      → said_by c t e.messages ≡ s → (m : Reading) → R turn q (hears s v) ≡ m → Fits pr (r0 turn) m
+      → Fine turn e
+  closed_says e next none closed s said m same fits =
+      silent_fine turn e next none s said
+      (λ o f. subst (λ (z : Reading). Fits pr (r0 turn) z)
+      (sym (ap (λ x. R turn (stands_so x q) (hears s v)) (f ∙ (stays_closed closed ∙ sym closed))
+      ∙ same)) fits)
+
+  -- Prepared.
+
+  pub prepared_closed : (coordinator_view place n d).standing ≡ Prepared → q.is_open ≡ false
+  prepared_closed e = closed_by Prepared e refl
+
+  pub doubt_at : (coordinator_view place n d).standing ≡ Prepared → IsInDoubt (r0 turn)
+  doubt_at e =
+      let f = prepared_facts place n d e in
+      record {
+        prepared = f.promised;
+        no_commit = f.no_commit;
+        no_abort = first_no (has (is_abort d) (kept n)) (has (is_prepare d) (kept n)) f.no_abort;
+        not_forgotten = refl;
+      }
+
+  pub repeats_yes_own : (j k : ℕ) → h.input ≡ MessageInput j (Prepare d k)
+      → (coordinator_view place n d).standing ≡ Prepared
+      → Then turn (row_effect d (sends (up_letter seat (Yes d)) (coordinator_view place n d)))
+      → Fine turn (row_effect d (sends (up_letter seat (Yes d)) (coordinator_view place n d)))
+  repeats_yes_own j k i e next =
+      closed_says (row_effect d (sends (up_letter seat (Yes d)) (coordinator_view place n d))) next refl
+      (prepared_closed e) (record nothing { yes = true })
+      (letters.said_first c t (post t.child p (Yes d)) [] (letters.none_silent c t)
+      ∙ rw (same_case-refl d) refl)
+      (move.repeats_yes (r0 turn)) refl
+      (moves.repeats_yes pr (r0 turn) inv
+      (record { asked = prepare_sent turn j k i; up = up; promised = (prepared_facts place n d e).promised }))
+
+  pub asks_own : (coordinator_view place n d).standing ≡ Prepared
+      → Then turn (row_effect d (sends (up_letter seat (Inquire d)) (coordinator_view place n d)))
+      → Fine turn (row_effect d (sends (up_letter seat (Inquire d)) (coordinator_view place n d)))
+  asks_own e next =
+      closed_says (row_effect d (sends (up_letter seat (Inquire d)) (coordinator_view place n d))) next refl
+      (prepared_closed e) (record nothing { inquire = true })
+      (letters.said_first c t (post t.child p (Inquire d)) [] (letters.none_silent c t)
+      ∙ rw (same_case-refl d) refl)
+      (move.asks (r0 turn)) refl
+      (moves.asks pr (r0 turn) inv (record { up = up; in_doubt = doubt_at e }))
+
+  ack_said : (o x : Outcome) (us : List Ticket)
+      → said_by c t (post t.child p (Ack (own_case turn) o) ∷ each seat (tells_outcome x) us)
+      ≡ record nothing { ack = true }
+  ack_said o x us = letters.said_first c t (post t.child p (Ack d o)) (each seat (tells_outcome x) us)
+      (letters.each_silent c t seat x us)
+      ∙ rw (same_case-refl d) refl
+
+  -- COMMIT comes.
+  pub passes_commit_own : (j : ℕ) → h.input ≡ MessageInput j (Commit d) → (x : Presumption)
+      → d.txn.presumption ≡ x → (coordinator_view place n d).standing ≡ Prepared
+      → Then turn (row_effect d (prepared_commit_by seat (coordinator_view place n d) x))
+      → Fine turn (row_effect d (prepared_commit_by seat (coordinator_view place n d) x))
+  passes_commit_own j i PresumeAbort f e next =
+      let ts = (coordinator_view place n d).promised in
+      let closed = prepared_closed e in
+      let doubt = doubt_at e in
+      forced_fine turn (row_effect d (prepared_commit_by seat (coordinator_view place n d) PresumeAbort)) next
+      (CommitRecord d ts) refl (λ x. refl) (record nothing { ack = true })
+      (ack_said CommittedOutcome CommittedOutcome ts)
+      (λ o g. subst (λ (z : Reading). Fits pr (r0 turn) z)
+      (sym (ap (λ (x : OwnHalf). R turn (stands_so o (hardens x)) (record v { ack = true }))
+      (commits_record d ts b q)
+      ∙ (ap (λ x. R turn (stands_so x (hardens (commits q))) (record v { ack = true }))
+      (g ∙ stays_closed closed)
+      ∙ readings.reading-commit_forced root outcome above half q v closed doubt.prepared)))
+      (onward turn (move.commits_forced (move.hardens_child (r0 turn)))
+      (moves.commits_forced pr (sym of ∙ f) (move.hardens_child (r0 turn)) (hard turn).invariant
+      (record {
+        up = up;
+        told = commit_sent j i;
+        in_doubt = record {
+          prepared = doubt.prepared;
+          no_commit = doubt.no_commit;
+          no_abort = doubt.no_abort;
+          not_forgotten = refl;
+        };
+      }))))
+  passes_commit_own j i PresumeCommit f e next =
+      let ts = (coordinator_view place n d).promised in
+      let closed = prepared_closed e in
+      let doubt = doubt_at e in
+      plain_fine turn (row_effect d (prepared_commit_by seat (coordinator_view place n d) PresumeCommit)) next
+      (CommitRecord d []) refl (λ x. refl) nothing (letters.each_silent c t seat CommittedOutcome ts)
+      (λ o g. subst (λ (z : Reading). Fits pr (r0 turn) z)
+      (sym (ap (λ (x : OwnHalf). R turn (stands_so o x) v) (commits_record d [] b q)
+      ∙ (ap (λ x. R turn (stands_so x (commits q)) v) (g ∙ stays_closed closed)
+      ∙ readings.reading-commit_plain root outcome above half q v closed doubt.prepared)))
+      (moves.commits pr (sym of ∙ f) (r0 turn) inv
+      (record { up = up; told = commit_sent j i; in_doubt = doubt })))
+
+  -- ABORT comes.
+  pub passes_abort_own : (j : ℕ) → h.input ≡ MessageInput j (Abort d) → (x : Presumption)
+      → d.txn.presumption ≡ x → (coordinator_view place n d).standing ≡ Prepared
+      → Then turn (row_effect d (prepared_abort_by seat (coordinator_view place n d) x))
+      → Fine turn (row_effect d (prepared_abort_by seat (coordinator_view place n d) x))
+  passes_abort_own j i PresumeAbort f e next =
+      let ts = (coordinator_view place n d).promised in
+      let closed = prepared_closed e in
+      let doubt = doubt_at e in
+      plain_fine turn (row_effect d (prepared_abort_by seat (coordinator_view place n d) PresumeAbort)) next
+      (AbortRecord d []) refl (λ x. refl) nothing (letters.each_silent c t seat AbortedOutcome ts)
+      (λ o g. subst (λ (z : Reading). Fits pr (r0 turn) z)
+      (sym (ap (λ (x : OwnHalf). R turn (stands_so o x) v) (aborts_record d [] b q)
+      ∙ (ap (λ x. R turn (stands_so o (aborts x q)) v) (promise_written doubt.prepared)
+      ∙ (ap (λ x. R turn (stands_so x (aborts true q)) v) (g ∙ stays_closed closed)
+      ∙ readings.reading-abort_plain root outcome above half q v closed doubt.prepared))))
+      (moves.rolls_back pr (sym of ∙ f) (r0 turn) inv
+      (record { up = up; told = abort_sent turn j i; in_doubt = doubt })))
+  passes_abort_own j i PresumeCommit f e next =
+      let ts = (coordinator_view place n d).promised in
+      let closed = prepared_closed e in
+      let doubt = doubt_at e in
+      forced_fine turn (row_effect d (prepared_abort_by seat (coordinator_view place n d) PresumeCommit)) next
+      (AbortRecord d ts) refl (λ x. refl) (record nothing { ack = true })
+      (ack_said AbortedOutcome AbortedOutcome ts)
+      (λ o g. subst (λ (z : Reading). Fits pr (r0 turn) z)
+      (sym (ap (λ (x : OwnHalf). R turn (stands_so o (hardens x)) (record v { ack = true }))
+      (aborts_record d ts b q)
+      ∙ (ap (λ x. R turn (stands_so o (hardens (aborts x q))) (record v { ack = true }))
+      (promise_written doubt.prepared)
+      ∙ (ap (λ x. R turn (stands_so x (hardens (aborts true q))) (record v { ack = true }))
+      (g ∙ stays_closed closed)
+      ∙ readings.reading-abort_forced root outcome above half q v closed doubt.prepared))))
+      (onward turn (move.rolls_back_forced (move.hardens_child (r0 turn)))
+      (moves.rolls_back_forced pr (sym of ∙ f) (move.hardens_child (r0 turn)) (hard turn).invariant
+      (record {
+        up = up;
+        told = abort_sent turn j i;
+        in_doubt = record {
+          prepared = doubt.prepared;
+          no_commit = doubt.no_commit;
+          no_abort = doubt.no_abort;
+          not_forgotten = refl;
+        };
+      }))))
+
+  -- A case that is over.
+
+  decided : has (is_prepare (own_case turn)) (kept n) ≡ true
+      → (has (is_commit (own_case turn)) (kept n) ≡ true) ⊎ (has (is_abort (own_case turn)) (kept n) ≡ true)
+      → ((r0 turn).learnt_commit_kept ≡ true) ⊎ ((r0 turn).learnt_abort_kept ≡ true)
+  decided e (inl f) = inl f
+  decided e (inr f) = inr (both_true (has (is_abort d) (kept n)) (has (is_prepare d) (kept n)) f e)
+
+  nothing_left : (x : Bool) → has (is_prepare (own_case turn)) (kept n) ≡ x
+      → IsOver (has (is_end (own_case turn)) (kept n)) (has (is_commit (own_case turn)) (kept n))
+      (has (is_abort (own_case turn)) (kept n)) (has (is_prepare (own_case turn)) (kept n))
+      → ((r0 turn).prepared_kept ≡ false) ⊎ (((r0 turn).forgot_kept ≡ true)
+      ⊎ (((r0 turn).heuristic_kept ≡ false)
+      × (((r0 turn).learnt_commit_kept ≡ true) ⊎ ((r0 turn).learnt_abort_kept ≡ true))))
+  nothing_left false e o = inl e
+  nothing_left true e (inl f) = inr (inr (refl, decided e (end_decided f e)))
+  nothing_left true e (inr (inl f)) = inr (inr (refl, decided e (inl f)))
+  nothing_left true e (inr (inr (inl f))) = inr (inr (refl, decided e (inr f)))
+  nothing_left true e (inr (inr (inr f))) = absurd (let g = sym e ∙ f in cc)
+
+  pub forgotten : q.is_open ≡ false
+      → IsOver (has (is_end (own_case turn)) (kept n)) (has (is_commit (own_case turn)) (kept n))
+      (has (is_abort (own_case turn)) (kept n)) (has (is_prepare (own_case turn)) (kept n))
+      → IsForgotten (r0 turn)
+  forgotten closed o = record {
+    closed = rw closed (and-false v.issued);
+    nothing = nothing_left (has (is_prepare d) (kept n)) refl o;
+  }
+
+  refused_over : (s : Standing) → (coordinator_view place n d).standing ≡ s → Refuses s
+      → (q.is_open ≡ false) × IsForgotten (r0 turn)
+  refused_over _ e unknown_refuses =
+      let closed = closed_by Unknown e refl in (closed, forgotten closed (unknown_facts place n d e))
+  refused_over _ e aborting_refuses =
+      let closed = closed_by Aborting e refl in
+      (closed, forgotten closed (inr (inr (inl (aborting_facts place n d e).0))))
+
+  pub refuses_own : (j k : ℕ) → h.input ≡ MessageInput j (Prepare d k)
+      → Refuses (coordinator_view place n d).standing
+      → Then turn (row_effect d (sends (up_letter seat (No d)) (coordinator_view place n d)))
+      → Fine turn (row_effect d (sends (up_letter seat (No d)) (coordinator_view place n d)))
+  refuses_own j k i e next =
+      let over = refused_over (coordinator_view place n d).standing refl e in
+      closed_says (row_effect d (sends (up_letter seat (No d)) (coordinator_view place n d))) next refl over.0
+      (record nothing { no = true })
+      (letters.said_first c t (post t.child p (No d)) [] (letters.none_silent c t)
+      ∙ rw (same_case-refl d) refl)
+      (move.refuses (r0 turn)) refl
+      (moves.refuses pr (r0 turn) inv
+      (record { asked = prepare_sent turn j k i; up = up; forgotten = over.1 }))
+
+  -- An outcome that it knows, or of which nothing is known, is acknowledged.
+
+  acks : (o : Outcome) → q.is_open ≡ false → Fits pr (r0 turn) (move.acknowledges (r0 turn))
+      → Then turn (row_effect d (sends (up_letter seat (Ack d o)) (coordinator_view place n d)))
+      → Fine turn (row_effect d (sends (up_letter seat (Ack d o)) (coordinator_view place n d)))
+  acks o closed fits next =
+      closed_says (row_effect d (sends (up_letter seat (Ack d o))
+      (coordinator_view place n d))) next refl closed
+      (record nothing { ack = true })
+      (letters.said_first c t (post t.child p (Ack d o)) [] (letters.none_silent c t)
+      ∙ rw (same_case-refl d) refl)
+      (move.acknowledges (r0 turn)) refl fits
+
+  -- a case that commits does so under Presumed Abort, one that aborts under Presumed Commit
+  commits_by : (x : Presumption) → d.txn.presumption ≡ x → (coordinator_view place n d).standing ≡ Committing
+      → x ≡ PresumeAbort
+  commits_by PresumeAbort f e = refl
+  commits_by PresumeCommit f e =
+      let g = committing_facts place n d e in
+      absurd (let k = sym (subst (λ (y : Presumption). NamesBy y d (kept n)) f order.names g.0) ∙ g.1 in cc)
+
+  aborts_by : (x : Presumption) → d.txn.presumption ≡ x → (coordinator_view place n d).standing ≡ Aborting
+      → x ≡ PresumeCommit
+  aborts_by PresumeCommit f e = refl
+  aborts_by PresumeAbort f e =
+      let g = aborting_facts place n d e in
+      absurd (let k = sym ((subst (λ (y : Presumption). NamesBy y d (kept n)) f order.names).1 g.0)
+      ∙ g.1 in cc)
+
+  acknowledges_by : (j : ℕ) (o : Outcome) → h.input ≡ MessageInput j (tells_outcome o d) → (x : Presumption)
+      → d.txn.presumption ≡ x → (s : Standing) → (coordinator_view place n d).standing ≡ s
+      → Acknowledges o x s
+      → (q.is_open ≡ false) × Fits pr (r0 turn) (move.acknowledges (r0 turn))
+  acknowledges_by j CommittedOutcome i _ f _ e commit_presumed_abort =
+      let closed = closed_by Unknown e refl in (
+        closed,
+        moves.acknowledges_commit pr (sym of ∙ f) (r0 turn) inv (record {
+          up = up;
+          told = commit_sent j i;
+          known = inl (forgotten closed (unknown_facts place n d e));
+        }),
+      )
+  acknowledges_by j CommittedOutcome i x f _ e (commit_again _) =
+      let closed = closed_by Committing e refl in (
+        closed,
+        moves.acknowledges_commit pr (sym of ∙ (f ∙ commits_by x f e)) (r0 turn) inv (record {
+          up = up;
+          told = commit_sent j i;
+          known = inr (committing_facts place n d e).0;
+        }),
+      )
+  acknowledges_by j AbortedOutcome i _ f _ e abort_presumed_commit =
+      let closed = closed_by Unknown e refl in (
+        closed,
+        moves.acknowledges_abort pr (sym of ∙ f) (r0 turn) inv (record {
+          up = up;
+          told = abort_sent turn j i;
+          known = inl (forgotten closed (unknown_facts place n d e));
+        }),
+      )
+  acknowledges_by j AbortedOutcome i x f _ e (abort_again _) =
+      let closed = closed_by Aborting e refl in (
+        closed,
+        moves.acknowledges_abort pr (sym of ∙ (f ∙ aborts_by x f e)) (r0 turn) inv (record {
+          up = up;
+          told = abort_sent turn j i;
+          known = inl (forgotten closed (inr (inr (inl (aborting_facts place n d e).0))));
+        }),
+      )
+
+  pub acknowledges_own : (j : ℕ) (o : Outcome) → h.input ≡ MessageInput j (tells_outcome o d)
+      → Acknowledges o d.txn.presumption (coordinator_view place n d).standing
+      → Then turn (row_effect d (sends (up_letter seat (Ack d o)) (coordinator_view place n d)))
+      → Fine turn (row_effect d (sends (up_letter seat (Ack d o)) (coordinator_view place n d)))
+  acknowledges_own j o i a next =
+      let f = acknowledges_by j o i d.txn.presumption refl (coordinator_view place n d).standing refl a in
+      acks o f.0 f.1 next

@@ -1,0 +1,95 @@
+-- An input that a manager handles, as one of its pairs sees it.
+use Rattle.tree_model.specs.ManagerRows.{is_acknowledged}
+use Rattle.std.proofs.Common.{◌≡◌, ℕ, Bool, true, false, List, [], ◌∷◌, ◌++◌, if◌then◌else◌}
+use Rattle.tree_model.specs.declared.names.Case.{Case}
+use Rattle.tree_model.specs.declared.names.ProcessId.{ProcessId}
+use Rattle.tree_model.specs.declared.names.Ticket.{Ticket}
+use Rattle.tree_model.specs.declared.names.Outcome.{Outcome}
+use Rattle.tree_model.specs.declared.names.Presumption.{Presumption}
+use Rattle.tree_model.specs.declared.messages.Message.TheVariants.{Prepare, Ack}
+use Rattle.tree_model.specs.declared.messages.Envelope.{Envelope}
+use Rattle.tree_model.specs.declared.records.Record.{Record}
+use Rattle.tree_model.specs.declared.events.Input.TheVariants.{Message as MessageInput}
+use Rattle.tree_model.specs.declared.trees.TreeEntry.{TreeEntry}
+use Rattle.tree_model.specs.Names.{child_case, same_case}
+use Rattle.tree_model.specs.Nodes.{Place, AtLeaf, Node, Heard, Effect, after, Written}
+use Rattle.tree_model.specs.CoordinatorRows.{post}
+use Rattle.tree_model.specs.Standings.{manager_view}
+use Rattle.tree_model.specs.World.{InputStands}
+use Rattle.tree_pairs.specs.Reading.{Reading}
+use Rattle.tree_pairs.specs.readings.ReadingOf.{reading_from, ParentHalf, ChildHalf, Wire, child_half, wire}
+use Rattle.tree_pairs.specs.turns.LeafTurns.{writes_and_sends}
+use Rattle.tree_nodes.specs.Lasts.{logs_of, Nested, Manages}
+use Rattle.tree_nodes.specs.WorldHolds.{InvariantOf}
+use Rattle.tree_steps.proofs.children.Moves.{Fits}
+use Rattle.tree_steps.proofs.children.Opens.{IsRow, opens}
+
+-- The pair's case and ticket, with the parent's half; the manager below its parent, what it was and heard,
+-- and the net
+-- behind it; and what is known of them.
+pub record Turn : Type 0 where
+  pub c : Case
+  pub t : Ticket
+  pub p : ProcessId
+  pub tree : List TreeEntry
+  pub n : Node
+  pub h : Heard
+  pub net : List Envelope
+  pub up : n.failed ≡ false
+  pub nested : Nested (logs_of n)
+  pub m : Manages (logs_of n)
+  pub stands : InputStands net t.child h.input
+  pub row : IsRow h.input
+  pub own : (x : Case) (j k : ℕ) → h.input ≡ MessageInput j (Prepare x k) → same_case x c ≡ false
+  pub pr : Presumption
+  pub of : c.txn.presumption ≡ pr
+  pub root : Bool
+  pub outcome : Bool
+  pub above : Bool
+  pub half : ParentHalf
+  pub inv : InvariantOf pr (reading_from root true outcome above half
+      (child_half (record { me = t.child; role = AtLeaf p; tree = tree }) n (child_case c.txn t))
+      (wire c t net))
+
+module _ (turn : Turn) where
+  open turn use {c, t, p, tree, n, h, net, root, outcome, above, half, pr}
+
+  -- the ticket's case
+  abbrev pub d : Case
+  d = child_case c.txn t
+
+  abbrev pub place : Place
+  place = record { me = t.child; role = AtLeaf p; tree = tree }
+
+  -- the manager's half, and the net's part
+  abbrev pub k : ChildHalf
+  k = child_half place n d
+
+  abbrev pub v : Wire
+  v = wire c t net
+
+  abbrev pub R : ChildHalf → Wire → Reading
+  R x w = reading_from root true outcome above half x w
+
+  abbrev pub r0 : Reading
+  r0 = R k v
+
+  -- whether the branch is open behind an effect
+  abbrev pub O : Effect → Bool
+  O e = opens n.failed (manager_view place (after n h e) d)
+
+  -- what is written and sent keeps the invariant
+  abbrev pub Fine : List Written → List Envelope → Type 0
+  Fine ws ls =
+      let e = writes_and_sends ws ls in Fits pr r0
+      (R (child_half place (after n h e) d) (wire c t (net ++ ls)))
+
+  -- what an outcome writes and sends, by the presumption
+  abbrev pub ack : Outcome → List Envelope
+  ack o = post t.child p (Ack d o) ∷ []
+
+  abbrev pub Written_as : Outcome → Record → List Written
+  Written_as o r = record { entry = r; is_forced = is_acknowledged pr o } ∷ []
+
+  abbrev pub Acked : Outcome → List Envelope
+  Acked o = if is_acknowledged pr o then ack o else []

@@ -1,0 +1,316 @@
+-- Turns of the pair's own case that was decided, on the pair: the last ACK, and answers.
+use Rattle.std.proofs.Common.{◌≡◌, ◌≢◌, ◌∙◌, ◌⊎◌, inl, inr, Bool, true, false, ◌||◌, ◌&&◌, not, List, [], ◌∷◌, ◌++◌, refl, sym, ap, subst}
+use Rattle.tree_model.specs.declared.names.Ticket.{Ticket}
+use Rattle.tree_model.specs.declared.names.Outcome.{Outcome}
+use Rattle.tree_model.specs.declared.names.Outcome.TheVariants.{Committed as CommittedOutcome, Aborted as AbortedOutcome}
+use Rattle.tree_model.specs.declared.names.Presumption.{Presumption}
+use Rattle.tree_model.specs.declared.names.Presumption.TheVariants.{PresumeAbort, PresumeCommit}
+use Rattle.tree_model.specs.declared.messages.Message.TheVariants.{Ack, Inquire}
+use Rattle.tree_model.specs.declared.records.Record.TheVariants.{End as EndRecord}
+use Rattle.tree_model.specs.declared.standings.Standing.{Standing}
+use Rattle.tree_model.specs.declared.standings.Standing.TheVariants.{Unknown, Active, Collecting, Committing, Aborting}
+use Rattle.tree_model.specs.Names.{same_outcome, same_ticket, child_case}
+use Rattle.tree_model.specs.Records.{has, in_list, none_of, owing_by, is_prepare}
+use Rattle.tree_model.specs.Nodes.{after, kept}
+use Rattle.tree_model.specs.Memory.{Memory, Phase, Idle, Open, Asked, Over, takes_ack, has_acked}
+use Rattle.tree_model.specs.CoordinatorRows.{Row, quiet, plain, other_tickets}
+use Rattle.tree_model.specs.Reactions.{row_effect}
+use Rattle.tree_model.specs.Standings.{CoordinatorView, unknown_view, still_owed}
+use Rattle.tree_pairs.specs.Reading.{Reading, is_live}
+use Rattle.tree_pairs.specs.Standing as pair
+use Rattle.tree_pairs.specs.ParentMoves as move
+use Rattle.tree_pairs.specs.readings.ReadingOf.{ParentHalf, Wire, acknowledged, is_inquiry_message}
+use Rattle.tree_pairs.specs.turns.CoordinatorTurns.{HearsChild, Decided, Answers}
+use Rattle.tree_pairs.specs.turns.CoordinatorTurns as turns
+use Rattle.tree_nodes.specs.WorldHolds.{NamesBy}
+use Rattle.tree_nodes.proofs.Deliveries.{was_sent}
+use Rattle.tree_steps.proofs.parents.Halves.{acked_of, live_phase}
+use Rattle.tree_steps.proofs.parents.Known.{clash}
+use Rattle.tree_steps.proofs.parents.Memories as by_input
+use Rattle.tree_steps.proofs.parents.Moves as moves
+use Rattle.tree_steps.proofs.parents.Own as own
+use Rattle.tree_steps.proofs.parents.OwnAborts.{in_filter}
+use Rattle.tree_steps.proofs.parents.OwnMoves.{and_then, read_as}
+use Rattle.tree_steps.proofs.parents.OwnPromised.{not_open, not_asked, phase_stays}
+use Rattle.tree_steps.proofs.parents.OwnQuiet.{After}
+use Rattle.tree_steps.proofs.parents.Quiet.{rested, rest_fits, begun_plain}
+use Rattle.tree_steps.proofs.parents.Readings as readings
+use Rattle.tree_steps.proofs.parents.Rested.{view_so, heard_so, acked_now, has_acked-push}
+use Rattle.tree_steps.proofs.parents.Tables.{committing_facts, aborting_facts, UnknownFacts, ended, committed, aborted, unrecorded, unknown_facts, owing_by-naming, none_in}
+use Rattle.tree_steps.proofs.parents.Turns.{Turn, Says, Fine, Fits_in, R as seen, m as remembered, m' as then_remembered, p0 as half, v0 as net_part, o0 as told_outcome, r0 as reading, root as at_root, fine_plain}
+use Rattle.tree_steps.proofs.parents.Wires as wires
+use Rattle.tree_steps.proofs.parents.Wires.{same_children}
+use Rattle.tree_steps.proofs.parents.Writes.{stands_so, wrote, begun_after}
+
+acks_late : (m : Memory) (u : Ticket) (o : Outcome) (ph : Phase) → (ph ≡ Open → ⊥) → (ph ≡ Asked → ⊥)
+    → takes_ack m u o ph ≡ record m { acks = m.acks ++ (u, o) ∷ [] }
+acks_late m u o Open f g = absurd (f refl)
+acks_late m u o Asked f g = absurd (g refl)
+acks_late m u o Idle f g = refl
+acks_late m u o Over f g = refl
+
+in_others : (u : Ticket) (ts : List Ticket) (t : Ticket)
+    → in_list (other_tickets u ts) t ≡ (in_list ts t && not (same_ticket u t))
+unfolding other_tickets
+in_others u ts t = in_filter _ ts t
+
+in_owed : (acks : List (Ticket × Outcome)) (o : Outcome) (ts : List Ticket) (t : Ticket)
+    → in_list (still_owed acks o ts) t ≡ (in_list ts t && not (has_acked acks o t))
+unfolding still_owed
+in_owed acks o ts t = in_filter _ ts t
+
+-- who is among none and was not heard is the last one
+last_one : (named heard it : Bool) → ((named && not heard) && not it) ≡ false → named ≡ true
+    → (heard || it) ≡ true
+last_one true true it e f = refl
+last_one true false true e f = refl
+last_one true false false e f = absurd (cc)
+last_one false heard it e f = absurd (cc)
+
+outcome_refl : (o : Outcome) → same_outcome o o ≡ true
+unfolding same_outcome
+outcome_refl CommittedOutcome = refl
+outcome_refl AbortedOutcome = refl
+
+module _ (turn : Turn) where
+  open turn use {place, parent, n, h, net, c, t, manager, above, k, up, inv, holds, stands}
+
+  abbrev p0 : ParentHalf
+  p0 = half turn
+
+  abbrev v0 : Wire
+  v0 = net_part turn
+
+  abbrev o0 : Bool
+  o0 = told_outcome turn
+
+  abbrev root : Bool
+  root = at_root turn
+
+  abbrev v : CoordinatorView
+  v = own.v turn
+
+  abbrev m : Memory
+  m = remembered turn
+
+  -- the decision's outcome is the one that is acknowledged
+  decided_as : (o : Outcome) (s : Standing) → Decided o s → v.standing ≡ s → (p : Presumption)
+      → c.txn.presumption ≡ p
+      → o ≡ acknowledged p
+  decided_as _ _ turns.by_commit e PresumeAbort q = refl
+  decided_as _ _ turns.by_abort e PresumeCommit q = refl
+  decided_as _ _ turns.by_commit e PresumeCommit q =
+      let f = committing_facts place n c e in
+      clash (none_of (owing_by c (kept n)))
+      (subst (λ (x : Presumption). NamesBy x c (kept n)) q (holds.names c) f.commit) f.some
+  decided_as _ _ turns.by_abort e PresumeAbort q =
+      let f = aborting_facts place n c e in
+      clash (none_of (owing_by c (kept n)))
+      ((subst (λ (x : Presumption). NamesBy x c (kept n)) q (holds.names c)).1 f.abort) f.some
+
+  pub late_of : (o : Outcome) (s : Standing) → Decided o s → v.standing ≡ s → (m.phase ≡ Open → ⊥)
+      × (m.phase ≡ Asked → ⊥)
+  late_of _ _ turns.by_commit e =
+      (not_open turn Committing e (λ z. cc), not_asked turn Committing e (λ z. cc))
+  late_of _ _ turns.by_abort e = (not_open turn Aborting e (λ z. cc), not_asked turn Aborting e (λ z. cc))
+
+  -- whom the view says that an ACK is owed by
+  owed_in : (o : Outcome) (s : Standing) → Decided o s → v.standing ≡ s
+      → in_list v.owed t ≡ (p0.owed && not (has_acked m.acks o t))
+  owed_in _ _ turns.by_commit e =
+      ap (λ (x : CoordinatorView). in_list x.owed t) (view_so place n c Committing e)
+      ∙ (in_owed m.acks CommittedOutcome (owing_by c (kept n)) t
+      ∙ ap (λ b. b && not (has_acked m.acks CommittedOutcome t)) (owing_by-naming c t (kept n)))
+  owed_in _ _ turns.by_abort e =
+      ap (λ (x : CoordinatorView). in_list x.owed t) (view_so place n c Aborting e)
+      ∙ (in_owed m.acks AbortedOutcome (owing_by c (kept n)) t
+      ∙ ap (λ b. b && not (has_acked m.acks AbortedOutcome t)) (owing_by-naming c t (kept n)))
+
+  pub may_end_commit : (b : Bool) → (s : Standing) → Decided CommittedOutcome s → v.standing ≡ s
+      → (p0.owed ≡ true → b ≡ true)
+      → move.MayEndCommit (seen turn o0 (rested turn b) v0)
+  may_end_commit b _ turns.by_commit e f =
+      let g = committing_facts place n c e in
+      record { decided = record { up = up; decided = g.commit; not_ended = g.no_end }; all_acked = f }
+
+  pub may_end_abort : (b : Bool) → (s : Standing) → Decided AbortedOutcome s → v.standing ≡ s
+      → (p0.owed ≡ true → b ≡ true)
+      → move.MayEndAbort (seen turn o0 (rested turn b) v0)
+  may_end_abort b _ turns.by_abort e f =
+      let g = aborting_facts place n c e in
+      record { decided = record { up = up; decided = g.abort; not_ended = g.no_end }; all_acked = f }
+
+  ends_fits : (b : Bool) → Fits_in turn (seen turn o0 (rested turn b) v0) → (o : Outcome) (p : Presumption)
+      → c.txn.presumption ≡ p → o ≡ acknowledged p → Decided o v.standing → (p0.owed ≡ true → b ≡ true)
+      → Fits_in turn (move.ends (seen turn o0 (rested turn b) v0))
+  ends_fits b fits o PresumeAbort q e d f =
+      and_then turn _ _ fits
+      (moves.ends_commit c.txn.presumption q _ fits.invariant
+      (may_end_commit b v.standing (subst (λ (x : Outcome). Decided x v.standing) e d) refl f))
+  ends_fits b fits o PresumeCommit q e d f =
+      and_then turn _ _ fits
+      (moves.ends_abort c.txn.presumption q _ fits.invariant
+      (may_end_abort b v.standing (subst (λ (x : Outcome). Decided x v.standing) e d) refl f))
+
+  abbrev pub end_row : Row
+  end_row = record (quiet unknown_view) { written = plain (EndRecord c) }
+
+  -- The last ACK that is owed.
+
+  module _ (u : Ticket) (o : Outcome) (i : HearsChild place n h c u (λ d. Ack d o)) (d : Decided o v.standing)
+      (none : none_of (other_tickets u v.owed) ≡ true) where
+    -- the pair's ACK was heard before, or is this one
+    abbrev pub heard_acks : Bool
+    heard_acks = acked_of m c t || heard_so turn u o
+
+    ack_now : then_remembered turn ≡ record m { acks = m.acks ++ (u, o) ∷ [] }
+    ack_now =
+        let late = late_of o v.standing d refl in
+        let same = own.of_txn turn i.txn u i.belongs in
+        by_input.ack_comes turn o i.txn u i.hears.0 i.hears.1
+        ∙ (rw same refl ∙ acks_late m u o m.phase late.0 late.1)
+
+    pub ack_says : Says turn m.phase p0.accepted heard_acks
+    ack_says = record {
+      phase = ap (λ (y : Memory). y.phase) ack_now;
+      accepted_so = ap (λ (y : Memory). in_list y.accepted t) ack_now;
+      acked_so = ap (λ (y : Memory). acked_of y c t) ack_now
+          ∙ has_acked-push m.acks u o (acknowledged c.txn.presumption) t;
+    }
+
+    pub ack_fits : Fits_in turn (seen turn o0 (rested turn heard_acks) v0)
+    ack_fits =
+        rest_fits turn heard_acks
+        (acked_now turn i.txn u o i.hears.0 i.hears.1 (own.of_txn turn i.txn u i.belongs)
+        (heard_so turn u o) refl)
+
+    pub agrees : o ≡ acknowledged c.txn.presumption
+    agrees = decided_as o v.standing d refl c.txn.presumption refl
+
+    pub all_acked : p0.owed ≡ true → heard_acks ≡ true
+    all_acked f =
+        ap (λ y. has_acked m.acks y t || heard_so turn u o) (sym agrees)
+        ∙ (ap (λ y. has_acked m.acks o t || (same_outcome o y && same_ticket u t)) (sym agrees)
+        ∙ (ap (λ y. has_acked m.acks o t || (y && same_ticket u t)) (outcome_refl o)
+        ∙ last_one p0.owed (has_acked m.acks o t) (same_ticket u t)
+        (ap (λ y. y && not (same_ticket u t)) (sym (owed_in o v.standing d refl))
+        ∙ (sym (in_others u v.owed t) ∙ none_in (other_tickets u v.owed) t none))
+        f))
+
+    pub ends : After turn end_row → Fine turn (row_effect c end_row)
+    ends later =
+        let x = has (is_prepare c) n.life in
+        fine_plain turn (row_effect c end_row) later.alike m.phase p0.accepted heard_acks ack_says v0
+        (wires.wire-nothing c t net)
+        (EndRecord c) (λ j. refl) refl
+        (subst (λ (y : Bool). Fits_in turn
+        (seen turn o0 (stands_so false m.phase p0.accepted heard_acks y
+        (wrote (EndRecord c) c t x p0)) v0))
+        (sym begun_so)
+        (subst (λ (y : ParentHalf). Fits_in turn (seen turn o0 y v0)) (sym (shown heard_acks x))
+        (read_as turn _ _ (readings.reading-ended manager above k c t root o0 x (rested turn heard_acks) v0)
+        (ends_fits heard_acks ack_fits o c.txn.presumption refl agrees d all_acked))))
+      where
+        begun_so : begun_after m.phase (after n h (row_effect c end_row)) c ≡ p0.begun
+        begun_so = begun_plain turn (row_effect c end_row) (EndRecord c) refl refl
+            (record {
+              accepts = refl;
+              yes_votes = refl;
+              no_votes = refl;
+              read_votes = refl;
+              committed =
+                  refl;
+              aborted = refl;
+              told = refl;
+            })
+
+        shown : (b x : Bool) → stands_so false m.phase p0.accepted b p0.begun (wrote (EndRecord c) c t x p0)
+            ≡ wrote (EndRecord c) c t x (rested turn b)
+        shown b x = rw up refl
+
+  -- Answers.
+
+  pub asked : (u : Ticket) → HearsChild place n h c u Inquire → same_ticket u t ≡ true → v0.inquire ≡ true
+  asked u i e =
+      was_sent (is_inquiry_message (child_case c.txn t)) net place.me h.input i.hears.0
+      (Inquire (child_case i.txn u)) stands i.hears.1
+      (same_children i.txn c.txn u t ∙ rw (own.of_txn turn i.txn u i.belongs, e) refl)
+
+  closed : (s : Standing) → v.standing ≡ s → s ≢ Active → s ≢ Collecting → is_live p0.phase ≡ false
+  closed s e f g = ap is_live (phase_stays turn)
+      ∙ by_phase m.phase (not_open turn s e f) (not_asked turn s e g)
+    where
+      by_phase : (ph : Phase) → (ph ≡ Open → ⊥) → (ph ≡ Asked → ⊥) → is_live (live_phase ph) ≡ false
+      by_phase Idle x y = refl
+      by_phase Over x y = refl
+      by_phase Open x y = absurd (x refl)
+      by_phase Asked x y = absurd (y refl)
+
+  not_owed : none_of (owing_by c (kept n)) ≡ true → p0.owed ≡ false
+  not_owed e = sym (owing_by-naming c t (kept n)) ∙ none_in (owing_by c (kept n)) t e
+
+  pub unknown_abort : (p : Presumption) → c.txn.presumption ≡ p → p ≡ PresumeAbort → v.standing ≡ Unknown
+      → pair.IsUnknownUnderAbort (reading turn)
+  unknown_abort PresumeCommit q z e = absurd (cc)
+  unknown_abort PresumeAbort q z e = record {
+    up = up;
+    closed = closed Unknown e (λ x. cc) (λ x. cc);
+    nothing = by_facts (unknown_facts place n c e);
+  }
+    where
+      by_facts : UnknownFacts p0.end_kept p0.commit_kept p0.abort_kept p0.own_prepare_kept
+          p0.collecting_kept (none_of (owing_by c (kept n)))
+          → (p0.end_kept ≡ true) ⊎ ((p0.abort_kept ≡ true)
+          ⊎ ((p0.commit_kept ≡ false) × (p0.own_prepare_kept ≡ false)))
+      by_facts (ended f) = inl f
+      by_facts (aborted f g x) = inr (inl g)
+      by_facts (unrecorded f g x) = inr (inr (f, g))
+      by_facts (committed f g) = clash (none_of (owing_by c (kept n))) g
+          ((subst (λ (x : Presumption). NamesBy x c (kept n)) q (holds.names c)).0 f)
+
+  pub unknown_commit : v.standing ≡ Unknown → pair.IsUnknownUnderCommit (reading turn)
+  unknown_commit e = record {
+    up = up;
+    closed = closed Unknown e (λ x. cc) (λ x. cc);
+    nothing = by_facts (unknown_facts place n c e);
+  }
+    where
+      by_facts : UnknownFacts p0.end_kept p0.commit_kept p0.abort_kept p0.own_prepare_kept
+          p0.collecting_kept (none_of (owing_by c (kept n)))
+          → (p0.end_kept ≡ true) ⊎ ((p0.commit_kept ≡ true)
+          ⊎ (((p0.abort_kept ≡ true) × (p0.owed ≡ false)) ⊎ (p0.collecting_kept ≡ false)))
+      by_facts (ended f) = inl f
+      by_facts (committed f g) = inr (inl f)
+      by_facts (aborted f g x) = inr (inr (inl (g, not_owed x)))
+      by_facts (unrecorded f g x) = inr (inr (inr x))
+
+  -- the outcome was told to the pair's child
+  abbrev pub told_wire : Outcome → Wire
+  told_wire CommittedOutcome = record v0 { commit = true }
+  told_wire AbortedOutcome = record v0 { abort = true }
+
+  abbrev pub reading_told : Outcome → Reading
+  reading_told o = seen turn o0 p0 (told_wire o)
+
+  pub answer_fits : (p : Presumption) → c.txn.presumption ≡ p → (s : Standing) → v.standing ≡ s
+      → (o : Outcome) → Answers p s o
+      → v0.inquire ≡ true
+      → Fits_in turn (reading_told o)
+  answer_fits PresumeAbort q _ e _ (turns.by_decision p s o turns.by_commit) a =
+      let g = committing_facts place n c e in
+      moves.answers_commit c.txn.presumption q (reading turn) inv
+      (record { asked = a; committing = record { up = up; decided = g.commit; not_ended = g.no_end } })
+  answer_fits PresumeCommit q _ e _ (turns.by_decision p s o turns.by_abort) a =
+      let g = aborting_facts place n c e in
+      moves.answers_abort c.txn.presumption q (reading turn) inv
+      (record { asked = a; aborting = record { up = up; decided = g.abort; not_ended = g.no_end } })
+  answer_fits PresumeCommit q _ e _ (turns.by_decision p s o turns.by_commit) a =
+      absurd (let x = decided_as CommittedOutcome Committing turns.by_commit e PresumeCommit q in cc)
+  answer_fits PresumeAbort q _ e _ (turns.by_decision p s o turns.by_abort) a =
+      absurd (let x = decided_as AbortedOutcome Aborting turns.by_abort e PresumeAbort q in cc)
+  answer_fits PresumeAbort q _ e _ (turns.by_presumption p) a =
+      moves.presumes_abort c.txn.presumption q (reading turn) inv
+      (record { asked = a; nothing_known = inl (unknown_abort PresumeAbort q refl e) })
+  answer_fits PresumeCommit q _ e _ (turns.by_presumption p) a =
+      moves.presumes_commit c.txn.presumption q (reading turn) inv
+      (record { asked = a; nothing_known = inl (unknown_commit e) })

@@ -1,0 +1,4 @@
+pub mod children
+pub mod cascades
+pub mod crashes
+pub mod parents

@@ -1,6 +1,0 @@
-//! A case as a branch at a resource manager: its XID, and back.
-#![tactic(auto)]
-
-mod branches;
-
-pub use branches::{ForeignXid, branch_xid, read_branch};

@@ -1,6 +1,0 @@
-use Rattle.world_law.proofs.Moves.{faults_move}
-use Rattle.world_law.proofs.runs.faults_move_runs.Goals as goal
-
-pub returns : goal.returns
-returns c = λ tree es w run q listed old new a i at stands same broken. faults_move tree es w run q old new a i at
-    stands listed same broken

@@ -1,6 +1,0 @@
-use Rattle.world_law.proofs.Moves.{refusals_move}
-use Rattle.world_law.proofs.runs.refusals_move_nothing.Goals as goal
-
-pub returns : goal.returns
-returns c =
-    λ tree es w run q old new a i e at stands refused. refusals_move tree es w run q old new a i at stands e refused

@@ -1,6 +1,0 @@
-//! A tree of processes that runs, as it is seen from outside, and that what it comes to is a run of the model: definitions
-//! and laws alone.
-#![tactic(auto)]
-
-pub mod law;
-pub mod runs;

@@ -1,0 +1,7 @@
+//! XA scripts, read: one request a line.
+
+mod reading;
+mod request;
+
+pub use reading::{ScriptError, requests_of};
+pub use request::{BranchCall, Request};

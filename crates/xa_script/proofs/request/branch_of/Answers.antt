@@ -1,5 +1,0 @@
-use Rattle.xa_script.proofs.Spelled.{if_none, no_flags_branch}
-use Rattle.xa_script.proofs.request.branch_of.Goals as goal
-
-pub returns-in_err-flags-clause-none : goal.returns-in_err-flags-clause-none
-returns-in_err-flags-clause-none c = if_none _ _ (no_flags_branch c.args.rest.now _ c.in_ok-thread.ensures c.in_err-flags.ensures.none)

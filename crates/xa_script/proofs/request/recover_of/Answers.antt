@@ -1,5 +1,0 @@
-use Rattle.xa_script.proofs.Spelled.{if_none, no_flags_recover}
-use Rattle.xa_script.proofs.request.recover_of.Goals as goal
-
-pub returns-in_err-flags-clause-none : goal.returns-in_err-flags-clause-none
-returns-in_err-flags-clause-none c = if_none _ _ (no_flags_recover c.args.rest.now _ c.in_ok-thread.ensures c.in_err-flags.ensures.none)
