@@ -70,7 +70,7 @@ pub enum Found {
 }
 
 /// What these bytes are.
-#[tactic(auto, unfolding(log_rules::order::specs::Logs::read_log))]
+#[tactic(auto, unfolding(log_rules::specs::order::Logs::read_log))]
 pub fn find(kind: Kind, bytes: &[u8], alloc: Global) -> Result<Found, OpenError>
     ensures ok { IfOk result (λ found. IsFound kind bytes.now found) }
     ensures err { IfErr result (λ e. IsNoLog kind bytes.now e) }

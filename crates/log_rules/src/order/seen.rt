@@ -97,7 +97,7 @@ impl Model for Seen {
 /// The most branches that are open or heuristic at a time.
 const BRANCHES: usize = 1024;
 
-#[tactic(auto, using(crate::order::proofs::Keys::same_bytes_is_equality))]
+#[tactic(auto, using(crate::proofs::order::Keys::same_bytes_is_equality))]
 fn same_key(one: &[u8], other: &[u8]) -> bool
     ensures { result ≡ same_bytes one.now other.now }
 {
@@ -105,7 +105,7 @@ fn same_key(one: &[u8], other: &[u8]) -> bool
 }
 
 /// Whether a write is of this key.
-#[tactic(auto, unfolding(crate::order::specs::Orders::names_key))]
+#[tactic(auto, unfolding(crate::specs::order::Orders::names_key))]
 fn names_key(writes: &[Write], key: &[u8]) -> bool
     ensures { result ≡ names_key writes.now key.now }
 {
@@ -120,7 +120,7 @@ fn names_key(writes: &[Write], key: &[u8]) -> bool
 }
 
 /// Whether no key is named twice.
-#[tactic(auto, unfolding(crate::order::specs::Orders::keys_once))]
+#[tactic(auto, unfolding(crate::specs::order::Orders::keys_once))]
 fn keys_once(writes: &[Write]) -> bool
     ensures { result ≡ keys_once writes.now }
 {
@@ -277,7 +277,7 @@ impl Seen {
     }
 
     /// Whether no open branch promised a write of a key of these.
-    #[tactic(auto, unfolding(crate::order::specs::Orders::keys_free))]
+    #[tactic(auto, unfolding(crate::specs::order::Orders::keys_free))]
     fn keys_free(&self, writes: &[Write]) -> bool
         ensures { result ≡ keys_free (promises self.now) writes.now }
     {
@@ -477,7 +477,7 @@ impl Seen {
 
     /// Takes the next record of the log. Malformed comes exactly where it may not follow the records so far. Behind an
     /// error nothing more is known.
-    #[tactic(auto, unfolding(crate::order::specs::Orders::after))]
+    #[tactic(auto, unfolding(crate::specs::order::Orders::after))]
     pub fn take(&mut self, next: LogRecord) -> Result<(), ReadFault>
         ensures ok { OnOk result (after self.old next ≡ Some self.new) }
         ensures err { IfErr result (λ e. e ≡ ReadFault.Malformed → after self.old next ≡ None) }

@@ -149,7 +149,7 @@ impl Lives {
     }
 
     /// What these records say of each name.
-    #[tactic(auto, unfolding(crate::trim::specs::Tables::lives_from))]
+    #[tactic(auto, unfolding(crate::specs::trim::Tables::lives_from))]
     pub fn of(records: &[LogRecord], alloc: Global) -> Result<Lives, AllocError>
         ensures { IfOk result (λ lives. lives ≡ lives_of records.now) }
     {

@@ -115,7 +115,7 @@ fn ticket_read(name: &[u8]) -> (ProcessId, Ticket)
 }
 
 /// What a branch's name reads as, if it has the 24 bytes of a ticket below a parent, or none.
-#[tactic(auto, using(crate::xids::proofs::BranchLaws::no_ticket))]
+#[tactic(auto, using(crate::proofs::xids::BranchLaws::no_ticket))]
 fn below_read(name: &[u8]) -> Option<Option<(ProcessId, Ticket)>>
     ensures { (b : Option (AnyProcess × AnyTicket)) → FitsBelow b → below_bytes b ≡ name.now → result ≡ Some b }
 {

@@ -230,7 +230,7 @@ fn open_of(rest: &str) -> Option<(Flags, bool)>
 }
 
 /// The two words that a text begins with, and what stands behind them.
-#[tactic(auto, unfolding(crate::script::specs::Requests::three_at))]
+#[tactic(auto, unfolding(crate::specs::script::Requests::three_at))]
 fn three_of(rest: &str) -> Option<(&str, &str, &str)>
     ensures { option_map (λ p. (p.0.now, p.1.now, p.2.now)) result ≡ three_at rest.now }
 {
