@@ -4,8 +4,8 @@ use log_store::{FaultStore, MemoryStore};
 use std::alloc::{AllocError, Global};
 use std::test::Fail;
 use tree_model::{
-    Act, Case, Event, Happening, Input, Kind, Message, Presumption, ProcessId, StepError, Tree,
-    TreeEntry, Txn,
+    Act, Bytes, Case, Event, Happening, Input, Kind, Message, Op, Presumption, ProcessId,
+    StepError, Tree, TreeEntry, Txn,
 };
 use tree_world::{OpenError, World};
 
@@ -64,14 +64,19 @@ fn stores_are_refused(rt: HostRuntime) -> Result<(), Fail> {
     Ok(())
 }
 
-/// The first transaction of the root.
-fn first_txn(presumption: Presumption) -> Txn {
+/// The root's transaction of this number.
+fn txn_of(sequence: u64, presumption: Presumption) -> Txn {
     Txn {
         root: ROOT,
         boot: 1,
-        sequence: 1,
+        sequence,
         presumption,
     }
+}
+
+/// The first transaction of the root.
+fn first_txn(presumption: Presumption) -> Txn {
+    txn_of(1, presumption)
 }
 
 /// The transaction begins, the child is invited, and joins.
@@ -126,5 +131,40 @@ fn a_root_fails_with_its_device(rt: HostRuntime) -> Result<(), Fail> {
     let commit = Event::Act(Act::Commit(txn));
     assert!(rt; world.apply(&commit) == Err(StepError::Device));
     assert!(rt; world.apply(&commit) == Err(StepError::Failed));
+    Ok(())
+}
+
+/// A child's write of a transaction of the root.
+fn put(alloc: Global, txn: Txn) -> Result<Event, AllocError> {
+    let key = Bytes::from_vec(Vec::from_slice(alloc, b"k")?);
+    let value = Bytes::from_vec(Vec::from_slice(alloc, b"v")?);
+    let case = Case { txn, ticket: None };
+    Ok(Event::Act(Act::Work(case, CHILD, Op::Put(key, value))))
+}
+
+/// A transaction that wrote is committed to its end.
+fn commit_one(alloc: Global, world: &mut World<FaultStore>, txn: Txn) -> Result<(), Fail> {
+    world.run(&joining(txn)).ok().ok_or("joined")?;
+    world.apply(&put(alloc, txn)?).ok().ok_or("a write")?;
+    let ending = [Event::Settle, Event::Act(Act::Commit(txn)), Event::Settle];
+    world.run(&ending).ok().ok_or("committed")?;
+    Ok(())
+}
+
+/// Behind a thousand transactions no process has a live case.
+#[test]
+fn nothing_is_left_live(rt: HostRuntime) -> Result<(), Fail> {
+    let alloc = rt.alloc();
+    let stores = vec![in alloc; store(alloc, b"", u64::MAX)?, store(alloc, b"", u64::MAX)?]?;
+    let mut world = opened(alloc, stores)?.ok().ok_or("a world")?;
+    for sequence in 1..=1000 {
+        commit_one(
+            alloc,
+            &mut world,
+            txn_of(sequence, Presumption::PresumeAbort),
+        )?;
+    }
+    assert_eq!(rt; world.live(ROOT), Some(0));
+    assert_eq!(rt; world.live(CHILD), Some(0));
     Ok(())
 }
