@@ -1,6 +1,16 @@
 //! Runs the worked rows: for each the script or the logs that it begins with, and the text and the exit status that it must
-//! end with. The folder data/ holds them; standard input lists them, a row a line: PROGRAM NAME STATUS.
+//! end with. The folder data/ holds them; standard input lists them, a row a line: PROGRAM NAME STATUS. What no row can show of
+//! the engines, and of the tree that runs, the tests show.
 #![tactic(auto)]
+
+#[cfg(test)]
+mod fakes;
+#[cfg(test)]
+mod scripts;
+#[cfg(test)]
+mod streams;
+#[cfg(test)]
+mod worlds;
 
 use audit_engine::{Detail, run_audit};
 use crash_engine::run_crash;
