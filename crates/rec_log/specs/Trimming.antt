@@ -3,7 +3,7 @@ use Rattle.std.specs.Prelude.{◌≡◌, ◌≤◌, ℕ, true, List, [], ◌∷�
 use Rattle.tree_model.specs.declared.names.Kind.{Kind}
 use Rattle.tree_model.specs.declared.records.LogRecord.{LogRecord}
 use Rattle.log_text.specs.Frames.{header}
-use Rattle.log_rules.specs.trim.Trims.{front_of_trim}
+pub use Rattle.log_rules.specs.trim.Trims.{front_of_trim}
 use Rattle.rec_log.specs.Texts.{is_whole, records_in}
 use Rattle.rec_log.specs.Sights.{LogState, Rewritten, body, records_of}
 

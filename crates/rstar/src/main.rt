@@ -6,7 +6,7 @@ use clap::error::ErrorKind;
 use clap::{Arg, ArgAction, ArgMatches, Command, Error};
 use crash_engine::run_crash;
 use log_engine::run_log;
-use std::alloc::Global;
+use std::alloc::{AllocError, Global};
 use std::io;
 use std::process::ExitCode;
 use tree_engine::{Failure, Output, Status, run_tree};
@@ -122,60 +122,89 @@ of events.
 Examples: rstar crash < examples/commit.tree
           rstar crash < examples/operator.tree";
 
+/// A flag of this name, and what help says of it.
+fn flag<'a>(alloc: Global, name: &'a str, help: &'a str) -> Arg<'a> {
+    Arg::new(alloc, name)
+        .long(name)
+        .help(help)
+        .action(ArgAction::SetTrue)
+}
+
+/// A subcommand of this name: what the program's help says of it, and what its own says below its usage.
+fn subcommand<'a>(alloc: Global, name: &'a str, about: &'a str, help: &'a str) -> Command<'a> {
+    Command::new(alloc, name).about(about).after_help(help)
+}
+
+/// The flag `--counts` of `rstar tree`, which `--logs` excludes.
+fn counts<'a>(alloc: Global) -> Result<Arg<'a>, AllocError> {
+    flag(
+        alloc,
+        "counts",
+        "Writes behind the trace what each process wrote and sent, counted",
+    )
+    .conflicts_with("logs")
+}
+
+/// The words of `rstar tree`.
+fn tree<'a>(alloc: Global) -> Result<Command<'a>, AllocError> {
+    subcommand(
+        alloc,
+        "tree",
+        "Runs a transaction script on a tree of processes, and writes the trace",
+        TREE_HELP,
+    )
+    .arg(flag(
+        alloc,
+        "logs",
+        "Writes the tree and the logs it leaves, as 'rstar log' reads them",
+    ))?
+    .arg(counts(alloc)?)
+}
+
+/// The words of `rstar audit`.
+fn audit<'a>(alloc: Global) -> Result<Command<'a>, AllocError> {
+    subcommand(
+        alloc,
+        "audit",
+        "Tells how the cases of a tree stand and end, and where an operator decided otherwise",
+        AUDIT_HELP,
+    )
+    .arg(flag(
+        alloc,
+        "explain",
+        "Tells of each case in doubt and each mismatch what decided it, and what to do",
+    ))
+}
+
 /// The words after the program's name, and what help says of them.
-fn grammar<'a>(alloc: Global) -> Result<Command<'a>, Error> {
-    let tree = Command::new(alloc, "tree")
-        .about("Runs a transaction script on a tree of processes, and writes the trace")
-        .after_help(TREE_HELP)
-        .arg(
-            Arg::new(alloc, "logs")
-                .long("logs")
-                .help("Writes the tree and the logs it leaves, as 'rstar log' reads them")
-                .action(ArgAction::SetTrue),
-        )?
-        .arg(
-            Arg::new(alloc, "counts")
-                .long("counts")
-                .help("Writes behind the trace what each process wrote and sent, counted")
-                .action(ArgAction::SetTrue)
-                .conflicts_with("logs")?,
-        )?;
-    let xa = Command::new(alloc, "xa")
-        .about("Makes the calls of an XA script on a key store with a log, and writes the answers")
-        .after_help(XA_HELP);
-    let log = Command::new(alloc, "log")
-        .about("Prints what the logs of a tree hold, one record a line")
-        .after_help(LOG_HELP);
-    let audit = Command::new(alloc, "audit")
-        .about(
-            "Tells how the cases of a tree stand and end, and where an operator decided otherwise",
-        )
-        .after_help(AUDIT_HELP)
-        .arg(
-            Arg::new(alloc, "explain")
-                .long("explain")
-                .help(
-                    "Tells of each case in doubt and each mismatch what decided it, and what to do",
-                )
-                .action(ArgAction::SetTrue),
-        )?;
-    let crash = Command::new(alloc, "crash")
-        .about(
-            "Tries a crash of each process behind each event of a script, and tells what stays in doubt",
-        )
-        .after_help(CRASH_HELP);
-    let command = Command::new(alloc, "rstar")
-        .about(
-            "Distributed transactions by the R* commit protocol. Scripts come on standard input.",
-        )
-        .after_help(EXAMPLES)
-        .subcommand_required(true)
-        .subcommand(tree)?
-        .subcommand(xa)?
-        .subcommand(log)?
-        .subcommand(audit)?
-        .subcommand(crash)?;
-    Ok(command)
+fn grammar<'a>(alloc: Global) -> Result<Command<'a>, AllocError> {
+    subcommand(
+        alloc,
+        "rstar",
+        "Distributed transactions by the R* commit protocol. Scripts come on standard input.",
+        EXAMPLES,
+    )
+    .subcommand_required(true)
+    .subcommand(tree(alloc)?)?
+    .subcommand(subcommand(
+        alloc,
+        "xa",
+        "Makes the calls of an XA script on a key store with a log, and writes the answers",
+        XA_HELP,
+    ))?
+    .subcommand(subcommand(
+        alloc,
+        "log",
+        "Prints what the logs of a tree hold, one record a line",
+        LOG_HELP,
+    ))?
+    .subcommand(audit(alloc)?)?
+    .subcommand(subcommand(
+        alloc,
+        "crash",
+        "Tries a crash of each process behind each event of a script, and tells what stays in doubt",
+        CRASH_HELP,
+    ))
 }
 
 /// What is written of a tree script.
