@@ -20,8 +20,3 @@ entry_text sent e = lines_text (reaction_lines e.step.process.0 sent e.reaction)
 abbrev pub entries_text : ℕ → List Entry → List ℕ
 entries_text sent [] = []
 entries_text sent (e ∷ es) = entry_text sent e ++ entries_text (sent + length e.reaction.messages) es
-
--- how many messages these entries sent
-abbrev pub messages_in : List Entry → ℕ
-messages_in [] = 0
-messages_in (e ∷ es) = length e.reaction.messages + messages_in es

@@ -4,6 +4,6 @@
 mod trace;
 
 pub use trace::{
-    case_text, kind_word, outcome_word, push, push_begun, push_case, push_conclusion, push_entry,
-    push_kept, push_messages, push_number, push_ticket, push_written, trace_text,
+    case_text, kind_word, outcome_word, push, push_begun, push_case, push_conclusion, push_kept,
+    push_messages, push_number, push_ticket, push_written,
 };

@@ -20,13 +20,13 @@ ghost use Rattle.tree_model.specs.Texts.{
   envelope_lines,
   kept_lines,
 };
-ghost use Rattle.trace_lines.specs.Trace.{lines_text, entry_text, entries_text, messages_in};
+ghost use Rattle.trace_lines.specs.Trace.{lines_text};
 
 use itoa::Buffer;
 use std::alloc::{AllocError, Global};
 use tree_model::{
-    Bytes, Case, Conclusion, Entry, Envelope, Logged, Message, Op, Outcome, Presumption,
-    RecordKind, Subject, Ticket, Told, Txn,
+    Bytes, Case, Conclusion, Envelope, Logged, Message, Op, Outcome, Presumption, RecordKind,
+    Subject, Ticket, Told, Txn,
 };
 
 /// The name of a case, as `a1.1@2.1.1`.
@@ -259,36 +259,6 @@ fn push_told(out: &mut Vec<u8>, told: &Told) -> Result<(), AllocError>
     push_txn(out, &told.txn)?;
     push_byte(out, b' ')?;
     push(out, conclusion_word(told.conclusion))
-}
-
-/// Writes the lines of an entry before which so many messages were sent: what it began, its records, what it told,
-/// its messages, and what a trim kept. Where memory is refused, a beginning of them may stand.
-#[tactic(auto, unfolding(crate::specs::Trace::entry_text))]
-pub fn push_entry(out: &mut Vec<u8>, sent: u64, entry: &Entry) -> Result<(), AllocError>
-    requires { sent + length entry.now.reaction.messages < 2 ^ 64 }
-    ensures { OnOk result (out.new.items ≡ out.old.items ++ entry_text sent entry.now) }
-{
-    let process = entry.step.process.0;
-    let reaction = &entry.reaction;
-    push_begun(out, &reaction.begun)?;
-    push_written(out, process, reaction.written.as_slice())?;
-    push_conclusion(out, &reaction.told)?;
-    push_messages(out, sent, reaction.messages.as_slice())?;
-    push_kept(out, process, &reaction.kept)
-}
-
-/// The text of these entries of a run, from its first on.
-pub fn trace_text(alloc: Global, entries: &[Entry]) -> Result<Vec<u8>, AllocError>
-    requires { messages_in entries.now < 2 ^ 64 }
-    ensures { IfOk result (λ text. text.items ≡ entries_text 0 entries.now) }
-{
-    let mut out = Vec::new(alloc);
-    let mut sent = 0;
-    for entry in entries {
-        push_entry(&mut out, sent, entry)?;
-        sent += entry.reaction.messages.len() as u64;
-    }
-    Ok(out)
 }
 
 /// The line of a transaction that began, if one did.
