@@ -5,7 +5,7 @@ use Rattle.std.proofs.lemmas.List.Folds.{list_any-append}
 use Rattle.tree_model.specs.declared.records.Write.{Write}
 use Rattle.key_tables.specs.Tables.{Becomes, SameLists, list_at, same_key}
 use Rattle.kv_store.specs.declared.version.Version.{Version}
-use Rattle.kv_store.specs.Versions.{Adds, AddsFront, Applies, Holds, IsKept, Publishes, SameData, Sets, Stages, TakesBack, VersionTable, made, names_key, none_above, rises_from, up_to, value_at, value_by, written}
+use Rattle.kv_store.specs.Versions.{Adds, AddsFront, Applies, IsKept, Publishes, SameData, Sets, Stages, TakesBack, VersionTable, made, names_key, none_above, rises_from, up_to, value_at, value_by, written}
 use Rattle.kv_store.proofs.Values.{made_go, made_none, none_above_later, none_above_made, rises_made, value_behind, value_front, value_later, value_made}
 
 abbrev pub Table : Type 0
@@ -213,15 +213,6 @@ kept_filled n t u ws nothing adds = record {
 
     all : (k : List ℕ) → none_above n (list_at u k) ≡ true
     all k = ap (none_above n) (filled k) ∙ none_above_made n [] ws k refl
-
-pub holds_filled : (n : ℕ) (t u : Table) (ws : List Write) → ((k : List ℕ) → list_at t k ≡ []) → Adds t u n ws
-    → Holds (record { base = n; count = n; is_staged = false; versions = u }) n ws
-holds_filled n t u ws nothing adds = record {
-  base = refl;
-  count = refl;
-  is_staged = refl;
-  values = λ k. ap (value_by n None) (adds k ∙ ap (λ vs. vs ++ made n ws k) (nothing k)) ∙ value_made n None ws k;
-}
 
 -- a key is set behind the last commit
 pub adds_one : (t u : Table) (n : ℕ) (w : Write)

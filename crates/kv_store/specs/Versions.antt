@@ -76,13 +76,6 @@ pub record Sets (old new : VersionTable) (w : Write) : Type 0 where
 abbrev pub pair_write : List ℕ × List ℕ → Write
 pair_write p = record { key = p.0; value = Some p.1 }
 
--- the data are what these writes leave of nothing, behind so many commits
-pub record Holds (s : VersionTable) (n : ℕ) (ws : List Write) : Type 0 where
-  pub base : s.base ≡ n
-  pub count : s.count ≡ n
-  pub is_staged : s.is_staged ≡ false
-  pub values : (k : List ℕ) → value_at s n k ≡ written ws k None
-
 -- What the code keeps.
 
 -- the versions' counts rise, from this one on

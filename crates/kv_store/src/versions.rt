@@ -1,13 +1,12 @@
 //! The versions of all keys.
 
-ghost use Rattle.std.specs.Prelude.{◌≡◌, ◌≤◌, ◌<◌, ◌+◌, ◌^◌, ◌⊎◌, ◌++◌, ◌∷◌, ℕ, List, [], true, false, IfOk, OnOk, OnErr, None, map, option_map};
+ghost use Rattle.std.specs.Prelude.{◌≡◌, ◌≤◌, ◌<◌, ◌+◌, ◌^◌, ◌⊎◌, ◌++◌, ◌∷◌, ℕ, List, [], true, false, IfOk, OnOk, OnErr, None, option_map};
 ghost use Rattle.key_tables.specs.Tables.{SameLists, list_at, table_of};
 ghost use Rattle.kv_store.specs.Versions.{
   Adds,
   AddsFront,
   AddsVersion,
   Applies,
-  Holds,
   KeepsUpTo,
   Publishes,
   ReadsAt,
@@ -15,7 +14,6 @@ ghost use Rattle.kv_store.specs.Versions.{
   Sets,
   Stages,
   TakesBack,
-  pair_write,
   rises_from,
   value_at,
 };
@@ -25,7 +23,7 @@ use indexmap::IndexMap;
 use std::alloc::{AllocError, Global};
 use std::marker::Model;
 use thiserror::Error;
-use tree_model::{Bytes, Write};
+use tree_model::Write;
 
 /// What was so many commits ago is not kept, or not yet.
 #[derive(Clone, Copy, Debug, PartialEq, Eq, Error)]
@@ -68,26 +66,6 @@ impl Versions {
             is_staged: false,
             keys: IndexMap::new(alloc),
         }
-    }
-
-    /// These pairs of a key and its value, behind so many commits. Where a key stands twice, its last value counts.
-    pub fn from_pairs(
-        alloc: Global,
-        count: u64,
-        pairs: &[(Bytes, Bytes)],
-    ) -> Result<Self, AllocError>
-        ensures { IfOk result (λ versions. Holds versions count (map pair_write pairs.now)) }
-    {
-        let writes = writes_of(alloc, pairs)?;
-        let mut keys = IndexMap::new(alloc);
-        push_each(alloc, &mut keys, count, &writes)?;
-        Ok(Versions {
-            alloc,
-            base: count,
-            count,
-            is_staged: false,
-            keys,
-        })
     }
 
     /// How many commits were made.
@@ -189,20 +167,6 @@ impl Versions {
         self.publish();
         Ok(())
     }
-}
-
-/// The pairs as writes.
-fn writes_of(alloc: Global, pairs: &[(Bytes, Bytes)]) -> Result<Vec<Write>, AllocError>
-    ensures { IfOk result (λ writes. writes.items ≡ map pair_write pairs.now) }
-{
-    let mut writes = Vec::new(alloc);
-    for (key, value) in pairs {
-        writes.push(Write {
-            key: key.copied(alloc)?,
-            value: Some(value.copied(alloc)?),
-        })?;
-    }
-    Ok(writes)
 }
 
 /// What a write leaves, as a version of its own.

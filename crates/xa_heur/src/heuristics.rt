@@ -1,6 +1,6 @@
 //! The branches that operators decided.
 
-ghost use Rattle.std.specs.Prelude.{◌≡◌, ◌≤◌, [], None, Some, IfOk, OnErr, OnOk, is_some, true};
+ghost use Rattle.std.specs.Prelude.{◌≡◌, ◌≤◌, [], None, Some, OnErr, OnOk, is_some, true};
 ghost use Rattle.xa_heur.specs.Decisions.{decided_as, told_behind};
 ghost use Rattle.xa_heur.specs.Cases.{Notes, SameDecisions, decision_in, decision_or};
 
@@ -14,7 +14,6 @@ use xa_xid::Xid;
 /// What operators decided of branches, and what these were told since, in order of their decisions.
 #[derive(Drop)]
 pub struct Heuristics {
-    alloc: Global,
     decisions: IndexMap<Xid, Decision>,
 }
 
@@ -33,7 +32,6 @@ impl Heuristics {
         ensures { result.decisions ≡ [] }
     {
         Heuristics {
-            alloc,
             decisions: IndexMap::new(alloc),
         }
     }
@@ -51,17 +49,6 @@ impl Heuristics {
     {
         self.decision(xid)
             .unwrap_or(Decision::new(Outcome::Aborted))
-    }
-
-    /// The decided branches, in order of their decisions.
-    pub fn open_cases(&self) -> Result<Vec<(Xid, Decision)>, AllocError>
-        ensures { IfOk result (λ cases. cases.items ≡ self.now.decisions) }
-    {
-        let mut cases = Vec::new(self.alloc);
-        for (xid, decision) in &self.decisions {
-            cases.push((*xid, *decision))?;
-        }
-        Ok(cases)
     }
 
     /// Makes room for one decision more. Memory: nothing changed.
