@@ -1,5 +1,8 @@
-//! The program `rstar`: the command line, and standard input and output of the engines.
+//! The program `rstar`: the command line, and standard input and output of the engines; and, as a law, that what `rstar audit`
+//! says of the logs which `rstar tree --logs` leaves is true.
 #![tactic(auto)]
+
+mod law;
 
 use audit_engine::{Detail, run_audit};
 use clap::error::ErrorKind;

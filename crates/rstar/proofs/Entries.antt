@@ -10,7 +10,7 @@ use Rattle.tree_model.specs.declared.trees.TreeEntry.{TreeEntry}
 use Rattle.tree_model.specs.World.{Made, journal_of}
 use Rattle.core_law.specs.worlds.Runs.{IsOpened, Leads}
 use Rattle.core_law.specs.worlds.Worlds.{Applies, Settles, WorldState, least_open, settles_by, step_entry}
-use Rattle.audit_law.proofs.Unfailed.{NoneFailed}
+use Rattle.rstar.proofs.Unfailed.{NoneFailed}
 
 -- in no step of these entries a device failed
 unfoldable WholeSteps : List Entry → Type 0

@@ -1,7 +1,7 @@
 //! What an audit tells of the logs that a run of a tree script left.
 
 ghost use Rattle.core_law.specs.worlds.Sayings.{IsOne, KeepsHeadline};
-ghost use Rattle.audit_law.specs.Laws.{AuditsOfLeftLogsAreTrue};
+ghost use Rattle.rstar.specs.Laws.{AuditsOfLeftLogsAreTrue};
 
 /// Whatever `rstar audit` writes of the logs that `rstar tree --logs` left of a run is true of just that run: each case's
 /// outcome is its transaction's, and the mismatches that are shown are just those that stand. Or a log of the run is damaged,

@@ -43,12 +43,12 @@ use Rattle.audit_engine.specs.Audits.{AuditsLogs, IsAudited, IsAuditReport, OfIn
 use Rattle.audit_engine.specs.declared.detail.Detail.{Detail}
 use Rattle.audit_engine.specs.declared.ending.Ending.{Ending}
 use Rattle.audit_engine.specs.declared.ending.Ending.TheVariants as ending
-use Rattle.audit_law.specs.Laws.{AuditsOfLeftLogsAreTrue, AuditsTruly}
-use Rattle.audit_law.proofs.Entries.{none_failed}
-use Rattle.audit_law.proofs.Kept.{own_kept}
-use Rattle.audit_law.proofs.Left.{logs_fit, spells_at}
-use Rattle.audit_law.proofs.Reading.{IsSoundLog, sound_at, sound_records}
-use Rattle.audit_law.proofs.Unfailed.{NoneFailed, all_up}
+use Rattle.rstar.specs.Laws.{AuditsOfLeftLogsAreTrue, AuditsTruly}
+use Rattle.rstar.proofs.Entries.{none_failed}
+use Rattle.rstar.proofs.Kept.{own_kept}
+use Rattle.rstar.proofs.Left.{logs_fit, spells_at}
+use Rattle.rstar.proofs.Reading.{IsSoundLog, sound_at, sound_records}
+use Rattle.rstar.proofs.Unfailed.{NoneFailed, all_up}
 
 -- What a run left.
 
