@@ -88,12 +88,18 @@ fn joining(txn: Txn) -> [Event; 3] {
     ]
 }
 
-/// A world in which the child was invited and has joined; the root's device fails behind so many calls.
-fn joined_world(alloc: Global, calls: u64, txn: Txn) -> Result<World<FaultStore>, Fail> {
-    let stores = vec![in alloc; store(alloc, b"", calls)?, sound_store(alloc)?]?;
-    let mut world = opened(alloc, stores)?.ok().ok_or("a world")?;
-    world.run(&joining(txn)).ok().ok_or("a run")?;
-    Ok(world)
+/// A root with one manager below it; the root's device fails behind so many calls.
+fn world_of(alloc: Global, calls: u64) -> Result<World<FaultStore>, Fail> {
+    let stores = vec![in alloc; store(alloc, b"", calls)?, store(alloc, b"", u64::MAX)?]?;
+    Ok(opened(alloc, stores)?.ok().ok_or("a world")?)
+}
+
+// A world that a function lets go is dropped whole in that function's proof, at each of its ends. So those below borrow one,
+// and a test lets it go by a call, before it says what was seen.
+
+/// Makes these events, and answers whether each was made.
+fn runs(world: &mut World<FaultStore>, events: &[Event]) -> bool {
+    world.run(events).is_ok()
 }
 
 /// Whether the fourth step is the delivery of the second message, as it was sent.
@@ -110,16 +116,23 @@ fn handles_second_message(world: &World<FaultStore>) -> Result<bool, AllocError>
     })
 }
 
+/// Whether a world in which the child has joined shows that.
+fn shows_joining(world: &World<FaultStore>) -> Result<bool, AllocError> {
+    let counts = world.tree().entries().len() == 2 && world.made() == 4;
+    let sent = world.sent()?.len() == 2;
+    let logs = world.logs()?.len() == 2;
+    Ok(counts && sent && logs && handles_second_message(world)? && world.live(ROOT) == Some(1))
+}
+
 #[test]
 fn a_world_runs(rt: HostRuntime) -> Result<(), Fail> {
     let txn = first_txn(Presumption::PresumeAbort);
-    let world = joined_world(rt.alloc(), 1000, txn)?;
-    assert_eq!(rt; world.tree().entries().len(), 2);
-    assert_eq!(rt; world.sent()?.len(), 2);
-    assert_eq!(rt; world.made(), 4);
-    assert!(rt; handles_second_message(&world)?);
-    assert_eq!(rt; world.live(ROOT), Some(1));
-    assert_eq!(rt; world.logs()?.len(), 2);
+    let mut world = world_of(rt.alloc(), u64::MAX)?;
+    let ran = runs(&mut world, &joining(txn));
+    let shown = shows_joining(&world);
+    drop(world);
+    assert!(rt; ran);
+    assert!(rt; shown?);
     Ok(())
 }
 
@@ -127,10 +140,15 @@ fn a_world_runs(rt: HostRuntime) -> Result<(), Fail> {
 #[test]
 fn a_root_fails_with_its_device(rt: HostRuntime) -> Result<(), Fail> {
     let txn = first_txn(Presumption::PresumeCommit);
-    let mut world = joined_world(rt.alloc(), 3, txn)?;
     let commit = Event::Act(Act::Commit(txn));
-    assert!(rt; world.apply(&commit) == Err(StepError::Device));
-    assert!(rt; world.apply(&commit) == Err(StepError::Failed));
+    let mut world = world_of(rt.alloc(), 3)?;
+    let ran = runs(&mut world, &joining(txn));
+    let first = world.apply(&commit);
+    let second = world.apply(&commit);
+    drop(world);
+    assert!(rt; ran);
+    assert!(rt; first == Err(StepError::Device));
+    assert!(rt; second == Err(StepError::Failed));
     Ok(())
 }
 
@@ -142,29 +160,35 @@ fn put(alloc: Global, txn: Txn) -> Result<Event, AllocError> {
     Ok(Event::Act(Act::Work(case, CHILD, Op::Put(key, value))))
 }
 
-/// A transaction that wrote is committed to its end.
-fn commit_one(alloc: Global, world: &mut World<FaultStore>, txn: Txn) -> Result<(), Fail> {
-    world.run(&joining(txn)).ok().ok_or("joined")?;
-    world.apply(&put(alloc, txn)?).ok().ok_or("a write")?;
+/// Commits a transaction that wrote, to its end, and answers whether each event was made.
+fn commits(alloc: Global, world: &mut World<FaultStore>, txn: Txn) -> Result<bool, AllocError> {
+    let write = put(alloc, txn)?;
     let ending = [Event::Settle, Event::Act(Act::Commit(txn)), Event::Settle];
-    world.run(&ending).ok().ok_or("committed")?;
-    Ok(())
+    Ok(runs(world, &joining(txn)) && world.apply(&write).is_ok() && runs(world, &ending))
+}
+
+/// Commits so many transactions, one after another, and answers whether each event was made.
+fn commits_each(
+    alloc: Global,
+    world: &mut World<FaultStore>,
+    count: u64,
+) -> Result<bool, AllocError> {
+    for sequence in 1..=count {
+        if !commits(alloc, world, txn_of(sequence, Presumption::PresumeAbort))? {
+            return Ok(false);
+        }
+    }
+    Ok(true)
 }
 
 /// Behind a thousand transactions no process has a live case.
 #[test]
 fn nothing_is_left_live(rt: HostRuntime) -> Result<(), Fail> {
-    let alloc = rt.alloc();
-    let stores = vec![in alloc; store(alloc, b"", u64::MAX)?, store(alloc, b"", u64::MAX)?]?;
-    let mut world = opened(alloc, stores)?.ok().ok_or("a world")?;
-    for sequence in 1..=1000 {
-        commit_one(
-            alloc,
-            &mut world,
-            txn_of(sequence, Presumption::PresumeAbort),
-        )?;
-    }
-    assert_eq!(rt; world.live(ROOT), Some(0));
-    assert_eq!(rt; world.live(CHILD), Some(0));
+    let mut world = world_of(rt.alloc(), u64::MAX)?;
+    let ran = commits_each(rt.alloc(), &mut world, 1000);
+    let live = (world.live(ROOT), world.live(CHILD));
+    drop(world);
+    assert!(rt; ran?);
+    assert!(rt; live == (Some(0), Some(0)));
     Ok(())
 }
