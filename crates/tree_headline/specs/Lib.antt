@@ -1,4 +1,3 @@
 pub mod ProcessLaws
 pub mod CoordinatorLaws
 pub mod auditor
-pub mod runs
