@@ -1,17 +1,15 @@
 //! Runs the worked rows: for each the script or the logs that it begins with, and the text and the exit status that it must
-//! end with. The folder data/ holds them; standard input lists them, a row a line: PROGRAM NAME STATUS. What no row can show of
-//! the engines, and of the tree that runs, the tests show.
+//! end with. The folder data/ holds them; standard input lists them, a row a line: PROGRAM NAME STATUS. What no script can show
+//! of the engines, and of the tree that runs, is a row `edge NAME`, a function of that name.
 #![tactic(auto)]
 
-#[cfg(test)]
+mod edges;
 mod fakes;
-#[cfg(test)]
 mod scripts;
-#[cfg(test)]
 mod streams;
-#[cfg(test)]
 mod worlds;
 
+use crate::edges::holds;
 use audit_engine::{Detail, run_audit};
 use crash_engine::run_crash;
 use log_engine::run_log;
@@ -133,13 +131,20 @@ impl<'a> Row<'a> {
     }
 }
 
+/// Whether the row of a line ends as it must.
+fn passes(rt: &HostRuntime, line: &str) -> io::Result<bool> {
+    if let Some(edge) = line.strip_prefix("edge ") {
+        return Ok(holds(rt.alloc(), edge));
+    }
+    match Row::read(line) {
+        Some(row) => row.passes(rt),
+        None => Ok(false),
+    }
+}
+
 /// Runs the row of a line, and says where it does not end as it must. Answers whether it does.
 fn run_line(rt: &HostRuntime, line: &str) -> io::Result<bool> {
-    let Some(row) = Row::read(line) else {
-        println!(rt; "{line}: no row")?;
-        return Ok(false);
-    };
-    let passes = row.passes(rt)?;
+    let passes = passes(rt, line)?;
     if !passes {
         println!(rt; "{line}: failed")?;
     }

@@ -1,7 +1,6 @@
 //! Tree scripts that are cut, or too long.
 
 use std::alloc::{AllocError, Global};
-use std::test::Fail;
 use tree_engine::{Output, Status, run_tree};
 
 /// A script that commits one transaction of two managers.
@@ -27,13 +26,15 @@ fn is_refused_or_ends(alloc: Global, mut script: &[u8]) -> bool {
     }
 }
 
-/// The script cut at every byte: it is refused, or runs to its end.
-#[test]
-fn every_front_of_a_script(rt: HostRuntime) {
+/// The script cut at every byte is refused, or runs to its end.
+pub(crate) fn every_front_of_a_script(alloc: Global) -> bool {
     let script = FLAT_PA_COMMIT.as_bytes();
     for cut in 0..script.len() {
-        assert!(rt; is_refused_or_ends(rt.alloc(), &script[..cut]), "{cut}");
+        if !is_refused_or_ends(alloc, &script[..cut]) {
+            return false;
+        }
     }
+    true
 }
 
 /// A script with so many event lines.
@@ -47,12 +48,12 @@ fn long_script(alloc: Global, lines: u32) -> Result<Vec<u8>, AllocError> {
 }
 
 /// 100,000 event lines are run, and one more is refused.
-#[test]
-fn too_many_event_lines(rt: HostRuntime) -> Result<(), Fail> {
-    let script = long_script(rt.alloc(), 100_000)?;
+pub(crate) fn too_many_event_lines(alloc: Global) -> Result<bool, AllocError> {
+    let most = long_script(alloc, 100_000)?;
+    let more = long_script(alloc, 100_001)?;
     let text = b"log 1 Opened 1 forced\nend\n";
-    assert!(rt; is_run(rt.alloc(), &script, text, Status::Ended));
-    let script = long_script(rt.alloc(), 100_001)?;
-    assert!(rt; is_run(rt.alloc(), &script, b"error 5\n", Status::Refused));
-    Ok(())
+    Ok(
+        is_run(alloc, &most, text, Status::Ended)
+            && is_run(alloc, &more, b"error 5\n", Status::Refused),
+    )
 }

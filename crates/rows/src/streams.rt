@@ -42,23 +42,28 @@ fn failure_of<R: Read, W: Write>(
     }
 }
 
-#[test]
-fn a_reader_that_fails(rt: HostRuntime) {
+/// Where reading fails, each engine says so, and has written nothing.
+pub(crate) fn a_reader_that_fails(alloc: Global) -> bool {
     for engine in ENGINES {
-        let mut out = Vec::new(rt.alloc());
-        let failure = failure_of(rt.alloc(), engine, &mut Fails, &mut out);
-        assert!(rt; failure == Some(Failure::Read) && out.is_empty());
+        let mut out = Vec::new(alloc);
+        let failure = failure_of(alloc, engine, &mut Fails, &mut out);
+        if failure != Some(Failure::Read) || !out.is_empty() {
+            return false;
+        }
     }
+    true
 }
 
-/// A writer that fails, and one that takes nothing.
-#[test]
-fn a_writer_that_fails(rt: HostRuntime) {
+/// Where writing fails, or takes nothing, each engine says so.
+pub(crate) fn a_writer_that_fails(alloc: Global) -> bool {
     for engine in ENGINES {
         for fails in [false, true] {
             let mut input = input_of(engine);
-            let failure = failure_of(rt.alloc(), engine, &mut input, &mut Full { fails });
-            assert!(rt; failure == Some(Failure::Write));
+            let failure = failure_of(alloc, engine, &mut input, &mut Full { fails });
+            if failure != Some(Failure::Write) {
+                return false;
+            }
         }
     }
+    true
 }

@@ -2,7 +2,6 @@
 
 use log_store::{FaultStore, MemoryStore};
 use std::alloc::{AllocError, Global};
-use std::test::Fail;
 use tree_model::{
     Act, Bytes, Case, Event, Happening, Input, Kind, Message, Op, Presumption, ProcessId,
     StepError, Tree, TreeEntry, Txn,
@@ -22,17 +21,15 @@ fn listed(id: ProcessId, kind: Kind, parent: Option<ProcessId>) -> TreeEntry {
     }
 }
 
-/// A root with one manager below it, over these stores.
-fn opened(
-    alloc: Global,
-    stores: Vec<FaultStore>,
-) -> Result<Result<World<FaultStore>, OpenError>, Fail> {
-    let tree = Tree::from_vec(vec![in alloc;
+/// A root with one manager below it, over these stores, or why they are refused.
+fn opened(alloc: Global, stores: Vec<FaultStore>) -> Option<Result<World<FaultStore>, OpenError>> {
+    let entries = vec![in alloc;
         listed(ROOT, Kind::Coordinator, None),
         listed(CHILD, Kind::Manager, Some(ROOT)),
-    ]?);
-    tree.check().ok().ok_or("a tree")?;
-    Ok(World::with_stores(alloc, tree, stores))
+    ];
+    let tree = Tree::from_vec(entries.ok()?);
+    tree.check().ok()?;
+    Some(World::with_stores(alloc, tree, stores))
 }
 
 /// A store that begins with these bytes, and whose device fails behind so many calls.
@@ -47,21 +44,26 @@ fn sound_store(alloc: Global) -> Result<FaultStore, AllocError> {
 }
 
 /// Why a tree does not open over these stores, if it does not.
-fn refusal_over(alloc: Global, stores: Vec<FaultStore>) -> Result<Option<OpenError>, Fail> {
-    Ok(opened(alloc, stores)?.err())
+fn refusal_over(alloc: Global, stores: Vec<FaultStore>) -> Option<OpenError> {
+    match opened(alloc, stores)? {
+        Ok(world) => {
+            world.close();
+            None
+        }
+        Err(refusal) => Some(refusal),
+    }
 }
 
-/// A process without a store, a store with bytes, and one whose device fails.
-#[test]
-fn stores_are_refused(rt: HostRuntime) -> Result<(), Fail> {
-    let alloc = rt.alloc();
-    let stores = vec![in alloc; sound_store(alloc)?]?;
-    assert!(rt; refusal_over(alloc, stores)? == Some(OpenError::Store(CHILD)));
-    let stores = vec![in alloc; store(alloc, b"x", 1000)?, sound_store(alloc)?]?;
-    assert!(rt; refusal_over(alloc, stores)? == Some(OpenError::Store(ROOT)));
-    let stores = vec![in alloc; sound_store(alloc)?, store(alloc, b"", 0)?]?;
-    assert!(rt; refusal_over(alloc, stores)? == Some(OpenError::Device(CHILD)));
-    Ok(())
+/// A process without a store is refused, and one with bytes, and one whose device fails.
+pub(crate) fn stores_are_refused(alloc: Global) -> Result<bool, AllocError> {
+    let one = vec![in alloc; sound_store(alloc)?]?;
+    let written = vec![in alloc; store(alloc, b"x", 1000)?, sound_store(alloc)?]?;
+    let failing = vec![in alloc; sound_store(alloc)?, store(alloc, b"", 0)?]?;
+    Ok(
+        refusal_over(alloc, one) == Some(OpenError::Store(CHILD))
+            && refusal_over(alloc, written) == Some(OpenError::Store(ROOT))
+            && refusal_over(alloc, failing) == Some(OpenError::Device(CHILD)),
+    )
 }
 
 /// The root's transaction of this number.
@@ -89,13 +91,14 @@ fn joining(txn: Txn) -> [Event; 3] {
 }
 
 /// A root with one manager below it; the root's device fails behind so many calls.
-fn world_of(alloc: Global, calls: u64) -> Result<World<FaultStore>, Fail> {
-    let stores = vec![in alloc; store(alloc, b"", calls)?, store(alloc, b"", u64::MAX)?]?;
-    Ok(opened(alloc, stores)?.ok().ok_or("a world")?)
+fn world_of(alloc: Global, calls: u64) -> Option<World<FaultStore>> {
+    let root = store(alloc, b"", calls).ok()?;
+    let child = store(alloc, b"", u64::MAX).ok()?;
+    match opened(alloc, vec![in alloc; root, child].ok()?)? {
+        Ok(world) => Some(world),
+        Err(_) => None,
+    }
 }
-
-// A world that a function lets go is dropped whole in that function's proof, at each of its ends. So those below borrow one,
-// and a test lets it go by a call, before it says what was seen.
 
 /// Makes these events, and answers whether each was made.
 fn runs(world: &mut World<FaultStore>, events: &[Event]) -> bool {
@@ -124,32 +127,27 @@ fn shows_joining(world: &World<FaultStore>) -> Result<bool, AllocError> {
     Ok(counts && sent && logs && handles_second_message(world)? && world.live(ROOT) == Some(1))
 }
 
-#[test]
-fn a_world_runs(rt: HostRuntime) -> Result<(), Fail> {
+/// A world runs a list of events, and shows its messages, its trace and its logs: with ample memory no call answers want
+/// of it.
+pub(crate) fn a_world_runs(alloc: Global) -> Option<bool> {
     let txn = first_txn(Presumption::PresumeAbort);
-    let mut world = world_of(rt.alloc(), u64::MAX)?;
+    let mut world = world_of(alloc, u64::MAX)?;
     let ran = runs(&mut world, &joining(txn));
     let shown = shows_joining(&world);
-    drop(world);
-    assert!(rt; ran);
-    assert!(rt; shown?);
-    Ok(())
+    world.close();
+    Some(ran && shown == Ok(true))
 }
 
 /// The root's device fails under its first record behind Opened: the act is refused so, and from then on the root has failed.
-#[test]
-fn a_root_fails_with_its_device(rt: HostRuntime) -> Result<(), Fail> {
+pub(crate) fn a_root_fails_with_its_device(alloc: Global) -> Option<bool> {
     let txn = first_txn(Presumption::PresumeCommit);
     let commit = Event::Act(Act::Commit(txn));
-    let mut world = world_of(rt.alloc(), 3)?;
+    let mut world = world_of(alloc, 3)?;
     let ran = runs(&mut world, &joining(txn));
     let first = world.apply(&commit);
     let second = world.apply(&commit);
-    drop(world);
-    assert!(rt; ran);
-    assert!(rt; first == Err(StepError::Device));
-    assert!(rt; second == Err(StepError::Failed));
-    Ok(())
+    world.close();
+    Some(ran && first == Err(StepError::Device) && second == Err(StepError::Failed))
 }
 
 /// A child's write of a transaction of the root.
@@ -181,14 +179,11 @@ fn commits_each(
     Ok(true)
 }
 
-/// Behind a thousand transactions no process has a live case.
-#[test]
-fn nothing_is_left_live(rt: HostRuntime) -> Result<(), Fail> {
-    let mut world = world_of(rt.alloc(), u64::MAX)?;
-    let ran = commits_each(rt.alloc(), &mut world, 1000);
+/// Behind a thousand transactions that wrote and committed no process has a live case.
+pub(crate) fn nothing_is_left_live(alloc: Global) -> Option<bool> {
+    let mut world = world_of(alloc, u64::MAX)?;
+    let ran = commits_each(alloc, &mut world, 1000);
     let live = (world.live(ROOT), world.live(CHILD));
-    drop(world);
-    assert!(rt; ran?);
-    assert!(rt; live == (Some(0), Some(0)));
-    Ok(())
+    world.close();
+    Some(ran == Ok(true) && live == (Some(0), Some(0)))
 }

@@ -90,7 +90,9 @@ fn report(alloc: Global, output: Output, input: &[u8]) -> Result<(Vec<u8>, Statu
     match read(alloc, input) {
         Ok((tree, events)) => {
             let (world, refusal) = play_out(alloc, tree, events)?;
-            told(alloc, output, &world, refusal)
+            let told = told(alloc, output, &world, refusal);
+            world.close();
+            told
         }
         Err(ScriptError::Fault(fault)) => Ok((refusal(alloc, fault)?, Status::Refused)),
         Err(ScriptError::Memory) => Err(Failure::Memory),
@@ -156,6 +158,7 @@ fn play(
         Ok(()) => Ok((world, None)),
         Err((made, refusal)) => {
             if refusal == StepError::Memory || refusal == StepError::Device {
+                world.close();
                 return Err(Failure::Memory);
             }
             Ok((world, Some((made, refusal))))

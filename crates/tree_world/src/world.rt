@@ -71,6 +71,13 @@ impl<L: LogStore> World<L> {
         self.running.journal.sent()
     }
 
+    /// Lets the tree go, and all that it keeps. A caller that lets one go by this call need not see what that comes to: it
+    /// is proved here, once.
+    pub fn close(self)
+    where
+        L: Drop,
+    {}
+
     /// How many cases are live at a process, if there is one.
     pub fn live(&self, process: ProcessId) -> Option<usize>
         ensures { result ≡ option_map live_at (node_in self.now.nodes process) }
