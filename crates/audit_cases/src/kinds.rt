@@ -23,8 +23,8 @@ pub enum Own {
     HeurRollback,
 }
 
-/// Which records a case has, at a manager from its last Prepared on. Any of them may be missing, and what a log may not hold
-/// together is not asked here.
+/// Which records a case has, at a manager from its last Prepared on. Any of them may be missing, and what a
+/// log may not hold together is not asked here.
 #[derive(Clone, Copy, PartialEq, Eq)]
 pub struct Kinds {
     pub collecting: bool,
@@ -96,8 +96,8 @@ impl Kinds {
         self.prepared || self.prepare
     }
 
-    /// The case's own decision, or what it was told; none where it is in doubt, or ended with no decision, as one whose
-    /// children all voted READ. A case that collects votes and has not come further will abort.
+    /// The case's own decision, or what it was told; none where it is in doubt, or ended with no decision,
+    /// as one whose children all voted READ. A case that collects votes and has not come further will abort.
     pub fn decision(self) -> Option<Outcome>
         ensures { result ≡ decision_in self }
     {
@@ -142,8 +142,9 @@ impl Kinds {
         }
     }
 
-    /// Whether the case has a line, at a process of this kind with this parent: at the root where it is decided, or collects
-    /// votes and did not end; below it where it promised, at a manager unless it is forgotten.
+    /// Whether the case has a line, at a process of this kind with this parent: at the root where it is
+    /// decided, or collects votes and did not end; below it where it promised, at a manager unless it is
+    /// forgotten.
     pub fn has_line(self, kind: Kind, parent: Option<ProcessId>) -> bool
         ensures { result ≡ line_in (role_by kind parent) self }
     {

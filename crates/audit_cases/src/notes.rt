@@ -154,8 +154,8 @@ impl Notes {
         }
     }
 
-    /// One record more of the log of this process, where it is of a case of the process's own; it must be one that a process
-    /// of this kind writes.
+    /// One record more of the log of this process, where it is of a case of the process's own; it must be
+    /// one that a process of this kind writes.
     pub fn take(
         &mut self,
         tree: &Tree,
@@ -164,7 +164,8 @@ impl Notes {
     ) -> Result<(), AllocError>
         requires { IsRecordAt entry.now.kind record.now.entry }
         ensures { OnOk result (self.new
-            ≡ fold noted self.old (own_by (place_at tree.now entry.now) record.now (record_case record.now.entry))) }
+            ≡ fold noted self.old (own_by (place_at tree.now entry.now) record.now
+            (record_case record.now.entry))) }
     {
         match record.entry.case() {
             Some(case) => {

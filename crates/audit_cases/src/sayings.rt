@@ -11,7 +11,8 @@ use std::alloc::{AllocError, Global};
 use std::marker::Model;
 use tree_model::{Case, Outcome};
 
-/// Of each case of a child that a case of the process names, the outcome: that of the first of its cases that names it.
+/// Of each case of a child that a case of the process names, the outcome: that of the first of its cases
+/// that names it.
 #[derive(Drop)]
 pub struct Sayings {
     outcomes: IndexMap<Case, Outcome>,
@@ -25,8 +26,8 @@ impl Model for Sayings {
     ghost view = { λ s. s.outcomes.entries };
 }
 
-/// The outcome of a case: its own decision or what it was told, or else what is said above. Above the root there is nobody,
-/// and it aborts what it has not decided.
+/// The outcome of a case: its own decision or what it was told, or else what is said above. Above the root
+/// there is nobody, and it aborts what it has not decided.
 pub fn outcome_of(above: Option<&Sayings>, case: &Case, note: &Noted) -> Outcome
     ensures { result ≡ outcome_in (option_copied above.entry) case.now note.now }
 {
@@ -53,7 +54,8 @@ impl Sayings {
         Ok(sayings)
     }
 
-    /// What a process says that knows this of its cases, where this is said of them above it. It goes through them once.
+    /// What a process says that knows this of its cases, where this is said of them above it. It goes
+    /// through them once.
     pub fn of(alloc: Global, above: Option<&Sayings>, notes: &Notes) -> Result<Sayings, AllocError>
         ensures { IfOk result (λ s. AreSaid (option_copied above.entry) notes.now s) }
     {

@@ -112,8 +112,8 @@ fn push_steps(
     }
 }
 
-/// The steps from a case upward: each ticket asks its parent, up to a case that has a decision or collects votes, or to where
-/// no kept case names the ticket.
+/// The steps from a case upward: each ticket asks its parent, up to a case that has a decision or collects
+/// votes, or to where no kept case names the ticket.
 pub fn steps_of(
     alloc: Global,
     tree: &Tree,
@@ -139,8 +139,8 @@ fn asking(case: &Case) -> Deed
     }
 }
 
-/// What is to be done about a case in doubt behind these steps: the last case in doubt asks, or the process that collects
-/// votes is restarted.
+/// What is to be done about a case in doubt behind these steps: the last case in doubt asks, or the process
+/// that collects votes is restarted.
 pub fn deed_of(case: &Case, steps: &[Step]) -> Deed
     ensures { result ≡ deed_behind case.now steps.now }
 {

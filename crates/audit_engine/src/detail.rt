@@ -5,6 +5,7 @@
 pub enum Detail {
     /// A line for each case.
     Lines,
-    /// A line for each case, and behind one that is in doubt or shows a mismatch what decided it, and what to do.
+    /// A line for each case, and behind one that is in doubt or shows a mismatch what decided it, and what
+    /// to do.
     Explained,
 }

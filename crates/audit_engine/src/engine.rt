@@ -18,13 +18,13 @@ use std::io::{Read, Write};
 use tree_audit::{AuditError, Report, all_notes, audit_notes};
 use tree_model::Tree;
 
-/// Reads a tree with its logs, audits them, and writes a line for each case that is told of and the number of mismatches; as
-/// the detail asks, behind a line that is in doubt or shows a mismatch what decided it and what to do. Or one line that says
-/// which log is damaged where, or why the input is refused.
+/// Reads a tree with its logs, audits them, and writes a line for each case that is told of and the number
+/// of mismatches; as the detail asks, behind a line that is in doubt or shows a mismatch what decided it and
+/// what to do. Or one line that says which log is damaged where, or why the input is refused.
 ///
-/// Where a run of the model left the logs, with no process failed, each outcome is that of its transaction in the run, and the
-/// mismatches that are shown are just those that stand. After a failed read, or where memory is refused, nothing was written;
-/// after a failed write, a beginning of the text.
+/// Where a run of the model left the logs, with no process failed, each outcome is that of its transaction
+/// in the run, and the mismatches that are shown are just those that stand. After a failed read, or where
+/// memory is refused, nothing was written; after a failed write, a beginning of the text.
 pub fn run_audit<R: Read, W: Write>(
     alloc: Global,
     detail: Detail,
@@ -37,11 +37,14 @@ pub fn run_audit<R: Read, W: Write>(
     ensures true_of_runs { IfOk result (λ ending. (input : List ℕ) × (text : List ℕ)
         × IsInput (R.remaining reader.old) input × IsTrueReport detail ending input text
         × Appends (W.contents writer.old) (W.contents writer.new) text) }
-    ensures cut { IfErr result (λ e. e ≡ Failure.Write → (input : List ℕ) × (text : List ℕ) × (ending : AnyEnding)
+    ensures cut { IfErr result (λ e. e ≡ Failure.Write → (input : List ℕ)
+        × (text : List ℕ) × (ending : AnyEnding)
         × IsInput (R.remaining reader.old) input × IsAuditReport detail ending input text
         × WritesFront (W.contents writer.old) (W.contents writer.new) text) }
-    ensures unread { IfErr result (λ e. e ≡ Failure.Read → Keeps (W.contents writer.old) (W.contents writer.new)) }
-    ensures memory { IfErr result (λ e. e ≡ Failure.Memory → Keeps (W.contents writer.old) (W.contents writer.new)) }
+    ensures unread { IfErr result (λ e. e ≡ Failure.Read
+        → Keeps (W.contents writer.old) (W.contents writer.new)) }
+    ensures memory { IfErr result (λ e. e ≡ Failure.Memory
+        → Keeps (W.contents writer.old) (W.contents writer.new)) }
 {
     let input = read_all(alloc, reader)?;
     let (text, ending) = answer(alloc, detail, &input)?;

@@ -179,7 +179,8 @@ fn push_told_part(
 
 /// What to do about the case of a line: about a mismatch, or else about a case in doubt behind these steps.
 fn push_do(out: &mut Vec<u8>, line: &Line, steps: &[Step]) -> Result<(), AllocError>
-    ensures { OnOk result (out.new.items ≡ out.old.items ++ do_text line.now.mismatch line.now.case steps.now) }
+    ensures { OnOk result (out.new.items ≡ out.old.items
+        ++ do_text line.now.mismatch line.now.case steps.now) }
 {
     if line.mismatch {
         push_mend(out, &line.case)

@@ -1,4 +1,5 @@
-//! The engine of `rstar audit`: how each case stands and ends by the logs of a tree, and where an operator decided otherwise.
+//! The engine of `rstar audit`: how each case stands and ends by the logs of a tree, and where an operator
+//! decided otherwise.
 //!
 //! ```text
 //! engine     the engine

@@ -72,7 +72,8 @@ fn push_lines(out: &mut Vec<u8>, lines: &[Line]) -> Result<(), AllocError>
 
 /// A line for each case, and the number of mismatches.
 fn text_of(alloc: Global, report: &Report) -> Result<Vec<u8>, AllocError>
-    ensures { IfOk result (λ text. text.items ≡ lines_text report.now.lines.items ++ count_text report.now.mismatches) }
+    ensures { IfOk result (λ text. text.items ≡ lines_text report.now.lines.items
+        ++ count_text report.now.mismatches) }
 {
     let mut out = Vec::new(alloc);
     push_lines(&mut out, report.lines.as_slice())?;

@@ -10,8 +10,8 @@ use std::alloc::{AllocError, Global};
 use std::marker::Model;
 use tree_model::{Case, ProcessId};
 
-/// What stands of a case at a coordinator: a decision before a promise, a promise before an end with no decision, and that
-/// before the votes that it asks for.
+/// What stands of a case at a coordinator: a decision before a promise, a promise before an end with no
+/// decision, and that before the votes that it asks for.
 fn stands_of(kinds: Kinds) -> Stands
     ensures { result ≡ stands_in kinds }
 {
@@ -28,7 +28,8 @@ fn stands_of(kinds: Kinds) -> Stands
     }
 }
 
-/// Of each case of a child that a case of the process names: the first of its cases that does, and what stands of it.
+/// Of each case of a child that a case of the process names: the first of its cases that does, and what
+/// stands of it.
 #[derive(Drop)]
 pub struct Namings {
     found: IndexMap<Case, Found>,

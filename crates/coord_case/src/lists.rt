@@ -62,7 +62,8 @@ fn find_child(children: &[Child], child: ProcessId) -> Option<&Child>
 
 /// The ticket of the first child of the process.
 pub(crate) fn ticket_of(children: &[Child], child: ProcessId) -> Option<Ticket>
-    ensures { result ≡ option_map (λ c. c.ticket) (find (λ c. same_process c.ticket.child child) children.now) }
+    ensures { result ≡ option_map (λ c. c.ticket)
+        (find (λ c. same_process c.ticket.child child) children.now) }
 {
     match find_child(children, child) {
         None => None,
@@ -97,7 +98,8 @@ fn has_ticket(children: &[Child], ticket: &Ticket) -> bool
 
 /// Whether the ticket is a child's, or is among these tickets.
 pub(crate) fn is_known(children: &[Child], named: &[Ticket], ticket: &Ticket) -> bool
-    ensures { result ≡ (list_any (λ c. same_ticket c.ticket ticket.now) children.now || is_in named.now ticket.now) }
+    ensures { result ≡ (list_any (λ c. same_ticket c.ticket ticket.now) children.now
+        || is_in named.now ticket.now) }
 {
     has_ticket(children, ticket) || in_list(named, ticket)
 }

@@ -30,8 +30,8 @@ use tree_model::{
     Case, Envelope, Envelopes, Message, ProcessId, Sequence, Standing, Ticket, Txn, Vote,
 };
 
-/// Where a live case stands: its accepted children, the tickets that its promise and its other records name, and those
-/// that owe an acknowledgement.
+/// Where a live case stands: its accepted children, the tickets that its promise and its other records name,
+/// and those that owe an acknowledgement.
 #[derive(Drop)]
 pub struct Live {
     standing: Standing,
@@ -56,7 +56,8 @@ impl Model for Live {
 
 /// PREPARE to the child, with the number of its works.
 fn prepare_message(me: ProcessId, txn: Txn, child: &Child) -> Envelope
-    ensures { result ≡ post me child.now.ticket.child (Message.Prepare (case_of txn child.now.ticket) child.now.works) }
+    ensures { result ≡ post me child.now.ticket.child
+        (Message.Prepare (case_of txn child.now.ticket) child.now.works) }
 {
     let case = Case {
         txn,
@@ -76,7 +77,8 @@ fn prepare_each(
     txn: Txn,
     children: &[Child],
 ) -> Result<Envelopes, AllocError>
-    ensures { IfOk result (λ messages. messages ≡ map (λ c. post me c.ticket.child (Message.Prepare (case_of txn c.ticket) c.works)) children.now) }
+    ensures { IfOk result (λ messages. messages
+        ≡ map (λ c. post me c.ticket.child (Message.Prepare (case_of txn c.ticket) c.works)) children.now) }
 {
     let mut messages = Vec::new(alloc);
     for child in children {
@@ -99,8 +101,8 @@ impl Live {
         }
     }
 
-    /// A case as its records leave it, of which nothing was heard: where it stands, the tickets that its promise names, those
-    /// that any of its records names, and those that owe an acknowledgement.
+    /// A case as its records leave it, of which nothing was heard: where it stands, the tickets that its
+    /// promise names, those that any of its records names, and those that owe an acknowledgement.
     pub fn restored(
         alloc: Global,
         standing: Standing,
@@ -176,7 +178,8 @@ impl Live {
     /// A child is accepted. Memory: nothing changed.
     pub fn accept(&mut self, ticket: Ticket) -> Result<(), AllocError>
         requires { has_child_in self.old.accepted ticket.child ≡ false }
-        ensures ok { OnOk result (self.new ≡ record self.old { accepted = self.old.accepted ++ ticket ∷ [] }) }
+        ensures ok { OnOk result
+            (self.new ≡ record self.old { accepted = self.old.accepted ++ ticket ∷ [] }) }
         ensures err { OnErr result (self.new ≡ self.old) }
     {
         self.children.reserve(1)?;
@@ -207,7 +210,8 @@ impl Live {
 
     /// PREPARE from this process to the child of each accepted ticket, with the number of works sent to it.
     pub fn prepares(&self, alloc: Global, me: ProcessId, txn: Txn) -> Result<Envelopes, AllocError>
-        ensures { IfOk result (λ messages. messages ≡ prepares_to (record { me = me; parent = None; own = root_case txn }) self.now) }
+        ensures { IfOk result (λ messages. messages
+            ≡ prepares_to (record { me = me; parent = None; own = root_case txn }) self.now) }
     {
         prepare_each(alloc, me, txn, self.children.as_slice())
     }
@@ -221,7 +225,10 @@ impl Live {
 
     /// It collects votes behind a record that names these. Memory: nothing changed.
     pub fn collect_named(&mut self, tickets: &[Ticket]) -> Result<(), AllocError>
-        ensures ok { OnOk result (self.new ≡ record self.old { standing = Standing.Collecting; named = self.old.named ++ tickets.now }) }
+        ensures ok { OnOk result (self.new ≡ record self.old {
+          standing = Standing.Collecting;
+          named = self.old.named ++ tickets.now;
+        }) }
         ensures err { OnErr result (self.new ≡ self.old) }
     {
         self.named.extend_from_slice(tickets)?;
@@ -274,7 +281,11 @@ impl Live {
 
     /// It promised, and these tickets are to be told the outcome. Memory: nothing changed.
     pub fn promise(&mut self, alloc: Global, tickets: &[Ticket]) -> Result<(), AllocError>
-        ensures ok { OnOk result (self.new ≡ record self.old { standing = Standing.Prepared; promised = self.old.promised ++ tickets.now; named = self.old.named ++ tickets.now }) }
+        ensures ok { OnOk result (self.new ≡ record self.old {
+          standing = Standing.Prepared;
+          promised = self.old.promised ++ tickets.now;
+          named = self.old.named ++ tickets.now;
+        }) }
         ensures err { OnErr result (self.new ≡ self.old) }
     {
         let mut promised = Vec::from_slice(alloc, &self.promised)?;
@@ -320,7 +331,8 @@ impl Live {
         strike(&mut self.owed, *ticket);
     }
 
-    /// The decided case waits for these acknowledgements; where there are none it is forgotten. Memory: nothing changed.
+    /// The decided case waits for these acknowledgements; where there are none it is forgotten. Memory:
+    /// nothing changed.
     pub fn awaits(&mut self, standing: Standing, tickets: Vec<Ticket>) -> Result<(), AllocError>
         ensures ok { OnOk result (self.new ≡ awaits_view standing tickets.items self.old) }
         ensures err { OnErr result (self.new ≡ self.old) }

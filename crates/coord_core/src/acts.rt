@@ -11,50 +11,64 @@ use log_store::LogStore;
 use tree_model::{Act, Case, Input, Op, Presumption, ProcessId, Reaction, StepError, Txn};
 
 impl<L: LogStore> Coordinator<L> {
-    /// Begins a transaction; the reaction names it. NoSuch: this is not the root. Failed, Memory: nothing changed.
+    /// Begins a transaction; the reaction names it. NoSuch: this is not the root. Failed, Memory: nothing
+    /// changed.
     pub fn begin(&mut self, presumption: Presumption) -> Result<Reaction, StepError>
         requires { HasNumbers (state self.old) }
-        ensures ok { IfOk result (Makes (state self.old) (state self.new) no_data (Input.Act (Act.Begin presumption))) }
-        ensures err { IfErr result (NotMade (state self.old) (state self.new) no_data (Input.Act (Act.Begin presumption))) }
+        ensures ok { IfOk result (Makes (state self.old) (state self.new) no_data
+            (Input.Act (Act.Begin presumption))) }
+        ensures err { IfErr result (NotMade (state self.old) (state self.new) no_data
+            (Input.Act (Act.Begin presumption))) }
     {
         self.step(&Input::Act(Act::Begin(presumption)))
     }
 
-    /// Invites a child to take part. NoSuch: no process has this number. Failed. UnknownTxn: the case is not live here.
-    /// Closed: a commit or an abort was asked before. NotAChild: it is no child of this process. Memory. Nothing changed.
+    /// Invites a child to take part. NoSuch: no process has this number. Failed. UnknownTxn: the case is not
+    /// live here. Closed: a commit or an abort was asked before. NotAChild: it is no child of this process.
+    /// Memory. Nothing changed.
     pub fn join(&mut self, case: Case, child: ProcessId) -> Result<Reaction, StepError>
         requires { HasNumbers (state self.old) }
-        ensures ok { IfOk result (Makes (state self.old) (state self.new) no_data (Input.Act (Act.Join case child))) }
-        ensures err { IfErr result (NotMade (state self.old) (state self.new) no_data (Input.Act (Act.Join case child))) }
+        ensures ok { IfOk result (Makes (state self.old) (state self.new) no_data
+            (Input.Act (Act.Join case child))) }
+        ensures err { IfErr result (NotMade (state self.old) (state self.new) no_data
+            (Input.Act (Act.Join case child))) }
     {
         self.step(&Input::Act(Act::Join(case, child)))
     }
 
-    /// Has an accepted child that is a manager do a piece of work. The refusals are those of `join`; NotAChild: it is no
-    /// accepted child that is a manager.
+    /// Has an accepted child that is a manager do a piece of work. The refusals are those of `join`;
+    /// NotAChild: it is no accepted child that is a manager.
     pub fn work(&mut self, case: Case, child: ProcessId, op: Op) -> Result<Reaction, StepError>
         requires { HasNumbers (state self.old) }
-        ensures ok { IfOk result (Makes (state self.old) (state self.new) no_data (Input.Act (Act.Work case child op))) }
-        ensures err { IfErr result (NotMade (state self.old) (state self.new) no_data (Input.Act (Act.Work case child op))) }
+        ensures ok { IfOk result (Makes (state self.old) (state self.new) no_data
+            (Input.Act (Act.Work case child op))) }
+        ensures err { IfErr result (NotMade (state self.old) (state self.new) no_data
+            (Input.Act (Act.Work case child op))) }
     {
         self.step(&Input::Act(Act::Work(case, child, op)))
     }
 
-    /// The application asks for the transaction's commit. Failed. UnknownTxn: it is not live here. Closed: a commit or an
-    /// abort was asked before. Memory. After these nothing changed. Device: the device failed under the record.
+    /// The application asks for the transaction's commit. Failed. UnknownTxn: it is not live here. Closed: a
+    /// commit or an abort was asked before. Memory. After these nothing changed. Device: the device failed
+    /// under the record.
     pub fn commit(&mut self, txn: Txn) -> Result<Reaction, StepError>
         requires { HasNumbers (state self.old) }
-        ensures ok { IfOk result (Makes (state self.old) (state self.new) no_data (Input.Act (Act.Commit txn))) }
-        ensures err { IfErr result (NotMade (state self.old) (state self.new) no_data (Input.Act (Act.Commit txn))) }
+        ensures ok { IfOk result (Makes (state self.old) (state self.new) no_data
+            (Input.Act (Act.Commit txn))) }
+        ensures err { IfErr result (NotMade (state self.old) (state self.new) no_data
+            (Input.Act (Act.Commit txn))) }
     {
         self.step(&Input::Act(Act::Commit(txn)))
     }
 
-    /// The application asks for the transaction's abort. The refusals are those of `commit`; Closed: it is decided.
+    /// The application asks for the transaction's abort. The refusals are those of `commit`; Closed: it is
+    /// decided.
     pub fn abort(&mut self, txn: Txn) -> Result<Reaction, StepError>
         requires { HasNumbers (state self.old) }
-        ensures ok { IfOk result (Makes (state self.old) (state self.new) no_data (Input.Act (Act.Abort txn))) }
-        ensures err { IfErr result (NotMade (state self.old) (state self.new) no_data (Input.Act (Act.Abort txn))) }
+        ensures ok { IfOk result (Makes (state self.old) (state self.new) no_data
+            (Input.Act (Act.Abort txn))) }
+        ensures err { IfErr result (NotMade (state self.old) (state self.new) no_data
+            (Input.Act (Act.Abort txn))) }
     {
         self.step(&Input::Act(Act::Abort(txn)))
     }

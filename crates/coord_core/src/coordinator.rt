@@ -24,8 +24,8 @@ use tree_model::{Case, LogRecord, ProcessId, Standing, Ticket, Tree, Txn};
 /// The largest number of a transaction and of a ticket.
 const LAST_NUMBER: u64 = (1 << 63) - 1;
 
-/// A coordinator: the root of a tree, which has no parent, or a coordinator below it. It keeps its log, its boot, how many
-/// transactions it began and how many tickets it gave in this boot, and its live cases.
+/// A coordinator: the root of a tree, which has no parent, or a coordinator below it. It keeps its log, its
+/// boot, how many transactions it began and how many tickets it gave in this boot, and its live cases.
 #[derive(Drop)]
 pub struct Coordinator<L: LogStore> {
     pub(crate) alloc: Global,
@@ -44,9 +44,27 @@ impl<L: LogStore> Model for Coordinator<L> {
 
     ghost Value = { CoordinatorValue };
 
-    ghost view = { λ c. record { me = c.me; parent = c.parent; tree = c.tree; log = c.log; boot = c.boot; begun = c.begun; given = c.given; slots = c.cases } };
+    ghost view = { λ c. record {
+      me = c.me;
+      parent = c.parent;
+      tree = c.tree;
+      log = c.log;
+      boot = c.boot;
+      begun = c.begun;
+      given = c.given;
+      slots = c.cases;
+    } };
 
-    ghost invariant = { λ c. IsCoordinator (record { me = c.me; parent = c.parent; tree = c.tree; log = c.log; boot = c.boot; begun = c.begun; given = c.given; slots = c.cases }) };
+    ghost invariant = { λ c. IsCoordinator (record {
+      me = c.me;
+      parent = c.parent;
+      tree = c.tree;
+      log = c.log;
+      boot = c.boot;
+      begun = c.begun;
+      given = c.given;
+      slots = c.cases;
+    }) };
 }
 
 impl<L: LogStore> Coordinator<L> {
@@ -96,9 +114,11 @@ impl<L: LogStore> Coordinator<L> {
         self.log.failed()
     }
 
-    /// The bytes of its log, as a list made anew. Behind a failure of the device a torn frame may stand at the end.
+    /// The bytes of its log, as a list made anew. Behind a failure of the device a torn frame may stand at
+    /// the end.
     pub fn log_text(&self) -> Result<Vec<u8>, AllocError>
-        ensures { IfOk result (λ text. ReadsAs kind.Coordinator text.items (records_of (state self.now).log.kept) (state self.now).log.failed) }
+        ensures { IfOk result (λ text. ReadsAs kind.Coordinator text.items
+            (records_of (state self.now).log.kept) (state self.now).log.failed) }
     {
         self.log.text(self.alloc)
     }
@@ -110,9 +130,11 @@ impl<L: LogStore> Coordinator<L> {
         self.log.size()
     }
 
-    /// How many of the records behind the forced ones a crash would leave that keeps so many bytes behind the forced front.
+    /// How many of the records behind the forced ones a crash would leave that keeps so many bytes behind
+    /// the forced front.
     pub fn left_behind(&self, keep: usize) -> Result<usize, AllocError>
-        ensures { IfOk result (λ count. count ≡ length (whole_within ((state self.now).log.behind + keep) (state self.now).log.kept.unforced)) }
+        ensures { IfOk result (λ count. count
+            ≡ length (whole_within ((state self.now).log.behind + keep) (state self.now).log.kept.unforced)) }
     {
         self.log.left_behind(keep, self.alloc)
     }

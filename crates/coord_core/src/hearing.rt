@@ -16,10 +16,12 @@ use log_store::LogStore;
 use tree_model::{Case, Message, ProcessId, Ticket, Txn, Vote};
 
 impl<L: LogStore> Coordinator<L> {
-    /// Which turn a message meets. One that is not for this coordinator, or comes where nothing waits for it, does nothing.
+    /// Which turn a message meets. One that is not for this coordinator, or comes where nothing waits for
+    /// it, does nothing.
     pub(crate) fn hear(&self, number: u64, message: &Message) -> Turn<'static>
         requires { self.now.log.sight.failed ≡ false }
-        ensures { Hears self.now (input.Message number message.now) (λ found. message_turn (place_of self.now).role (state self.now) no_data found message.now) result }
+        ensures { Hears self.now (input.Message number message.now) (λ found. message_turn
+            (place_of self.now).role (state self.now) no_data found message.now) result }
     {
         match self.parent {
             None => self.hear_child(number, message),
@@ -30,7 +32,8 @@ impl<L: LogStore> Coordinator<L> {
     /// The messages of the parent; any other is a child's.
     fn hear_parent(&self, number: u64, parent: ProcessId, message: &Message) -> Turn<'static>
         requires { self.now.log.sight.failed ≡ false }
-        ensures { Hears self.now (input.Message number message.now) (λ found. cascaded_turn (state self.now) parent found message.now) result }
+        ensures { Hears self.now (input.Message number message.now)
+            (λ found. cascaded_turn (state self.now) parent found message.now) result }
     {
         match message {
             Message::Join(case) => self.hear_join(parent, *case),
@@ -43,7 +46,8 @@ impl<L: LogStore> Coordinator<L> {
 
     /// JOIN: the parent's case gets its active ticket again, else a fresh one.
     fn hear_join(&self, parent: ProcessId, case: Case) -> Turn<'static>
-        ensures is { joined_turn (state self.now) parent case (ticket_in self.now.slots case) ≡ meant self.now result }
+        ensures is { joined_turn (state self.now) parent case
+            (ticket_in self.now.slots case) ≡ meant self.now result }
         ensures may { (i : AnyInput) → May self.now i result }
     {
         match self.ticket_for(&case) {
@@ -68,7 +72,8 @@ impl<L: LogStore> Coordinator<L> {
     /// The messages of children.
     fn hear_child(&self, number: u64, message: &Message) -> Turn<'static>
         requires { self.now.log.sight.failed ≡ false }
-        ensures { Hears self.now (input.Message number message.now) (λ found. child_says (state self.now) found message.now) result }
+        ensures { Hears self.now (input.Message number message.now)
+            (λ found. child_says (state self.now) found message.now) result }
     {
         match message {
             Message::Joined(case, ticket) => self.hear_case(*case, Asked::Joined(*ticket)),

@@ -1,4 +1,5 @@
-//! A coordinator: the root of a tree, or a coordinator below it (R*, under Presumed Abort and Presumed Commit).
+//! A coordinator: the root of a tree, or a coordinator below it (R*, under Presumed Abort and Presumed
+//! Commit).
 //!
 //! An input meets one turn (`meeting` for acts, `hearing` for messages), and the turn is made (`making`):
 //!
@@ -10,8 +11,9 @@
 //! | `Takes` | a row of the reaction table at a live case: its record, its view, its messages |
 //! | `Answers`, `Repeats`, `Presumes`, `Nothing` | messages at most |
 //!
-//! Room for a record is made before the row, and the row frames its record before it changes the case. So from the write on
-//! nothing is refused for memory. Where the write fails the coordinator has failed until its restart.
+//! Room for a record is made before the row, and the row frames its record before it changes the case. So
+//! from the write on nothing is refused for memory. Where the write fails the coordinator has failed until
+//! its restart.
 #![tactic(auto)]
 
 mod acts;

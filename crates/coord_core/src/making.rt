@@ -25,9 +25,9 @@ use log_store::LogStore;
 use tree_model::{Case, Input, Presumption, ProcessId, Reaction, StepError, Ticket, Txn};
 
 impl<L: LogStore> Coordinator<L> {
-    /// Handles an input. The refusals of the reaction table, as `StepError` says them, change nothing, nor does Memory.
-    /// Device: the device failed under the record of the input, which stands or not, and the coordinator answers Failed until
-    /// its restart.
+    /// Handles an input. The refusals of the reaction table, as `StepError` says them, change nothing, nor
+    /// does Memory. Device: the device failed under the record of the input, which stands or not, and the
+    /// coordinator answers Failed until its restart.
     pub fn step(&mut self, input: &Input) -> Result<Reaction, StepError>
         requires { HasNumbers (state self.old) }
         ensures ok { IfOk result (Makes (state self.old) (state self.new) no_data input.now) }
@@ -49,8 +49,10 @@ impl<L: LogStore> Coordinator<L> {
     fn begins(&mut self, presumption: Presumption) -> Result<Reaction, StepError>
         requires { self.old.begun + 1 < 2 ^ 63 }
         ensures ok { IfOk result (λ reaction. (i : AnyInput) → RetiresNone i
-            → Turned (state self.old) (state self.new) i (meant self.old (turn.Begins presumption)) reaction) }
-        ensures err { IfErr result (Stopped (state self.old) (state self.new) (meant self.old (turn.Begins presumption))) }
+            → Turned (state self.old) (state self.new) i
+            (meant self.old (turn.Begins presumption)) reaction) }
+        ensures err { IfErr result (Stopped (state self.old) (state self.new)
+            (meant self.old (turn.Begins presumption))) }
     {
         let txn = Txn {
             root: self.me,
@@ -68,8 +70,10 @@ impl<L: LogStore> Coordinator<L> {
         requires number { self.old.given + 1 < 2 ^ 63 }
         requires ungiven { ticket_in self.old.slots case ≡ None }
         ensures ok { IfOk result (λ reaction. (i : AnyInput)
-            → Turned (state self.old) (state self.new) i (meant self.old (turn.Issues parent case)) reaction) }
-        ensures err { IfErr result (Stopped (state self.old) (state self.new) (meant self.old (turn.Issues parent case))) }
+            → Turned (state self.old) (state self.new) i
+            (meant self.old (turn.Issues parent case)) reaction) }
+        ensures err { IfErr result (Stopped (state self.old) (state self.new)
+            (meant self.old (turn.Issues parent case))) }
     {
         let ticket = Ticket {
             child: self.me,
@@ -82,16 +86,18 @@ impl<L: LogStore> Coordinator<L> {
         Ok(reaction)
     }
 
-    /// The case under the key takes the row that it meets. Room for the row's record is made first. Memory: nothing changed.
-    /// Device: the device failed under the record.
+    /// The case under the key takes the row that it meets. Room for the row's record is made first. Memory:
+    /// nothing changed. Device: the device failed under the record.
     fn takes(&mut self, key: usize, case: Case, asked: Asked) -> Result<Reaction, StepError>
         requires at { IsAt self.old.slots key case }
         requires accepted { Accepts asked (view_in self.old.slots case) }
         requires root { is_of_root asked ≡ true → case.ticket ≡ None }
         requires up { self.old.log.sight.failed ≡ false }
         ensures ok { IfOk result (λ reaction. (i : AnyInput) → RetiresAs i asked.entry case
-            → Turned (state self.old) (state self.new) i (Takes case (met self.old case asked.entry)) reaction) }
-        ensures err { IfErr result (Stopped (state self.old) (state self.new) (Takes case (met self.old case asked.entry))) }
+            → Turned (state self.old) (state self.new) i
+            (Takes case (met self.old case asked.entry)) reaction) }
+        ensures err { IfErr result (Stopped (state self.old) (state self.new)
+            (Takes case (met self.old case asked.entry))) }
     {
         make_room(&mut self.log)?;
         let seat = self.seat(case);
@@ -109,8 +115,10 @@ impl<L: LogStore> Coordinator<L> {
         requires apart { AreApart self.now.slots }
         requires fits { FitsGiven self.now.slots }
         ensures ok { IfOk result (λ reaction. (i : AnyInput) → RetiresAs i asked.entry case
-            → Turned (state self.now) (state self.now) i (Takes case (met self.now case asked.entry)) reaction) }
-        ensures err { IfErr result (Stopped (state self.now) (state self.now) (Takes case (met self.now case asked.entry))) }
+            → Turned (state self.now) (state self.now) i
+            (Takes case (met self.now case asked.entry)) reaction) }
+        ensures err { IfErr result (Stopped (state self.now) (state self.now)
+            (Takes case (met self.now case asked.entry))) }
     {
         let effect = answer(self.alloc, self.seat(case), asked)?;
         Ok(effect.reaction)
@@ -119,8 +127,10 @@ impl<L: LogStore> Coordinator<L> {
     /// The parent's case gets its active ticket again.
     fn repeats(&self, parent: ProcessId, case: Case, ticket: Ticket) -> Result<Reaction, StepError>
         ensures ok { IfOk result (λ reaction. (i : AnyInput)
-            → Turned (state self.now) (state self.now) i (meant self.now (turn.Repeats parent case ticket)) reaction) }
-        ensures err { IfErr result (Stopped (state self.now) (state self.now) (meant self.now (turn.Repeats parent case ticket))) }
+            → Turned (state self.now) (state self.now) i
+            (meant self.now (turn.Repeats parent case ticket)) reaction) }
+        ensures err { IfErr result (Stopped (state self.now) (state self.now)
+            (meant self.now (turn.Repeats parent case ticket))) }
     {
         Ok(joined(self.alloc, self.me, parent, case, ticket)?)
     }
@@ -128,8 +138,10 @@ impl<L: LogStore> Coordinator<L> {
     /// A child of no live case gets what is presumed.
     fn presumes(&self, txn: Txn, ticket: Ticket) -> Result<Reaction, StepError>
         ensures ok { IfOk result (λ reaction. (i : AnyInput)
-            → Turned (state self.now) (state self.now) i (meant self.now (turn.Presumes txn ticket)) reaction) }
-        ensures err { IfErr result (Stopped (state self.now) (state self.now) (meant self.now (turn.Presumes txn ticket))) }
+            → Turned (state self.now) (state self.now) i
+            (meant self.now (turn.Presumes txn ticket)) reaction) }
+        ensures err { IfErr result (Stopped (state self.now) (state self.now)
+            (meant self.now (turn.Presumes txn ticket))) }
     {
         Ok(presumes(self.alloc, self.me, txn, ticket)?)
     }

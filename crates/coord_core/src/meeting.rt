@@ -71,9 +71,11 @@ impl<L: LogStore> Coordinator<L> {
         }
     }
 
-    /// The key of a case that is Active. UnknownTxn: it is not live. Closed: it takes no children and no work any more.
+    /// The key of a case that is Active. UnknownTxn: it is not live. Closed: it takes no children and no
+    /// work any more.
     fn active(&self, case: &Case) -> Result<usize, StepError>
-        ensures ok { IfOk result (λ key. IsAt self.now.slots key case.now × ((view_in self.now.slots case.now).standing ≡ Standing.Active)) }
+        ensures ok { IfOk result (λ key. IsAt self.now.slots key case.now
+            × ((view_in self.now.slots case.now).standing ≡ Standing.Active)) }
         ensures err { IfErr result (λ e. IsClosed (view_in self.now.slots case.now).standing e) }
         ensures apart { AreApart self.now.slots }
     {

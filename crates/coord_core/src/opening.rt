@@ -14,7 +14,8 @@ use rec_log::RecLog;
 use std::alloc::Global;
 use tree_model::{ProcessId, Record, StepError, Tree};
 
-/// The first record of an empty log: boot 1, forced. Memory: the log is as it was. Device: the log has failed.
+/// The first record of an empty log: boot 1, forced. Memory: the log is as it was. Device: the log has
+/// failed.
 fn write_opened<L: LogStore>(alloc: Global, log: &mut RecLog<L>) -> Result<(), StepError>
     requires kind { log.old.kind ≡ kind.Coordinator }
     requires works { log.old.sight.failed ≡ false }
@@ -30,8 +31,9 @@ fn write_opened<L: LogStore>(alloc: Global, log: &mut RecLog<L>) -> Result<(), S
 }
 
 impl<L: LogStore + Drop> Coordinator<L> {
-    /// The coordinator `me` of this tree below this parent, over an empty log, which it opens: boot 1 is forced. The root has
-    /// no parent. A refusal hands the log back. Memory: it is as it was. Device: the device failed, and so has the log.
+    /// The coordinator `me` of this tree below this parent, over an empty log, which it opens: boot 1 is
+    /// forced. The root has no parent. A refusal hands the log back. Memory: it is as it was. Device: the
+    /// device failed, and so has the log.
     pub fn open(
         alloc: Global,
         me: ProcessId,
@@ -42,7 +44,8 @@ impl<L: LogStore + Drop> Coordinator<L> {
         requires kind { log.kind ≡ kind.Coordinator }
         requires works { log.sight.failed ≡ false }
         requires empty { records_of log.sight.kept ≡ [] }
-        ensures ok { IfOk result (λ c. IsOpened (state c) (record { me = me; role = role_below parent; tree = tree }) log.sight.failures) }
+        ensures ok { IfOk result (λ c. IsOpened (state c)
+            (record { me = me; role = role_below parent; tree = tree }) log.sight.failures) }
         ensures err { IfErr result (λ e. NotOpened log e.1 e.0) }
     {
         let mut log = log;

@@ -21,11 +21,12 @@ fn step_error(error: LogError) -> StepError
 }
 
 impl<L: LogStore> Coordinator<L> {
-    /// Restarts behind a crash that keeps so many of the log's unforced bytes: what is left of the log is read, Opened with the
-    /// next boot is appended, and an Abort record of each case that collected votes behind a record, all of it forced by one
-    /// write. Decisions go out again, and cases in doubt ask. All memory is taken before the crash, and the records are gone
-    /// through once. Memory: nothing changed; it also stands for a boot of 2^63 and for a live case of a later boot, which no
-    /// run makes. Device: the crash took place and the device failed under it; the coordinator has failed until it is restarted.
+    /// Restarts behind a crash that keeps so many of the log's unforced bytes: what is left of the log is
+    /// read, Opened with the next boot is appended, and an Abort record of each case that collected votes
+    /// behind a record, all of it forced by one write. Decisions go out again, and cases in doubt ask. All
+    /// memory is taken before the crash, and the records are gone through once. Memory: nothing changed; it
+    /// also stands for a boot of 2^63 and for a live case of a later boot, which no run makes. Device: the
+    /// crash took place and the device failed under it; the coordinator has failed until it is restarted.
     pub fn restart(&mut self, keep: usize) -> Result<Reaction, StepError>
         ensures ok { IfOk result (Restarts (state self.old) keep (state self.new)) }
         ensures err { IfErr result (NotRestarted (state self.old) keep (state self.new)) }
@@ -42,9 +43,9 @@ impl<L: LogStore> Coordinator<L> {
         Ok(rebuilt.reaction)
     }
 
-    /// Trims its log: the last Opened and the records of the cases that are not forgotten stay, forced by one write. Gives how
-    /// many they are. Failed, Memory: nothing changed. Device: the log stands as it was or trimmed, and the coordinator has
-    /// failed until it is restarted.
+    /// Trims its log: the last Opened and the records of the cases that are not forgotten stay, forced by
+    /// one write. Gives how many they are. Failed, Memory: nothing changed. Device: the log stands as it was
+    /// or trimmed, and the coordinator has failed until it is restarted.
     pub fn trim(&mut self) -> Result<u64, StepError>
         ensures ok { IfOk result (Trims (state self.old) (state self.new)) }
         ensures err { IfErr result (NotTrimmed (state self.old) (state self.new)) }

@@ -35,7 +35,8 @@ pub(crate) fn joined(
     case: Case,
     ticket: Ticket,
 ) -> Result<Reaction, AllocError>
-    ensures { IfOk result (λ reaction. reaction ≡ reaction_of (sends_only (post me parent (Message.Joined case ticket) ∷ []))) }
+    ensures { IfOk result (λ reaction. reaction
+        ≡ reaction_of (sends_only (post me parent (Message.Joined case ticket) ∷ []))) }
 {
     let mut messages = Sequence::new(alloc);
     messages.push(Envelope {

@@ -14,8 +14,8 @@ use log_store::LogStore;
 use rec_log::{LogError, RecLog};
 use tree_model::ProcessId;
 
-/// Appends a row's record, if it has one, and forces the log where the row does. Room was made before, so it cannot fail for
-/// memory. Device: the record stands or not, and the log has failed.
+/// Appends a row's record, if it has one, and forces the log where the row does. Room was made before, so it
+/// cannot fail for memory. Device: the record stands or not, and the log has failed.
 pub(crate) fn write_down<L: LogStore>(
     log: &mut RecLog<L>,
     parent: Option<ProcessId>,

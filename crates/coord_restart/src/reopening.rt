@@ -42,7 +42,8 @@ pub(crate) fn framed(
     parent: Option<ProcessId>,
     records: Vec<Record>,
 ) -> Result<Vec<Frame>, AllocError>
-    ensures spells { IfOk result (λ frames. map frame_record frames.items ≡ map (in_log parent) records.items) }
+    ensures spells { IfOk result (λ frames. map frame_record frames.items
+        ≡ map (in_log parent) records.items) }
     ensures sound { IfOk result (λ frames. AreRecords kind.Coordinator (map frame_record frames.items)) }
 {
     let mut frames = Vec::new(alloc);

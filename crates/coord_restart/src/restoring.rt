@@ -46,7 +46,8 @@ fn restore(
     messages: &mut Envelopes,
 ) -> Result<(), AllocError>
     requires { live_value cases.old seat.case ≡ None }
-    ensures { OnOk result (RestoresNext boot seat recorded.now cases.old cases.new messages.old messages.new) }
+    ensures { OnOk result (RestoresNext boot seat recorded.now cases.old cases.new
+        messages.old messages.new) }
 {
     let standing = recorded.standing();
     if standing == Standing::Unknown {

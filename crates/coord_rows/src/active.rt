@@ -62,7 +62,8 @@ pub fn active_work(
     live: &mut Live,
 ) -> Result<RowEffect, AllocError>
     requires { is_in live.old.accepted ticket ≡ true }
-    ensures ok { IfOk result (λ effect. Does seat (work_row (seat_meant seat) ticket op.now live.old) effect live.new) }
+    ensures ok { IfOk result (λ effect. Does seat
+        (work_row (seat_meant seat) ticket op.now live.old) effect live.new) }
     ensures err { OnErr result (live.new ≡ live.old) }
 {
     let sent = live.works_sent(&ticket);
@@ -75,8 +76,8 @@ pub fn active_work(
     Ok(RowEffect::sends(alloc, messages))
 }
 
-/// Active, the commit act or PREPARE: where nobody takes part the case has read only, else each child is asked for its vote.
-/// Memory: nothing changed.
+/// Active, the commit act or PREPARE: where nobody takes part the case has read only, else each child is
+/// asked for its vote. Memory: nothing changed.
 pub fn active_commit(alloc: Global, seat: Seat, live: &mut Live) -> Result<RowEffect, AllocError>
     ensures ok { IfOk result (λ effect. Does seat (commit_row (seat_meant seat) live.old) effect live.new) }
     ensures err { OnErr result (live.new ≡ live.old) }
@@ -91,7 +92,8 @@ pub fn active_commit(alloc: Global, seat: Seat, live: &mut Live) -> Result<RowEf
 
 /// Under Presumed Commit the children are named in a forced record before they are asked.
 fn active_commit_with(alloc: Global, seat: Seat, live: &mut Live) -> Result<RowEffect, AllocError>
-    ensures ok { IfOk result (λ effect. Does seat (commit_with_row (seat_meant seat) live.old seat.case.txn.presumption) effect live.new) }
+    ensures ok { IfOk result (λ effect. Does seat
+        (commit_with_row (seat_meant seat) live.old seat.case.txn.presumption) effect live.new) }
     ensures err { OnErr result (live.new ≡ live.old) }
 {
     let messages = live.prepares(alloc, seat.me, seat.case.txn)?;
@@ -111,8 +113,8 @@ fn active_commit_with(alloc: Global, seat: Seat, live: &mut Live) -> Result<RowE
     }
 }
 
-/// Active, the abort act or ABORT: the children are told, and nothing is written, since none can have promised. Memory:
-/// nothing changed.
+/// Active, the abort act or ABORT: the children are told, and nothing is written, since none can have
+/// promised. Memory: nothing changed.
 pub fn active_abort(alloc: Global, seat: Seat, live: &mut Live) -> Result<RowEffect, AllocError>
     ensures ok { IfOk result (λ effect. Does seat (abort_row (seat_meant seat) live.old) effect live.new) }
     ensures err { OnErr result (live.new ≡ live.old) }

@@ -30,7 +30,8 @@ pub fn collecting_vote(
     vote: Vote,
     live: &mut Live,
 ) -> Result<RowEffect, AllocError>
-    ensures ok { IfOk result (λ effect. Does seat (vote_row (seat_meant seat) ticket vote live.old) effect live.new) }
+    ensures ok { IfOk result (λ effect. Does seat
+        (vote_row (seat_meant seat) ticket vote live.old) effect live.new) }
     ensures err { OnErr result (SameView live.new live.old) }
 {
     if !live.is_counted(&ticket) {
@@ -53,7 +54,8 @@ fn collecting_after(
     vote: Vote,
     live: &mut Live,
 ) -> Result<RowEffect, AllocError>
-    ensures ok { IfOk result (λ effect. Does seat (after_row (seat_meant seat) live.old vote) effect live.new) }
+    ensures ok { IfOk result (λ effect. Does seat
+        (after_row (seat_meant seat) live.old vote) effect live.new) }
     ensures err { OnErr result (live.new ≡ live.old) }
 {
     match vote {
@@ -68,15 +70,16 @@ fn collecting_after(
     }
 }
 
-/// Collecting, a NO, the abort act or ABORT: under Presumed Commit the abort is forced and names those that may have
-/// promised. Memory: nothing changed.
+/// Collecting, a NO, the abort act or ABORT: under Presumed Commit the abort is forced and names those that
+/// may have promised. Memory: nothing changed.
 pub fn collecting_abort(
     alloc: Global,
     seat: Seat,
     reason: Reason,
     live: &mut Live,
 ) -> Result<RowEffect, AllocError>
-    ensures ok { IfOk result (λ effect. Does seat (abort_row (seat_meant seat) (reason_meant reason) live.old) effect live.new) }
+    ensures ok { IfOk result (λ effect. Does seat
+        (abort_row (seat_meant seat) (reason_meant reason) live.old) effect live.new) }
     ensures err { OnErr result (live.new ≡ live.old) }
 {
     let undecided = live.undecided(alloc)?;
@@ -90,7 +93,8 @@ fn abort_undecided(
     undecided: Vec<Ticket>,
     live: &mut Live,
 ) -> Result<RowEffect, AllocError>
-    ensures ok { IfOk result (λ effect. Does seat (abort_by_row (seat_meant seat) (reason_meant reason) live.old undecided.items seat.case.txn.presumption) effect live.new) }
+    ensures ok { IfOk result (λ effect. Does seat (abort_by_row (seat_meant seat) (reason_meant reason)
+        live.old undecided.items seat.case.txn.presumption) effect live.new) }
     ensures err { OnErr result (live.new ≡ live.old) }
 {
     let mut messages = heard_above(alloc, seat, reason)?;
@@ -108,8 +112,8 @@ fn abort_undecided(
     }
 }
 
-/// The last vote, and none was NO: with nobody that promised the case has read only; else the root commits, and a
-/// coordinator below it promises.
+/// The last vote, and none was NO: with nobody that promised the case has read only; else the root commits,
+/// and a coordinator below it promises.
 fn collecting_full(alloc: Global, seat: Seat, live: &mut Live) -> Result<RowEffect, AllocError>
     ensures ok { IfOk result (λ effect. Does seat (full_row (seat_meant seat) live.old) effect live.new) }
     ensures err { OnErr result (live.new ≡ live.old) }
@@ -143,15 +147,16 @@ fn collecting_read_only(alloc: Global, seat: Seat, live: &mut Live) -> Result<Ro
     }
 }
 
-/// The root's decision: a forced Commit. Under Presumed Abort it names those that owe an acknowledgement; under Presumed
-/// Commit nobody owes one, and the case is forgotten.
+/// The root's decision: a forced Commit. Under Presumed Abort it names those that owe an acknowledgement;
+/// under Presumed Commit nobody owes one, and the case is forgotten.
 fn root_commits(
     alloc: Global,
     seat: Seat,
     yes: Vec<Ticket>,
     live: &mut Live,
 ) -> Result<RowEffect, AllocError>
-    ensures ok { IfOk result (λ effect. Does seat (commits_row (seat_meant seat) live.old yes.items seat.case.txn.presumption) effect live.new) }
+    ensures ok { IfOk result (λ effect. Does seat
+        (commits_row (seat_meant seat) live.old yes.items seat.case.txn.presumption) effect live.new) }
     ensures err { OnErr result (live.new ≡ live.old) }
 {
     let mut messages = Sequence::new(alloc);
@@ -178,7 +183,8 @@ fn cascaded_prepares(
     yes: &[Ticket],
     live: &mut Live,
 ) -> Result<RowEffect, AllocError>
-    ensures ok { IfOk result (λ effect. Does seat (promises_row (seat_meant seat) live.old yes.now) effect live.new) }
+    ensures ok { IfOk result (λ effect. Does seat
+        (promises_row (seat_meant seat) live.old yes.now) effect live.new) }
     ensures err { OnErr result (live.new ≡ live.old) }
 {
     let messages = up(alloc, seat, Message::Yes(seat.case))?;

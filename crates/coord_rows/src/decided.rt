@@ -24,14 +24,16 @@ use inquire_core::presumed;
 use std::alloc::{AllocError, Global};
 use tree_model::{Message, Outcome, Record, Sequence, Ticket};
 
-/// Committing or Aborting, an ACK that agrees: the last one that is owed ends the case. Memory: nothing changed.
+/// Committing or Aborting, an ACK that agrees: the last one that is owed ends the case. Memory: nothing
+/// changed.
 pub fn decided_ack(
     alloc: Global,
     seat: Seat,
     ticket: Ticket,
     live: &mut Live,
 ) -> Result<RowEffect, AllocError>
-    ensures ok { IfOk result (λ effect. Does seat (ack_row (seat_meant seat) ticket live.old) effect live.new) }
+    ensures ok { IfOk result (λ effect. Does seat
+        (ack_row (seat_meant seat) ticket live.old) effect live.new) }
     ensures err { OnErr result (live.new ≡ live.old) }
 {
     if !live.owes(&ticket) {
@@ -52,7 +54,8 @@ fn tell_one(
     outcome: Outcome,
     ticket: Ticket,
 ) -> Result<RowEffect, AllocError>
-    ensures { IfOk result (λ effect. (view : CoordinatorView) → Does seat (inquiry_row (seat_meant seat) outcome ticket view) effect view) }
+    ensures { IfOk result (λ effect. (view : CoordinatorView)
+        → Does seat (inquiry_row (seat_meant seat) outcome ticket view) effect view) }
 {
     let mut messages = Sequence::new(alloc);
     messages.push(outcome_message(seat, outcome, ticket))?;
@@ -66,14 +69,16 @@ pub fn decided_inquiry(
     outcome: Outcome,
     ticket: Ticket,
 ) -> Result<RowEffect, AllocError>
-    ensures { IfOk result (λ effect. (view : CoordinatorView) → Does seat (inquiry_row (seat_meant seat) outcome ticket view) effect view) }
+    ensures { IfOk result (λ effect. (view : CoordinatorView)
+        → Does seat (inquiry_row (seat_meant seat) outcome ticket view) effect view) }
 {
     tell_one(alloc, seat, outcome, ticket)
 }
 
 /// Committing, COMMIT again: it is acknowledged.
 pub fn committing_commit(alloc: Global, seat: Seat) -> Result<RowEffect, AllocError>
-    ensures { IfOk result (λ effect. (view : CoordinatorView) → Does seat (commit_again_row (seat_meant seat) view) effect view) }
+    ensures { IfOk result (λ effect. (view : CoordinatorView)
+        → Does seat (commit_again_row (seat_meant seat) view) effect view) }
 {
     let messages = up(alloc, seat, Message::Ack(seat.case, Outcome::Committed))?;
     Ok(RowEffect::sends(alloc, messages))
@@ -81,7 +86,8 @@ pub fn committing_commit(alloc: Global, seat: Seat) -> Result<RowEffect, AllocEr
 
 /// Aborting, ABORT again: it is acknowledged.
 pub fn aborting_abort(alloc: Global, seat: Seat) -> Result<RowEffect, AllocError>
-    ensures { IfOk result (λ effect. (view : CoordinatorView) → Does seat (abort_again_row (seat_meant seat) view) effect view) }
+    ensures { IfOk result (λ effect. (view : CoordinatorView)
+        → Does seat (abort_again_row (seat_meant seat) view) effect view) }
 {
     let messages = up(alloc, seat, Message::Ack(seat.case, Outcome::Aborted))?;
     Ok(RowEffect::sends(alloc, messages))
@@ -89,7 +95,8 @@ pub fn aborting_abort(alloc: Global, seat: Seat) -> Result<RowEffect, AllocError
 
 /// Aborting, PREPARE: NO.
 pub fn aborting_prepare(alloc: Global, seat: Seat) -> Result<RowEffect, AllocError>
-    ensures { IfOk result (λ effect. (view : CoordinatorView) → Does seat (late_prepare_row (seat_meant seat) view) effect view) }
+    ensures { IfOk result (λ effect. (view : CoordinatorView)
+        → Does seat (late_prepare_row (seat_meant seat) view) effect view) }
 {
     let messages = up(alloc, seat, Message::No(seat.case))?;
     Ok(RowEffect::sends(alloc, messages))
@@ -97,7 +104,8 @@ pub fn aborting_prepare(alloc: Global, seat: Seat) -> Result<RowEffect, AllocErr
 
 /// PREPARE of a case of which nothing is known: NO.
 pub fn unknown_prepare(alloc: Global, seat: Seat) -> Result<RowEffect, AllocError>
-    ensures { IfOk result (λ effect. (view : CoordinatorView) → Does seat (prepare_row (seat_meant seat) view) effect view) }
+    ensures { IfOk result (λ effect. (view : CoordinatorView)
+        → Does seat (prepare_row (seat_meant seat) view) effect view) }
 {
     let messages = up(alloc, seat, Message::No(seat.case))?;
     Ok(RowEffect::sends(alloc, messages))
@@ -105,7 +113,8 @@ pub fn unknown_prepare(alloc: Global, seat: Seat) -> Result<RowEffect, AllocErro
 
 /// COMMIT of a case of which nothing is known: acknowledged under Presumed Abort, else nothing.
 pub fn unknown_commit(alloc: Global, seat: Seat) -> Result<RowEffect, AllocError>
-    ensures { IfOk result (λ effect. (view : CoordinatorView) → Does seat (commit_row (seat_meant seat) view) effect view) }
+    ensures { IfOk result (λ effect. (view : CoordinatorView)
+        → Does seat (commit_row (seat_meant seat) view) effect view) }
 {
     let messages = acknowledge_commit(alloc, seat)?;
     Ok(RowEffect::sends(alloc, messages))
@@ -113,7 +122,8 @@ pub fn unknown_commit(alloc: Global, seat: Seat) -> Result<RowEffect, AllocError
 
 /// ABORT of a case of which nothing is known: acknowledged under Presumed Commit, else nothing.
 pub fn unknown_abort(alloc: Global, seat: Seat) -> Result<RowEffect, AllocError>
-    ensures { IfOk result (λ effect. (view : CoordinatorView) → Does seat (abort_row (seat_meant seat) view) effect view) }
+    ensures { IfOk result (λ effect. (view : CoordinatorView)
+        → Does seat (abort_row (seat_meant seat) view) effect view) }
 {
     let messages = acknowledge_abort(alloc, seat)?;
     Ok(RowEffect::sends(alloc, messages))
@@ -121,7 +131,8 @@ pub fn unknown_abort(alloc: Global, seat: Seat) -> Result<RowEffect, AllocError>
 
 /// INQUIRE of a child of which nothing is known: it gets what is presumed.
 pub fn unknown_inquiry(alloc: Global, seat: Seat, ticket: Ticket) -> Result<RowEffect, AllocError>
-    ensures { IfOk result (λ effect. (view : CoordinatorView) → Does seat (presumed_row (seat_meant seat) ticket view) effect view) }
+    ensures { IfOk result (λ effect. (view : CoordinatorView)
+        → Does seat (presumed_row (seat_meant seat) ticket view) effect view) }
 {
     tell_one(alloc, seat, presumed(seat.case.txn.presumption), ticket)
 }

@@ -45,8 +45,8 @@ fn waits(outcome: Outcome) -> Standing
     }
 }
 
-/// A decision that each of these owes an acknowledgement of: its record is forced and names them, and the case waits for
-/// them, or is forgotten where there are none. Memory: nothing changed.
+/// A decision that each of these owes an acknowledgement of: its record is forced and names them, and the
+/// case waits for them, or is forgotten where there are none. Memory: nothing changed.
 pub(crate) fn decides_owed(
     alloc: Global,
     seat: Seat,
@@ -56,7 +56,8 @@ pub(crate) fn decides_owed(
     messages: Envelopes,
     live: &mut Live,
 ) -> Result<RowEffect, AllocError>
-    ensures shows { IfOk result (λ effect. ShowsRecord seat.parent effect (record { entry = decision_of seat.case outcome owed.items; forced = true }) told messages) }
+    ensures shows { IfOk result (λ effect. ShowsRecord seat.parent effect
+        (record { entry = decision_of seat.case outcome owed.items; forced = true }) told messages) }
     ensures waiting { OnOk result (live.new ≡ awaits_view (waits_for outcome) owed.items live.old) }
     ensures err { OnErr result (live.new ≡ live.old) }
 {

@@ -45,7 +45,8 @@ impl Written {
         }
     }
 
-    /// The record as it stands in the log of this coordinator. One that no log can hold is refused as for want of memory.
+    /// The record as it stands in the log of this coordinator. One that no log can hold is refused as for
+    /// want of memory.
     fn framed(self, alloc: Global, seat: Seat) -> Result<Framed, AllocError>
         ensures { IfOk result (λ framed. Frames seat.parent framed self) }
     {
@@ -105,8 +106,8 @@ impl RowEffect {
         }
     }
 
-    /// A record is written, this is told, and these messages go out. A record that no log can hold is refused as for want
-    /// of memory.
+    /// A record is written, this is told, and these messages go out. A record that no log can hold is
+    /// refused as for want of memory.
     pub(crate) fn writes(
         alloc: Global,
         seat: Seat,

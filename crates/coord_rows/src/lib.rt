@@ -1,5 +1,5 @@
-//! The rows of the reaction table over a coordinator's live case (R*), for the root and for a coordinator below it, under
-//! Presumed Abort and Presumed Commit.
+//! The rows of the reaction table over a coordinator's live case (R*), for the root and for a coordinator
+//! below it, under Presumed Abort and Presumed Commit.
 //!
 //! ```text
 //!             commit, PREPARE         last YES: the root, commits

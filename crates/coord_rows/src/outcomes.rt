@@ -1,5 +1,5 @@
-//! The row that an outcome from the parent meets where a live case stands (R*). A decision that it contradicts stays as it
-//! is.
+//! The row that an outcome from the parent meets where a live case stands (R*). A decision that it
+//! contradicts stays as it is.
 
 ghost use Rattle.std.specs.Prelude.{◌≡◌, IfOk, OnErr};
 ghost use Rattle.tree_model.specs.CoordinatorRows.{on_abort as abort_row, on_commit as commit_row};
@@ -17,7 +17,8 @@ use tree_model::Standing;
 
 /// COMMIT of the parent. Memory: nothing changed.
 pub fn on_commit(alloc: Global, seat: Seat, live: &mut Live) -> Result<RowEffect, AllocError>
-    ensures ok { IfOk result (λ effect. Does seat (commit_row (seat_meant seat) live.old live.old.standing) effect live.new) }
+    ensures ok { IfOk result (λ effect. Does seat
+        (commit_row (seat_meant seat) live.old live.old.standing) effect live.new) }
     ensures err { OnErr result (live.new ≡ live.old) }
 {
     match live.standing() {
@@ -30,7 +31,8 @@ pub fn on_commit(alloc: Global, seat: Seat, live: &mut Live) -> Result<RowEffect
 
 /// ABORT of the parent. Memory: nothing changed.
 pub fn on_abort(alloc: Global, seat: Seat, live: &mut Live) -> Result<RowEffect, AllocError>
-    ensures ok { IfOk result (λ effect. Does seat (abort_row (seat_meant seat) live.old live.old.standing) effect live.new) }
+    ensures ok { IfOk result (λ effect. Does seat
+        (abort_row (seat_meant seat) live.old live.old.standing) effect live.new) }
     ensures err { OnErr result (live.new ≡ live.old) }
 {
     match live.standing() {

@@ -17,8 +17,9 @@ use coord_case::Live;
 use std::alloc::{AllocError, Global};
 use tree_model::{Message, Outcome, Presumption, Record, Sequence};
 
-/// Prepared, COMMIT: the promised are told. Under Presumed Abort the decision is forced and acknowledged, and names those
-/// that owe an acknowledgement; under Presumed Commit nobody owes one. Memory: nothing changed.
+/// Prepared, COMMIT: the promised are told. Under Presumed Abort the decision is forced and acknowledged,
+/// and names those that owe an acknowledgement; under Presumed Commit nobody owes one. Memory: nothing
+/// changed.
 pub fn prepared_commit(alloc: Global, seat: Seat, live: &mut Live) -> Result<RowEffect, AllocError>
     ensures ok { IfOk result (λ effect. Does seat (commit_row (seat_meant seat) live.old) effect live.new) }
     ensures err { OnErr result (live.new ≡ live.old) }
@@ -45,8 +46,8 @@ pub fn prepared_commit(alloc: Global, seat: Seat, live: &mut Live) -> Result<Row
     }
 }
 
-/// Prepared, ABORT: the promised are told. Under Presumed Commit the abort is forced and acknowledged, and names those
-/// that owe an acknowledgement; under Presumed Abort nobody owes one. Memory: nothing changed.
+/// Prepared, ABORT: the promised are told. Under Presumed Commit the abort is forced and acknowledged, and
+/// names those that owe an acknowledgement; under Presumed Abort nobody owes one. Memory: nothing changed.
 pub fn prepared_abort(alloc: Global, seat: Seat, live: &mut Live) -> Result<RowEffect, AllocError>
     ensures ok { IfOk result (λ effect. Does seat (abort_row (seat_meant seat) live.old) effect live.new) }
     ensures err { OnErr result (live.new ≡ live.old) }

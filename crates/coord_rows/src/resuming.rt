@@ -12,7 +12,8 @@ use tree_model::{Envelope, Envelopes, Message, Outcome, Standing};
 
 /// Behind these messages an inquiry to the parent, where there is one.
 fn inquire(messages: &mut Envelopes, seat: Seat) -> Result<(), AllocError>
-    ensures { OnOk result (messages.new ≡ messages.old ++ up_of (seat_meant seat) (Message.Inquire seat.case)) }
+    ensures { OnOk result (messages.new ≡ messages.old
+        ++ up_of (seat_meant seat) (Message.Inquire seat.case)) }
 {
     match seat.parent {
         None => Ok(()),
@@ -24,10 +25,11 @@ fn inquire(messages: &mut Envelopes, seat: Seat) -> Result<(), AllocError>
     }
 }
 
-/// Behind these messages what the case sends again: a decision goes to each that owes an acknowledgement, and a case in
-/// doubt asks its parent.
+/// Behind these messages what the case sends again: a decision goes to each that owes an acknowledgement,
+/// and a case in doubt asks its parent.
 pub fn resume(messages: &mut Envelopes, seat: Seat, live: &Live) -> Result<(), AllocError>
-    ensures { OnOk result (messages.new ≡ messages.old ++ resumes_by (seat_meant seat) live.now live.now.standing) }
+    ensures { OnOk result (messages.new ≡ messages.old
+        ++ resumes_by (seat_meant seat) live.now live.now.standing) }
 {
     match live.standing() {
         Standing::Committing => tell_each(messages, seat, Outcome::Committed, live.owed()),

@@ -80,7 +80,8 @@ pub(crate) fn one_message(
 
 /// An abort under Presumed Commit is acknowledged; under Presumed Abort nothing is said.
 pub(crate) fn acknowledge_abort(alloc: Global, seat: Seat) -> Result<Envelopes, AllocError>
-    ensures { IfOk result (λ messages. messages ≡ acknowledges_abort (seat_meant seat) seat.case.txn.presumption) }
+    ensures { IfOk result (λ messages. messages
+        ≡ acknowledges_abort (seat_meant seat) seat.case.txn.presumption) }
 {
     match seat.case.txn.presumption {
         Presumption::PresumeAbort => Ok(Sequence::new(alloc)),
@@ -90,7 +91,8 @@ pub(crate) fn acknowledge_abort(alloc: Global, seat: Seat) -> Result<Envelopes, 
 
 /// A commit under Presumed Abort is acknowledged; under Presumed Commit nothing is said.
 pub(crate) fn acknowledge_commit(alloc: Global, seat: Seat) -> Result<Envelopes, AllocError>
-    ensures { IfOk result (λ messages. (view : CoordinatorView) → messages ≡ (unknown_commit (seat_meant seat) view).messages) }
+    ensures { IfOk result (λ messages. (view : CoordinatorView) → messages
+        ≡ (unknown_commit (seat_meant seat) view).messages) }
 {
     match seat.case.txn.presumption {
         Presumption::PresumeAbort => up(alloc, seat, Message::Ack(seat.case, Outcome::Committed)),
@@ -135,7 +137,8 @@ pub(crate) fn tell_each(
     outcome: Outcome,
     tickets: &[Ticket],
 ) -> Result<(), AllocError>
-    ensures { OnOk result (messages.new ≡ messages.old ++ each (seat_meant seat) (tells_outcome outcome) tickets.now) }
+    ensures { OnOk result (messages.new ≡ messages.old
+        ++ each (seat_meant seat) (tells_outcome outcome) tickets.now) }
 {
     for ticket in tickets {
         messages.push(outcome_message(seat, outcome, *ticket))?;

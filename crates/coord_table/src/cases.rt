@@ -88,7 +88,8 @@ impl Cases {
         self.table.find(case)
     }
 
-    /// The key of the live case of the transaction that has the child's ticket: it is accepted, or a record names it.
+    /// The key of the live case of the transaction that has the child's ticket: it is accepted, or a record
+    /// names it.
     pub fn find_child(&self, txn: &Txn, ticket: &Ticket) -> Option<usize>
         ensures finds { FindsChild self.now txn.now ticket.now result }
         ensures apart { AreApart self.now }
@@ -178,7 +179,8 @@ impl Cases {
         Ok(())
     }
 
-    /// The case of a fresh ticket begins, which was just given for the parent's case. Memory: nothing changed.
+    /// The case of a fresh ticket begins, which was just given for the parent's case. Memory: nothing
+    /// changed.
     pub fn give(&mut self, alloc: Global, parent: Case, ticket: Ticket) -> Result<(), AllocError>
         requires fresh { live_value self.old (child_case parent.txn ticket) ≡ None }
         requires ungiven { ticket_in self.old parent ≡ None }

@@ -5,8 +5,8 @@ ghost use Rattle.coord_turns.specs.Asks.{is_retiring};
 
 use tree_model::{Op, Outcome, ProcessId, Ticket, Vote};
 
-/// What an input asks of a live case. The acts are asked where the case stands for them: Join, Work, Commit and AbortActive
-/// while it is Active, AbortCollecting while it collects votes, Ask while it is Prepared.
+/// What an input asks of a live case. The acts are asked where the case stands for them: Join, Work, Commit
+/// and AbortActive while it is Active, AbortCollecting while it collects votes, Ask while it is Prepared.
 #[derive(Clone, Copy)]
 pub enum Asked<'a> {
     /// This child is invited.

@@ -1,5 +1,5 @@
-//! What an input makes of a coordinator's live cases: which row of the reaction table it meets where a case stands, and what
-//! the row leaves in the table. The log is not touched here.
+//! What an input makes of a coordinator's live cases: which row of the reaction table it meets where a case
+//! stands, and what the row leaves in the table. The log is not touched here.
 //!
 //! | Input | Asked | Standing: row |
 //! |---|---|---|
@@ -12,8 +12,8 @@
 //! | COMMIT | `Commits` | Prepared: `prepared_commit`; Committing: acknowledged again |
 //! | ABORT | `Aborts` | Active, Collecting, Prepared: aborted; Aborting: acknowledged again |
 //!
-//! Anywhere else an input does nothing. A ticket that the coordinator gave is active as long as its case is Active; PREPARE and
-//! ABORT retire it. A case that the row leaves forgotten leaves the table.
+//! Anywhere else an input does nothing. A ticket that the coordinator gave is active as long as its case is
+//! Active; PREPARE and ABORT retire it. A case that the row leaves forgotten leaves the table.
 #![tactic(auto)]
 
 mod asked;

@@ -32,7 +32,8 @@ fn on_joined(
     ticket: Ticket,
     live: &mut Live,
 ) -> Result<RowEffect, AllocError>
-    ensures ok { IfOk result (λ effect. Does seat (joined_row ticket live.old live.old.standing) effect live.new) }
+    ensures ok { IfOk result (λ effect. Does seat
+        (joined_row ticket live.old live.old.standing) effect live.new) }
     ensures err { OnErr result (live.new ≡ live.old) }
 {
     match live.standing() {
@@ -49,7 +50,8 @@ fn on_vote(
     vote: Vote,
     live: &mut Live,
 ) -> Result<RowEffect, AllocError>
-    ensures ok { IfOk result (λ effect. Does seat (vote_row (seat_meant seat) ticket vote live.old live.old.standing) effect live.new) }
+    ensures ok { IfOk result (λ effect. Does seat
+        (vote_row (seat_meant seat) ticket vote live.old live.old.standing) effect live.new) }
     ensures err { OnErr result (SameView live.new live.old) }
 {
     match live.standing() {
@@ -66,7 +68,8 @@ fn on_ack(
     outcome: Outcome,
     live: &mut Live,
 ) -> Result<RowEffect, AllocError>
-    ensures ok { IfOk result (λ effect. Does seat (ack_row (seat_meant seat) ticket outcome live.old live.old.standing) effect live.new) }
+    ensures ok { IfOk result (λ effect. Does seat
+        (ack_row (seat_meant seat) ticket outcome live.old live.old.standing) effect live.new) }
     ensures err { OnErr result (live.new ≡ live.old) }
 {
     match (outcome, live.standing()) {
@@ -84,7 +87,8 @@ fn on_inquiry(
     ticket: Ticket,
     live: &Live,
 ) -> Result<RowEffect, AllocError>
-    ensures { IfOk result (λ effect. Does seat (inquiry_row (seat_meant seat) ticket live.now live.now.standing) effect live.now) }
+    ensures { IfOk result (λ effect. Does seat
+        (inquiry_row (seat_meant seat) ticket live.now live.now.standing) effect live.now) }
 {
     match inquire_core::answer(live.standing(), seat.case.txn.presumption) {
         Some(outcome) => decided_inquiry(alloc, seat, outcome, ticket),
@@ -94,7 +98,8 @@ fn on_inquiry(
 
 /// PREPARE of the parent.
 fn on_prepare(alloc: Global, seat: Seat, live: &mut Live) -> Result<RowEffect, AllocError>
-    ensures ok { IfOk result (λ effect. Does seat (prepare_row (seat_meant seat) live.old live.old.standing) effect live.new) }
+    ensures ok { IfOk result (λ effect. Does seat
+        (prepare_row (seat_meant seat) live.old live.old.standing) effect live.new) }
     ensures err { OnErr result (live.new ≡ live.old) }
 {
     match live.standing() {
@@ -114,7 +119,8 @@ pub fn take_row(
     live: &mut Live,
 ) -> Result<RowEffect, AllocError>
     requires { Accepts asked live.old }
-    ensures ok { IfOk result (λ effect. Does seat (asked_row (seat_meant seat) asked.entry live.old) effect live.new) }
+    ensures ok { IfOk result (λ effect. Does seat
+        (asked_row (seat_meant seat) asked.entry live.old) effect live.new) }
     ensures err { OnErr result (SameView live.new live.old) }
 {
     match asked {
@@ -137,7 +143,8 @@ pub fn take_row(
 /// The row that a case meets which is not live: JOINED and the messages of the parent.
 pub fn answer(alloc: Global, seat: Seat, asked: Asked) -> Result<RowEffect, AllocError>
     requires { is_for_any asked ≡ true }
-    ensures { IfOk result (λ effect. Does seat (asked_row (seat_meant seat) asked.entry unknown_view) effect unknown_view) }
+    ensures { IfOk result (λ effect. Does seat
+        (asked_row (seat_meant seat) asked.entry unknown_view) effect unknown_view) }
 {
     match asked {
         Asked::Prepare => unknown_prepare(alloc, seat),

@@ -59,8 +59,8 @@ fn is_forgotten(cases: &Cases, key: usize) -> bool
     }
 }
 
-/// The case under the key takes the row that it meets: PREPARE and ABORT retire its ticket, and it leaves the table where it
-/// is forgotten. Memory: nothing is otherwise.
+/// The case under the key takes the row that it meets: PREPARE and ABORT retire its ticket, and it leaves
+/// the table where it is forgotten. Memory: nothing is otherwise.
 pub fn take(
     alloc: Global,
     cases: &mut Cases,

@@ -69,21 +69,22 @@ pub fn opened_stands()
     ensures { OpenedStands }
 {}
 
-/// Where a process of any role that keeps records of its own alone stands for a process of the model, its restart
-/// is a move of that: it shows the same, and stands for what is left. So many unforced records are kept there as
-/// stand whole within the bytes that are kept.
+/// Where a process of any role that keeps records of its own alone stands for a process of the model, its
+/// restart is a move of that: it shows the same, and stands for what is left. So many unforced records are
+/// kept there as stand whole within the bytes that are kept.
 pub fn restarts_are_moves()
     ensures { RestartsAreMoves }
 {}
 
-/// Where its device fails in the restart, that is a move with a fault in it, and it stands for what that leaves.
+/// Where its device fails in the restart, that is a move with a fault in it, and it stands for what that
+/// leaves.
 pub fn restart_faults_are_moves()
     ensures { RestartFaultsAreMoves }
 {}
 
-/// Where a process of any role that is up stands for a process of the model that keeps what every run keeps, and the
-/// records of its log can stand in one, its trim is a move of that: so many records remain in both, and it stands for
-/// what is left.
+/// Where a process of any role that is up stands for a process of the model that keeps what every run keeps,
+/// and the records of its log can stand in one, its trim is a move of that: so many records remain in both,
+/// and it stands for what is left.
 pub fn trims_are_moves()
     ensures { TrimsAreMoves }
 {}
@@ -93,8 +94,8 @@ pub fn trim_faults_are_moves()
     ensures { TrimFaultsAreMoves }
 {}
 
-/// A process that has failed refuses a trim, as the model's process does for which it stands, and it still stands
-/// for it.
+/// A process that has failed refuses a trim, as the model's process does for which it stands, and it still
+/// stands for it.
 pub fn trim_refusals_are_moves()
     ensures { TrimRefusalsAreMoves }
 {}

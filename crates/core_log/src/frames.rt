@@ -55,8 +55,9 @@ fn is_writable(record: &LogRecord) -> bool
     }
 }
 
-/// The frame of a coordinator's record, as the log of a process below this parent holds it. One that no log can hold is
-/// refused as for want of memory: more than 255 tickets, or a number of 2^63 and more; no run makes one.
+/// The frame of a coordinator's record, as the log of a process below this parent holds it. One that no log
+/// can hold is refused as for want of memory: more than 255 tickets, or a number of 2^63 and more; no run
+/// makes one.
 #[tactic(auto, using(crate::proofs::Sound::sound_records))]
 pub fn coordinator_frame(
     entry: Record,

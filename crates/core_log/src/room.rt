@@ -7,7 +7,8 @@ use log_store::LogStore;
 use rec_log::RecLog;
 use std::alloc::AllocError;
 
-/// How many bytes the longest frame has: a byte for the record's kind, two for the payload's length, and the payload.
+/// How many bytes the longest frame has: a byte for the record's kind, two for the payload's length, and the
+/// payload.
 const LONGEST_FRAME: usize = 65_538;
 
 /// Makes room for the frame of any one record. A refusal changes nothing.

@@ -10,14 +10,16 @@ use log_store::LogStore;
 use log_text::Frame;
 use rec_log::{LogError, RecLog};
 
-/// Appends a record, and forces the log where the record is to be forced. Room for the frame was made before, so it cannot
-/// fail for memory. Device: the record stands or not, it may be forced, and the log has failed.
+/// Appends a record, and forces the log where the record is to be forced. Room for the frame was made
+/// before, so it cannot fail for memory. Device: the record stands or not, it may be forced, and the log has
+/// failed.
 pub fn write<L: LogStore>(log: &mut RecLog<L>, frame: &Frame, forced: bool) -> Result<(), LogError>
     requires room { length (record_text (frame_record frame.now)) ≤ log.old.room }
     requires works { log.old.sight.failed ≡ false }
     requires sound { IsRecord log.old.kind (frame_record frame.now) }
     ensures ok { OnOk result (Writes log.old log.new (frame_record frame.now) forced) }
-    ensures err { IfErr result (λ e. (e ≡ LogError.Device) × Breaks log.old log.new (frame_record frame.now ∷ [])) }
+    ensures err { IfErr result (λ e. (e ≡ LogError.Device)
+        × Breaks log.old log.new (frame_record frame.now ∷ [])) }
 {
     log.append(frame)?;
     if forced { log.force() } else { Ok(()) }

@@ -2,8 +2,8 @@
 
 ghost use Rattle.core_model.specs.Laws.{OpenedIsReadOff, SameCoresFindAlike, SameCoresReactAlike};
 
-/// Between two processes that differ in nothing that counts, each input meets the same refusal or has the same effect,
-/// and a child's case is found alike.
+/// Between two processes that differ in nothing that counts, each input meets the same refusal or has the
+/// same effect, and a child's case is found alike.
 pub fn same_cores_react_alike()
     ensures react { SameCoresReactAlike }
     ensures find { SameCoresFindAlike }

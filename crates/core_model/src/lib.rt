@@ -1,4 +1,5 @@
-//! What a process keeps while it runs, and what each input makes of it: definitions, and laws that they fit one another.
+//! What a process keeps while it runs, and what each input makes of it: definitions, and laws that they fit
+//! one another.
 #![tactic(auto)]
 
 pub mod law;

@@ -21,7 +21,8 @@ pub enum Audited {
     Damaged(ProcessId, usize),
 }
 
-/// The cases that an audit shows in doubt, and those that it shows decided otherwise, in the order of its lines.
+/// The cases that an audit shows in doubt, and those that it shows decided otherwise, in the order of its
+/// lines.
 #[derive(Drop)]
 pub struct Left {
     pub in_doubt: Vec<Case>,

@@ -12,8 +12,8 @@ pub enum Ending {
     Refused,
     /// An event was refused.
     Stopped,
-    /// Every event was made, and a crash ends with a case in doubt or a mismatch, or its own run was refused an event or
-    /// leaves a damaged log.
+    /// Every event was made, and a crash ends with a case in doubt or a mismatch, or its own run was refused
+    /// an event or leaves a damaged log.
     Finds,
 }
 

@@ -86,15 +86,17 @@ fn answer<P: Write>(
     }
 }
 
-/// Reads a tree script and tries each crash of it: behind each of its events, of each process, with each number of its
-/// unforced records that the crash may leave. Each is a run of its own of the script's events so far and the crash; then
-/// everything is delivered, every case that the logs show in doubt asks its parent, everything is delivered again, and the
-/// logs are audited. Writes a line for each crash that leaves a case in doubt or a mismatch, and the numbers of crashes;
-/// behind them which event was refused, if one was, or alone why the script was.
+/// Reads a tree script and tries each crash of it: behind each of its events, of each process, with each
+/// number of its unforced records that the crash may leave. Each is a run of its own of the script's events
+/// so far and the crash; then everything is delivered, every case that the logs show in doubt asks its
+/// parent, everything is delivered again, and the logs are audited. Writes a line for each crash that leaves
+/// a case in doubt or a mismatch, and the numbers of crashes; behind them which event was refused, if one
+/// was, or alone why the script was.
 ///
-/// Each of these runs is one of the model, of which the headline holds. The time goes with the square of the number of
-/// events. `progress` gets a line for each event; a failed write there is no failure of the run. After a failed read, or
-/// where memory is refused, nothing was written; after a failed write, a beginning of the text.
+/// Each of these runs is one of the model, of which the headline holds. The time goes with the square of the
+/// number of events. `progress` gets a line for each event; a failed write there is no failure of the run.
+/// After a failed read, or where memory is refused, nothing was written; after a failed write, a beginning
+/// of the text.
 pub fn run_crash<R: Read, W: Write, P: Write>(
     alloc: Global,
     reader: &mut R,
@@ -104,11 +106,14 @@ pub fn run_crash<R: Read, W: Write, P: Write>(
     ensures written { IfOk result (λ ending. (input : List ℕ) × (text : List ℕ)
         × IsInput (R.remaining reader.old) input × IsCrashReport ending input text
         × Appends (W.contents writer.old) (W.contents writer.new) text) }
-    ensures cut { IfErr result (λ e. e ≡ Failure.Write → (input : List ℕ) × (text : List ℕ) × (ending : AnyEnding)
+    ensures cut { IfErr result (λ e. e ≡ Failure.Write → (input : List ℕ)
+        × (text : List ℕ) × (ending : AnyEnding)
         × IsInput (R.remaining reader.old) input × IsCrashReport ending input text
         × WritesFront (W.contents writer.old) (W.contents writer.new) text) }
-    ensures unread { IfErr result (λ e. e ≡ Failure.Read → Keeps (W.contents writer.old) (W.contents writer.new)) }
-    ensures memory { IfErr result (λ e. e ≡ Failure.Memory → Keeps (W.contents writer.old) (W.contents writer.new)) }
+    ensures unread { IfErr result (λ e. e ≡ Failure.Read
+        → Keeps (W.contents writer.old) (W.contents writer.new)) }
+    ensures memory { IfErr result (λ e. e ≡ Failure.Memory
+        → Keeps (W.contents writer.old) (W.contents writer.new)) }
 {
     let input = read_all(alloc, reader)?;
     let (text, ending) = answer(alloc, &input, progress)?;

@@ -16,8 +16,8 @@ pub struct Point {
     pub keep: u64,
 }
 
-/// The points of a process whose unforced records take so many bytes: it keeps none of them, or the first, and so on to all.
-/// 2^64 bytes are taken for want of memory.
+/// The points of a process whose unforced records take so many bytes: it keeps none of them, or the first,
+/// and so on to all. 2^64 bytes are taken for want of memory.
 fn push_points(points: &mut Vec<Point>, process: ProcessId, sizes: &[u64]) -> Result<(), AllocError>
     ensures { OnOk result (points.new.items ≡ points.old.items ++ points_at process sizes.now) }
 {
@@ -33,8 +33,8 @@ fn push_points(points: &mut Vec<Point>, process: ProcessId, sizes: &[u64]) -> Re
     Ok(())
 }
 
-/// The points of a tree as it stands: for each process, in the order of the tree, each number of its unforced records that a
-/// crash may leave.
+/// The points of a tree as it stands: for each process, in the order of the tree, each number of its
+/// unforced records that a crash may leave.
 #[tactic(auto, unfolding(crate::specs::Points::points_in))]
 pub fn points_of(alloc: Global, world: &World<MemoryStore>) -> Result<Vec<Point>, AllocError>
     ensures { IfOk result (λ points. points.items ≡ points_in (state world.now)) }

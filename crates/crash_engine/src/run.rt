@@ -15,7 +15,8 @@ use tree_engine::Refusal;
 use tree_model::{Event, StepError, Tree};
 use tree_world::{World, copied_tree};
 
-/// A tree that runs, how many events it was given, and which of them was refused, if one was: then none behind it is made.
+/// A tree that runs, how many events it was given, and which of them was refused, if one was: then none
+/// behind it is made.
 #[derive(Drop)]
 pub struct Run {
     pub(crate) world: World<MemoryStore>,

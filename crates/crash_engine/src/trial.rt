@@ -60,8 +60,8 @@ fn found_of(alloc: Global, run: &Run) -> Result<Found, Failure>
     }
 }
 
-/// Runs these events anew and the crash behind them, settles, asks for every case that is in doubt by the logs, settles again,
-/// and audits the logs.
+/// Runs these events anew and the crash behind them, settles, asks for every case that is in doubt by the
+/// logs, settles again, and audits the logs.
 pub fn try_point(
     alloc: Global,
     tree: &Tree,
@@ -107,7 +107,8 @@ fn try_points(
     trials: &mut Vec<Trial>,
 ) -> Result<(), Failure>
     requires { IsTree tree.now }
-    ensures tried { OnOk result (AddsTrials tree.now events.now points.now trials.old.items trials.new.items) }
+    ensures tried { OnOk result (AddsTrials tree.now events.now points.now
+        trials.old.items trials.new.items) }
     ensures memory { IfErr result (λ e. e ≡ Failure.Memory) }
 {
     for point in points {
@@ -125,7 +126,8 @@ pub fn try_event(
     trials: &mut Vec<Trial>,
 ) -> Result<Refusal, Failure>
     requires { IsTree tree.now }
-    ensures adds { IfOk result (λ refusal. Adds tree.now events.now refusal trials.old.items trials.new.items) }
+    ensures adds { IfOk result (λ refusal. Adds tree.now events.now refusal
+        trials.old.items trials.new.items) }
     ensures memory { IfErr result (λ e. e ≡ Failure.Memory) }
 {
     let mut run = Run::open(alloc, tree)?;

@@ -14,7 +14,8 @@ ghost use Rattle.inquire_core.specs.Readings.{reading_of, standing_in, view_in};
 /// What is read of records is what the definitions say of them, which go through all records for each case:
 /// where the case stands, and its view.
 pub fn readings_are_exact()
-    ensures standing { (rs : List Record) (c : Case) → standing_in (reading_of rs).table c ≡ (recorded_view rs c).standing }
+    ensures standing { (rs : List Record) (c : Case) → standing_in (reading_of rs).table c
+        ≡ (recorded_view rs c).standing }
     ensures view { (rs : List Record) (c : Case) → view_in (reading_of rs).table c ≡ recorded_view rs c }
 {}
 

@@ -134,7 +134,8 @@ impl Reading {
         tree: &Tree,
         record: &LogRecord,
     ) -> Result<(), AllocError>
-        ensures { OnOk result (self.new ≡ fold noted self.old (own_by (place_below me parent tree.now) record.now (record_case record.now.entry))) }
+        ensures { OnOk result (self.new ≡ fold noted self.old
+            (own_by (place_below me parent tree.now) record.now (record_case record.now.entry))) }
     {
         match record.entry.case() {
             Some(case) => {
@@ -156,7 +157,8 @@ impl Reading {
         tree: &Tree,
         records: &[LogRecord],
     ) -> Result<Reading, AllocError>
-        ensures { IfOk result (λ r. r ≡ fold noted nothing_read (own_records (place_below me parent tree.now) records.now)) }
+        ensures { IfOk result (λ r. r ≡ fold noted nothing_read
+            (own_records (place_below me parent tree.now) records.now)) }
     {
         let mut reading = Reading::new(alloc);
         let mut rest = records;
@@ -176,7 +178,8 @@ impl Reading {
         tree: &Tree,
         records: &[LogRecord],
     ) -> Result<Reading, AllocError>
-        ensures { IfOk result (λ r. r ≡ reading_of (own_records (place_below me parent tree.now) records.now)) }
+        ensures { IfOk result (λ r. r ≡ reading_of
+            (own_records (place_below me parent tree.now) records.now)) }
     {
         Reading::noting(alloc, me, parent, tree, records)
     }

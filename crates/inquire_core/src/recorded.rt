@@ -41,7 +41,12 @@ impl Model for Recorded {
 
     ghost Value = { Summary };
 
-    ghost view = { λ r. record { stage = r.stage; promised = r.promised.items; named = r.named.items; owing = r.owing.items } };
+    ghost view = { λ r. record {
+      stage = r.stage;
+      promised = r.promised.items;
+      named = r.named.items;
+      owing = r.owing.items;
+    } };
 }
 
 impl Stage {
@@ -111,7 +116,8 @@ impl Recorded {
 
     /// A promise, which names these.
     fn promises(&mut self, tickets: &Tickets) -> Result<(), AllocError>
-        ensures { OnOk result (self.new ≡ record (names Stage.Prepared tickets.now self.old) { promised = self.old.promised ++ tickets.now }) }
+        ensures { OnOk result (self.new ≡ record (names Stage.Prepared tickets.now
+            self.old) { promised = self.old.promised ++ tickets.now }) }
     {
         self.promised.extend_from_slice(tickets.as_slice())?;
         self.names(Stage::Prepared, tickets)

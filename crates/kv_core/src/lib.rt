@@ -1,4 +1,5 @@
-//! A key store behind XA, without its log: the tables of calls, what each branch has written, the locks and the data.
+//! A key store behind XA, without its log: the tables of calls, what each branch has written, the locks and
+//! the data.
 //!
 //! ```text
 //! get, put, delete   a thread's work in the branch that it is active in

@@ -37,7 +37,8 @@ const VALUE: usize = 256;
 /// The most commits that are counted.
 const COMMITS: u64 = 0x7fff_ffff_ffff_ffff;
 
-/// The tables of calls, what each branch at work has written, the locks, the data, and what operators decided.
+/// The tables of calls, what each branch at work has written, the locks, the data, and what operators
+/// decided.
 #[derive(Drop)]
 pub struct KeyStore {
     alloc: Global,
@@ -53,9 +54,21 @@ impl Model for KeyStore {
 
     ghost Value = { KeySight };
 
-    ghost view = { λ s. record { tables = s.states; writes = s.writes; locks = s.locks; versions = s.versions; decisions = s.heuristics } };
+    ghost view = { λ s. record {
+      tables = s.states;
+      writes = s.writes;
+      locks = s.locks;
+      versions = s.versions;
+      decisions = s.heuristics;
+    } };
 
-    ghost invariant = { λ s. IsTidy (record { tables = s.states; writes = s.writes; locks = s.locks; versions = s.versions; decisions = s.heuristics }) };
+    ghost invariant = { λ s. IsTidy (record {
+      tables = s.states;
+      writes = s.writes;
+      locks = s.locks;
+      versions = s.versions;
+      decisions = s.heuristics;
+    }) };
 }
 
 /// Whether a key has no bytes or more than 64, or a value more than 256.
@@ -84,7 +97,8 @@ fn is_listed(rows: &[(Code, BranchState)], row: (Code, BranchState)) -> bool
     rows.contains(&row)
 }
 
-/// Whether a branch has let its writes and its locks go in this state: it is ended, or an operator decided it.
+/// Whether a branch has let its writes and its locks go in this state: it is ended, or an operator decided
+/// it.
 fn is_let_go(state: BranchState) -> bool
     ensures { result ≡ is_let_go state }
 {
@@ -94,7 +108,8 @@ fn is_let_go(state: BranchState) -> bool
 /// Notes what a record of a branch says of an operator's decision.
 fn note(heuristics: &mut Heuristics, xid: &Xid, entry: Option<Entry>)
     requires { CanNote entry heuristics.old xid.now }
-    ensures { Notes heuristics.old heuristics.new xid.now (known_behind entry (decision_in heuristics.old xid.now)) }
+    ensures { Notes heuristics.old heuristics.new xid.now
+        (known_behind entry (decision_in heuristics.old xid.now)) }
 {
     match entry {
         Some(Entry::HeurCommit) => heuristics.decide(xid, Outcome::Committed),
@@ -123,9 +138,9 @@ fn copied(bytes: Option<&[u8]>, alloc: Global) -> Result<Option<Bytes>, AllocErr
 }
 
 impl KeyStore {
-    /// The store behind a restart: a manager that is not open, with these branches in doubt, in this order: prepared (in
-    /// S3), or where the second is true decided by an operator (in S5). RmErr: they are more than 1,024. DupId: one of
-    /// them stands there twice.
+    /// The store behind a restart: a manager that is not open, with these branches in doubt, in this order:
+    /// prepared (in S3), or where the second is true decided by an operator (in S5). RmErr: they are more
+    /// than 1,024. DupId: one of them stands there twice.
     pub fn restored(
         alloc: Global,
         left: &[(Xid, bool)],
@@ -134,8 +149,15 @@ impl KeyStore {
         versions: Versions,
         heuristics: Heuristics,
     ) -> Result<Result<Self, Code>, AllocError>
-        requires { (t : AnyStates) → Restored left.now t → IsTidy (record { tables = t; writes = writes; locks = locks; versions = versions; decisions = heuristics }) }
-        ensures { IfOk result (λ made. MatchResult made (λ store. Rebuilt store left.now writes locks versions heuristics)
+        requires { (t : AnyStates) → Restored left.now t → IsTidy (record {
+          tables = t;
+          writes = writes;
+          locks = locks;
+          versions = versions;
+          decisions = heuristics;
+        }) }
+        ensures { IfOk result (λ made. MatchResult made
+            (λ store. Rebuilt store left.now writes locks versions heuristics)
             (λ refusal. restore_refusal left.now ≡ Some refusal)) }
     {
         match States::restored(alloc, left)? {
@@ -210,7 +232,8 @@ impl KeyStore {
 
     /// Why a branch may not do its work at a key.
     fn refusal(&self, xid: &Xid, key: &[u8], value: Option<&[u8]>, mode: Mode) -> Option<WorkError>
-        ensures { result ≡ branch_refusal self.now key.now (option_map (λ v. v.now) value.entry) mode xid.now }
+        ensures { result ≡ branch_refusal self.now key.now
+            (option_map (λ v. v.now) value.entry) mode xid.now }
     {
         if self.states.state(xid) == BranchState::S4 {
             return Some(WorkError::RollbackOnly);
@@ -237,7 +260,8 @@ impl KeyStore {
     ) -> Result<Xid, WorkError>
         ensures ok { IfOk result (λ xid. (at_work self.now thread ≡ Some xid)
             × (branch_refusal self.now key.now (option_map (λ v. v.now) value.entry) mode xid ≡ None)) }
-        ensures err { IfErr result (λ e. work_refusal self.now thread key.now (option_map (λ v. v.now) value.entry) mode ≡ Some e) }
+        ensures err { IfErr result (λ e. work_refusal self.now thread key.now
+            (option_map (λ v. v.now) value.entry) mode ≡ Some e) }
     {
         let Some(xid) = self.at_work(thread) else {
             return Err(WorkError::NotAssociated);
@@ -261,11 +285,12 @@ impl KeyStore {
         }
     }
 
-    /// Reads a key for a thread's branch, which holds it from then on, at least shared. NotAssociated, RollbackOnly,
-    /// TooLong, Locked, in this order. A refusal changes nothing.
+    /// Reads a key for a thread's branch, which holds it from then on, at least shared. NotAssociated,
+    /// RollbackOnly, TooLong, Locked, in this order. A refusal changes nothing.
     pub fn get(&mut self, thread: u32, key: &[u8]) -> Result<Option<Bytes>, WorkError>
         ensures ok { IfOk result (λ found. Reads self.old self.new thread key.now found) }
-        ensures err { IfErr result (λ e. IsRefused self.old self.new (work_refusal self.old thread key.now None mode.Shared) e) }
+        ensures err { IfErr result (λ e. IsRefused self.old self.new
+            (work_refusal self.old thread key.now None mode.Shared) e) }
     {
         let xid = self.worker(thread, key, None, Mode::Shared)?;
         let found = copied(self.value(&xid, key), self.alloc)?;
@@ -277,7 +302,8 @@ impl KeyStore {
 
     /// Writes a key for a thread's branch, or deletes it, which holds it exclusively from then on.
     fn write(&mut self, thread: u32, key: &[u8], value: Option<&[u8]>) -> Result<(), WorkError>
-        ensures ok { OnOk result (Writes self.old self.new thread key.now (option_map (λ v. v.now) value.entry)) }
+        ensures ok { OnOk result (Writes self.old self.new thread key.now
+            (option_map (λ v. v.now) value.entry)) }
         ensures err { IfErr result (λ e. IsRefused self.old self.new
             (work_refusal self.old thread key.now (option_map (λ v. v.now) value.entry) mode.Exclusive) e) }
     {
@@ -296,11 +322,12 @@ impl KeyStore {
         }
     }
 
-    /// Writes a value at a key for a thread's branch. NotAssociated, RollbackOnly, TooLong, Locked, TooManyWrites, in
-    /// this order. A refusal changes nothing.
+    /// Writes a value at a key for a thread's branch. NotAssociated, RollbackOnly, TooLong, Locked,
+    /// TooManyWrites, in this order. A refusal changes nothing.
     pub fn put(&mut self, thread: u32, key: &[u8], value: &[u8]) -> Result<(), WorkError>
         ensures ok { OnOk result (Writes self.old self.new thread key.now (Some value.now)) }
-        ensures err { IfErr result (λ e. IsRefused self.old self.new (work_refusal self.old thread key.now (Some value.now) mode.Exclusive) e) }
+        ensures err { IfErr result (λ e. IsRefused self.old self.new
+            (work_refusal self.old thread key.now (Some value.now) mode.Exclusive) e) }
     {
         self.write(thread, key, Some(value))
     }
@@ -308,7 +335,8 @@ impl KeyStore {
     /// Deletes a key for a thread's branch, with the refusals of `put`.
     pub fn delete(&mut self, thread: u32, key: &[u8]) -> Result<(), WorkError>
         ensures ok { OnOk result (Writes self.old self.new thread key.now None) }
-        ensures err { IfErr result (λ e. IsRefused self.old self.new (work_refusal self.old thread key.now None mode.Exclusive) e) }
+        ensures err { IfErr result (λ e. IsRefused self.old self.new
+            (work_refusal self.old thread key.now None mode.Exclusive) e) }
     {
         self.write(thread, key, None)
     }
@@ -362,8 +390,8 @@ impl KeyStore {
         self.heuristics.reserve()
     }
 
-    /// A branch takes its turn: that of a call, or of an operator's decision, which takes the row of a commit from S3 to S5.
-    /// In S0 and S5 it lets its writes and its locks go. It takes no memory.
+    /// A branch takes its turn: that of a call, or of an operator's decision, which takes the row of a
+    /// commit from S3 to S5. In S0 and S5 it lets its writes and its locks go. It takes no memory.
     pub fn finish(&mut self, xid: &Xid, call: Call, turn: Turn)
         requires known { is_known self.old.tables.branches.branches xid.now ≡ true }
         requires turn { IsTurn self.old xid.now call turn }

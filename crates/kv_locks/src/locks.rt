@@ -31,7 +31,8 @@ pub enum LockError {
     /// There was no memory.
     #[error("no memory")]
     Memory,
-    /// Another branch holds the key, and the two would not both be shared: the one of those that took it first.
+    /// Another branch holds the key, and the two would not both be shared: the one of those that took it
+    /// first.
     #[error("held by another branch")]
     Held(Xid),
 }
@@ -85,8 +86,8 @@ impl Locks {
         }
     }
 
-    /// The first branch in the way of a branch's lock, if there is one: where there is none, a lock is refused for
-    /// memory alone.
+    /// The first branch in the way of a branch's lock, if there is one: where there is none, a lock is
+    /// refused for memory alone.
     pub fn blocker(&self, xid: &Xid, key: &[u8], mode: Mode) -> Option<Xid>
         ensures { result ≡ blocked_by (holders_of self.now key.now) xid.now mode }
     {
@@ -102,8 +103,8 @@ impl Locks {
         self.take(xid, key, Mode::Shared)
     }
 
-    /// An exclusive lock for a branch, in place of a shared one that it holds alone. Held: another branch holds the
-    /// key. Either refusal changes nothing.
+    /// An exclusive lock for a branch, in place of a shared one that it holds alone. Held: another branch
+    /// holds the key. Either refusal changes nothing.
     pub fn exclusive(&mut self, xid: &Xid, key: &[u8]) -> Result<(), LockError>
         ensures ok { OnOk result (Gives self.old self.new xid.now key.now mode.Exclusive) }
         ensures err { IfErr result (Refuses self.old self.new xid.now key.now mode.Exclusive) }

@@ -93,9 +93,11 @@ impl<L: LogStore> KvManager<L> {
         self.boot
     }
 
-    /// The bytes of its log, as a list made anew. Behind a failure of the device a torn frame may stand at the end.
+    /// The bytes of its log, as a list made anew. Behind a failure of the device a torn frame may stand at
+    /// the end.
     pub fn log_text(&self) -> Result<Vec<u8>, AllocError>
-        ensures { IfOk result (λ text. ReadsAs kind.Manager text.items (records_of self.now.log.sight.kept) self.now.log.sight.failed) }
+        ensures { IfOk result (λ text. ReadsAs kind.Manager text.items (records_of self.now.log.sight.kept)
+            self.now.log.sight.failed) }
     {
         self.log.text(self.alloc)
     }
@@ -107,9 +109,11 @@ impl<L: LogStore> KvManager<L> {
         self.log.size()
     }
 
-    /// How many of the records behind the forced ones a crash would leave that keeps so many bytes behind the forced front.
+    /// How many of the records behind the forced ones a crash would leave that keeps so many bytes behind
+    /// the forced front.
     pub fn left_behind(&self, keep: usize) -> Result<usize, AllocError>
-        ensures { IfOk result (λ count. count ≡ length (whole_within (self.now.log.sight.behind + keep) self.now.log.sight.kept.unforced)) }
+        ensures { IfOk result (λ count. count
+            ≡ length (whole_within (self.now.log.sight.behind + keep) self.now.log.sight.kept.unforced)) }
     {
         self.log.left_behind(keep, self.alloc)
     }
@@ -128,7 +132,8 @@ impl<L: LogStore> KvManager<L> {
         self.log.records(self.alloc)
     }
 
-    /// The records that a crash would leave which keeps so many bytes behind the forced front, as a list made anew.
+    /// The records that a crash would leave which keeps so many bytes behind the forced front, as a list
+    /// made anew.
     pub fn left(&self, keep: usize) -> Result<Vec<LogRecord>, AllocError>
         ensures { IfOk result (λ records. records.items ≡ left_by self.now.log.sight keep) }
     {
@@ -149,7 +154,8 @@ impl<L: LogStore> KvManager<L> {
         self.store.state(xid)
     }
 
-    /// What an operator decided of a branch, and what it was told since; None where no operator decided it, and behind forget.
+    /// What an operator decided of a branch, and what it was told since; None where no operator decided it,
+    /// and behind forget.
     pub fn decision(&self, xid: &Xid) -> Option<Decision>
         ensures { result ≡ decision_at (state_of self.now.store xid.now) (known_of self.now.store xid.now) }
     {
@@ -230,7 +236,8 @@ impl<L: LogStore> KvManager<L> {
         requires { is_work_verb verb ≡ true }
         ensures answer { IfOk result (λ answer. (wanted : Wanted)
             → Calls self.old self.new (answer ≡ Code.RmFail)
-            (λ before behind. MovesTables before behind (λ old new. Answers wanted old new verb thread xid.now flags.0 answer))) }
+            (λ before behind. MovesTables before behind
+            (λ old new. Answers wanted old new verb thread xid.now flags.0 answer))) }
         ensures err { OnErr result ((leaves (legal verb flags.0) ≡ false) × SameManager self.old self.new) }
     {
         if self.has_failed() {
@@ -247,7 +254,8 @@ impl<L: LogStore> KvManager<L> {
         flags: Flags,
     ) -> Result<Result<Vec<Xid>, Code>, AllocError>
         ensures answer { IfOk result (λ answer. Calls self.old self.new (map_ok answer ≡ Err Code.RmFail)
-            (λ before behind. MovesTables before behind (λ old new. Recovers old new thread count flags.0 (map_ok answer)))) }
+            (λ before behind. MovesTables before behind
+            (λ old new. Recovers old new thread count flags.0 (map_ok answer)))) }
         ensures err { OnErr result (SameManager self.old self.new) }
     {
         if self.has_failed() {
@@ -363,8 +371,8 @@ impl<L: LogStore> KvManager<L> {
         self.finish(Verb::Prepare, xid, flags)
     }
 
-    /// A prepared branch commits, or with TMONEPHASE one that is not prepared. One that an operator decided answers by the
-    /// decision, and the first outcome that it is told is noted. RmFail as at `prepare`.
+    /// A prepared branch commits, or with TMONEPHASE one that is not prepared. One that an operator decided
+    /// answers by the decision, and the first outcome that it is told is noted. RmFail as at `prepare`.
     pub fn commit(&mut self, _thread: u32, xid: &Xid, flags: Flags) -> Result<Code, AllocError>
         ensures answer { IfOk result (Finishes self.old self.new Verb.Commit xid.now flags.0) }
         ensures err { OnErr result (SameManager self.old self.new) }
@@ -388,9 +396,9 @@ impl<L: LogStore> KvManager<L> {
         self.finish(Verb::Forget, xid, flags)
     }
 
-    /// An operator decides a prepared branch, without its parent: the decision is forced, and stands until it is forgotten.
-    /// The manager need not be open. Failed, then NotInDoubt: nothing changed. Memory: nothing changed, also where no commit
-    /// more can be counted. Device: it fails now.
+    /// An operator decides a prepared branch, without its parent: the decision is forced, and stands until
+    /// it is forgotten. The manager need not be open. Failed, then NotInDoubt: nothing changed. Memory:
+    /// nothing changed, also where no commit more can be counted. Device: it fails now.
     pub fn decide(&mut self, xid: &Xid, outcome: Outcome) -> Result<(), DecideError>
         ensures ok { OnOk result (Decides (sight_of self.old) (sight_of self.new) xid.now outcome) }
         ensures err { IfErr result (NotDecided (sight_of self.old) (sight_of self.new) xid.now outcome) }
@@ -410,19 +418,22 @@ impl<L: LogStore> KvManager<L> {
     pub fn start(&mut self, thread: u32, xid: &Xid, flags: Flags) -> Result<Code, AllocError>
         ensures answer { IfOk result (λ answer. (wanted : Wanted)
             → Calls self.old self.new (answer ≡ Code.RmFail)
-            (λ before behind. MovesTables before behind (λ old new. Answers wanted old new Verb.Start thread xid.now flags.0 answer))) }
+            (λ before behind. MovesTables before behind
+            (λ old new. Answers wanted old new Verb.Start thread xid.now flags.0 answer))) }
         ensures err { OnErr result (SameManager self.old self.new) }
     {
         self.work_call(Verb::Start, thread, xid, flags)
     }
 
-    /// A thread ends its work in a branch, or suspends it. RmFail: the manager has failed. With TMSUCCESS and with TMFAIL
-    /// it takes no memory.
+    /// A thread ends its work in a branch, or suspends it. RmFail: the manager has failed. With TMSUCCESS
+    /// and with TMFAIL it takes no memory.
     pub fn end(&mut self, thread: u32, xid: &Xid, flags: Flags) -> Result<Code, AllocError>
         ensures answer { IfOk result (λ answer. (wanted : Wanted)
             → Calls self.old self.new (answer ≡ Code.RmFail)
-            (λ before behind. MovesTables before behind (λ old new. Answers wanted old new Verb.End thread xid.now flags.0 answer))) }
-        ensures err { OnErr result ((leaves (legal Verb.End flags.0) ≡ false) × SameManager self.old self.new) }
+            (λ before behind. MovesTables before behind
+            (λ old new. Answers wanted old new Verb.End thread xid.now flags.0 answer))) }
+        ensures err { OnErr result ((leaves (legal Verb.End flags.0) ≡ false)
+            × SameManager self.old self.new) }
     {
         self.work_call(Verb::End, thread, xid, flags)
     }
@@ -479,8 +490,8 @@ impl<L: LogStore> KvManager<L> {
 }
 
 impl<L: LogStore + Drop> KvManager<L> {
-    /// A manager over an empty store, which is not open: its log has the record of its first boot. The errors are those of
-    /// `restore`.
+    /// A manager over an empty store, which is not open: its log has the record of its first boot. The
+    /// errors are those of `restore`.
     pub fn create(store: L, alloc: Global) -> Result<Self, (RestoreError, L)>
         requires { L.bytes store ≡ [] }
         ensures ok { IfOk result (λ manager. IsNew (sight_of manager)) }

@@ -76,11 +76,19 @@ fn next_boot(last: Option<u64>) -> Option<u64>
 /// The last boot that a log holds.
 const BOOTS: u64 = 0x7fff_ffff_ffff_ffff;
 
-/// The key store of what replayed. Memory: there was none. Unfit: more branches are in doubt than it holds, or one of them
-/// twice.
+/// The key store of what replayed. Memory: there was none. Unfit: more branches are in doubt than it holds,
+/// or one of them twice.
 fn stored(replayed: Replayed, alloc: Global) -> Result<KeyStore, RestartError>
-    requires { (t : AnyStates) → Restored replayed.left.items t → IsTidy (record { tables = t; writes = replayed.writes; locks = replayed.locks; versions = replayed.data; decisions = replayed.decisions }) }
-    ensures ok { IfOk result (λ store. Rebuilt store replayed.left.items replayed.writes replayed.locks replayed.data replayed.decisions) }
+    requires { (t : AnyStates) → Restored replayed.left.items t
+        → IsTidy (record {
+          tables = t;
+          writes = replayed.writes;
+          locks = replayed.locks;
+          versions = replayed.data;
+          decisions = replayed.decisions;
+        }) }
+    ensures ok { IfOk result (λ store. Rebuilt store replayed.left.items replayed.writes replayed.locks
+        replayed.data replayed.decisions) }
     ensures err { IfErr result (NotStored replayed.left.items) }
 {
     let Replayed {
@@ -230,15 +238,16 @@ fn write_boot<L: LogStore>(
     }
 }
 
-/// What a manager over a log that was opened starts as; the record of its boot is in the log, forced. Device: the record
-/// could not be written. The other errors are those of `rebuilt`.
+/// What a manager over a log that was opened starts as; the record of its boot is in the log, forced.
+/// Device: the record could not be written. The other errors are those of `rebuilt`.
 pub(crate) fn started<L: LogStore>(
     log: &mut RecLog<L>,
     alloc: Global,
 ) -> Result<(KeyStore, u64), RestartError>
     requires works { log.old.sight.failed ≡ false }
     requires kind { log.old.kind ≡ kind.Manager }
-    ensures ok { IfOk result (λ made. StartsOver log.old (record { store = made.0; log = log.new; boot = made.1 })) }
+    ensures ok { IfOk result (λ made. StartsOver log.old
+        (record { store = made.0; log = log.new; boot = made.1 })) }
     ensures err { IfErr result (LeavesNone log.old log.new) }
     ensures kind { log.new.kind ≡ log.old.kind }
 {

@@ -30,8 +30,8 @@ fn trim_error(error: LogError) -> TrimError
 }
 
 impl<L: LogStore> KvManager<L> {
-    /// The frames of the data that the log's records make, keys rising. It also gives none where the records leave no
-    /// manager.
+    /// The frames of the data that the log's records make, keys rising. It also gives none where the records
+    /// leave no manager.
     fn data_frames(&self) -> Result<Vec<Frame>, AllocError>
         ensures frames { IfOk result (λ frames. map frame_record frames.items
             ≡ map unnamed (base_records (data_of (records_of self.now.log.sight.kept)))) }
@@ -45,9 +45,10 @@ impl<L: LogStore> KvManager<L> {
         base_frames(replayed.data.count(), &pairs, self.alloc)
     }
 
-    /// Trims its log: the last Opened and the records of the branches that are not forgotten stay, and behind them the data,
-    /// keys rising, forced by one write. Gives how many records remain. Failed, Memory: nothing changed. Device: the log
-    /// stands as it was or trimmed, and the manager has failed until a restart.
+    /// Trims its log: the last Opened and the records of the branches that are not forgotten stay, and
+    /// behind them the data, keys rising, forced by one write. Gives how many records remain. Failed,
+    /// Memory: nothing changed. Device: the log stands as it was or trimmed, and the manager has failed
+    /// until a restart.
     pub fn trim(&mut self) -> Result<usize, TrimError>
         ensures ok { IfOk result (Trims (sight_of self.old) (sight_of self.new)) }
         ensures err { IfErr result (NotTrimmed (sight_of self.old) (sight_of self.new)) }

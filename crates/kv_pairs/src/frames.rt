@@ -45,8 +45,8 @@ fn fits(key: &Bytes, value: &Bytes) -> bool
     1 <= key.len() && key.len() <= 64 && value.len() <= 256
 }
 
-/// The frames of a base of so many commits and of these pairs. It gives none for want of memory, and where one of them
-/// cannot stand in a log.
+/// The frames of a base of so many commits and of these pairs. It gives none for want of memory, and where
+/// one of them cannot stand in a log.
 pub fn base_frames(
     count: u64,
     pairs: &[(Bytes, Bytes)],

@@ -13,7 +13,11 @@ use xa_xid::Xid;
 /// A decided branch was told an outcome.
 fn told(heuristics: &mut Heuristics, xid: &Xid, outcome: Outcome) -> Result<(), AllocError>
     ensures { OnOk result (Notes heuristics.old heuristics.new xid.now
-        (Some (record { outcome = (decision_or (decision_in heuristics.old xid.now)).outcome; told = Some outcome }))) }
+        (Some (record {
+          outcome = (decision_or
+              (decision_in heuristics.old xid.now)).outcome;
+          told = Some outcome;
+        }))) }
 {
     let decision = Decision {
         outcome: heuristics.known(xid).outcome,

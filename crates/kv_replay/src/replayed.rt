@@ -73,11 +73,12 @@ fn read(records: Vec<LogRecord>, alloc: Global) -> Result<Reading, ReplayError>
 
 /// What the records of a log leave of a key store. It goes through them twice.
 ///
-/// Malformed: a record may not follow those before it, or a branch that is open behind the last one promised more than
-/// 64 writes, a key that has not 1 to 64 bytes, or a value of more than 256. Exhausted: some records in front count
-/// 2^63 commits or more. With an error the records are gone.
+/// Malformed: a record may not follow those before it, or a branch that is open behind the last one promised
+/// more than 64 writes, a key that has not 1 to 64 bytes, or a value of more than 256. Exhausted: some
+/// records in front count 2^63 commits or more. With an error the records are gone.
 pub fn replay(records: Vec<LogRecord>, alloc: Global) -> Result<Replayed, ReplayError>
-    ensures ok { IfOk result (λ r. Leaves records.items r.boot r.left.items r.data r.writes r.locks r.decisions) }
+    ensures ok { IfOk result (λ r. Leaves records.items r.boot r.left.items r.data
+        r.writes r.locks r.decisions) }
     ensures err { IfErr result (Fails records.items) }
 {
     let decisions = decided(&records, alloc)?;

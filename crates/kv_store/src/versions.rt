@@ -49,7 +49,12 @@ impl Model for Versions {
 
     ghost Value = { VersionTable };
 
-    ghost view = { λ v. record { base = v.base; count = v.count; is_staged = v.is_staged; versions = table_of v.keys.entries } };
+    ghost view = { λ v. record {
+      base = v.base;
+      count = v.count;
+      is_staged = v.is_staged;
+      versions = table_of v.keys.entries;
+    } };
 
     ghost invariant = { λ v. IsKept v.base v.count v.is_staged (table_of v.keys.entries) };
 }
@@ -117,7 +122,8 @@ impl Versions {
         }
     }
 
-    /// Stages the writes of the next commit, which nobody sees before it is published. Memory: nothing changed.
+    /// Stages the writes of the next commit, which nobody sees before it is published. Memory: nothing
+    /// changed.
     pub fn stage(&mut self, writes: &[Write]) -> Result<(), AllocError>
         requires unstaged { self.old.is_staged ≡ false }
         requires fits { self.old.count + 1 < 2 ^ 63 }
@@ -182,7 +188,8 @@ fn version_of(alloc: Global, count: u64, write: &Write) -> Result<Version, Alloc
 
 /// Gives a key one version more.
 fn push(alloc: Global, keys: &mut Keys, key: &[u8], version: Version) -> Result<(), AllocError>
-    ensures ok { OnOk result (AddsVersion (table_of keys.old.entries) (table_of keys.new.entries) key.now version) }
+    ensures ok { OnOk result (AddsVersion (table_of keys.old.entries)
+        (table_of keys.new.entries) key.now version) }
     ensures err { OnErr result (SameLists (table_of keys.old.entries) (table_of keys.new.entries)) }
 {
     match keys.get_mut(key) {
@@ -198,7 +205,8 @@ fn push(alloc: Global, keys: &mut Keys, key: &[u8], version: Version) -> Result<
 
 /// Gives the key of a write one version more.
 fn push_write(alloc: Global, keys: &mut Keys, count: u64, write: &Write) -> Result<(), AllocError>
-    ensures ok { OnOk result (AddsVersion (table_of keys.old.entries) (table_of keys.new.entries) write.now.key
+    ensures ok { OnOk result (AddsVersion (table_of keys.old.entries)
+        (table_of keys.new.entries) write.now.key
         (record { count = count; value = write.now.value })) }
     ensures err { OnErr result (SameLists (table_of keys.old.entries) (table_of keys.new.entries)) }
 {
@@ -209,7 +217,8 @@ fn push_write(alloc: Global, keys: &mut Keys, count: u64, write: &Write) -> Resu
 /// Gives each key one version more for each of its writes.
 fn push_each(alloc: Global, keys: &mut Keys, count: u64, writes: &[Write]) -> Result<(), AllocError>
     ensures ok { OnOk result (Adds (table_of keys.old.entries) (table_of keys.new.entries) count writes.now) }
-    ensures err { OnErr result (AddsFront (table_of keys.old.entries) (table_of keys.new.entries) count writes.now) }
+    ensures err { OnErr result (AddsFront (table_of keys.old.entries)
+        (table_of keys.new.entries) count writes.now) }
 {
     let mut rest = writes;
     while let [write, behind @ ..] = rest {

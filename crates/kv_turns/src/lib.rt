@@ -14,8 +14,9 @@
 //! | S5 | commit, rollback | XA_HEURCOM, XA_HEURRB | S5 | Told, forced as the outcome would be, where nothing was told yet |
 //! | S5 | forget | XA_OK | S0 | Forgot, forced |
 //!
-//! A branch whose XID is of no case is under Presumed Abort, and what it is told is forced. Committed, Direct and
-//! HeurCommit make the branch's writes data; a branch that comes to S0 or S5 lets its writes and its locks go.
+//! A branch whose XID is of no case is under Presumed Abort, and what it is told is forced. Committed,
+//! Direct and HeurCommit make the branch's writes data; a branch that comes to S0 or S5 lets its writes and
+//! its locks go.
 #![tactic(auto)]
 
 mod entries;

@@ -30,8 +30,8 @@ fn is_acknowledged(presumption: Presumption, outcome: Outcome) -> bool
     )
 }
 
-/// Whether the record of what a decided branch is told is forced: as its outcome would be; of a branch that is no case's
-/// always.
+/// Whether the record of what a decided branch is told is forced: as its outcome would be; of a branch that
+/// is no case's always.
 fn is_told_forced(branch: Branch, outcome: Outcome) -> bool
     ensures { result ≡ is_told_forced branch outcome }
 {
@@ -122,8 +122,8 @@ impl Turn {
         }
     }
 
-    /// What a prepare, commit, rollback or forget makes of a branch in this state that wrote something or nothing, and in S5
-    /// was decided so by an operator.
+    /// What a prepare, commit, rollback or forget makes of a branch in this state that wrote something or
+    /// nothing, and in S5 was decided so by an operator.
     pub fn of(
         from: BranchState,
         call: Call,

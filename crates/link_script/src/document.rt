@@ -117,7 +117,8 @@ fn has_known_keys(value: &Value) -> bool
 /// The parent that a value names, where there is one.
 fn parent_of(value: Option<&Value>) -> Option<Option<ProcessId>>
     ensures found { IfSome result (λ parent. May IsId (option_map (λ v. view v.now) value.entry) parent) }
-    ensures none { IfNone result ((parent : Option AnyProcess) → May IsId (option_map (λ v. view v.now) value.entry) parent → ⊥) }
+    ensures none { IfNone result ((parent : Option AnyProcess)
+        → May IsId (option_map (λ v. view v.now) value.entry) parent → ⊥) }
 {
     match value {
         None => Some(None),
@@ -159,7 +160,8 @@ fn info_of(alloc: Global, value: Option<&Value>) -> Result<Option<Bytes>, Docume
 /// The process that a value describes.
 fn process_of(alloc: Global, value: &Value) -> Result<TreeEntry, DocumentError>
     ensures found { IfOk result (λ p. IsProcess (view value.now) p) }
-    ensures none { IfErr result (λ e. e ≡ DocumentError.TreeText → (p : AnyEntry) → IsProcess (view value.now) p → ⊥) }
+    ensures none { IfErr result (λ e. e ≡ DocumentError.TreeText → (p : AnyEntry)
+        → IsProcess (view value.now) p → ⊥) }
 {
     if !has_known_keys(value) {
         return Err(DocumentError::TreeText);
@@ -188,7 +190,8 @@ fn process_of(alloc: Global, value: &Value) -> Result<TreeEntry, DocumentError>
 /// The processes that these values describe.
 fn processes_of(alloc: Global, values: &[Value]) -> Result<Vec<TreeEntry>, DocumentError>
     ensures found { IfOk result (λ ps. AreProcesses (items_view values.now) ps.items) }
-    ensures none { IfErr result (λ e. e ≡ DocumentError.TreeText → (es : List AnyEntry) → AreProcesses (items_view values.now) es → ⊥) }
+    ensures none { IfErr result (λ e. e ≡ DocumentError.TreeText → (es : List AnyEntry)
+        → AreProcesses (items_view values.now) es → ⊥) }
 {
     let mut processes = Vec::new(alloc);
     for value in values {
@@ -202,8 +205,10 @@ fn processes_of(alloc: Global, values: &[Value]) -> Result<Vec<TreeEntry>, Docum
 
 /// The value of the one key that a tree's table has.
 fn only_value(table: &Table) -> Option<&Value>
-    ensures found { IfSome result (λ v. table_view table.now ≡ member (codes "process") (view v.now) no_members) }
-    ensures none { IfNone result ((d : Data) → table_view table.now ≡ member (codes "process") d no_members → ⊥) }
+    ensures found { IfSome result (λ v. table_view table.now
+        ≡ member (codes "process") (view v.now) no_members) }
+    ensures none { IfNone result ((d : Data) → table_view table.now
+        ≡ member (codes "process") d no_members → ⊥) }
 {
     if table.len() == 1 {
         table.get("process")
@@ -215,7 +220,8 @@ fn only_value(table: &Table) -> Option<&Value>
 /// The processes of a table.
 fn tree_of(alloc: Global, table: &Table) -> Result<Vec<TreeEntry>, DocumentError>
     ensures found { IfOk result (λ ps. IsTable (table_view table.now) ps.items) }
-    ensures none { IfErr result (λ e. e ≡ DocumentError.TreeText → (es : List AnyEntry) → IsTable (table_view table.now) es → ⊥) }
+    ensures none { IfErr result (λ e. e ≡ DocumentError.TreeText → (es : List AnyEntry)
+        → IsTable (table_view table.now) es → ⊥) }
 {
     if table.is_empty() {
         return Ok(Vec::new(alloc));
@@ -232,7 +238,8 @@ fn tree_of(alloc: Global, table: &Table) -> Result<Vec<TreeEntry>, DocumentError
 /// The processes of a text.
 pub fn read_tree(alloc: Global, text: &str) -> Result<Tree, DocumentError>
     ensures found { IfOk result (λ tree. IsTreeText text.now tree) }
-    ensures none { IfErr result (λ e. e ≡ DocumentError.TreeText → (es : List AnyEntry) → IsTreeText text.now es → ⊥) }
+    ensures none { IfErr result (λ e. e ≡ DocumentError.TreeText → (es : List AnyEntry)
+        → IsTreeText text.now es → ⊥) }
 {
     match toml::table_from_str(alloc, text) {
         Ok(table) => match tree_of(alloc, &table) {

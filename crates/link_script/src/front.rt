@@ -22,10 +22,11 @@ pub struct Front<'a> {
     pub lines: Vec<&'a str>,
 }
 
-/// Reads the tree's text and cuts the lines behind it. The faults are Utf8, TreeText and Tree, each judged over the
-/// whole input before the next.
+/// Reads the tree's text and cuts the lines behind it. The faults are Utf8, TreeText and Tree, each judged
+/// over the whole input before the next.
 pub fn read_front<'a>(alloc: Global, bytes: &'a [u8]) -> Result<Front<'a>, ScriptError>
-    ensures ok { IfOk result (λ front. IsFront bytes.now front.tree front.rule (map (λ s. s.now) front.lines.items)) }
+    ensures ok { IfOk result (λ front. IsFront bytes.now front.tree front.rule
+        (map (λ s. s.now) front.lines.items)) }
     ensures few { IfOk result (λ front. front.rule + length front.lines.items < 2 ^ 64) }
     ensures err { IfErr result (λ error. IsFrontError bytes.now error) }
 {

@@ -18,8 +18,8 @@ ghost use Rattle.link_script.specs.Spellings.{
   process_text,
 };
 
-/// Each name has one spelling: what is read is spelled so, and what is spelled so is read. Transactions and cases are
-/// those of one root.
+/// Each name has one spelling: what is read is spelled so, and what is spelled so is read. Transactions and
+/// cases are those of one root.
 pub fn names_are_spelled_once()
     ensures process_read { ReadIsSpelled process_at process_text FitsProcess }
     ensures process_spelled { SpelledIsRead process_at process_text FitsProcess }
@@ -31,8 +31,8 @@ pub fn names_are_spelled_once()
     ensures case_spelled { (root : ProcessId) → SpelledIsRead (case_at root) case_text (FitsCase root) }
 {}
 
-/// Each line of an event has one spelling, with what stands in a `work`: what is read is spelled so, and what is
-/// spelled so is read, over a tree with this root.
+/// Each line of an event has one spelling, with what stands in a `work`: what is read is spelled so, and
+/// what is spelled so is read, over a tree with this root.
 pub fn lines_are_spelled_once()
     ensures op_read { ReadIsSpelled op_at op_text FitsOp }
     ensures op_spelled { SpelledIsRead op_at op_text FitsOp }

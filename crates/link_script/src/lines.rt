@@ -50,10 +50,12 @@ fn is_rule(line: &str) -> bool
     line == "---" || line == "---\r"
 }
 
-/// The text before the first line that is just three dashes, how many lines it has, and the text behind that line.
+/// The text before the first line that is just three dashes, how many lines it has, and the text behind that
+/// line.
 pub fn around(text: &str) -> Option<(&str, u64, &str)>
     ensures { MatchOption result (around_rule (pieces text.now) ≡ None) (λ r.
-        (fronts : List (List ℕ)) × (behind : List (List ℕ)) × (around_rule (pieces text.now) ≡ Some (fronts, behind))
+        (fronts : List (List ℕ)) × (behind : List (List ℕ))
+        × (around_rule (pieces text.now) ≡ Some (fronts, behind))
         × (r.0.now ≡ lines_text fronts) × (r.1 ≡ length fronts) × (lines_in r.2.now ≡ lines_of_parts behind)
         × (length r.0.now + length r.2.now + 3 ≤ length text.now)) }
 {
@@ -81,8 +83,10 @@ pub fn events_of(
     lines: &[&str],
 ) -> Result<Vec<Event>, LineError>
     requires { before + length lines.now < 2 ^ 64 }
-    ensures ok { IfOk result (λ v. events_at (event_at root) (before + 1) (map (λ s. s.now) lines.now) ≡ Ok v.items) }
-    ensures err { IfErr result (λ e. IsLineFault e (events_at (event_at root) (before + 1) (map (λ s. s.now) lines.now))) }
+    ensures ok { IfOk result (λ v. events_at (event_at root) (before + 1)
+        (map (λ s. s.now) lines.now) ≡ Ok v.items) }
+    ensures err { IfErr result (λ e. IsLineFault e
+        (events_at (event_at root) (before + 1) (map (λ s. s.now) lines.now))) }
 {
     let mut events = Vec::new(alloc);
     for (i, line) in lines.iter().enumerate() {

@@ -28,7 +28,8 @@ pub enum ScriptFault {
     /// More than 100,000 lines ask for an event.
     #[error("the script has more than 100000 event lines")]
     TooLong,
-    /// The line of this number, counted from the input's first from 1 on, asks for no event; those before it do.
+    /// The line of this number, counted from the input's first from 1 on, asks for no event; those before it
+    /// do.
     #[error("line {0} is the line of no event")]
     Line(u64),
 }
@@ -68,8 +69,8 @@ impl From<AllocError> for ScriptError {
     }
 }
 
-/// The tree and the events of a script: the tree's text, a line `---`, and a line for each event. Empty lines and lines
-/// that begin with `#` are skipped.
+/// The tree and the events of a script: the tree's text, a line `---`, and a line for each event. Empty
+/// lines and lines that begin with `#` are skipped.
 pub fn read(alloc: Global, bytes: &[u8]) -> Result<(Tree, Vec<Event>), ScriptError>
     ensures ok { IfOk result (λ (tree, events). IsScript bytes.now tree events.items) }
     ensures err { IfErr result (λ error. IsScriptError bytes.now error) }

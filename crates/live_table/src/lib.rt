@@ -5,8 +5,9 @@
 //! keys    for each transaction, the keys of its cases, in order of insertion
 //! ```
 //!
-//! Each case has one key at most. Every look-up goes by the transaction, which every message names, and then through the
-//! few keys of that transaction; so a key that was freed, and is another case's now, is never taken for the old case.
+//! Each case has one key at most. Every look-up goes by the transaction, which every message names, and then
+//! through the few keys of that transaction; so a key that was freed, and is another case's now, is never
+//! taken for the old case.
 #![tactic(auto)]
 
 mod lists;

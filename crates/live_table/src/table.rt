@@ -125,7 +125,8 @@ impl<V: Drop> LiveTable<V> {
         find_case(&self.slots, self.keys(&case.txn), case)
     }
 
-    /// The key of a case of the transaction whose value passes the test: the first one, in order of insertion.
+    /// The key of a case of the transaction whose value passes the test: the first one, in order of
+    /// insertion.
     pub fn find_by<F: Fn(&V) -> bool>(&self, txn: &Txn, test: F) -> Option<usize>
         requires { F.IsAlwaysCallable test }
         ensures finds { FindsBy (λ v b. FnReturnsAt F.Fn test v b) self.now txn.now result }

@@ -19,10 +19,10 @@ use std::io::{Read, Write};
 use trace_lines::{kind_word, push, push_number};
 use tree_model::{Kind, ProcessId, Record, TreeEntry};
 
-/// Reads a tree with its logs, and writes what each log holds, in the order of the tree: a line `log P`, a line for each
-/// record with the place of its first byte, and `torn N` where the log has a torn tail; or one line that says which log is
-/// damaged where, or why the input is refused. After a failed read, or where memory is refused, nothing was written; after
-/// a failed write, a beginning of the text.
+/// Reads a tree with its logs, and writes what each log holds, in the order of the tree: a line `log P`, a
+/// line for each record with the place of its first byte, and `torn N` where the log has a torn tail; or one
+/// line that says which log is damaged where, or why the input is refused. After a failed read, or where
+/// memory is refused, nothing was written; after a failed write, a beginning of the text.
 pub fn run_log<R: Read, W: Write>(
     alloc: Global,
     reader: &mut R,
@@ -31,11 +31,14 @@ pub fn run_log<R: Read, W: Write>(
     ensures written { IfOk result (λ status. (input : List ℕ) × (text : List ℕ)
         × IsInput (R.remaining reader.old) input × IsLogReport status input text
         × Appends (W.contents writer.old) (W.contents writer.new) text) }
-    ensures cut { IfErr result (λ e. e ≡ Failure.Write → (input : List ℕ) × (text : List ℕ) × (status : AnyStatus)
+    ensures cut { IfErr result (λ e. e ≡ Failure.Write → (input : List ℕ)
+        × (text : List ℕ) × (status : AnyStatus)
         × IsInput (R.remaining reader.old) input × IsLogReport status input text
         × WritesFront (W.contents writer.old) (W.contents writer.new) text) }
-    ensures unread { IfErr result (λ e. e ≡ Failure.Read → Keeps (W.contents writer.old) (W.contents writer.new)) }
-    ensures memory { IfErr result (λ e. e ≡ Failure.Memory → Keeps (W.contents writer.old) (W.contents writer.new)) }
+    ensures unread { IfErr result (λ e. e ≡ Failure.Read
+        → Keeps (W.contents writer.old) (W.contents writer.new)) }
+    ensures memory { IfErr result (λ e. e ≡ Failure.Memory
+        → Keeps (W.contents writer.old) (W.contents writer.new)) }
 {
     let input = read_all(alloc, reader)?;
     let (text, status) = report(alloc, &input)?;

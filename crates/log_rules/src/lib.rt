@@ -1,5 +1,5 @@
-//! What makes a log's records right: their order, which of them a trim keeps, which can stand in a log at all, and what a
-//! process reads of them.
+//! What makes a log's records right: their order, which of them a trim keeps, which can stand in a log at
+//! all, and what a process reads of them.
 #![tactic(auto)]
 
 pub mod order;

@@ -6,9 +6,9 @@ use crate::memory::MemoryStore;
 use crate::store::{LogStore, StoreError};
 use std::alloc::AllocError;
 
-/// A store in memory whose device fails once: at the call that comes behind so many others, counted over `append`, `force`
-/// and `replace`. A failed append leaves none of its bytes, a failed force the forced front as it was, and a failed
-/// replace the old bytes.
+/// A store in memory whose device fails once: at the call that comes behind so many others, counted over
+/// `append`, `force` and `replace`. A failed append leaves none of its bytes, a failed force the forced
+/// front as it was, and a failed replace the old bytes.
 #[derive(Debug, Drop)]
 pub struct FaultStore {
     store: MemoryStore,

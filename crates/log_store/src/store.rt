@@ -64,19 +64,21 @@ pub trait LogStore {
         ensures ok { OnOk result (Appends bytes forced failures self.old self.new more.now) }
         ensures room { room self.old ≤ room self.new }
         ensures memory { IfErr result (λ e. e ≡ StoreError.Memory
-            → MemoryRefuses bytes forced failures self.old self.new (room self.old) (length (bytes self.old) + length more.now)) }
+            → MemoryRefuses bytes forced failures self.old self.new (room self.old)
+            (length (bytes self.old) + length more.now)) }
         ensures device { IfErr result (λ e. e ≡ StoreError.Device
             → AppendBreaks bytes forced failures self.old self.new more.now) };
 
-    /// Forces all that stands. Where the device fails, the forced front ends anywhere between its old end and the
-    /// end of the bytes. It takes no memory.
+    /// Forces all that stands. Where the device fails, the forced front ends anywhere between its old end
+    /// and the end of the bytes. It takes no memory.
     fn force(&mut self) -> Result<(), StoreError>
         ensures ok { OnOk result (Forces bytes forced failures self.old self.new) }
         ensures room { room self.old ≤ room self.new }
-        ensures err { IfErr result (λ e. (e ≡ StoreError.Device) × ForceBreaks bytes forced failures self.old self.new) };
+        ensures err { IfErr result (λ e. (e ≡ StoreError.Device)
+            × ForceBreaks bytes forced failures self.old self.new) };
 
-    /// Puts these bytes, forced, in place of all that stands. Where the device fails, the old bytes stand with their
-    /// forced front, or the new ones.
+    /// Puts these bytes, forced, in place of all that stands. Where the device fails, the old bytes stand
+    /// with their forced front, or the new ones.
     fn replace(&mut self, new: &[u8]) -> Result<(), StoreError>
         ensures ok { OnOk result (Replaces bytes forced failures self.old self.new new.now) }
         ensures memory { IfErr result (λ e. e ≡ StoreError.Memory
@@ -84,8 +86,8 @@ pub trait LogStore {
         ensures device { IfErr result (λ e. e ≡ StoreError.Device
             → ReplaceBreaks bytes forced failures self.old self.new new.now) };
 
-    /// What a crash leaves: the forced bytes and the first `keep` others (all, where there are fewer). It cannot
-    /// fail, and the forced front stays where it was.
+    /// What a crash leaves: the forced bytes and the first `keep` others (all, where there are fewer). It
+    /// cannot fail, and the forced front stays where it was.
     fn crash(&mut self, keep: usize)
         ensures left { Crashes bytes forced failures self.old self.new keep }
         ensures room { room self.old ≤ room self.new };

@@ -34,7 +34,8 @@ use xa_xid::Xid;
 /// How many bytes a frame is thought to have. A longer one grows.
 const FRAME: usize = 128;
 
-/// The XID that a log writes for a name: a branch, and the parent of a case below the root. It takes no memory.
+/// The XID that a log writes for a name: a branch, and the parent of a case below the root. It takes no
+/// memory.
 pub fn name_xid(parent: Option<ProcessId>, branch: Branch) -> Xid
     ensures { result ≡ name_xid parent branch }
 {

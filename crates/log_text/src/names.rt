@@ -26,7 +26,8 @@ fn child_name(xid: &Xid, txn: Txn, parent: ProcessId, ticket: Ticket) -> (Option
     (Some(parent), Branch::Case(Case { txn, ticket }))
 }
 
-/// The name that an XID is: the case that has this XID, with its parent below the root, or else the XID itself.
+/// The name that an XID is: the case that has this XID, with its parent below the root, or else the XID
+/// itself.
 pub fn name_in(xid: &Xid) -> (Option<ProcessId>, Branch)
     requires { IsXid xid.now }
     ensures { result ≡ name_in xid.now }

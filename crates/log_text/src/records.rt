@@ -147,8 +147,8 @@ fn manager_record(kind: u8, payload: &[u8], alloc: Global) -> Result<LogRecord, 
     Ok(LogRecord { entry, parent })
 }
 
-/// The record of a frame of this kind and payload. Malformed comes exactly where the kind is unknown or of the other
-/// sort of process, or the payload is not exactly that of a record.
+/// The record of a frame of this kind and payload. Malformed comes exactly where the kind is unknown or of
+/// the other sort of process, or the payload is not exactly that of a record.
 #[tactic(auto, unfolding(crate::specs::Reading::read_record))]
 pub fn read_record(
     process: Kind,

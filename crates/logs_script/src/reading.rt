@@ -57,7 +57,8 @@ fn logs_behind(
 ) -> Result<ProcessLogs, ScriptError>
     requires { rule + length lines.now < 2 ^ 64 }
     ensures ok { IfOk result (λ logs. logs_of tree.now rule (map (λ s. s.now) lines.now) ≡ Ok logs) }
-    ensures err { IfErr result (λ error. IsNumbered error (logs_of tree.now rule (map (λ s. s.now) lines.now))) }
+    ensures err { IfErr result (λ error. IsNumbered error
+        (logs_of tree.now rule (map (λ s. s.now) lines.now))) }
 {
     let mut logs = Sequence::new(alloc);
     for (i, line) in lines.iter().enumerate() {
@@ -80,10 +81,11 @@ fn logs_behind(
     Ok(logs)
 }
 
-/// Reads the text of a tree, a line of three dashes, and a line for the log of each process, each once, in any order. Empty
-/// lines and lines that begin with `#` are skipped. The faults are Utf8, TreeText, Tree and Line, each judged over the
-/// whole input before the next. Line has the number of the first line that is the line of no log, of no process of the
-/// tree, or of a process that has one already; where each is sound and a process has none, that of the input's last.
+/// Reads the text of a tree, a line of three dashes, and a line for the log of each process, each once, in
+/// any order. Empty lines and lines that begin with `#` are skipped. The faults are Utf8, TreeText, Tree and
+/// Line, each judged over the whole input before the next. Line has the number of the first line that is the
+/// line of no log, of no process of the tree, or of a process that has one already; where each is sound and
+/// a process has none, that of the input's last.
 pub fn read_logs(alloc: Global, bytes: &[u8]) -> Result<(Tree, ProcessLogs), ScriptError>
     ensures ok { IfOk result (λ (tree, logs). IsLogsText bytes.now tree logs) }
     ensures err { IfErr result (λ error. IsLogsError bytes.now error) }

@@ -95,8 +95,8 @@ fn push_logs(alloc: Global, out: &mut Vec<u8>, logs: &[ProcessLog]) -> Result<()
     Ok(())
 }
 
-/// Writes the processes of a tree, a line of three dashes, and a line for each of these logs. It is what `read_logs`
-/// reads where each process of the tree has one log.
+/// Writes the processes of a tree, a line of three dashes, and a line for each of these logs. It is what
+/// `read_logs` reads where each process of the tree has one log.
 pub fn logs_text(
     alloc: Global,
     entries: &[TreeEntry],

@@ -23,8 +23,8 @@ use xa_manager::WorkError;
 use xa_tables::{BranchState, Verb};
 use xa_xid::Xid;
 
-/// A resource manager: the calls of XA, a thread's work, and its log, whatever its data are. A manager whose device has
-/// failed answers XAER_RMFAIL to each call, and changes nothing. Want of memory changes nothing.
+/// A resource manager: the calls of XA, a thread's work, and its log, whatever its data are. A manager whose
+/// device has failed answers XAER_RMFAIL to each call, and changes nothing. Want of memory changes nothing.
 pub trait ResourceManager {
     ghost sight: { Self → ManagerSight };
 
@@ -40,9 +40,11 @@ pub trait ResourceManager {
     fn state(&self, xid: &Xid) -> BranchState
         ensures { result ≡ state_at (sight self.now).tables xid.now };
 
-    /// What an operator decided of a branch, and what it was told since; None where no operator decided it, and behind forget.
+    /// What an operator decided of a branch, and what it was told since; None where no operator decided it,
+    /// and behind forget.
     fn decision(&self, xid: &Xid) -> Option<Decision>
-        ensures { result ≡ decision_at (state_at (sight self.now).tables xid.now) ((sight self.now).decided xid.now) };
+        ensures { result ≡ decision_at (state_at (sight self.now).tables xid.now)
+            ((sight self.now).decided xid.now) };
 
     /// Opens the manager, which migrates associations or not. RmFail.
     fn open(&mut self, flags: Flags, migrates: bool) -> Code
@@ -66,33 +68,40 @@ pub trait ResourceManager {
         ensures answer { IfOk result (λ answer. (wanted : Wanted)
             → Calls (sight self.old) (sight self.new) (answer ≡ Code.RmFail)
             (λ old new. Answers wanted old new Verb.End thread xid.now flags.0 answer)) }
-        ensures err { OnErr result ((is_left flags.0 ≡ false) × SameManager (sight self.old) (sight self.new)) };
+        ensures err { OnErr result ((is_left flags.0 ≡ false)
+            × SameManager (sight self.old) (sight self.new)) };
 
-    /// A branch promises, with what it has written; one that wrote nothing is ended. RmFail: the device had failed, or
-    /// fails now. RmErr: a limit of the manager's own, which changes nothing. The thread is not looked at.
+    /// A branch promises, with what it has written; one that wrote nothing is ended. RmFail: the device had
+    /// failed, or fails now. RmErr: a limit of the manager's own, which changes nothing. The thread is not
+    /// looked at.
     fn prepare(&mut self, thread: u32, xid: &Xid, flags: Flags) -> Result<Code, AllocError>
-        ensures answer { IfOk result (Finishes (sight self.old) (sight self.new) Verb.Prepare xid.now flags.0) }
+        ensures answer { IfOk result (Finishes (sight self.old) (sight self.new)
+            Verb.Prepare xid.now flags.0) }
         ensures err { OnErr result (SameManager (sight self.old) (sight self.new)) };
 
-    /// A prepared branch commits, or with TMONEPHASE one that is not prepared. One that an operator decided answers by the
-    /// decision, and the first outcome that it is told is noted. RmFail, RmErr as at `prepare`.
+    /// A prepared branch commits, or with TMONEPHASE one that is not prepared. One that an operator decided
+    /// answers by the decision, and the first outcome that it is told is noted. RmFail, RmErr as at
+    /// `prepare`.
     fn commit(&mut self, thread: u32, xid: &Xid, flags: Flags) -> Result<Code, AllocError>
-        ensures answer { IfOk result (Finishes (sight self.old) (sight self.new) Verb.Commit xid.now flags.0) }
+        ensures answer { IfOk result (Finishes (sight self.old) (sight self.new)
+            Verb.Commit xid.now flags.0) }
         ensures err { OnErr result (SameManager (sight self.old) (sight self.new)) };
 
     /// A branch rolls back; one that an operator decided as at `commit`. RmFail, RmErr as at `prepare`.
     fn rollback(&mut self, thread: u32, xid: &Xid, flags: Flags) -> Result<Code, AllocError>
-        ensures answer { IfOk result (Finishes (sight self.old) (sight self.new) Verb.Rollback xid.now flags.0) }
+        ensures answer { IfOk result (Finishes (sight self.old) (sight self.new)
+            Verb.Rollback xid.now flags.0) }
         ensures err { OnErr result (SameManager (sight self.old) (sight self.new)) };
 
     /// An operator's decision about a branch is forgotten. RmFail, RmErr as at `prepare`.
     fn forget(&mut self, thread: u32, xid: &Xid, flags: Flags) -> Result<Code, AllocError>
-        ensures answer { IfOk result (Finishes (sight self.old) (sight self.new) Verb.Forget xid.now flags.0) }
+        ensures answer { IfOk result (Finishes (sight self.old) (sight self.new)
+            Verb.Forget xid.now flags.0) }
         ensures err { OnErr result (SameManager (sight self.old) (sight self.new)) };
 
-    /// An operator decides a prepared branch, without its parent: the decision is forced, and stands until it is forgotten.
-    /// The manager need not be open. Failed, then NotInDoubt: nothing changed. Memory: nothing changed, also where a limit of
-    /// the manager's own is met. Device: it fails now.
+    /// An operator decides a prepared branch, without its parent: the decision is forced, and stands until
+    /// it is forgotten. The manager need not be open. Failed, then NotInDoubt: nothing changed. Memory:
+    /// nothing changed, also where a limit of the manager's own is met. Device: it fails now.
     fn decide(&mut self, xid: &Xid, outcome: Outcome) -> Result<(), DecideError>
         ensures ok { OnOk result (Decides (sight self.old) (sight self.new) xid.now outcome) }
         ensures err { IfErr result (NotDecided (sight self.old) (sight self.new) xid.now outcome) };
@@ -104,17 +113,20 @@ pub trait ResourceManager {
         count: u32,
         flags: Flags,
     ) -> Result<Result<Vec<Xid>, Code>, AllocError>
-        ensures answer { IfOk result (λ answer. Calls (sight self.old) (sight self.new) (map_ok answer ≡ Err Code.RmFail)
+        ensures answer { IfOk result (λ answer. Calls (sight self.old) (sight self.new)
+            (map_ok answer ≡ Err Code.RmFail)
             (λ old new. Recovers old new thread count flags.0 (map_ok answer))) }
         ensures err { OnErr result (SameManager (sight self.old) (sight self.new)) };
 
-    /// A thread's operation in the branch that it is active in; a value that was read is let go. RmFail, NotAssociated,
-    /// RollbackOnly come first, then TooLong, Locked and TooManyWrites, as the data are in the way.
+    /// A thread's operation in the branch that it is active in; a value that was read is let go. RmFail,
+    /// NotAssociated, RollbackOnly come first, then TooLong, Locked and TooManyWrites, as the data are in
+    /// the way.
     fn work(&mut self, thread: u32, op: &Op) -> Result<(), WorkError>
         ensures ok { OnOk result (Works (sight self.old) (sight self.new) thread op.now) }
         ensures err { IfErr result (WorkRefused (sight self.old) (sight self.new) thread op.now) };
 
-    /// The records that a crash would leave which keeps so many bytes behind the forced front, as a list made anew.
+    /// The records that a crash would leave which keeps so many bytes behind the forced front, as a list
+    /// made anew.
     fn left(&self, keep: usize) -> Result<Vec<LogRecord>, AllocError>
         ensures { IfOk result (λ records. records.items ≡ left_by (sight self.now).log keep) };
 
@@ -122,17 +134,19 @@ pub trait ResourceManager {
     fn records_are_sound(&self)
         ensures { AllByRecursion (IsSound kind.Manager) (records_of (sight self.now).log.kept) };
 
-    /// Restarts the manager behind a crash that keeps so many of the log's unforced bytes: it stands as the records say that
-    /// are left, and is not open. Memory: nothing changed, also where the records leave no manager, or no boot comes behind
-    /// the last one, which is so of no log that a manager wrote. Device: the manager has failed until it is restarted.
+    /// Restarts the manager behind a crash that keeps so many of the log's unforced bytes: it stands as the
+    /// records say that are left, and is not open. Memory: nothing changed, also where the records leave no
+    /// manager, or no boot comes behind the last one, which is so of no log that a manager wrote. Device:
+    /// the manager has failed until it is restarted.
     fn restart(&mut self, keep: usize) -> Result<(), RestartError>
         ensures ok { OnOk result (Restarts (sight self.old) (sight self.new) keep) }
         ensures err { IfErr result (NotRestarted (sight self.old) (sight self.new) keep) };
 
-    /// Trims the log: the last Opened and the records of the branches that are not forgotten stay, and behind them the data,
-    /// keys rising, all of it forced by one write. Gives how many records remain. Failed: nothing changed. Memory: nothing
-    /// changed, also where the records leave no manager, which is so of no log that a manager wrote. Device: the log stands
-    /// as it was or trimmed, and the manager has failed until a restart.
+    /// Trims the log: the last Opened and the records of the branches that are not forgotten stay, and
+    /// behind them the data, keys rising, all of it forced by one write. Gives how many records remain.
+    /// Failed: nothing changed. Memory: nothing changed, also where the records leave no manager, which is
+    /// so of no log that a manager wrote. Device: the log stands as it was or trimmed, and the manager has
+    /// failed until a restart.
     fn trim(&mut self) -> Result<usize, TrimError>
         ensures ok { IfOk result (Trims (sight self.old) (sight self.new)) }
         ensures err { IfErr result (NotTrimmed (sight self.old) (sight self.new)) };

@@ -1,7 +1,7 @@
 //! The log of a process: records over a store of bytes.
 //!
-//! A log is a header and then frames, and perhaps a torn tail: a frame with fewer bytes than its header and length say.
-//! All numbers are big-endian.
+//! A log is a header and then frames, and perhaps a torn tail: a frame with fewer bytes than its header and
+//! length say. All numbers are big-endian.
 //!
 //! | Offset | Bytes | What |
 //! |---|---|---|

@@ -43,7 +43,8 @@ impl<L: LogStore> Model for RecLog<L> {
 
     ghost Value = { LogState };
 
-    ghost view = { λ l. log_state l.kind (L.bytes l.store) (L.forced l.store) (L.failures l.store) (L.room l.store) l.failed };
+    ghost view = { λ l. log_state l.kind (L.bytes l.store) (L.forced l.store) (L.failures l.store)
+        (L.room l.store) l.failed };
 
     ghost invariant = { λ l. IsLogText l.kind (L.bytes l.store) (L.forced l.store) l.failed };
 }
@@ -176,7 +177,8 @@ fn replaced<L: LogStore + Drop>(store: L, text: &[u8]) -> Result<L, (OpenError, 
 
 /// A store in which a log of whole frames stands that begins with these bytes.
 fn settled<L: LogStore + Drop>(kind: Kind, store: L, alloc: Global) -> Result<L, (OpenError, L)>
-    ensures ok { IfOk result (λ new. Settles kind (L.bytes store) (L.forced store) (L.failures store) (L.bytes new) (L.forced new) (L.failures new)) }
+    ensures ok { IfOk result (λ new. Settles kind (L.bytes store) (L.forced store) (L.failures store)
+        (L.bytes new) (L.forced new) (L.failures new)) }
     ensures err { IfErr result (λ e. NotOpened L.bytes L.forced L.failures kind store e.1 e.0) }
 {
     let torn = match find(kind, store.bytes(), alloc) {
@@ -196,8 +198,8 @@ fn settled<L: LogStore + Drop>(kind: Kind, store: L, alloc: Global) -> Result<L,
 }
 
 impl<L: LogStore + Drop> RecLog<L> {
-    /// A log over a store. A torn tail is removed, and an empty log is given its header, by one `replace`; otherwise
-    /// the store is left as it is. A refusal hands the store back.
+    /// A log over a store. A torn tail is removed, and an empty log is given its header, by one `replace`;
+    /// otherwise the store is left as it is. A refusal hands the store back.
     pub fn open(store: L, kind: Kind, alloc: Global) -> Result<RecLog<L>, (OpenError, L)>
         ensures ok { IfOk result (λ log. Opens kind (L.bytes store) (L.forced store) (L.failures store) log) }
         ensures err { IfErr result (λ e. NotOpened L.bytes L.forced L.failures kind store e.1 e.0) }
@@ -221,7 +223,8 @@ impl<L: LogStore> RecLog<L> {
 
     /// The store under the log, as it stands.
     pub fn into_store(self) -> L
-        ensures { log_state self.kind (L.bytes result) (L.forced result) (L.failures result) (L.room result) self.sight.failed ≡ self }
+        ensures { log_state self.kind (L.bytes result) (L.forced result) (L.failures result)
+            (L.room result) self.sight.failed ≡ self }
     {
         let RecLog { store, .. } = self;
         store
@@ -242,7 +245,8 @@ impl<L: LogStore> RecLog<L> {
         requires works { self.old.sight.failed ≡ false }
         requires sound { IsRecord self.old.kind (frame_record frame.now) }
         ensures ok { OnOk result (Appended self.old self.new (frame_record frame.now)) }
-        ensures err { IfErr result (λ e. (e ≡ LogError.Device) × Breaks self.old self.new (frame_record frame.now ∷ [])) }
+        ensures err { IfErr result (λ e. (e ≡ LogError.Device)
+            × Breaks self.old self.new (frame_record frame.now ∷ [])) }
     {
         if let Err(_) = self.store.append(frame.bytes()) {
             self.failed = true;
@@ -264,10 +268,11 @@ impl<L: LogStore> RecLog<L> {
         Ok(())
     }
 
-    /// The bytes of the log, its header and its frames, as a list made anew. Behind a failure of the device a torn frame may
-    /// stand at the end.
+    /// The bytes of the log, its header and its frames, as a list made anew. Behind a failure of the device
+    /// a torn frame may stand at the end.
     pub fn text(&self, alloc: Global) -> Result<Vec<u8>, AllocError>
-        ensures { IfOk result (λ text. ReadsAs self.now.kind text.items (records_of self.now.sight.kept) self.now.sight.failed) }
+        ensures { IfOk result (λ text. ReadsAs self.now.kind text.items
+            (records_of self.now.sight.kept) self.now.sight.failed) }
     {
         Vec::from_slice(alloc, self.store.bytes())
     }
@@ -286,8 +291,8 @@ impl<L: LogStore> RecLog<L> {
         records_in(self.kind, body(self.store.bytes()), alloc)
     }
 
-    /// The records that a crash would leave which keeps so many bytes behind the forced front, as a list made anew: those
-    /// that stand whole within the forced bytes and these.
+    /// The records that a crash would leave which keeps so many bytes behind the forced front, as a list
+    /// made anew: those that stand whole within the forced bytes and these.
     pub fn kept(&self, keep: usize, alloc: Global) -> Result<Vec<LogRecord>, AllocError>
         ensures { IfOk result (λ records. records.items ≡ left_by self.now.sight keep) }
     {
@@ -296,9 +301,11 @@ impl<L: LogStore> RecLog<L> {
         records_in(self.kind, body(left), alloc)
     }
 
-    /// How many of the records behind the forced ones a crash would leave that keeps so many bytes behind the forced front.
+    /// How many of the records behind the forced ones a crash would leave that keeps so many bytes behind
+    /// the forced front.
     pub fn left_behind(&self, keep: usize, alloc: Global) -> Result<usize, AllocError>
-        ensures { IfOk result (λ count. count ≡ length (whole_within (self.now.sight.behind + keep) self.now.sight.kept.unforced)) }
+        ensures { IfOk result (λ count. count
+            ≡ length (whole_within (self.now.sight.behind + keep) self.now.sight.kept.unforced)) }
     {
         let left = self.kept(keep, alloc)?;
         let forced = self.forced_records(alloc)?;
@@ -320,9 +327,10 @@ impl<L: LogStore> RecLog<L> {
         are_sound(self.kind, body(self.store.bytes()));
     }
 
-    /// After a crash that kept so many bytes behind the forced front: the records of what is left, a torn tail gone, and
-    /// these new ones behind them, all of them forced by one `replace`. All memory is taken before the crash. Memory:
-    /// nothing changed. Device: the new records stand or do not, and the log has failed.
+    /// After a crash that kept so many bytes behind the forced front: the records of what is left, a torn
+    /// tail gone, and these new ones behind them, all of them forced by one `replace`. All memory is taken
+    /// before the crash. Memory: nothing changed. Device: the new records stand or do not, and the log has
+    /// failed.
     pub fn restart(&mut self, keep: usize, new: &[Frame], alloc: Global) -> Result<(), LogError>
         requires { AreRecords self.old.kind (map frame_record new.now) }
         ensures kind { self.new.kind ≡ self.old.kind }
@@ -351,8 +359,9 @@ impl<L: LogStore> RecLog<L> {
         }
     }
 
-    /// Puts these records in place of all that stand, forced by one `replace`. All memory is taken before. Memory: nothing
-    /// changed. Device: the log stands as it was or these records do, and the log has failed.
+    /// Puts these records in place of all that stand, forced by one `replace`. All memory is taken before.
+    /// Memory: nothing changed. Device: the log stands as it was or these records do, and the log has
+    /// failed.
     pub fn rewrite(&mut self, new: &[Frame], alloc: Global) -> Result<(), LogError>
         requires works { self.old.sight.failed ≡ false }
         requires sound { AreRecords self.old.kind (map frame_record new.now) }
@@ -371,7 +380,8 @@ impl<L: LogStore> RecLog<L> {
         requires sound { Spells self.old.kind text.now (records_in self.old.kind 0 (body text.now)) }
         ensures kind { self.new.kind ≡ self.old.kind }
         ensures ok { OnOk result (Rewritten self.old self.new (records_in self.old.kind 0 (body text.now))) }
-        ensures err { IfErr result (λ e. NotRewritten self.old self.new (records_in self.old.kind 0 (body text.now)) e) }
+        ensures err { IfErr result (λ e. NotRewritten self.old self.new
+            (records_in self.old.kind 0 (body text.now)) e) }
     {
         if let Err(_) = self.store.reserve(text.len()) {
             return Err(LogError::Memory);
@@ -383,15 +393,17 @@ impl<L: LogStore> RecLog<L> {
         Ok(())
     }
 
-    /// Puts the records that stay in a trim in place of all that stand, and these behind them, forced by one `replace`: the
-    /// last Opened, the records of the cases and branches that are not forgotten, and these. Gives how many they are. All
-    /// memory is taken before. Memory: nothing changed. Device: the log stands as it was or trimmed, and the log has failed.
+    /// Puts the records that stay in a trim in place of all that stand, and these behind them, forced by one
+    /// `replace`: the last Opened, the records of the cases and branches that are not forgotten, and these.
+    /// Gives how many they are. All memory is taken before. Memory: nothing changed. Device: the log stands
+    /// as it was or trimmed, and the log has failed.
     pub fn trim(&mut self, behind: &[Frame], alloc: Global) -> Result<usize, LogError>
         requires works { self.old.sight.failed ≡ false }
         requires sound { AreRecords self.old.kind (map frame_record behind.now) }
         ensures kind { self.new.kind ≡ self.old.kind }
         ensures ok { IfOk result (λ count. Trimmed self.old self.new (map frame_record behind.now) count) }
-        ensures err { IfErr result (λ e. NotRewritten self.old self.new (trim_of self.old (map frame_record behind.now)) e) }
+        ensures err { IfErr result (λ e. NotRewritten self.old self.new
+            (trim_of self.old (map frame_record behind.now)) e) }
     {
         let (text, count) = match trimmed_text(self.kind, body(self.store.bytes()), behind, alloc) {
             Ok(trimmed) => trimmed,

@@ -26,8 +26,8 @@ pub enum OpenError {
     Damaged(usize),
 }
 
-/// Takes the record of a frame. Malformed comes exactly where there is none, or it may not follow the records so far.
-/// Behind an error nothing more is known.
+/// Takes the record of a frame. Malformed comes exactly where there is none, or it may not follow the
+/// records so far. Behind an error nothing more is known.
 fn take_frame(
     seen: &mut Seen,
     kind: Kind,
@@ -35,8 +35,10 @@ fn take_frame(
     payload: &[u8],
     alloc: Global,
 ) -> Result<(), ReadFault>
-    ensures ok { OnOk result (after_frame seen.old (read_record kind frame_kind payload.now) ≡ Some seen.new) }
-    ensures err { IfErr result (λ e. e ≡ ReadFault.Malformed → after_frame seen.old (read_record kind frame_kind payload.now) ≡ None) }
+    ensures ok { OnOk result (after_frame seen.old
+        (read_record kind frame_kind payload.now) ≡ Some seen.new) }
+    ensures err { IfErr result (λ e. e ≡ ReadFault.Malformed
+        → after_frame seen.old (read_record kind frame_kind payload.now) ≡ None) }
 {
     let entry = read_record(kind, frame_kind, payload, alloc)?;
     seen.take(entry)

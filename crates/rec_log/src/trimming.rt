@@ -71,7 +71,8 @@ fn kept_frames(
     alloc: Global,
 ) -> Result<(Vec<u8>, usize), AllocError>
     requires { records_in kind 0 bytes.now ≡ records.now }
-    ensures frames { IfOk result (λ r. Holds kind r.0.items (picked lives.now 0 records.now) × (r.1 ≡ length (picked lives.now 0 records.now))) }
+    ensures frames { IfOk result (λ r. Holds kind r.0.items (picked lives.now 0 records.now)
+        × (r.1 ≡ length (picked lives.now 0 records.now))) }
     ensures few { IfOk result (λ r. r.1 ≤ length records.now) }
 {
     let mut frames = Vec::new(alloc);
@@ -97,7 +98,8 @@ fn staying_frames(
     alloc: Global,
 ) -> Result<(Vec<u8>, usize), AllocError>
     requires { records_in kind 0 bytes.now ≡ records.now }
-    ensures frames { IfOk result (λ r. Holds kind r.0.items (picked (lives_of records.now) 0 records.now) × (r.1 ≡ length (picked (lives_of records.now) 0 records.now))) }
+    ensures frames { IfOk result (λ r. Holds kind r.0.items (picked (lives_of records.now) 0 records.now)
+        × (r.1 ≡ length (picked (lives_of records.now) 0 records.now))) }
     ensures few { IfOk result (λ r. r.1 ≤ length records.now) }
 {
     let lives = Lives::of(records, alloc)?;
@@ -111,7 +113,8 @@ fn joined_text(
     behind: &[Frame],
     alloc: Global,
 ) -> Result<Vec<u8>, AllocError>
-    ensures { IfOk result (λ text. text.items ≡ ((header ++ opened.now) ++ frames.now) ++ records_text (map frame_record behind.now)) }
+    ensures { IfOk result (λ text. text.items ≡ ((header ++ opened.now) ++ frames.now)
+        ++ records_text (map frame_record behind.now)) }
 {
     let mut text = Vec::from_slice(alloc, &HEADER)?;
     text.extend_from_slice(opened)?;
@@ -120,7 +123,8 @@ fn joined_text(
     Ok(text)
 }
 
-/// The text of a log of what stays of the records in these bytes, and of these records behind it; and how many they are.
+/// The text of a log of what stays of the records in these bytes, and of these records behind it; and how
+/// many they are.
 pub(crate) fn trimmed_text(
     kind: Kind,
     bytes: &[u8],
@@ -128,8 +132,10 @@ pub(crate) fn trimmed_text(
     alloc: Global,
 ) -> Result<(Vec<u8>, usize), AllocError>
     requires { AreRecords kind (map frame_record behind.now) }
-    ensures text { IfOk result (λ r. Spells kind r.0.items (front_of_trim (records_in kind 0 bytes.now) ++ map frame_record behind.now)) }
-    ensures count { IfOk result (λ r. r.1 ≡ length (front_of_trim (records_in kind 0 bytes.now) ++ map frame_record behind.now)) }
+    ensures text { IfOk result (λ r. Spells kind r.0.items
+        (front_of_trim (records_in kind 0 bytes.now) ++ map frame_record behind.now)) }
+    ensures count { IfOk result (λ r. r.1 ≡ length
+        (front_of_trim (records_in kind 0 bytes.now) ++ map frame_record behind.now)) }
 {
     let records = records_in(kind, bytes, alloc)?;
     let (opened, first) = opened_frame(kind, bytes, &records);

@@ -69,7 +69,8 @@ pub fn read_all<R: Read>(alloc: Global, reader: &mut R) -> Result<Vec<u8>, Failu
 /// Writes these bytes. After a failure a front of them was written.
 pub fn write_all<W: Write>(writer: &mut W, text: &[u8]) -> Result<(), Failure>
     ensures ok { OnOk result (Appends (W.contents writer.old) (W.contents writer.new) text.now) }
-    ensures err { IfErr result (λ e. (e ≡ Failure.Write) × WritesFront (W.contents writer.old) (W.contents writer.new) text.now) }
+    ensures err { IfErr result (λ e. (e ≡ Failure.Write)
+        × WritesFront (W.contents writer.old) (W.contents writer.new) text.now) }
 {
     let mut at = 0;
     while at < text.len() {

@@ -1,4 +1,5 @@
-//! What no script can show: streams and devices that fail, a script cut at every byte, and the calls of a tree that runs.
+//! What no script can show: streams and devices that fail, a script cut at every byte, and the calls of a
+//! tree that runs.
 
 use crate::{scripts, streams, worlds};
 use std::alloc::Global;

@@ -1,4 +1,5 @@
-//! A tree that runs over stores: what is refused, and each public call once, with ample memory: none of them answers want of memory.
+//! A tree that runs over stores: what is refused, and each public call once, with ample memory: none of them
+//! answers want of memory.
 
 use log_store::{FaultStore, MemoryStore};
 use std::alloc::{AllocError, Global};
@@ -127,8 +128,8 @@ fn shows_joining(world: &World<FaultStore>) -> Result<bool, AllocError> {
     Ok(counts && sent && logs && handles_second_message(world)? && world.live(ROOT) == Some(1))
 }
 
-/// A world runs a list of events, and shows its messages, its trace and its logs: with ample memory no call answers want
-/// of it.
+/// A world runs a list of events, and shows its messages, its trace and its logs: with ample memory no call
+/// answers want of it.
 pub(crate) fn a_world_runs(alloc: Global) -> Option<bool> {
     let txn = first_txn(Presumption::PresumeAbort);
     let mut world = world_of(alloc, u64::MAX)?;
@@ -138,7 +139,8 @@ pub(crate) fn a_world_runs(alloc: Global) -> Option<bool> {
     Some(ran && shown == Ok(true))
 }
 
-/// The root's device fails under its first record behind Opened: the act is refused so, and from then on the root has failed.
+/// The root's device fails under its first record behind Opened: the act is refused so, and from then on the
+/// root has failed.
 pub(crate) fn a_root_fails_with_its_device(alloc: Global) -> Option<bool> {
     let txn = first_txn(Presumption::PresumeCommit);
     let commit = Event::Act(Act::Commit(txn));

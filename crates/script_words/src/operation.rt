@@ -40,8 +40,8 @@ impl Task<'_> {
     }
 }
 
-/// The operation that these words spell: `put KEY VALUE`, `get KEY` or `del KEY`. A key is 1 to 64 bytes from `!` to
-/// `~`, a value 1 to 256. None: they spell no operation.
+/// The operation that these words spell: `put KEY VALUE`, `get KEY` or `del KEY`. A key is 1 to 64 bytes
+/// from `!` to `~`, a value 1 to 256. None: they spell no operation.
 #[tactic(auto, unfolding(crate::specs::Operations::op_at))]
 pub fn task_of(words: &str) -> Option<Task<'_>>
     ensures { option_map op_view result ≡ op_at words.now }

@@ -37,8 +37,9 @@ impl<M: ResourceManager> Subordinate<M> {
         Some(branch)
     }
 
-    /// A question to the parent about a case in doubt, or about one that an operator decided and that was not told. UnknownTxn:
-    /// the case is not live. NotInDoubt: it did not promise, or was told. Memory. Nothing changed.
+    /// A question to the parent about a case in doubt, or about one that an operator decided and that was
+    /// not told. UnknownTxn: the case is not live. NotInDoubt: it did not promise, or was told. Memory.
+    /// Nothing changed.
     fn ask(&self, case: Case) -> Result<Reaction, StepError>
         ensures ok { IfOk result (Acts (seen M.sight self.now) (seen M.sight self.now) (act.Ask case)) }
         ensures err { IfErr result (NotActed (seen M.sight self.now) (seen M.sight self.now) (act.Ask case)) }
@@ -53,10 +54,11 @@ impl<M: ResourceManager> Subordinate<M> {
         Ok(reply(self.me, self.parent, inquiry, self.alloc)?)
     }
 
-    /// An act. A case in doubt is asked about, and decided by an operator; one that is decided is asked about until it was
-    /// told, and forgotten. Any other act is refused, and nothing changed: NoSuch, as no transaction begins here; UnknownTxn,
-    /// where the case is not live, and at each commit and abort; NotAChild, or Closed once the branch promised; NotInDoubt;
-    /// NothingToForget. Memory: nothing changed. Device, of a decision and of what is forgotten: it fails now.
+    /// An act. A case in doubt is asked about, and decided by an operator; one that is decided is asked
+    /// about until it was told, and forgotten. Any other act is refused, and nothing changed: NoSuch, as no
+    /// transaction begins here; UnknownTxn, where the case is not live, and at each commit and abort;
+    /// NotAChild, or Closed once the branch promised; NotInDoubt; NothingToForget. Memory: nothing changed.
+    /// Device, of a decision and of what is forgotten: it fails now.
     pub(crate) fn act(&mut self, act: &Act) -> Result<Reaction, StepError>
         requires up { (M.sight self.old.manager).log.failed ≡ false }
         ensures ok { IfOk result (Acts (seen M.sight self.old) (seen M.sight self.new) act.now) }

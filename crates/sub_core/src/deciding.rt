@@ -62,8 +62,10 @@ impl<M: ResourceManager> Subordinate<M> {
     ) -> Result<Reaction, StepError>
         requires up { (M.sight self.old.manager).log.failed ≡ false }
         requires at { IsAt self.old.table key case (prepared xid) }
-        ensures ok { IfOk result (Acts (seen M.sight self.old) (seen M.sight self.new) (act.Decide case outcome)) }
-        ensures err { IfErr result (NotActed (seen M.sight self.old) (seen M.sight self.new) (act.Decide case outcome)) }
+        ensures ok { IfOk result (Acts (seen M.sight self.old) (seen M.sight self.new)
+            (act.Decide case outcome)) }
+        ensures err { IfErr result (NotActed (seen M.sight self.old) (seen M.sight self.new)
+            (act.Decide case outcome)) }
     {
         let reaction = logged_alone(decision_kind(outcome), case, self.alloc)?;
         match decide(&mut self.manager, &xid, outcome) {
@@ -75,11 +77,14 @@ impl<M: ResourceManager> Subordinate<M> {
         }
     }
 
-    /// An operator decides a case. UnknownTxn: it is not live. NotInDoubt: it did not promise, or was decided already.
+    /// An operator decides a case. UnknownTxn: it is not live. NotInDoubt: it did not promise, or was
+    /// decided already.
     pub(crate) fn decide(&mut self, case: Case, outcome: Outcome) -> Result<Reaction, StepError>
         requires up { (M.sight self.old.manager).log.failed ≡ false }
-        ensures ok { IfOk result (Acts (seen M.sight self.old) (seen M.sight self.new) (act.Decide case outcome)) }
-        ensures err { IfErr result (NotActed (seen M.sight self.old) (seen M.sight self.new) (act.Decide case outcome)) }
+        ensures ok { IfOk result (Acts (seen M.sight self.old) (seen M.sight self.new)
+            (act.Decide case outcome)) }
+        ensures err { IfErr result (NotActed (seen M.sight self.old) (seen M.sight self.new)
+            (act.Decide case outcome)) }
     {
         let Some((key, branch)) = find_branch(&self.branches, &case) else {
             return Err(StepError::UnknownTxn);
@@ -102,8 +107,10 @@ impl<M: ResourceManager> Subordinate<M> {
         requires up { (M.sight self.old.manager).log.failed ≡ false }
         requires at { IsAt self.old.table key case (decided xid None) }
         requires kept { IsKept self.old.table }
-        ensures ok { IfOk result (Hears (seen M.sight self.old) (seen M.sight self.new) (tells_outcome outcome case)) }
-        ensures err { IfErr result (NotHeard (seen M.sight self.old) (seen M.sight self.new) (tells_outcome outcome case)) }
+        ensures ok { IfOk result (Hears (seen M.sight self.old) (seen M.sight self.new)
+            (tells_outcome outcome case)) }
+        ensures err { IfErr result (NotHeard (seen M.sight self.old) (seen M.sight self.new)
+            (tells_outcome outcome case)) }
     {
         let reaction = ends_by(
             self.me,
@@ -122,12 +129,15 @@ impl<M: ResourceManager> Subordinate<M> {
         }
     }
 
-    /// A further outcome of a case that an operator decided: the same is acknowledged again, the other does nothing.
+    /// A further outcome of a case that an operator decided: the same is acknowledged again, the other does
+    /// nothing.
     fn told_again(&self, case: Case, told: Outcome, outcome: Outcome) -> Result<Reaction, StepError>
         requires at { (key : ℕ) × (xid : AnyXid) × IsAt self.now.table key case (decided xid (Some told)) }
         requires kept { IsKept self.now.table }
-        ensures ok { IfOk result (Hears (seen M.sight self.now) (seen M.sight self.now) (tells_outcome outcome case)) }
-        ensures err { IfErr result (NotHeard (seen M.sight self.now) (seen M.sight self.now) (tells_outcome outcome case)) }
+        ensures ok { IfOk result (Hears (seen M.sight self.now) (seen M.sight self.now)
+            (tells_outcome outcome case)) }
+        ensures err { IfErr result (NotHeard (seen M.sight self.now) (seen M.sight self.now)
+            (tells_outcome outcome case)) }
     {
         if is_same(told, outcome) {
             Ok(acknowledges(self.me, self.parent, case, outcome, self.alloc)?)
@@ -148,8 +158,10 @@ impl<M: ResourceManager> Subordinate<M> {
         requires up { (M.sight self.old.manager).log.failed ≡ false }
         requires at { IsAt self.old.table key case (decided xid told) }
         requires kept { IsKept self.old.table }
-        ensures ok { IfOk result (Hears (seen M.sight self.old) (seen M.sight self.new) (tells_outcome outcome case)) }
-        ensures err { IfErr result (NotHeard (seen M.sight self.old) (seen M.sight self.new) (tells_outcome outcome case)) }
+        ensures ok { IfOk result (Hears (seen M.sight self.old) (seen M.sight self.new)
+            (tells_outcome outcome case)) }
+        ensures err { IfErr result (NotHeard (seen M.sight self.old) (seen M.sight self.new)
+            (tells_outcome outcome case)) }
     {
         match told {
             None => self.told_first(key, case, xid, outcome),
@@ -169,7 +181,8 @@ impl<M: ResourceManager> Subordinate<M> {
         requires at { IsAt self.old.table key case (decided xid told) }
         requires kept { IsKept self.old.table }
         ensures ok { IfOk result (Acts (seen M.sight self.old) (seen M.sight self.new) (act.Forget case)) }
-        ensures err { IfErr result (NotActed (seen M.sight self.old) (seen M.sight self.new) (act.Forget case)) }
+        ensures err { IfErr result (NotActed (seen M.sight self.old)
+            (seen M.sight self.new) (act.Forget case)) }
     {
         let reaction = logged_alone(RecordKind::Forgot, case, self.alloc)?;
         match forget(&mut self.manager, &xid) {
@@ -185,7 +198,8 @@ impl<M: ResourceManager> Subordinate<M> {
     pub(crate) fn forget(&mut self, case: Case) -> Result<Reaction, StepError>
         requires up { (M.sight self.old.manager).log.failed ≡ false }
         ensures ok { IfOk result (Acts (seen M.sight self.old) (seen M.sight self.new) (act.Forget case)) }
-        ensures err { IfErr result (NotActed (seen M.sight self.old) (seen M.sight self.new) (act.Forget case)) }
+        ensures err { IfErr result (NotActed (seen M.sight self.old)
+            (seen M.sight self.new) (act.Forget case)) }
     {
         let Some((key, branch)) = find_branch(&self.branches, &case) else {
             return Err(StepError::UnknownTxn);

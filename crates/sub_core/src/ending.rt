@@ -86,7 +86,8 @@ pub(crate) fn acknowledges(
 }
 
 impl<M: ResourceManager> Subordinate<M> {
-    /// PREPARE of an Active case that has not done all its works, or was refused one: NO, and it is rolled back.
+    /// PREPARE of an Active case that has not done all its works, or was refused one: NO, and it is rolled
+    /// back.
     pub(crate) fn refuse(
         &mut self,
         key: usize,
@@ -97,8 +98,10 @@ impl<M: ResourceManager> Subordinate<M> {
         requires up { (M.sight self.old.manager).log.failed ≡ false }
         requires at { (g : AnyCase) × (n : ℕ) × (p : Bool) × IsAt self.old.table key case (active xid g n p)
             × (((n == works) && not p) ≡ false) }
-        ensures ok { IfOk result (Hears (seen M.sight self.old) (seen M.sight self.new) (message.Prepare case works)) }
-        ensures err { IfErr result (NotHeard (seen M.sight self.old) (seen M.sight self.new) (message.Prepare case works)) }
+        ensures ok { IfOk result (Hears (seen M.sight self.old) (seen M.sight self.new)
+            (message.Prepare case works)) }
+        ensures err { IfErr result (NotHeard (seen M.sight self.old) (seen M.sight self.new)
+            (message.Prepare case works)) }
     {
         let reaction = reply(self.me, self.parent, Message::No(case), self.alloc)?;
         match roll_back(&mut self.manager, &xid) {
@@ -119,8 +122,10 @@ impl<M: ResourceManager> Subordinate<M> {
     ) -> Result<Reaction, StepError>
         requires up { (M.sight self.old.manager).log.failed ≡ false }
         requires at { (g : AnyCase) × (n : ℕ) × (p : Bool) × IsAt self.old.table key case (active xid g n p) }
-        ensures ok { IfOk result (Hears (seen M.sight self.old) (seen M.sight self.new) (message.Abort case)) }
-        ensures err { IfErr result (NotHeard (seen M.sight self.old) (seen M.sight self.new) (message.Abort case)) }
+        ensures ok { IfOk result (Hears (seen M.sight self.old)
+            (seen M.sight self.new) (message.Abort case)) }
+        ensures err { IfErr result (NotHeard (seen M.sight self.old)
+            (seen M.sight self.new) (message.Abort case)) }
     {
         let reaction = acknowledges(self.me, self.parent, case, Outcome::Aborted, self.alloc)?;
         match roll_back(&mut self.manager, &xid) {
@@ -142,8 +147,10 @@ impl<M: ResourceManager> Subordinate<M> {
         requires up { (M.sight self.old.manager).log.failed ≡ false }
         requires at { IsAt self.old.table key case (prepared xid) }
         requires kept { IsKept self.old.table }
-        ensures ok { IfOk result (Hears (seen M.sight self.old) (seen M.sight self.new) (message.Abort case)) }
-        ensures err { IfErr result (NotHeard (seen M.sight self.old) (seen M.sight self.new) (message.Abort case)) }
+        ensures ok { IfOk result (Hears (seen M.sight self.old)
+            (seen M.sight self.new) (message.Abort case)) }
+        ensures err { IfErr result (NotHeard (seen M.sight self.old)
+            (seen M.sight self.new) (message.Abort case)) }
     {
         let reaction = ends_by(
             self.me,
@@ -172,8 +179,10 @@ impl<M: ResourceManager> Subordinate<M> {
         requires up { (M.sight self.old.manager).log.failed ≡ false }
         requires at { IsAt self.old.table key case (prepared xid) }
         requires kept { IsKept self.old.table }
-        ensures ok { IfOk result (Hears (seen M.sight self.old) (seen M.sight self.new) (message.Commit case)) }
-        ensures err { IfErr result (NotHeard (seen M.sight self.old) (seen M.sight self.new) (message.Commit case)) }
+        ensures ok { IfOk result (Hears (seen M.sight self.old)
+            (seen M.sight self.new) (message.Commit case)) }
+        ensures err { IfErr result (NotHeard (seen M.sight self.old)
+            (seen M.sight self.new) (message.Commit case)) }
     {
         let reaction = ends_by(
             self.me,

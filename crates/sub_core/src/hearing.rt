@@ -15,8 +15,10 @@ impl<M: ResourceManager> Subordinate<M> {
     /// PREPARE: an Active case votes, one that promised says YES again, and of any other nothing is known.
     pub fn prepare(&mut self, case: Case, works: u64) -> Result<Reaction, StepError>
         requires up { (M.sight self.old.manager).log.failed ≡ false }
-        ensures ok { IfOk result (Hears (seen M.sight self.old) (seen M.sight self.new) (message.Prepare case works)) }
-        ensures err { IfErr result (NotHeard (seen M.sight self.old) (seen M.sight self.new) (message.Prepare case works)) }
+        ensures ok { IfOk result (Hears (seen M.sight self.old) (seen M.sight self.new)
+            (message.Prepare case works)) }
+        ensures err { IfErr result (NotHeard (seen M.sight self.old) (seen M.sight self.new)
+            (message.Prepare case works)) }
     {
         let Some((key, branch)) = find_branch(&self.branches, &case) else {
             return Ok(reply(self.me, self.parent, Message::No(case), self.alloc)?);
@@ -36,12 +38,14 @@ impl<M: ResourceManager> Subordinate<M> {
         }
     }
 
-    /// COMMIT: a case in doubt commits, one that an operator decided notes the first outcome, and of one that is not known the
-    /// outcome is acknowledged.
+    /// COMMIT: a case in doubt commits, one that an operator decided notes the first outcome, and of one
+    /// that is not known the outcome is acknowledged.
     pub fn commit(&mut self, case: Case) -> Result<Reaction, StepError>
         requires up { (M.sight self.old.manager).log.failed ≡ false }
-        ensures ok { IfOk result (Hears (seen M.sight self.old) (seen M.sight self.new) (message.Commit case)) }
-        ensures err { IfErr result (NotHeard (seen M.sight self.old) (seen M.sight self.new) (message.Commit case)) }
+        ensures ok { IfOk result (Hears (seen M.sight self.old)
+            (seen M.sight self.new) (message.Commit case)) }
+        ensures err { IfErr result (NotHeard (seen M.sight self.old)
+            (seen M.sight self.new) (message.Commit case)) }
     {
         let Some((key, branch)) = find_branch(&self.branches, &case) else {
             return Ok(acknowledges(self.me, self.parent, case, Outcome::Committed, self.alloc)?);
@@ -55,12 +59,14 @@ impl<M: ResourceManager> Subordinate<M> {
         }
     }
 
-    /// ABORT: an Active case is rolled back, and so is one in doubt; one that an operator decided notes the first outcome; of one
-    /// that is not known the outcome is acknowledged.
+    /// ABORT: an Active case is rolled back, and so is one in doubt; one that an operator decided notes the
+    /// first outcome; of one that is not known the outcome is acknowledged.
     pub fn abort(&mut self, case: Case) -> Result<Reaction, StepError>
         requires up { (M.sight self.old.manager).log.failed ≡ false }
-        ensures ok { IfOk result (Hears (seen M.sight self.old) (seen M.sight self.new) (message.Abort case)) }
-        ensures err { IfErr result (NotHeard (seen M.sight self.old) (seen M.sight self.new) (message.Abort case)) }
+        ensures ok { IfOk result (Hears (seen M.sight self.old)
+            (seen M.sight self.new) (message.Abort case)) }
+        ensures err { IfErr result (NotHeard (seen M.sight self.old)
+            (seen M.sight self.new) (message.Abort case)) }
     {
         let Some((key, branch)) = find_branch(&self.branches, &case) else {
             return Ok(acknowledges(self.me, self.parent, case, Outcome::Aborted, self.alloc)?);

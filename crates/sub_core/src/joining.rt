@@ -38,8 +38,8 @@ impl<M: ResourceManager> Subordinate<M> {
         }
     }
 
-    /// The manager starts the branch of the fresh ticket, and its case is live. False: the manager refused it. Then, and for
-    /// want of memory, nothing changed.
+    /// The manager starts the branch of the fresh ticket, and its case is live. False: the manager refused
+    /// it. Then, and for want of memory, nothing changed.
     fn start(&mut self, case: Case, ticket: Ticket) -> Result<bool, AllocError>
         requires up { (M.sight self.old.manager).log.failed ≡ false }
         requires numbers { HasNumbers (core_of (seen M.sight self.old)) }
@@ -47,7 +47,8 @@ impl<M: ResourceManager> Subordinate<M> {
         requires ungiven { ticket_in self.old.table case ≡ None }
         requires kept { IsKept self.old.table }
         ensures ok { IfOk result (Joins (seen M.sight self.old) (seen M.sight self.new) case) }
-        ensures err { OnErr result (SameCore (core_of (seen M.sight self.old)) (core_of (seen M.sight self.new))) }
+        ensures err { OnErr result (SameCore (core_of (seen M.sight self.old))
+            (core_of (seen M.sight self.new))) }
     {
         let xid = child_xid(self.parent, case.txn, ticket);
         let key = self.branches.open(case, ticket, xid)?;
@@ -74,7 +75,8 @@ impl<M: ResourceManager> Subordinate<M> {
         requires ungiven { ticket_in self.old.table case ≡ None }
         requires kept { IsKept self.old.table }
         ensures ok { IfOk result (Hears (seen M.sight self.old) (seen M.sight self.new) (message.Join case)) }
-        ensures err { IfErr result (NotHeard (seen M.sight self.old) (seen M.sight self.new) (message.Join case)) }
+        ensures err { IfErr result (NotHeard (seen M.sight self.old)
+            (seen M.sight self.new) (message.Join case)) }
     {
         let ticket = self.next_ticket();
         let joined = reply(
@@ -90,12 +92,14 @@ impl<M: ResourceManager> Subordinate<M> {
         }
     }
 
-    /// JOIN: the ticket that is active for the parent's case again, else a fresh one, whose branch the manager starts.
+    /// JOIN: the ticket that is active for the parent's case again, else a fresh one, whose branch the
+    /// manager starts.
     pub fn join(&mut self, case: Case) -> Result<Reaction, StepError>
         requires up { (M.sight self.old.manager).log.failed ≡ false }
         requires numbers { HasNumbers (core_of (seen M.sight self.old)) }
         ensures ok { IfOk result (Hears (seen M.sight self.old) (seen M.sight self.new) (message.Join case)) }
-        ensures err { IfErr result (NotHeard (seen M.sight self.old) (seen M.sight self.new) (message.Join case)) }
+        ensures err { IfErr result (NotHeard (seen M.sight self.old)
+            (seen M.sight self.new) (message.Join case)) }
     {
         match self.branches.ticket_for(&case) {
             Some(ticket) => {

@@ -1,4 +1,5 @@
-//! A process below a parent, with a resource manager: it works, votes, and obeys (R*), or its operator decides.
+//! A process below a parent, with a resource manager: it works, votes, and obeys (R*), or its operator
+//! decides.
 #![tactic(auto)]
 
 mod acting;

@@ -60,7 +60,8 @@ pub(crate) fn logged(
     forced: bool,
     alloc: Global,
 ) -> Result<Sequence<Logged>, AllocError>
-    ensures { IfOk result (λ written. written ≡ record { kind = kind; subject = subject.Case case; forced = forced } ∷ []) }
+    ensures { IfOk result (λ written. written
+        ≡ record { kind = kind; subject = subject.Case case; forced = forced } ∷ []) }
 {
     let mut written = Sequence::new(alloc);
     written.push(Logged {

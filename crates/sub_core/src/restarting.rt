@@ -1,4 +1,5 @@
-//! Restart: what a crash left of the log stands, and the cases that were not told their outcomes ask. And trim.
+//! Restart: what a crash left of the log stands, and the cases that were not told their outcomes ask. And
+//! trim.
 
 ghost use Rattle.std.specs.Prelude.{◌≡◌, ◌∷◌, ◌+◌, [], true, IfErr, IfOk, OnOk};
 ghost use Rattle.core_model.specs.Restarting.{NotRestarted, NotTrimmed, Restarts, Trims};
@@ -19,7 +20,8 @@ use xa_codes::Flags;
 
 /// The record of a boot, as a reaction shows it.
 fn opened(boot: u64, alloc: Global) -> Result<Sequence<Logged>, AllocError>
-    ensures { IfOk result (λ written. written ≡ record { kind = kind.Opened; subject = subject.Boot boot; forced = true } ∷ []) }
+    ensures { IfOk result (λ written. written
+        ≡ record { kind = kind.Opened; subject = subject.Boot boot; forced = true } ∷ []) }
 {
     let mut written = Sequence::new(alloc);
     written.push(Logged {
@@ -54,10 +56,11 @@ impl<M: ResourceManager> Subordinate<M> {
         }
     }
 
-    /// What the records leave that a crash would leave, and the record of the boot behind it, as a reaction shows it. The error
-    /// is that of `rebuilt`.
+    /// What the records leave that a crash would leave, and the record of the boot behind it, as a reaction
+    /// shows it. The error is that of `rebuilt`.
     fn ready(&self, keep: usize) -> Result<(Rebuilt, Sequence<Logged>), StepError>
-        ensures ok { IfOk result (λ ready. Rebuilds (leaf self.now.me self.now.parent self.now.tree) self.now.parent
+        ensures ok { IfOk result (λ ready. Rebuilds
+            (leaf self.now.me self.now.parent self.now.tree) self.now.parent
             (left_by (M.sight self.now.manager).log keep) ready.0) }
         ensures written { IfOk result (λ ready.
             ready.1 ≡ record { kind = kind.Opened; subject = subject.Boot (ready.0.boot + 1); forced = true } ∷ []) }
@@ -68,10 +71,11 @@ impl<M: ResourceManager> Subordinate<M> {
         Ok((rebuilt, written))
     }
 
-    /// Restarts behind a crash that keeps so many of the log's unforced bytes: each case in doubt asks for its outcome, and so
-    /// does one that an operator decided and that was not told. All memory is taken before the crash. Memory: nothing changed,
-    /// also where the records that are left are none that a run makes: those of no manager, or with a ticket of a boot to come.
-    /// Device: it has failed until it is restarted.
+    /// Restarts behind a crash that keeps so many of the log's unforced bytes: each case in doubt asks for
+    /// its outcome, and so does one that an operator decided and that was not told. All memory is taken
+    /// before the crash. Memory: nothing changed, also where the records that are left are none that a run
+    /// makes: those of no manager, or with a ticket of a boot to come. Device: it has failed until it is
+    /// restarted.
     pub fn restart(&mut self, keep: usize) -> Result<Reaction, StepError>
         ensures ok { IfOk result (Restarts (state M.sight self.old) keep (state M.sight self.new)) }
         ensures writes { OnOk result (LeavesPromises (seen M.sight self.old) keep (seen M.sight self.new)) }
@@ -100,9 +104,9 @@ impl<M: ResourceManager> Subordinate<M> {
         }
     }
 
-    /// Trims its log: the last Opened and the records of the cases that are not forgotten stay, and behind them the manager's
-    /// data, forced by one write. Gives how many records remain. Failed, Memory: nothing changed. Device: the log stands as it
-    /// was or trimmed, and it has failed until it is restarted.
+    /// Trims its log: the last Opened and the records of the cases that are not forgotten stay, and behind
+    /// them the manager's data, forced by one write. Gives how many records remain. Failed, Memory: nothing
+    /// changed. Device: the log stands as it was or trimmed, and it has failed until it is restarted.
     pub fn trim(&mut self) -> Result<u64, StepError>
         ensures ok { IfOk result (Trims (state M.sight self.old) (state M.sight self.new)) }
         ensures err { IfErr result (NotTrimmed (state M.sight self.old) (state M.sight self.new)) }

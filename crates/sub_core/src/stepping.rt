@@ -42,14 +42,16 @@ impl<M: ResourceManager> Subordinate<M> {
         }
     }
 
-    /// Handles an input. The refusals of the reaction table, as `StepError` says them,
-    /// change nothing, nor does Memory. Device: the device failed under the record of the input, which stands or not, and the
+    /// Handles an input. The refusals of the reaction table, as `StepError` says them, change nothing, nor
+    /// does Memory. Device: the device failed under the record of the input, which stands or not, and the
     /// subordinate answers Failed until its restart.
     pub fn step(&mut self, input: &Input) -> Result<Reaction, StepError>
         requires numbers { HasNumbers (state M.sight self.old) }
-        ensures ok { IfOk result (Makes (state M.sight self.old) (state M.sight self.new) (data_answer (seen M.sight self.old) input.now) input.now) }
+        ensures ok { IfOk result (Makes (state M.sight self.old) (state M.sight self.new)
+            (data_answer (seen M.sight self.old) input.now) input.now) }
         ensures writes { OnOk result (Leaves input.now (seen M.sight self.old) (seen M.sight self.new)) }
-        ensures err { IfErr result (NotMade (state M.sight self.old) (state M.sight self.new) (data_answer (seen M.sight self.old) input.now) input.now) }
+        ensures err { IfErr result (NotMade (state M.sight self.old) (state M.sight self.new)
+            (data_answer (seen M.sight self.old) input.now) input.now) }
     {
         if !is_listed(&self.tree, input) {
             return Err(StepError::NoSuch);

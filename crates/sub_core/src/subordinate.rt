@@ -37,14 +37,28 @@ impl<M: ResourceManager> Model for Subordinate<M> {
 
     ghost Value = { SubValue M };
 
-    ghost view = { λ s. record { me = s.me; parent = s.parent; tree = s.tree; given = s.given; table = s.branches; manager = s.manager } };
+    ghost view = { λ s. record {
+      me = s.me;
+      parent = s.parent;
+      tree = s.tree;
+      given = s.given;
+      table = s.branches;
+      manager = s.manager;
+    } };
 
-    ghost invariant = { λ s. IsTied (record { me = s.me; parent = s.parent; tree = s.tree; given = s.given; table = s.branches; manager = M.sight s.manager }) };
+    ghost invariant = { λ s. IsTied (record {
+      me = s.me;
+      parent = s.parent;
+      tree = s.tree;
+      given = s.given;
+      table = s.branches;
+      manager = M.sight s.manager;
+    }) };
 }
 
 impl<M: ResourceManager> Subordinate<M> {
-    /// The manager `me` of this tree below this parent, which drives a manager that was just made over an empty log, and
-    /// opens it. It takes no memory.
+    /// The manager `me` of this tree below this parent, which drives a manager that was just made over an
+    /// empty log, and opens it. It takes no memory.
     pub fn open(
         alloc: Global,
         me: ProcessId,
@@ -53,7 +67,8 @@ impl<M: ResourceManager> Subordinate<M> {
         mut manager: M,
     ) -> Subordinate<M>
         requires { IsNew (M.sight manager) }
-        ensures { IsOpened (state M.sight result) (record { me = me; role = AtLeaf parent; tree = tree }) (M.sight manager).log.failures }
+        ensures { IsOpened (state M.sight result) (record { me = me; role = AtLeaf parent; tree = tree })
+            (M.sight manager).log.failures }
     {
         let _ = manager.open(Flags::TMNOFLAGS, false);
         Subordinate {

@@ -16,7 +16,8 @@ use xa_xid::Xid;
 
 /// YES with its record.
 fn yes(me: ProcessId, parent: ProcessId, case: Case, alloc: Global) -> Result<Reaction, AllocError>
-    ensures { IfOk result (λ reaction. reaction ≡ logged_reply kind.Prepared case true me parent (message.Yes case)) }
+    ensures { IfOk result (λ reaction. reaction
+        ≡ logged_reply kind.Prepared case true me parent (message.Yes case)) }
 {
     let written = logged(RecordKind::Prepared, case, true, alloc)?;
     let messages = letter(me, parent, Message::Yes(case), alloc)?;
@@ -38,8 +39,10 @@ impl<M: ResourceManager> Subordinate<M> {
     ) -> Result<Reaction, StepError>
         requires up { (M.sight self.old.manager).log.failed ≡ false }
         requires at { (g : AnyCase) × IsAt self.old.table key case (active xid g works false) }
-        ensures ok { IfOk result (Hears (seen M.sight self.old) (seen M.sight self.new) (message.Prepare case works)) }
-        ensures err { IfErr result (NotHeard (seen M.sight self.old) (seen M.sight self.new) (message.Prepare case works)) }
+        ensures ok { IfOk result (Hears (seen M.sight self.old) (seen M.sight self.new)
+            (message.Prepare case works)) }
+        ensures err { IfErr result (NotHeard (seen M.sight self.old) (seen M.sight self.new)
+            (message.Prepare case works)) }
     {
         let yes = yes(self.me, self.parent, case, self.alloc)?;
         let read = reply(self.me, self.parent, Message::Read(case), self.alloc)?;

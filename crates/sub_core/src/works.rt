@@ -26,8 +26,10 @@ impl<M: ResourceManager> Subordinate<M> {
         requires up { (M.sight self.old.manager).log.failed ≡ false }
         requires at { IsAt self.old.table key case (active xid given_for done false) }
         requires next { number ≡ done + 1 }
-        ensures ok { IfOk result (Hears (seen M.sight self.old) (seen M.sight self.new) (message.Work case number op.now)) }
-        ensures err { IfErr result (NotHeard (seen M.sight self.old) (seen M.sight self.new) (message.Work case number op.now)) }
+        ensures ok { IfOk result (Hears (seen M.sight self.old) (seen M.sight self.new)
+            (message.Work case number op.now)) }
+        ensures err { IfErr result (NotHeard (seen M.sight self.old) (seen M.sight self.new)
+            (message.Work case number op.now)) }
     {
         match work(&mut self.manager, &xid, op) {
             Ok(true) => {
@@ -42,11 +44,14 @@ impl<M: ResourceManager> Subordinate<M> {
         }
     }
 
-    /// WORK: the next one of an Active case is done; any other, and one of a case that takes no work, does nothing.
+    /// WORK: the next one of an Active case is done; any other, and one of a case that takes no work, does
+    /// nothing.
     pub fn work(&mut self, case: Case, number: u64, op: &Op) -> Result<Reaction, StepError>
         requires up { (M.sight self.old.manager).log.failed ≡ false }
-        ensures ok { IfOk result (Hears (seen M.sight self.old) (seen M.sight self.new) (message.Work case number op.now)) }
-        ensures err { IfErr result (NotHeard (seen M.sight self.old) (seen M.sight self.new) (message.Work case number op.now)) }
+        ensures ok { IfOk result (Hears (seen M.sight self.old) (seen M.sight self.new)
+            (message.Work case number op.now)) }
+        ensures err { IfErr result (NotHeard (seen M.sight self.old) (seen M.sight self.new)
+            (message.Work case number op.now)) }
     {
         let Some((key, branch)) = find_branch(&self.branches, &case) else {
             return Ok(silence(self.alloc));

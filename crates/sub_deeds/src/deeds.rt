@@ -32,8 +32,8 @@ pub fn begin<M: ResourceManager>(manager: &mut M, xid: &Xid) -> Result<bool, All
     Ok(true)
 }
 
-/// An idle branch does an operation. False: it was refused, and the branch can only be rolled back. Memory: the branch is
-/// idle as before.
+/// An idle branch does an operation. False: it was refused, and the branch can only be rolled back. Memory:
+/// the branch is idle as before.
 pub fn work<M: ResourceManager>(manager: &mut M, xid: &Xid, op: &Op) -> Result<bool, AllocError>
     requires idle { IsIdle (M.sight manager.old) }
     requires up { (M.sight manager.old).log.failed ≡ false }
@@ -59,8 +59,8 @@ pub fn work<M: ResourceManager>(manager: &mut M, xid: &Xid, op: &Op) -> Result<b
     }
 }
 
-/// An idle branch promises, with what it has written; one that wrote nothing is ended. Memory: nothing changed, also where a
-/// limit of the manager's own is met. Device: it fails now.
+/// An idle branch promises, with what it has written; one that wrote nothing is ended. Memory: nothing
+/// changed, also where a limit of the manager's own is met. Device: it fails now.
 pub fn promise<M: ResourceManager>(manager: &mut M, xid: &Xid) -> Result<Vote, StepError>
     requires idle { IsIdle (M.sight manager.old) }
     requires up { (M.sight manager.old).log.failed ≡ false }
@@ -68,7 +68,8 @@ pub fn promise<M: ResourceManager>(manager: &mut M, xid: &Xid) -> Result<Vote, S
     requires state { state_at (M.sight manager.old).tables xid.now ≡ state.S2 }
     ensures vote { IfOk result (λ vote. vote ≡ vote_of ((M.sight manager.old).writes xid.now)) }
     ensures ok { OnOk result (Finishes (M.sight manager.old) (M.sight manager.new) xid.now call.Prepare) }
-    ensures err { IfErr result (NotFinished (M.sight manager.old) (M.sight manager.new) xid.now call.Prepare) }
+    ensures err { IfErr result (NotFinished (M.sight manager.old)
+        (M.sight manager.new) xid.now call.Prepare) }
 {
     match manager.prepare(THREAD, xid, Flags::TMNOFLAGS)? {
         Code::RmFail => Err(StepError::Device),
@@ -78,8 +79,8 @@ pub fn promise<M: ResourceManager>(manager: &mut M, xid: &Xid) -> Result<Vote, S
     }
 }
 
-/// A prepared branch commits; one that an operator decided notes the outcome if it is the first, and stays. The errors are those
-/// of `promise`.
+/// A prepared branch commits; one that an operator decided notes the outcome if it is the first, and stays.
+/// The errors are those of `promise`.
 pub fn commit<M: ResourceManager>(manager: &mut M, xid: &Xid) -> Result<(), StepError>
     requires idle { IsIdle (M.sight manager.old) }
     requires up { (M.sight manager.old).log.failed ≡ false }
@@ -95,15 +96,16 @@ pub fn commit<M: ResourceManager>(manager: &mut M, xid: &Xid) -> Result<(), Step
     }
 }
 
-/// A branch that is idle, spoiled or prepared rolls back; one that an operator decided notes the outcome if it is the first, and
-/// stays. The errors are those of `promise`.
+/// A branch that is idle, spoiled or prepared rolls back; one that an operator decided notes the outcome if
+/// it is the first, and stays. The errors are those of `promise`.
 pub fn roll_back<M: ResourceManager>(manager: &mut M, xid: &Xid) -> Result<(), StepError>
     requires idle { IsIdle (M.sight manager.old) }
     requires up { (M.sight manager.old).log.failed ≡ false }
     requires named { xid.now ≢ null_xid }
     requires state { can_roll_back (state_at (M.sight manager.old).tables xid.now) ≡ true }
     ensures ok { OnOk result (Finishes (M.sight manager.old) (M.sight manager.new) xid.now call.Rollback) }
-    ensures err { IfErr result (NotFinished (M.sight manager.old) (M.sight manager.new) xid.now call.Rollback) }
+    ensures err { IfErr result (NotFinished (M.sight manager.old)
+        (M.sight manager.new) xid.now call.Rollback) }
 {
     match manager.rollback(THREAD, xid, Flags::TMNOFLAGS)? {
         Code::RmFail => Err(StepError::Device),
@@ -112,8 +114,8 @@ pub fn roll_back<M: ResourceManager>(manager: &mut M, xid: &Xid) -> Result<(), S
     }
 }
 
-/// A branch that an operator decided is told an outcome; the first one is noted, and the branch stays. The errors are those of
-/// `promise`.
+/// A branch that an operator decided is told an outcome; the first one is noted, and the branch stays. The
+/// errors are those of `promise`.
 pub fn tell<M: ResourceManager>(
     manager: &mut M,
     xid: &Xid,
@@ -123,8 +125,10 @@ pub fn tell<M: ResourceManager>(
     requires up { (M.sight manager.old).log.failed ≡ false }
     requires named { xid.now ≢ null_xid }
     requires state { state_at (M.sight manager.old).tables xid.now ≡ state.S5 }
-    ensures ok { OnOk result (Finishes (M.sight manager.old) (M.sight manager.new) xid.now (outcome_call outcome)) }
-    ensures err { IfErr result (NotFinished (M.sight manager.old) (M.sight manager.new) xid.now (outcome_call outcome)) }
+    ensures ok { OnOk result (Finishes (M.sight manager.old) (M.sight manager.new)
+        xid.now (outcome_call outcome)) }
+    ensures err { IfErr result (NotFinished (M.sight manager.old) (M.sight manager.new)
+        xid.now (outcome_call outcome)) }
 {
     match outcome {
         Outcome::Committed => commit(manager, xid),

@@ -10,8 +10,8 @@ use std::alloc::{AllocError, Global};
 use sub_table::{Branches, Stage};
 use tree_model::{Branch, Case, LogRecord, Outcome, ProcessId, Tree};
 
-/// The live branches, the process's own cases in order of their first records, the last boot, and the newest boot of a ticket
-/// of a branch that promised.
+/// The live branches, the process's own cases in order of their first records, the last boot, and the newest
+/// boot of a ticket of a branch that promised.
 #[derive(Drop)]
 pub(crate) struct Cases {
     pub(crate) branches: Branches,
@@ -90,8 +90,8 @@ impl Cases {
         }
     }
 
-    /// One record more. Unfit: it is of a coordinator's case; or it names a branch whose XID reads as another name; or a case
-    /// promised that has done so already, or was decided that did not promise.
+    /// One record more. Unfit: it is of a coordinator's case; or it names a branch whose XID reads as
+    /// another name; or a case promised that has done so already, or was decided that did not promise.
     pub(crate) fn take(
         &mut self,
         me: ProcessId,

@@ -1,4 +1,5 @@
-//! What the records of a log leave of a subordinate: its live branches, and the inquiries that it begins with.
+//! What the records of a log leave of a subordinate: its live branches, and the inquiries that it begins
+//! with.
 #![tactic(auto)]
 
 mod cases;

@@ -143,7 +143,8 @@ fn reads_back(parent: Option<ProcessId>, branch: Branch) -> bool
     is_same_parent(named, parent) && is_same_branch(&read, &branch)
 }
 
-/// The case that a branch is, where it is the process's own. Unfit: the XID of its name reads as another name.
+/// The case that a branch is, where it is the process's own. Unfit: the XID of its name reads as another
+/// name.
 pub(crate) fn own_case(
     me: ProcessId,
     parent: ProcessId,

@@ -14,8 +14,9 @@ use tree_model::{Case, Envelope, Envelopes, LogRecord, Message, ProcessId, Seque
 /// The last boot that another can follow.
 const LAST_BOOT: u64 = (1 << 63) - 2;
 
-/// What the records of a log leave of a subordinate: its live branches, in doubt or decided by an operator; an inquiry for each
-/// of them that was not told its outcome, in order of the cases' first records; and the last boot.
+/// What the records of a log leave of a subordinate: its live branches, in doubt or decided by an operator;
+/// an inquiry for each of them that was not told its outcome, in order of the cases' first records; and the
+/// last boot.
 #[derive(Drop)]
 pub struct Rebuilt {
     pub branches: Branches,
@@ -76,8 +77,8 @@ fn inquiries(
     Ok(messages)
 }
 
-/// What these records leave. Unfit: no run of a subordinate makes such records. So a boot behind which none comes is refused,
-/// and a ticket of a later boot.
+/// What these records leave. Unfit: no run of a subordinate makes such records. So a boot behind which none
+/// comes is refused, and a ticket of a later boot.
 pub fn rebuild(
     me: ProcessId,
     parent: ProcessId,

@@ -9,8 +9,8 @@ use xa_xid::Xid;
 /// How far a live branch has come.
 #[derive(Clone, Copy, PartialEq, Eq)]
 pub enum Stage {
-    /// It takes work: the parent's case for which its ticket was given, how many works are done, and whether one was
-    /// refused, so that it can only be rolled back.
+    /// It takes work: the parent's case for which its ticket was given, how many works are done, and whether
+    /// one was refused, so that it can only be rolled back.
     Active {
         given_for: Case,
         done: u64,
@@ -25,15 +25,16 @@ pub enum Stage {
 }
 
 impl Stage {
-    /// Whether the branch asks its parent for the outcome: it is in doubt, or an operator decided it and it was not told.
+    /// Whether the branch asks its parent for the outcome: it is in doubt, or an operator decided it and it
+    /// was not told.
     pub fn awaits(self) -> bool
         ensures { result ≡ awaits self }
     {
         matches!(self, Stage::Prepared | Stage::Heuristic { told: None })
     }
 
-    /// The parent's case and how many works are done, where the branch takes the work with this number: it is Active, no
-    /// work was refused, and this is the next one.
+    /// The parent's case and how many works are done, where the branch takes the work with this number: it
+    /// is Active, no work was refused, and this is the next one.
     pub fn takes(self, number: u64) -> Option<(Case, u64)>
         ensures { TakesBy self number result }
     {

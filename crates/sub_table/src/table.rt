@@ -86,13 +86,14 @@ impl Branches {
         }
     }
 
-    /// The case of a fresh ticket is live now, which was just given for the parent's case; this is its key. Memory: nothing
-    /// changed.
+    /// The case of a fresh ticket is live now, which was just given for the parent's case; this is its key.
+    /// Memory: nothing changed.
     pub fn open(&mut self, given_for: Case, ticket: Ticket, xid: Xid) -> Result<usize, AllocError>
         requires fresh { branch_in self.old (child_case given_for.txn ticket) ≡ None }
         requires ungiven { ticket_in self.old given_for ≡ None }
         ensures ok { OnOk result (Opens self.old self.new given_for ticket xid) }
-        ensures at { IfOk result (λ key. entry_at self.new.branches key ≡ Some (child_case given_for.txn ticket, opened xid given_for)) }
+        ensures at { IfOk result (λ key. entry_at self.new.branches key
+            ≡ Some (child_case given_for.txn ticket, opened xid given_for)) }
         ensures err { OnErr result (SameTable self.old self.new) }
     {
         let case = Case {
@@ -133,7 +134,8 @@ impl Branches {
 
     /// An Active branch goes on: so many works are done, and one was refused or not. It takes no memory.
     pub fn note(&mut self, key: usize, given_for: Case, done: u64, spoiled: bool)
-        requires { (b : AnyBranch) × (value_at self.old.branches key ≡ Some b) × IsGivenFor given_for b.stage }
+        requires { (b : AnyBranch) × (value_at self.old.branches key ≡ Some b)
+            × IsGivenFor given_for b.stage }
         ensures { Notes self.old self.new key (stage.Active given_for done spoiled) }
     {
         match self.branches.get_mut(key) {
@@ -164,7 +166,8 @@ impl Branches {
 
     /// An operator decided a branch that promised, and it was told this outcome since. It takes no memory.
     pub fn decide(&mut self, key: usize, told: Option<Outcome>)
-        requires { (b : AnyBranch) × (value_at self.old.branches key ≡ Some b) × (has_promised b.stage ≡ true) }
+        requires { (b : AnyBranch) × (value_at self.old.branches key ≡ Some b)
+            × (has_promised b.stage ≡ true) }
         ensures { Notes self.old self.new key (stage.Heuristic told) }
     {
         match self.branches.get_mut(key) {

@@ -32,8 +32,8 @@ fn write_of(alloc: Global, is_put: bool) -> Result<Vec<Write>, AllocError> {
     Ok(writes)
 }
 
-/// By halving the 100,000 reads take less than two million steps; one version after another they would take five
-/// thousand million.
+/// By halving the 100,000 reads take less than two million steps; one version after another they would take
+/// five thousand million.
 #[test]
 fn a_hundred_thousand_commits_of_one_key(rt: HostRuntime) -> Result<(), Fail> {
     let alloc = rt.alloc();

@@ -1,4 +1,5 @@
-//! The log of a root that committed one transaction of two children: with each byte set to each value, and cut at each byte.
+//! The log of a root that committed one transaction of two children: with each byte set to each value, and
+//! cut at each byte.
 
 ghost use Rattle.std.specs.Prelude.{◌<◌};
 
@@ -64,8 +65,8 @@ fn pinned_damage(rt: HostRuntime) {
     assert!(rt; answer_to(&long, alloc) == Some(Answer::Records(1)));
 }
 
-/// Whether a text with one byte set to a value is answered as it must: the header's damage is at 0, any other at a frame's
-/// first byte up to that place.
+/// Whether a text with one byte set to a value is answered as it must: the header's damage is at 0, any
+/// other at a frame's first byte up to that place.
 fn is_answered(place: usize, value: u8, alloc: Global) -> bool
     requires { place < 115 }
 {

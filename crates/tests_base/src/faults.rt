@@ -1,4 +1,5 @@
-//! A log whose device fails once: what stands then, and that a restart goes on. And a log that is written anew.
+//! A log whose device fails once: what stands then, and that a restart goes on. And a log that is written
+//! anew.
 
 use crate::damage::COMMITTED;
 use log_store::{FaultStore, LogStore, MemoryStore};
@@ -59,7 +60,8 @@ fn a_failed_force_fails_the_log(rt: HostRuntime) -> Result<(), Fail> {
     Ok(())
 }
 
-/// A torn tail is removed by one replace: where it fails, the store is handed back as it was, and opens the next time.
+/// A torn tail is removed by one replace: where it fails, the store is handed back as it was, and opens the
+/// next time.
 #[test]
 fn a_failed_open_hands_the_store_back(rt: HostRuntime) -> Result<(), Fail> {
     let alloc = rt.alloc();

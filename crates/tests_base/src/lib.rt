@@ -1,5 +1,5 @@
-//! Tests of what a tree stands on: XA codes, scripts and copies, logs of bytes, the versions of keys, and how a subordinate
-//! votes over a manager that votes as it was told.
+//! Tests of what a tree stands on: XA codes, scripts and copies, logs of bytes, the versions of keys, and
+//! how a subordinate votes over a manager that votes as it was told.
 #![tactic(auto)]
 
 #[cfg(test)]

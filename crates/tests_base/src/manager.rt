@@ -17,7 +17,8 @@ use xa_manager::WorkError;
 use xa_tables::BranchState;
 use xa_xid::Xid;
 
-/// A key store whose data, where it is told so, are in the way of every operation: then each branch that works votes NO.
+/// A key store whose data, where it is told so, are in the way of every operation: then each branch that
+/// works votes NO.
 #[derive(Drop)]
 pub struct FakeManager {
     manager: KvManager<MemoryStore>,
@@ -25,8 +26,8 @@ pub struct FakeManager {
 }
 
 impl FakeManager {
-    /// A manager over an empty store, which refuses every operation or does what is asked of it. An empty store in memory
-    /// is refused for memory alone.
+    /// A manager over an empty store, which refuses every operation or does what is asked of it. An empty
+    /// store in memory is refused for memory alone.
     pub fn create(alloc: Global, refuses: bool) -> Result<Self, AllocError>
         ensures new { IfOk result (λ made. IsNew (told made.refuses (store_sight made.manager))) }
         ensures told { IfOk result (λ made. made.refuses ≡ refuses) }
@@ -48,8 +49,8 @@ impl FakeManager {
         ResourceManager::work(&mut self.manager, thread, op)
     }
 
-    /// Refuses a thread's operation: the key store is asked for a key that it cannot have, so what stands before that in the
-    /// order of refusals comes first.
+    /// Refuses a thread's operation: the key store is asked for a key that it cannot have, so what stands
+    /// before that in the order of refusals comes first.
     fn refuse_work(&mut self, thread: u32, _op: &Op) -> Result<(), WorkError>
         requires { self.old.refuses ≡ true }
         ensures ok { OnOk result (Works (told self.old.refuses (store_sight self.old.manager))

@@ -15,7 +15,8 @@ fn opened(alloc: Global, refuses: bool) -> Result<Subordinate<FakeManager>, Allo
     Ok(Subordinate::open(alloc, CHILD, ProcessId(1), tree, manager))
 }
 
-// These say nothing of the process that they leave, and are for any manager, so that the proof of a test stays short.
+// These say nothing of the process that they leave, and are for any manager, so that the proof of a test
+// stays short.
 
 fn heard<M: ResourceManager>(
     player: &mut Subordinate<M>,

@@ -50,7 +50,8 @@ fn push_cases(
     own: &Notes,
 ) -> Result<(), AllocError>
     ensures { OnOk result (lines.new.items
-        ≡ lines.old.items ++ lines_in (role_by entry.now.kind entry.now.parent) (option_copied above.entry) own.now) }
+        ≡ lines.old.items ++ lines_in (role_by entry.now.kind entry.now.parent)
+        (option_copied above.entry) own.now) }
 {
     for (case, note) in own.cases() {
         if note.kinds().has_line(entry.kind, entry.parent) {
@@ -67,7 +68,8 @@ fn push_lines(
     notes: &TreeNotes,
     said: &TreeSayings,
 ) -> Result<(), AllocError>
-    ensures { OnOk result (lines.new.items ≡ lines.old.items ++ entry_lines notes.now.entries said.now.entries entry.now) }
+    ensures { OnOk result (lines.new.items ≡ lines.old.items
+        ++ entry_lines notes.now.entries said.now.entries entry.now) }
 {
     match notes.get(&entry.id) {
         None => Ok(()),
@@ -98,7 +100,8 @@ fn count_mismatches(lines: &[Line]) -> usize
     lines.iter().filter(|line| line.mismatch).count()
 }
 
-/// Audits the cases of a tree of which this is noted: the lines and the number of mismatches, as `audit` tells them.
+/// Audits the cases of a tree of which this is noted: the lines and the number of mismatches, as `audit`
+/// tells them.
 pub fn audit_notes(alloc: Global, tree: &Tree, notes: &TreeNotes) -> Result<Report, AllocError>
     requires { IsTree tree.now }
     ensures lines { IfOk result (λ r. (logs : Logs) → AreNotes tree.now logs notes.now.entries
@@ -111,13 +114,15 @@ pub fn audit_notes(alloc: Global, tree: &Tree, notes: &TreeNotes) -> Result<Repo
     Ok(Report { lines, mismatches })
 }
 
-/// Audits the logs of a tree: a line for each case that is still told of, in the order of the tree and of first records, with
-/// how it stands by its own process's records and how its transaction ends. The outcome is the case's own decision or what it
-/// was told; else, at the root, abort; else that of the parent's first case of the transaction that names its ticket; else
-/// what is presumed. Cases that are not their process's own in this tree are left out. Each log is gone through once.
+/// Audits the logs of a tree: a line for each case that is still told of, in the order of the tree and of
+/// first records, with how it stands by its own process's records and how its transaction ends. The outcome
+/// is the case's own decision or what it was told; else, at the root, abort; else that of the parent's first
+/// case of the transaction that names its ticket; else what is presumed. Cases that are not their process's
+/// own in this tree are left out. Each log is gone through once.
 ///
-/// Where a run of the model left the logs, with no process failed, each outcome is that of its transaction in the run, and the
-/// mismatches that are shown are just those that stand. Damaged: the first log in the order of the tree that is.
+/// Where a run of the model left the logs, with no process failed, each outcome is that of its transaction
+/// in the run, and the mismatches that are shown are just those that stand. Damaged: the first log in the
+/// order of the tree that is.
 pub fn audit(alloc: Global, tree: &Tree, logs: &[ProcessLog]) -> Result<Report, AuditError>
     requires { IsTree tree.now }
     ensures ok { IfOk result (λ r. IsReport tree.now logs.now r) }

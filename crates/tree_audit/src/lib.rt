@@ -1,5 +1,5 @@
-//! The auditor: from a tree and its processes' logs each case that is still told of, with its own standing and its
-//! transaction's outcome.
+//! The auditor: from a tree and its processes' logs each case that is still told of, with its own standing
+//! and its transaction's outcome.
 //!
 //! ```text
 //! report     a line a case, and the number of mismatches

@@ -65,7 +65,8 @@ fn put(notes: &mut TreeNotes, process: ProcessId, new: Notes) -> Result<(), Allo
     Ok(())
 }
 
-/// What the log of each process says of its cases. It goes through each log once, and stops at the first that is damaged.
+/// What the log of each process says of its cases. It goes through each log once, and stops at the first
+/// that is damaged.
 pub fn all_notes(alloc: Global, tree: &Tree, logs: &[ProcessLog]) -> Result<TreeNotes, AuditError>
     requires { IsTree tree.now }
     ensures sound { IfOk result (λ notes. first_damage tree.now logs.now ≡ None) }

@@ -1,4 +1,5 @@
-//! What each parent says of its children's cases, from the root down: each process once, behind its own parent.
+//! What each parent says of its children's cases, from the root down: each process once, behind its own
+//! parent.
 
 ghost use Rattle.std.specs.Prelude.{◌≡◌, IfOk, OnOk};
 ghost use Rattle.std.specs.Map.{lookup};
@@ -44,7 +45,8 @@ fn add(
     process: ProcessId,
     parent: Option<ProcessId>,
 ) -> Result<(), AllocError>
-    ensures { OnOk result (Adds (above_of said.old.entries parent) (lookup (same_id process) notes.now.entries) process
+    ensures { OnOk result (Adds (above_of said.old.entries parent)
+        (lookup (same_id process) notes.now.entries) process
         said.old.entries said.new.entries) }
 {
     match notes.get(&process) {

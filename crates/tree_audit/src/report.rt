@@ -10,8 +10,8 @@ pub struct Line {
     pub case: Case,
     /// How the case stands by the records of its own process.
     pub own: Own,
-    /// Its own decision, or what it was told; none where it is in doubt, or ended with no decision. One that collects votes,
-    /// and has not come further, will abort.
+    /// Its own decision, or what it was told; none where it is in doubt, or ended with no decision. One that
+    /// collects votes, and has not come further, will abort.
     pub decision: Option<Outcome>,
     /// How its transaction ends.
     pub outcome: Outcome,
@@ -19,7 +19,8 @@ pub struct Line {
     pub mismatch: bool,
 }
 
-/// A line for each case that is told of, in the order of the tree and of first records; and how many show a mismatch.
+/// A line for each case that is told of, in the order of the tree and of first records; and how many show a
+/// mismatch.
 #[derive(Drop)]
 pub struct Report {
     pub lines: Vec<Line>,
@@ -31,8 +32,8 @@ pub struct Report {
 pub enum AuditError {
     /// There was no memory.
     Memory,
-    /// The first damaged log in the order of the tree: its process, and the first byte of the frame that is wrong, 0 for the
-    /// header.
+    /// The first damaged log in the order of the tree: its process, and the first byte of the frame that is
+    /// wrong, 0 for the header.
     Damaged(ProcessId, usize),
 }
 

@@ -62,7 +62,8 @@ impl Sent {
     }
 }
 
-/// How many records were written, how many of them forced, and how many messages were sent, in all and of each kind.
+/// How many records were written, how many of them forced, and how many messages were sent, in all and of
+/// each kind.
 #[derive(Clone, Copy, PartialEq, Eq)]
 pub struct Counts {
     pub records: u64,

@@ -85,7 +85,8 @@ impl RunCounts {
         Ok(RunCounts { rows })
     }
 
-    /// Counts a step more of the run. Where memory is refused, or a sum is 2^64 or more, it counts nothing that can be told.
+    /// Counts a step more of the run. Where memory is refused, or a sum is 2^64 or more, it counts nothing
+    /// that can be told.
     pub fn add(&mut self, entry: &Entry) -> Result<(), AllocError>
         ensures { OnOk result ((tree : List AnyTreeEntry) (entries : List AnyEntry)
             → self.old ≡ rows_of tree entries → self.new ≡ rows_of tree (entries ++ entry.now ∷ [])) }

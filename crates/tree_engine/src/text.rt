@@ -85,8 +85,8 @@ fn push_row(out: &mut Vec<u8>, row: &ProcessCounts) -> Result<(), AllocError>
     push(out, "\n")
 }
 
-/// Adds a line for each process: how many records it wrote, how many of them forced, and how many messages it sent, in all
-/// and of each kind that it sent. Where memory is refused, a beginning of them may stand.
+/// Adds a line for each process: how many records it wrote, how many of them forced, and how many messages
+/// it sent, in all and of each kind that it sent. Where memory is refused, a beginning of them may stand.
 #[tactic(auto, unfolding(crate::specs::Texts::rows_text))]
 pub fn push_counts(out: &mut Vec<u8>, counts: &RunCounts) -> Result<(), AllocError>
     ensures { OnOk result (out.new.items ≡ out.old.items ++ rows_text counts.now) }

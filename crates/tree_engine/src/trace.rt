@@ -79,7 +79,8 @@ fn opening_line(alloc: Global, process: u64) -> Result<String, AllocError>
     Ok(line)
 }
 
-/// The lines of a step, behind so many messages. How many were sent with its own. 2^64 messages are taken for want of memory.
+/// The lines of a step, behind so many messages. How many were sent with its own. 2^64 messages are taken
+/// for want of memory.
 #[tactic(auto, unfolding(trace_lines::specs::Trace::entry_text))]
 fn push_step(out: &mut Vec<u8>, sent: u64, step: &Shown) -> Result<u64, Failure>
     ensures sent { IfOk result (λ next. next ≡ sent + length step.now.messages.now) }
@@ -105,7 +106,8 @@ fn push_place(
     place: usize,
     sent: u64,
 ) -> Result<Option<u64>, Failure>
-    ensures text { IfOk result (AddsStep (slice_get (state world.now).entries place) out.old.items out.new.items sent) }
+    ensures text { IfOk result (AddsStep (slice_get (state world.now).entries place)
+        out.old.items out.new.items sent) }
     ensures memory { IfErr result (λ e. e ≡ Failure.Memory) }
 {
     match world.shown(place) {

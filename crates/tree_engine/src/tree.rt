@@ -35,15 +35,16 @@ pub enum Output {
 /// How many events were made, and why the next was refused; or none was.
 pub type Refusal = Option<(usize, StepError)>;
 
-/// Reads a tree script, makes its events, and writes the trace, with the counts behind it where they are asked for, or the
-/// logs; or one line that says why the script is refused.
-/// A refused event ends the trace by its number and why it was refused.
+/// Reads a tree script, makes its events, and writes the trace, with the counts behind it where they are
+/// asked for, or the logs; or one line that says why the script is refused. A refused event ends the trace
+/// by its number and why it was refused.
 ///
-/// What is written is that of the run of just the script's events in the model; a refused event is one that the model
-/// refuses by that number. In this run no two processes end one transaction differently except by an operator's decision;
-/// commit is decided only where every participant voted yes or read-only; every answer that finds its asker in doubt tells
-/// the root's outcome; a mismatch stands until it is forgotten; an operator's record comes from an operator alone (R*).
-/// After a failed read, or where memory is refused, nothing was written; after a failed write, a beginning of the text.
+/// What is written is that of the run of just the script's events in the model; a refused event is one that
+/// the model refuses by that number. In this run no two processes end one transaction differently except by
+/// an operator's decision; commit is decided only where every participant voted yes or read-only; every
+/// answer that finds its asker in doubt tells the root's outcome; a mismatch stands until it is forgotten;
+/// an operator's record comes from an operator alone (R*). After a failed read, or where memory is refused,
+/// nothing was written; after a failed write, a beginning of the text.
 pub fn run_tree<R: Read, W: Write>(
     alloc: Global,
     output: Output,
@@ -68,11 +69,14 @@ pub fn run_tree<R: Read, W: Write>(
     ensures by_operators_alone { IfOk result (λ status. (input : List ℕ) × (text : List ℕ)
         × IsInput (R.remaining reader.old) input × IsTreeReport IsByOperatorsAlone output status input text
         × Appends (W.contents writer.old) (W.contents writer.new) text) }
-    ensures cut { IfErr result (λ e. e ≡ Failure.Write → (input : List ℕ) × (text : List ℕ) × (status : AnyStatus)
+    ensures cut { IfErr result (λ e. e ≡ Failure.Write → (input : List ℕ)
+        × (text : List ℕ) × (status : AnyStatus)
         × IsInput (R.remaining reader.old) input × IsTreeReport KeepsHeadline output status input text
         × WritesFront (W.contents writer.old) (W.contents writer.new) text) }
-    ensures unread { IfErr result (λ e. e ≡ Failure.Read → Keeps (W.contents writer.old) (W.contents writer.new)) }
-    ensures memory { IfErr result (λ e. e ≡ Failure.Memory → Keeps (W.contents writer.old) (W.contents writer.new)) }
+    ensures unread { IfErr result (λ e. e ≡ Failure.Read
+        → Keeps (W.contents writer.old) (W.contents writer.new)) }
+    ensures memory { IfErr result (λ e. e ≡ Failure.Memory
+        → Keeps (W.contents writer.old) (W.contents writer.new)) }
 {
     let input = read_all(alloc, reader)?;
     let (text, status) = report(alloc, output, &input)?;
@@ -141,8 +145,8 @@ fn opened(alloc: Global, tree: Tree) -> Result<World<MemoryStore>, Failure>
     }
 }
 
-/// Runs these events on the tree: what it comes to, and how many events were made and why the next was refused. A store in
-/// memory has no device that fails.
+/// Runs these events on the tree: what it comes to, and how many events were made and why the next was
+/// refused. A store in memory has no device that fails.
 fn play(
     alloc: Global,
     tree: Tree,

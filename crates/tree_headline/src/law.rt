@@ -23,7 +23,8 @@ pub fn parts()
 /// Where the world's invariant holds, the pair above a cascaded coordinator and each pair below it speak of
 /// one case.
 pub fn below()
-    ensures { (tree : List TreeEntry) (w : World) → IsTree tree → WorldHolds tree w → (c : Case) (u t : Ticket)
+    ensures { (tree : List TreeEntry) (w : World) → IsTree tree
+        → WorldHolds tree w → (c : Case) (u t : Ticket)
         → IsPair tree c u → sent (is_joined_message c u) w.net ≡ true → IsPair tree (child_case c.txn u) t
         → IsBelow (pair_reading tree w c u) (pair_reading tree w (child_case c.txn u) t) }
 {}
@@ -36,7 +37,8 @@ pub fn agreement()
 /// Where the world's invariant holds behind a run, the first vote heard of each participant of a committed
 /// transaction is YES or READ, and each manager's YES was sent with its promise in the forced front.
 pub fn commit_rule()
-    ensures { (tree : List TreeEntry) (es : List Made) (w : World) → IsTree tree → IsRun tree es w → WorldHolds tree w
+    ensures { (tree : List TreeEntry) (es : List Made) (w : World) → IsTree tree
+        → IsRun tree es w → WorldHolds tree w
         → CommitRule tree es w }
 {}
 
@@ -73,12 +75,13 @@ pub fn headline_from_processes()
 /// each step of each coordinator keeps it, the headline holds of every run.
 pub fn headline_from_coordinators()
     ensures enough { (tree : List TreeEntry) → CoordinatorLaws tree → ProcessLaws tree }
-    ensures headline { (tree : List TreeEntry) → IsTree tree → CoordinatorLaws tree → (es : List Made) (w : World)
+    ensures headline { (tree : List TreeEntry) → IsTree tree → CoordinatorLaws tree
+        → (es : List Made) (w : World)
         → IsRun tree es w → Headline tree es w }
 {}
 
-/// Of coordinators it is enough that each step of the root keeps what `RootLaws` says, and each step of a cascaded
-/// coordinator what `CascadedLaws` says: then the headline holds of every run.
+/// Of coordinators it is enough that each step of the root keeps what `RootLaws` says, and each step of a
+/// cascaded coordinator what `CascadedLaws` says: then the headline holds of every run.
 pub fn headline_from_root_and_cascaded()
     ensures { (tree : List TreeEntry) → IsTree tree → RootLaws tree → CascadedLaws tree → (es : List Made)
         (w : World) → IsRun tree es w → Headline tree es w }

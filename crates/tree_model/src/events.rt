@@ -62,7 +62,8 @@ pub enum Event {
     Deliver(u64),
     /// Delivers the least numbered message that was not delivered yet, again and again, at most 10,000 times.
     Settle,
-    /// Restarts a process, which keeps so many bytes behind its forced front; all of them, where no number stands.
+    /// Restarts a process, which keeps so many bytes behind its forced front; all of them, where no number
+    /// stands.
     Restart(ProcessId, Option<u64>),
     Trim(ProcessId),
 }
@@ -76,8 +77,8 @@ pub enum Happening {
     Trim,
 }
 
-/// What a device's failure left of an event: how many of its records were appended, and how many of the records
-/// behind the old forced front are in the new one.
+/// What a device's failure left of an event: how many of its records were appended, and how many of the
+/// records behind the old forced front are in the new one.
 #[derive(Clone, Copy, PartialEq, Eq)]
 pub struct Fault {
     pub appended: u64,
@@ -107,8 +108,8 @@ pub struct Told {
     pub conclusion: Conclusion,
 }
 
-/// What a step led to: the transaction begun, the records made, what was told, the messages, and for a trim the
-/// number of records kept. One with nothing in it takes no memory.
+/// What a step led to: the transaction begun, the records made, what was told, the messages, and for a trim
+/// the number of records kept. One with nothing in it takes no memory.
 #[derive(Drop)]
 pub struct Reaction {
     pub begun: Option<Txn>,
@@ -140,8 +141,8 @@ pub enum StepError {
     /// The process is no child of this one, or for work no accepted child that is a manager.
     #[error("not a child that can take it")]
     NotAChild,
-    /// Commit or abort was asked already, or PREPARE came (but a case that collects votes takes an abort). A case that
-    /// is forgotten after that is no case any more, and so `UnknownTxn`.
+    /// Commit or abort was asked already, or PREPARE came (but a case that collects votes takes an abort). A
+    /// case that is forgotten after that is no case any more, and so `UnknownTxn`.
     #[error("the case is closed")]
     Closed,
     /// The process's device failed, and it was not restarted yet.

@@ -17,10 +17,11 @@ ghost use Rattle.tree_model.specs.declared.records.Record.{Record};
 ghost use Rattle.tree_model.specs.Views.{ManagerViews, RootBegins, RootViews};
 ghost use Rattle.tree_model.specs.World.{IsRun, Made, World, made_by, net_by, node_by};
 
-/// A run is told process by process: each process is what its own moves make of it, and the net is the messages of the
-/// moves, one after another.
+/// A run is told process by process: each process is what its own moves make of it, and the net is the
+/// messages of the moves, one after another.
 pub fn processes_are_their_moves()
-    ensures processes { (tree : List TreeEntry) (es : List Made) (w : World) → IsRun tree es w → (p : ProcessId)
+    ensures processes { (tree : List TreeEntry) (es : List Made) (w : World)
+        → IsRun tree es w → (p : ProcessId)
         → w.at p ≡ node_by (place_of tree p) (made_by p es) }
     ensures net { (tree : List TreeEntry) (es : List Made) (w : World) → IsRun tree es w → w.net ≡ net_by es }
 {}
@@ -33,10 +34,12 @@ pub fn manager_views_follow_the_table()
 /// The root's new view, as its reaction table gives it, is what its extended lists read as.
 pub fn root_views_follow_the_table()
     ensures rows { (me : ProcessId) (tree : List TreeEntry) (n : Node) (x : Txn) → RootViews me tree n x }
-    ensures begins { (me : ProcessId) (tree : List TreeEntry) (n : Node) (p : Presumption) (a : DataAnswer) → RootBegins me tree n p a }
+    ensures begins { (me : ProcessId) (tree : List TreeEntry) (n : Node) (p : Presumption) (a : DataAnswer)
+        → RootBegins me tree n p a }
 {}
 
-/// What a committed update of a flat tree costs its root and each of its managers, row by row through the reaction table.
+/// What a committed update of a flat tree costs its root and each of its managers, row by row through the
+/// reaction table.
 pub fn committed_update_costs()
     ensures { (s : Seat) → CommittedUpdateCosts s }
 {}

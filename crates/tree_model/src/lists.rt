@@ -50,8 +50,8 @@ impl<T> Sequence<T> {
         self.items.len()
     }
 
-    /// Adds a value at the end. A refusal for memory changes nothing. Most lists have one value, so the first gets room for
-    /// itself alone.
+    /// Adds a value at the end. A refusal for memory changes nothing. Most lists have one value, so the
+    /// first gets room for itself alone.
     pub fn push(&mut self, value: T) -> Result<(), AllocError>
     where
         T: Drop,

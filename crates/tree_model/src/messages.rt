@@ -30,7 +30,8 @@ impl Op {
     }
 }
 
-/// A message between a parent and its child (R*). JOIN and JOINED name the parent's case, the others the child's.
+/// A message between a parent and its child (R*). JOIN and JOINED name the parent's case, the others the
+/// child's.
 #[derive(Drop)]
 pub enum Message {
     /// A parent asks its child to take part.

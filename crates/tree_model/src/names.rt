@@ -39,8 +39,8 @@ pub enum Outcome {
     Aborted,
 }
 
-/// A transaction's name: the root that began it, the root's boot, its number in that boot (both from 1), and the
-/// presumption that the root chose.
+/// A transaction's name: the root that began it, the root's boot, its number in that boot (both from 1), and
+/// the presumption that the root chose.
 #[derive(Clone, Copy, PartialEq, Eq)]
 pub struct Txn {
     pub root: ProcessId,

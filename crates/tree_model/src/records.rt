@@ -53,7 +53,8 @@ fn copied_writes(writes: &[Write], alloc: Global) -> Result<Writes, AllocError>
 /// The writes of a branch in order of each key's first write, each key once.
 pub type Writes = Sequence<Write>;
 
-/// A record of a log: Opened at each process, Collecting to End at coordinators, Prepared to Pair at managers.
+/// A record of a log: Opened at each process, Collecting to End at coordinators, Prepared to Pair at
+/// managers.
 #[derive(Drop)]
 pub enum Record {
     /// The process opened with this boot.
@@ -88,8 +89,8 @@ pub enum Record {
     Pair(Bytes, Bytes),
 }
 
-/// A record as a log holds it, with its name whole. A log names a case by its XID, which below the root has the parent
-/// too; so two names that differ in the parent alone are two.
+/// A record as a log holds it, with its name whole. A log names a case by its XID, which below the root has
+/// the parent too; so two names that differ in the parent alone are two.
 #[derive(Drop)]
 pub struct LogRecord {
     pub entry: Record,

@@ -139,8 +139,8 @@ impl Tree {
         is_listed(&self.entries, id)
     }
 
-    /// The first process without a parent, which is the root of a tree; process 0, which no tree text lists, where every
-    /// process has one.
+    /// The first process without a parent, which is the root of a tree; process 0, which no tree text lists,
+    /// where every process has one.
     #[tactic(auto, unfolding(crate::specs::Trees::root_of))]
     pub fn root(&self) -> ProcessId
         ensures { result ≡ root_in self.now }
@@ -151,8 +151,8 @@ impl Tree {
         }
     }
 
-    /// Whether the processes are a tree. It takes no memory. The faults are looked for in this order: Empty, TooMany,
-    /// TwoParents, Unknown, Cycle, Roots, ManagerWithChildren, TooDeep; the first is answered.
+    /// Whether the processes are a tree. It takes no memory. The faults are looked for in this order: Empty,
+    /// TooMany, TwoParents, Unknown, Cycle, Roots, ManagerWithChildren, TooDeep; the first is answered.
     pub fn check(&self) -> Result<(), TreeError>
         ensures ok { OnOk result (IsTree self.now) }
         ensures err { IfErr result (λ error. IsFirstFault self.now error) }

@@ -17,52 +17,55 @@ ghost use Rattle.tree_pairs.specs.readings.ReadingOf.{gives_case};
 ghost use Rattle.tree_model.specs.World.{IsRun, Made, World};
 ghost use Rattle.tree_model.specs.declared.trees.TreeEntry.{TreeEntry};
 
-/// In every run of every tree, with restarts, trims, faults and inquiries, an operator's decision that was ever in the
-/// forced front stands there, until a Forgot of its case was appended: so each mismatch stands until then.
+/// In every run of every tree, with restarts, trims, faults and inquiries, an operator's decision that was
+/// ever in the forced front stands there, until a Forgot of its case was appended: so each mismatch stands
+/// until then.
 pub fn mismatches_stand()
-    ensures { (tree : List TreeEntry) (es : List Made) (w : World) → IsRun tree es w → StandingMismatches tree w }
+    ensures { (tree : List TreeEntry) (es : List Made) (w : World) → IsRun tree es w
+        → StandingMismatches tree w }
 {}
 
-/// In every run of every tree, with restarts, trims, faults and inquiries, a manager's YES is sent with its promise in
-/// the forced front, move by move, a repeated YES too.
+/// In every run of every tree, with restarts, trims, faults and inquiries, a manager's YES is sent with its
+/// promise in the forced front, move by move, a repeated YES too.
 pub fn promises_are_forced()
     ensures { (tree : List TreeEntry) (es : List Made) (w : World) → IsRun tree es w → YesIsForced tree es }
 {}
 
-/// In every run of every tree, the boots of each process's log only rise, and the last of a process that is up is
-/// in the forced front.
+/// In every run of every tree, the boots of each process's log only rise, and the last of a process that is
+/// up is in the forced front.
 pub fn boots_rise()
     ensures { (tree : List TreeEntry) (es : List Made) (w : World) → IsRun tree es w → (p : ProcessId)
         → Boots (w.at p) }
 {}
 
-/// In every run of every tree, each transaction that a root has begun is its own, with a number that it gave out before,
-/// in a boot that is in the forced front; and each case that the root recorded, remembers, or accepted a ticket into, is
-/// of such a transaction.
+/// In every run of every tree, each transaction that a root has begun is its own, with a number that it gave
+/// out before, in a boot that is in the forced front; and each case that the root recorded, remembers, or
+/// accepted a ticket into, is of such a transaction.
 pub fn roots_own_their_cases()
     ensures { (tree : List TreeEntry) (es : List Made) (w : World) → IsRun tree es w → (p : ProcessId)
         → role_of tree p ≡ AtRoot → OwnTransactions (place_of tree p) (w.at p) }
 {}
 
-/// In every run of every tree, each root keeps its part of the world's invariant as a coordinator: what it remembers of
-/// a case goes with the case's records and with the votes that it heard; whom it remembers, heard or named, it accepted,
-/// and JOINED named; a case's records stand in order; and a case that can still be decided has no Commit.
+/// In every run of every tree, each root keeps its part of the world's invariant as a coordinator: what it
+/// remembers of a case goes with the case's records and with the votes that it heard; whom it remembers,
+/// heard or named, it accepted, and JOINED named; a case's records stand in order; and a case that can still
+/// be decided has no Commit.
 pub fn roots_hold()
     ensures { (tree : List TreeEntry) (es : List Made) (w : World) → IsRun tree es w → (p : ProcessId)
         → role_of tree p ≡ AtRoot → Coordinates (place_of tree p) w.net (w.at p) }
 {}
 
-/// In every run of every tree, each coordinator, the root or one below it, keeps its part of the world's invariant: what
-/// it remembers of a case goes with the case's records and with the votes that it heard; whom it remembers, heard or
-/// named, it accepted, and JOINED named; a case's records stand in order; and a case that can still be decided has no
-/// Commit.
+/// In every run of every tree, each coordinator, the root or one below it, keeps its part of the world's
+/// invariant: what it remembers of a case goes with the case's records and with the votes that it heard;
+/// whom it remembers, heard or named, it accepted, and JOINED named; a case's records stand in order; and a
+/// case that can still be decided has no Commit.
 pub fn coordinators_hold()
     ensures { (tree : List TreeEntry) (es : List Made) (w : World) → IsRun tree es w → (p : ProcessId)
         → IsCoordinator (role_of tree p) → Coordinates (place_of tree p) w.net (w.at p) }
 {}
 
-/// In every run of every tree, the records of each case of each coordinator stand in the order in which they are
-/// written, and decisions and promises name whom they should.
+/// In every run of every tree, the records of each case of each coordinator stand in the order in which they
+/// are written, and decisions and promises name whom they should.
 pub fn cases_stand_in_order()
     ensures { (tree : List TreeEntry) (es : List Made) (w : World) → IsRun tree es w → (p : ProcessId)
         → IsCoordinator (role_of tree p) → (c : Case) → CaseInOrder c (kept (w.at p)) }
@@ -74,48 +77,51 @@ pub fn given_cases_have_pairs()
     ensures pair { (tree : List TreeEntry) (w : World) → WorldHolds tree w → (x : Txn) (t : Ticket)
         → sent (gives_case (child_case x t)) w.net ≡ true
         → (c : Case) × ((c.txn ≡ x) × (IsPair tree c t × Common (pair_reading tree w c t))) }
-    ensures commits { (tree : List TreeEntry) (w : World) → WorldHolds tree w → (x : Txn) (t : Ticket) (p : ProcessId)
+    ensures commits { (tree : List TreeEntry) (w : World) → WorldHolds tree w
+        → (x : Txn) (t : Ticket) (p : ProcessId)
         → role_of tree t.child ≡ Below p → is_listed tree t.child ≡ true
         → cascaded_ends (w.at t.child) (child_case x t) Committed ≡ true → is_commit_outcome w x ≡ true }
 {}
 
-/// In every run of every tree a process gives each ticket number once, a cascaded coordinator too, also behind a
-/// restart; and each ticket that is active was told of by JOINED.
+/// In every run of every tree a process gives each ticket number once, a cascaded coordinator too, also
+/// behind a restart; and each ticket that is active was told of by JOINED.
 pub fn numbers_are_given_once()
     ensures { (tree : List TreeEntry) (es : List Made) (w : World) → IsRun tree es w → (q : ProcessId)
         → IsIssuer (role_of tree q) → Numbers (place_of tree q) w.net (w.at q) }
 {}
 
-/// In every run of every tree each manager keeps its part of the world's invariant: what it recorded and remembers is of
-/// cases whose tickets it gave, it promised only where it was asked, and a branch that takes work has no record.
+/// In every run of every tree each manager keeps its part of the world's invariant: what it recorded and
+/// remembers is of cases whose tickets it gave, it promised only where it was asked, and a branch that takes
+/// work has no record.
 pub fn managers_hold()
     ensures { (tree : List TreeEntry) (es : List Made) (w : World) → IsRun tree es w → (q p : ProcessId)
         → role_of tree q ≡ AtLeaf p → NodeHolds (place_of tree q) w.net (w.at q) }
 {}
 
-/// In every run of every tree each cascaded coordinator has recorded, and remembers, only cases whose tickets it gave,
-/// each with a number of its own, and it promised only where it was asked.
+/// In every run of every tree each cascaded coordinator has recorded, and remembers, only cases whose
+/// tickets it gave, each with a number of its own, and it promised only where it was asked.
 pub fn cascades_own_their_cases()
     ensures { (tree : List TreeEntry) (es : List Made) (w : World) → IsRun tree es w → (q p : ProcessId)
         → role_of tree q ≡ Below p → Issues (place_of tree q) w.net (w.at q) }
 {}
 
-/// In every run of every tree each cascaded coordinator accepts only into cases that it gave; those that it remembers it
-/// gave since its last restart; of the others it remembers no accepted ticket; and it collects votes only where it was
-/// asked.
+/// In every run of every tree each cascaded coordinator accepts only into cases that it gave; those that it
+/// remembers it gave since its last restart; of the others it remembers no accepted ticket; and it collects
+/// votes only where it was asked.
 pub fn cascades_hold()
     ensures { (tree : List TreeEntry) (es : List Made) (w : World) → IsRun tree es w → (q p : ProcessId)
         → role_of tree q ≡ Below p → Cascades (place_of tree q) w.net (w.at q) }
 {}
 
-/// In every run of every tree each cascaded coordinator keeps its part of the world's invariant, the whole of it.
+/// In every run of every tree each cascaded coordinator keeps its part of the world's invariant, the whole
+/// of it.
 pub fn cascaded_nodes_hold()
     ensures { (tree : List TreeEntry) (es : List Made) (w : World) → IsRun tree es w → (q p : ProcessId)
         → role_of tree q ≡ Below p → NodeHolds (place_of tree q) w.net (w.at q) }
 {}
 
-/// In every run of every tree a transaction never commits once the root told `aborted` of it, appended an Abort of it,
-/// or found it undecided in a restart; and each transaction that the root has begun is its own.
+/// In every run of every tree a transaction never commits once the root told `aborted` of it, appended an
+/// Abort of it, or found it undecided in a restart; and each transaction that the root has begun is its own.
 pub fn roots_begin()
     ensures { (tree : List TreeEntry) (es : List Made) (w : World) → IsRun tree es w → (q : ProcessId)
         → role_of tree q ≡ AtRoot → Begins (place_of tree q) (w.at q) }

@@ -1,5 +1,5 @@
-//! What every run keeps at each single process, whatever the others do. The functions do nothing: each one's contract
-//! is a law.
+//! What every run keeps at each single process, whatever the others do. The functions do nothing: each one's
+//! contract is a law.
 #![tactic(auto)]
 
 pub mod law;

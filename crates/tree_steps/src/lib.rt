@@ -1,6 +1,6 @@
-//! What a step of a process does to the pairs that it is part of: steps of a child, of a cascaded coordinator to the pairs
-//! above it, and of a coordinator to the pairs below it, its restarts and trims among them. The functions do nothing: each
-//! one's contract is a law.
+//! What a step of a process does to the pairs that it is part of: steps of a child, of a cascaded
+//! coordinator to the pairs above it, and of a coordinator to the pairs below it, its restarts and trims
+//! among them. The functions do nothing: each one's contract is a law.
 #![tactic(auto)]
 
 pub mod cascades;

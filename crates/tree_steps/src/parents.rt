@@ -1,3 +1,4 @@
-//! What a step of a coordinator does to the pairs below it. The functions do nothing: each one's contract is a law.
+//! What a step of a coordinator does to the pairs below it. The functions do nothing: each one's contract is
+//! a law.
 
 pub mod law;

@@ -77,10 +77,9 @@ impl<L: LogStore> Node<L> {
         }
     }
 
-    /// Handles an input. The refusals of the reaction table, as `StepError` says them,
-    /// change nothing, nor does Memory.
-    /// Device: the device failed under the record of the input, which stands or not, and the process answers Failed until
-    /// its restart.
+    /// Handles an input. The refusals of the reaction table, as `StepError` says them, change nothing, nor
+    /// does Memory. Device: the device failed under the record of the input, which stands or not, and the
+    /// process answers Failed until its restart.
     pub fn step(&mut self, input: &Input) -> Result<Reaction, StepError>
         requires numbers { HasNumbers (core_of self.old) }
         ensures ok { IfOk result (HandlesInput (core_of self.old) (core_of self.new) input.now) }
@@ -117,8 +116,10 @@ fn step_coordinator<L: LogStore>(
     input: &Input,
 ) -> Result<Reaction, StepError>
     requires { HasNumbers (coordinator_state coordinator.old) }
-    ensures ok { IfOk result (HandlesInput (coordinator_state coordinator.old) (coordinator_state coordinator.new) input.now) }
-    ensures err { IfErr result (NotHandled (coordinator_state coordinator.old) (coordinator_state coordinator.new) input.now) }
+    ensures ok { IfOk result (HandlesInput (coordinator_state coordinator.old)
+        (coordinator_state coordinator.new) input.now) }
+    ensures err { IfErr result (NotHandled (coordinator_state coordinator.old)
+        (coordinator_state coordinator.new) input.now) }
 {
     coordinator.step(input)
 }
@@ -129,8 +130,10 @@ fn step_manager<L: LogStore>(
     input: &Input,
 ) -> Result<Reaction, StepError>
     requires numbers { HasNumbers (manager_state sight_of manager.old) }
-    ensures ok { IfOk result (HandlesInput (manager_state sight_of manager.old) (manager_state sight_of manager.new) input.now) }
-    ensures err { IfErr result (NotHandled (manager_state sight_of manager.old) (manager_state sight_of manager.new) input.now) }
+    ensures ok { IfOk result (HandlesInput (manager_state sight_of manager.old)
+        (manager_state sight_of manager.new) input.now) }
+    ensures err { IfErr result (NotHandled (manager_state sight_of manager.old)
+        (manager_state sight_of manager.new) input.now) }
 {
     manager.step(input)
 }

@@ -17,10 +17,13 @@ pub(crate) struct Nodes<L: LogStore> {
 }
 
 impl<L: LogStore> Nodes<L> {
-    /// A process handles an input. NoSuch: there is no such process. Memory also comes where its numbers are used up.
+    /// A process handles an input. NoSuch: there is no such process. Memory also comes where its numbers are
+    /// used up.
     pub(crate) fn step(&mut self, process: ProcessId, input: &Input) -> Result<Reaction, StepError>
-        ensures ok { IfOk result (StepsAt (nodes_at self.old.nodes.entries) (nodes_at self.new.nodes.entries) process input.now) }
-        ensures err { IfErr result (NoStepAt (nodes_at self.old.nodes.entries) (nodes_at self.new.nodes.entries) process input.now) }
+        ensures ok { IfOk result (StepsAt (nodes_at self.old.nodes.entries)
+            (nodes_at self.new.nodes.entries) process input.now) }
+        ensures err { IfErr result (NoStepAt (nodes_at self.old.nodes.entries)
+            (nodes_at self.new.nodes.entries) process input.now) }
     {
         match self.nodes.get_mut(&process) {
             None => Err(StepError::NoSuch),
@@ -28,15 +31,17 @@ impl<L: LogStore> Nodes<L> {
         }
     }
 
-    /// A process restarts, and keeps so many bytes behind its forced front; all of them, where no number is given. Gives how
-    /// many of its unforced records were kept. NoSuch: there is no such process.
+    /// A process restarts, and keeps so many bytes behind its forced front; all of them, where no number is
+    /// given. Gives how many of its unforced records were kept. NoSuch: there is no such process.
     pub(crate) fn restart(
         &mut self,
         process: ProcessId,
         bytes: Option<u64>,
     ) -> Result<(u64, Reaction), StepError>
-        ensures ok { IfOk result (RestartsAt (nodes_at self.old.nodes.entries) (nodes_at self.new.nodes.entries) process bytes) }
-        ensures err { IfErr result (NoRestartAt (nodes_at self.old.nodes.entries) (nodes_at self.new.nodes.entries) process bytes) }
+        ensures ok { IfOk result (RestartsAt (nodes_at self.old.nodes.entries)
+            (nodes_at self.new.nodes.entries) process bytes) }
+        ensures err { IfErr result (NoRestartAt (nodes_at self.old.nodes.entries)
+            (nodes_at self.new.nodes.entries) process bytes) }
     {
         match self.nodes.get_mut(&process) {
             None => Err(StepError::NoSuch),
@@ -46,8 +51,10 @@ impl<L: LogStore> Nodes<L> {
 
     /// The log of a process is trimmed. Gives how many records remain. NoSuch: there is no such process.
     pub(crate) fn trim(&mut self, process: ProcessId) -> Result<u64, StepError>
-        ensures ok { IfOk result (TrimsAt (nodes_at self.old.nodes.entries) (nodes_at self.new.nodes.entries) process) }
-        ensures err { IfErr result (NoTrimAt (nodes_at self.old.nodes.entries) (nodes_at self.new.nodes.entries) process) }
+        ensures ok { IfOk result (TrimsAt (nodes_at self.old.nodes.entries)
+            (nodes_at self.new.nodes.entries) process) }
+        ensures err { IfErr result (NoTrimAt (nodes_at self.old.nodes.entries)
+            (nodes_at self.new.nodes.entries) process) }
     {
         match self.nodes.get_mut(&process) {
             None => Err(StepError::NoSuch),

@@ -134,7 +134,8 @@ fn open_coordinator<L: LogStore + Drop>(
     store: L,
 ) -> Result<Node<L>, OpenError>
     requires { L.bytes store ≡ [] }
-    ensures { IfOk result (λ node. OpenedAt (record { me = me; role = role_by kind.Coordinator parent; tree = tree }) (core_of node)) }
+    ensures { IfOk result (λ node. OpenedAt
+        (record { me = me; role = role_by kind.Coordinator parent; tree = tree }) (core_of node)) }
 {
     let log = empty_log(alloc, me, store)?;
     match Coordinator::open(alloc, me, parent, tree, log) {
@@ -152,7 +153,8 @@ fn open_manager<L: LogStore + Drop>(
     store: L,
 ) -> Result<Node<L>, OpenError>
     requires { L.bytes store ≡ [] }
-    ensures { IfOk result (λ node. OpenedAt (record { me = me; role = Role.AtLeaf parent; tree = tree }) (core_of node)) }
+    ensures { IfOk result
+        (λ node. OpenedAt (record { me = me; role = Role.AtLeaf parent; tree = tree }) (core_of node)) }
 {
     match KvManager::create(store, alloc) {
         Ok(manager) => Ok(Node::Manager(Subordinate::open(alloc, me, parent, tree, manager))),
@@ -184,14 +186,16 @@ fn put_by_name<V: Drop>(
 ) -> Result<(), AllocError>
     ensures own { OnOk result (lookup (processes.ghosts.eq name) values.new.entries ≡ Some value) }
     ensures others { OnOk result ((q : AnyProcess) → same_process name q ≡ false
-        → lookup (processes.ghosts.eq q) values.new.entries ≡ lookup (processes.ghosts.eq q) values.old.entries) }
+        → lookup (processes.ghosts.eq q) values.new.entries
+        ≡ lookup (processes.ghosts.eq q) values.old.entries) }
 {
     values.reserve(1)?;
     let _ = values.insert(name, value).unwrap();
     Ok(())
 }
 
-/// Opens the process of an entry over this store, beside those that are open. Store: there is none, or it has bytes.
+/// Opens the process of an entry over this store, beside those that are open. Store: there is none, or it
+/// has bytes.
 fn open_more<L: LogStore + Drop>(
     alloc: Global,
     tree: &[TreeEntry],
@@ -199,8 +203,10 @@ fn open_more<L: LogStore + Drop>(
     store: Option<L>,
     nodes: &mut IndexMap<ProcessId, Node<L>>,
 ) -> Result<(), OpenError>
-    ensures own { OnOk result (IsSomeAnd (nodes_at nodes.new.entries entry.now.id) (OpenedAs tree.now entry.now)) }
-    ensures others { OnOk result ((q : AnyProcess) → same_process entry.now.id q ≡ false → nodes_at nodes.new.entries q ≡ nodes_at nodes.old.entries q) }
+    ensures own { OnOk result (IsSomeAnd (nodes_at nodes.new.entries entry.now.id)
+        (OpenedAs tree.now entry.now)) }
+    ensures others { OnOk result ((q : AnyProcess) → same_process entry.now.id q ≡ false
+        → nodes_at nodes.new.entries q ≡ nodes_at nodes.old.entries q) }
 {
     let Some(store) = store else {
         return Err(OpenError::Store(entry.id));
@@ -213,7 +219,8 @@ fn open_more<L: LogStore + Drop>(
     Ok(())
 }
 
-/// Opens every process of the tree, each over its store. A process that is listed twice is opened as it is listed first.
+/// Opens every process of the tree, each over its store. A process that is listed twice is opened as it is
+/// listed first.
 fn opened_over<L: LogStore + Drop>(
     alloc: Global,
     tree: &[TreeEntry],
@@ -241,11 +248,12 @@ fn memory_stores(alloc: Global, count: usize) -> Result<Vec<MemoryStore>, AllocE
 }
 
 impl<L: LogStore + Drop> World<L> {
-    /// A tree whose processes have opened empty logs: boot 1, forced. The tree is one that passed its check. Each process
-    /// has a store without bytes, in the order of the tree; those that are left over are let go.
+    /// A tree whose processes have opened empty logs: boot 1, forced. The tree is one that passed its check.
+    /// Each process has a store without bytes, in the order of the tree; those that are left over are let
+    /// go.
     ///
-    /// Memory: a growth was refused. Device: the device of the store of this process failed. Store: there is no store for
-    /// this process, or bytes stand in it. Behind a refusal all stores are let go.
+    /// Memory: a growth was refused. Device: the device of the store of this process failed. Store: there is
+    /// no store for this process, or bytes stand in it. Behind a refusal all stores are let go.
     pub fn with_stores(alloc: Global, tree: Tree, stores: Vec<L>) -> Result<World<L>, OpenError>
         requires { IsTree tree }
         ensures opened { IfOk result (λ world. IsOpened (state world) tree) }

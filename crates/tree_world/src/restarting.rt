@@ -14,9 +14,10 @@ use std::alloc::AllocError;
 use tree_model::{Reaction, StepError};
 
 impl<L: LogStore> Node<L> {
-    /// Restarts the process behind a crash that keeps so many of the bytes behind the forced front: it stands as the records
-    /// that are left say. All memory is taken before the crash. Memory: nothing changed. Device: the device failed under the
-    /// restart, and the process answers Failed until it is restarted again.
+    /// Restarts the process behind a crash that keeps so many of the bytes behind the forced front: it
+    /// stands as the records that are left say. All memory is taken before the crash. Memory: nothing
+    /// changed. Device: the device failed under the restart, and the process answers Failed until it is
+    /// restarted again.
     pub fn restart(&mut self, keep: usize) -> Result<Reaction, StepError>
         ensures ok { IfOk result (Restarts (core_of self.old) keep (core_of self.new)) }
         ensures err { IfErr result (NotRestarted (core_of self.old) keep (core_of self.new)) }
@@ -27,9 +28,9 @@ impl<L: LogStore> Node<L> {
         }
     }
 
-    /// Trims the log of the process: the last Opened and the records of the cases that are not forgotten stay, and behind them
-    /// a manager's data. Gives how many records remain. Failed, Memory: nothing changed. Device: the old log stands or the
-    /// new one, and the process answers Failed until its restart.
+    /// Trims the log of the process: the last Opened and the records of the cases that are not forgotten
+    /// stay, and behind them a manager's data. Gives how many records remain. Failed, Memory: nothing
+    /// changed. Device: the old log stands or the new one, and the process answers Failed until its restart.
     pub fn trim(&mut self) -> Result<u64, StepError>
         ensures ok { IfOk result (Trims (core_of self.old) (core_of self.new)) }
         ensures err { IfErr result (NotTrimmed (core_of self.old) (core_of self.new)) }

@@ -65,7 +65,8 @@ fn discard(_logs: Vec<Vec<LogRecord>>) {}
 impl<L: LogStore> RunningTree<L> {
     /// The records of each process's log, in the order of the tree.
     pub(crate) fn logs(&self) -> Result<Vec<Vec<LogRecord>>, AllocError>
-        ensures { IfOk result (λ logs. map (λ log. log.items) logs.items ≡ logs_at (running_state self.now) (running_state self.now).tree) }
+        ensures { IfOk result (λ logs. map (λ log. log.items) logs.items
+            ≡ logs_at (running_state self.now) (running_state self.now).tree) }
     {
         let mut logs = Vec::new(self.alloc);
         match self.add_logs(&mut logs) {
@@ -80,7 +81,8 @@ impl<L: LogStore> RunningTree<L> {
     /// Adds the records of each process's log to a list that has none.
     fn add_logs(&self, logs: &mut Vec<Vec<LogRecord>>) -> Result<(), AllocError>
         requires { logs.old.items ≡ [] }
-        ensures { OnOk result (map (λ log. log.items) logs.new.items ≡ logs_at (running_state self.now) (running_state self.now).tree) }
+        ensures { OnOk result (map (λ log. log.items) logs.new.items
+            ≡ logs_at (running_state self.now) (running_state self.now).tree) }
     {
         for entry in self.tree.entries() {
             logs.push(self.nodes.records(self.alloc, entry.id)?)?;
@@ -91,7 +93,8 @@ impl<L: LogStore> RunningTree<L> {
     /// Makes an event.
     pub(crate) fn make(&mut self, event: &Event) -> Result<(), StepError>
         ensures ok { OnOk result (Applies (running_state self.old) event.now (running_state self.new)) }
-        ensures err { IfErr result (λ e. Stops (running_state self.old) event.now e (running_state self.new)) }
+        ensures err { IfErr result (λ e. Stops (running_state self.old) event.now
+            e (running_state self.new)) }
     {
         match event {
             Event::Act(act) => self.act(act),
@@ -105,7 +108,8 @@ impl<L: LogStore> RunningTree<L> {
     /// Makes these events, in order, up to the first that is refused.
     pub(crate) fn make_all(&mut self, events: &[Event]) -> Result<(), (usize, StepError)>
         ensures ok { OnOk result (Leads (running_state self.old) events.now (running_state self.new)) }
-        ensures err { IfErr result (λ refusal. LeadsUntil (running_state self.old) events.now refusal.0 refusal.1 (running_state self.new)) }
+        ensures err { IfErr result (λ refusal. LeadsUntil (running_state self.old) events.now refusal.0
+            refusal.1 (running_state self.new)) }
         ensures within { IfErr result (λ refusal. refusal.0 < length events.now) }
     {
         for (made, event) in events.iter().enumerate() {
@@ -118,8 +122,10 @@ impl<L: LogStore> RunningTree<L> {
 
     /// What an application asks, or an operator.
     fn act(&mut self, act: &Act) -> Result<(), StepError>
-        ensures ok { OnOk result (Applies (running_state self.old) (Event.Act act.now) (running_state self.new)) }
-        ensures err { IfErr result (λ e. Stops (running_state self.old) (Event.Act act.now) e (running_state self.new)) }
+        ensures ok { OnOk result (Applies (running_state self.old)
+            (Event.Act act.now) (running_state self.new)) }
+        ensures err { IfErr result (λ e. Stops (running_state self.old) (Event.Act act.now)
+            e (running_state self.new)) }
     {
         let process = process_of(self.tree.root(), act);
         let input = self.journal.take_act(act)?;
@@ -128,8 +134,10 @@ impl<L: LogStore> RunningTree<L> {
 
     /// Delivers the message with this number.
     fn deliver(&mut self, number: u64) -> Result<(), StepError>
-        ensures ok { OnOk result (Applies (running_state self.old) (Event.Deliver number) (running_state self.new)) }
-        ensures err { IfErr result (λ e. Stops (running_state self.old) (Event.Deliver number) e (running_state self.new)) }
+        ensures ok { OnOk result (Applies (running_state self.old)
+            (Event.Deliver number) (running_state self.new)) }
+        ensures err { IfErr result (λ e. Stops (running_state self.old) (Event.Deliver number)
+            e (running_state self.new)) }
     {
         match self.journal.take_message(number)? {
             None => Err(StepError::NoSuch),
@@ -140,7 +148,8 @@ impl<L: LogStore> RunningTree<L> {
     /// Delivers the least numbered message that was not delivered, again and again, at most 10,000 times.
     fn settle(&mut self) -> Result<(), StepError>
         ensures ok { OnOk result (Applies (running_state self.old) Event.Settle (running_state self.new)) }
-        ensures err { IfErr result (λ e. Stops (running_state self.old) Event.Settle e (running_state self.new)) }
+        ensures err { IfErr result (λ e. Stops (running_state self.old) Event.Settle
+            e (running_state self.new)) }
     {
         for _ in 0..SETTLE_LIMIT {
             let Some(number) = self.journal.least_open()? else {
@@ -151,10 +160,13 @@ impl<L: LogStore> RunningTree<L> {
         Ok(())
     }
 
-    /// Restarts a process, which keeps so many bytes behind its forced front; all of them, where no number is given.
+    /// Restarts a process, which keeps so many bytes behind its forced front; all of them, where no number
+    /// is given.
     fn restart(&mut self, process: ProcessId, bytes: Option<u64>) -> Result<(), StepError>
-        ensures ok { OnOk result (Applies (running_state self.old) (Event.Restart process bytes) (running_state self.new)) }
-        ensures err { IfErr result (λ e. Stops (running_state self.old) (Event.Restart process bytes) e (running_state self.new)) }
+        ensures ok { OnOk result (Applies (running_state self.old)
+            (Event.Restart process bytes) (running_state self.new)) }
+        ensures err { IfErr result (λ e. Stops (running_state self.old) (Event.Restart process bytes)
+            e (running_state self.new)) }
     {
         self.journal.make_room()?;
         let (kept, reaction) = self.nodes.restart(process, bytes)?;
@@ -165,8 +177,10 @@ impl<L: LogStore> RunningTree<L> {
 
     /// Trims the log of a process.
     fn trim(&mut self, process: ProcessId) -> Result<(), StepError>
-        ensures ok { OnOk result (Applies (running_state self.old) (Event.Trim process) (running_state self.new)) }
-        ensures err { IfErr result (λ e. Stops (running_state self.old) (Event.Trim process) e (running_state self.new)) }
+        ensures ok { OnOk result (Applies (running_state self.old)
+            (Event.Trim process) (running_state self.new)) }
+        ensures err { IfErr result (λ e. Stops (running_state self.old) (Event.Trim process)
+            e (running_state self.new)) }
     {
         self.journal.make_room()?;
         let remain = self.nodes.trim(process)?;
@@ -179,8 +193,10 @@ impl<L: LogStore> RunningTree<L> {
     fn handle(&mut self, process: ProcessId, input: Input) -> Result<(), StepError>
         requires ready { IsReady self.old.journal }
         requires sent { IsSent self.old.journal.net (Happening.Input input) }
-        ensures ok { OnOk result (Steps (running_state self.old) (running_state self.new) process input (marked_by input (running_state self.old).delivered)) }
-        ensures err { IfErr result (NotTaken (running_state self.old) (running_state self.new) process input) }
+        ensures ok { OnOk result (Steps (running_state self.old) (running_state self.new) process input
+            (marked_by input (running_state self.old).delivered)) }
+        ensures err { IfErr result (NotTaken (running_state self.old)
+            (running_state self.new) process input) }
     {
         let made = self.nodes.step(process, &input);
         self.journal.close(process, input, made)

@@ -67,7 +67,8 @@ impl<L: LogStore> Nodes<L> {
         alloc: Global,
         process: ProcessId,
     ) -> Result<Vec<u64>, AllocError>
-        ensures { IfOk result (λ sizes. sizes.items ≡ map record_size (unforced_by (nodes_at self.now.nodes.entries process))) }
+        ensures { IfOk result (λ sizes. sizes.items
+            ≡ map record_size (unforced_by (nodes_at self.now.nodes.entries process))) }
     {
         match self.nodes.get(&process) {
             None => Ok(Vec::new(alloc)),
@@ -77,10 +78,12 @@ impl<L: LogStore> Nodes<L> {
 }
 
 impl<L: LogStore> World<L> {
-    /// How many bytes each record of a process's log takes that is not forced, in order; none, where there is no such process.
-    /// A crash keeps the first so many of them that stand whole within the bytes that it keeps.
+    /// How many bytes each record of a process's log takes that is not forced, in order; none, where there
+    /// is no such process. A crash keeps the first so many of them that stand whole within the bytes that it
+    /// keeps.
     pub fn unforced_sizes(&self, process: ProcessId) -> Result<Vec<u64>, AllocError>
-        ensures { IfOk result (λ sizes. sizes.items ≡ map record_size (unforced_by ((state self.now).node_at process))) }
+        ensures { IfOk result (λ sizes. sizes.items
+            ≡ map record_size (unforced_by ((state self.now).node_at process))) }
     {
         self.running
             .nodes

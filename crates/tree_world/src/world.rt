@@ -17,8 +17,8 @@ use std::marker::Model;
 use tree_model::{Entry, Envelope, Event, LogRecord, ProcessId, StepError, Tree};
 use world_journal::Shown;
 
-/// A tree of processes, each with its log in a store; every message ever sent, with the mark whether it was delivered; and
-/// every step that was made.
+/// A tree of processes, each with its log in a store; every message ever sent, with the mark whether it was
+/// delivered; and every step that was made.
 #[derive(Drop)]
 pub struct World<L: LogStore> {
     pub(crate) running: RunningTree<L>,
@@ -52,7 +52,8 @@ impl<L: LogStore> World<L> {
 
     /// What the step at this place shows, from 0, as the journal has it; None, where so many were not made.
     pub fn shown(&self, place: usize) -> Option<Shown<'_>>
-        ensures { option_map shown_part result ≡ option_map entry_part (slice_get (state self.now).entries place) }
+        ensures { option_map shown_part result
+            ≡ option_map entry_part (slice_get (state self.now).entries place) }
     {
         self.running.journal.shown(place)
     }
@@ -71,8 +72,8 @@ impl<L: LogStore> World<L> {
         self.running.journal.sent()
     }
 
-    /// Lets the tree go, and all that it keeps. A caller that lets one go by this call need not see what that comes to: it
-    /// is proved here, once.
+    /// Lets the tree go, and all that it keeps. A caller that lets one go by this call need not see what
+    /// that comes to: it is proved here, once.
     pub fn close(self)
     where
         L: Drop,
@@ -94,19 +95,21 @@ impl<L: LogStore> World<L> {
 
     /// The records of each process's log, in the order of the tree.
     pub fn logs(&self) -> Result<Vec<Vec<LogRecord>>, AllocError>
-        ensures { IfOk result (λ logs. map (λ log. log.items) logs.items ≡ logs_at (state self.now) (state self.now).tree) }
+        ensures { IfOk result (λ logs. map (λ log. log.items) logs.items
+            ≡ logs_at (state self.now) (state self.now).tree) }
     {
         self.running.logs()
     }
 
-    /// Makes an event. After a refusal nothing has changed, but for what a settle had delivered. Device: a process's device
-    /// failed under its record, and it answers Failed from then on. Memory: a growth was refused, or a process has no
-    /// numbers left.
+    /// Makes an event. After a refusal nothing has changed, but for what a settle had delivered. Device: a
+    /// process's device failed under its record, and it answers Failed from then on. Memory: a growth was
+    /// refused, or a process has no numbers left.
     ///
-    /// However it ends, and whatever devices failed, the tree stands for a run of the model that goes on from the one that
-    /// it stood for. In this run no two processes end one transaction differently except by an operator's decision; commit
-    /// is decided only where every participant voted yes or read-only; every answer that finds its asker in doubt tells the
-    /// root's outcome; a mismatch stands until it is forgotten; an operator's record comes from an operator alone (R*).
+    /// However it ends, and whatever devices failed, the tree stands for a run of the model that goes on
+    /// from the one that it stood for. In this run no two processes end one transaction differently except
+    /// by an operator's decision; commit is decided only where every participant voted yes or read-only;
+    /// every answer that finds its asker in doubt tells the root's outcome; a mismatch stands until it is
+    /// forgotten; an operator's record comes from an operator alone (R*).
     pub fn apply(&mut self, event: &Event) -> Result<(), StepError>
         ensures ok { OnOk result (Applies (state self.old) event.now (state self.new)) }
         ensures err { IfErr result (λ e. Stops (state self.old) event.now e (state self.new)) }
@@ -121,11 +124,13 @@ impl<L: LogStore> World<L> {
         self.running.make(event)
     }
 
-    /// Makes these events, in order, up to the first that is refused: then how many were made, and why the next was not.
-    /// However it ends, the tree stands for a run that goes on, as behind one event, and the same holds of it.
+    /// Makes these events, in order, up to the first that is refused: then how many were made, and why the
+    /// next was not. However it ends, the tree stands for a run that goes on, as behind one event, and the
+    /// same holds of it.
     pub fn run(&mut self, events: &[Event]) -> Result<(), (usize, StepError)>
         ensures ok { OnOk result (Leads (state self.old) events.now (state self.new)) }
-        ensures err { IfErr result (λ refusal. LeadsUntil (state self.old) events.now refusal.0 refusal.1 (state self.new)) }
+        ensures err { IfErr result (λ refusal. LeadsUntil (state self.old) events.now refusal.0
+            refusal.1 (state self.new)) }
         ensures within { IfErr result (λ refusal. refusal.0 < length events.now) }
         ensures goes_on { (es : List Made) (w : ModelWorld) → FollowsBehindFaults es w (state self.old)
             → GoesOnBehindFaults es w (state self.new) }

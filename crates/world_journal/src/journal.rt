@@ -18,11 +18,11 @@ use std::alloc::{AllocError, Global};
 use std::marker::Model;
 use tree_model::{Act, Entry, Envelope, Happening, Input, ProcessId, Reaction, StepError};
 
-/// Every step that was made, and the name of every message that was sent in one, with the mark whether it was delivered.
-/// The message itself stands in its step alone; a step that handled it has its number.
+/// Every step that was made, and the name of every message that was sent in one, with the mark whether it
+/// was delivered. The message itself stands in its step alone; a step that handled it has its number.
 ///
-/// A step is entered without a growth, so that memory cannot run out behind it. What would need one, the names of its
-/// messages and their marks, is made up for before the next step: then the messages are posted.
+/// A step is entered without a growth, so that memory cannot run out behind it. What would need one, the
+/// names of its messages and their marks, is made up for before the next step: then the messages are posted.
 #[derive(Drop)]
 pub struct Journal {
     alloc: Global,
@@ -46,7 +46,12 @@ impl Model for Journal {
     ghost view = { λ j. record {
       net = messages_of j.steps.items;
       delivered = j.delivered ++ undelivered (unposted j.is_posted j.steps.items);
-      entries = entries_of (record { acts = j.acts.items; asides = j.asides.items; steps = j.steps.items; posted = j.posted.items });
+      entries = entries_of (record {
+        acts = j.acts.items;
+        asides = j.asides.items;
+        steps = j.steps.items;
+        posted = j.posted.items;
+      });
       is_posted = j.is_posted;
       room = record {
         steps = vec_capacity j.steps - length j.steps.items;
@@ -56,7 +61,12 @@ impl Model for Journal {
     } };
 
     ghost invariant = { λ j. AreNamed j.is_posted j.steps.items j.posted.items
-        × IsWhole (record { acts = j.acts.items; asides = j.asides.items; steps = j.steps.items; posted = j.posted.items }) };
+        × IsWhole (record {
+          acts = j.acts.items;
+          asides = j.asides.items;
+          steps = j.steps.items;
+          posted = j.posted.items;
+        }) };
 }
 
 impl Journal {
@@ -132,12 +142,14 @@ impl Journal {
         Ok(Input::Act(act.copied(self.alloc)?))
     }
 
-    /// The message with this number once more, with its receiver and room for its step; None where no message has it.
+    /// The message with this number once more, with its receiver and room for its step; None where no
+    /// message has it.
     pub fn take_message(&mut self, number: u64) -> Result<Option<(ProcessId, Input)>, AllocError>
         ensures keeps { Keeps self.old self.new }
         ensures ready { OnOk result (IsReady self.new) }
         ensures sent { IfOk result (λ found. IfSome found (λ f. IsSent self.new.net (Happening.Input f.1))) }
-        ensures taken { IfOk result (λ found. found ≡ option_map (taken_up number) (sent_as self.old.net number)) }
+        ensures taken { IfOk result (λ found. found
+            ≡ option_map (taken_up number) (sent_as self.old.net number)) }
     {
         self.make_room()?;
         let Some(envelope) = self.message(number) else {
@@ -159,7 +171,8 @@ impl Journal {
         }
     }
 
-    /// A process handled an input or did not: the step is entered, where it was made, and its message is delivered.
+    /// A process handled an input or did not: the step is entered, where it was made, and its message is
+    /// delivered.
     pub fn close(
         &mut self,
         process: ProcessId,
@@ -168,7 +181,8 @@ impl Journal {
     ) -> Result<(), StepError>
         requires ready { IsReady self.old }
         requires sent { IsSent self.old.net (Happening.Input input) }
-        ensures ok { OnOk result ((reaction : AnyReaction) × (made ≡ Ok reaction) × Enters self.old self.new process input reaction) }
+        ensures ok { OnOk result ((reaction : AnyReaction) × (made ≡ Ok reaction)
+            × Enters self.old self.new process input reaction) }
         ensures err { IfErr result (λ e. (made ≡ Err e) × (self.new ≡ self.old)) }
     {
         match made {

@@ -1,5 +1,5 @@
-//! The journal of a tree that runs: every step that was made with its reaction, and every message with its number and the
-//! mark whether it was delivered.
+//! The journal of a tree that runs: every step that was made with its reaction, and every message with its
+//! number and the mark whether it was delivered.
 #![tactic(auto)]
 
 mod journal;

@@ -21,7 +21,8 @@ impl Model for Marks {
 
     ghost view = { λ m. m.marks.items };
 
-    ghost invariant = { λ m. (m.settled ≤ length m.marks.items) × (take m.settled m.marks.items ≡ replicate m.settled true) };
+    ghost invariant = { λ m. (m.settled ≤ length m.marks.items)
+        × (take m.settled m.marks.items ≡ replicate m.settled true) };
 }
 
 impl Marks {
@@ -60,10 +61,12 @@ impl Marks {
         }
     }
 
-    /// The place of the first message that was not delivered. What is delivered at the front is not gone through again.
+    /// The place of the first message that was not delivered. What is delivered at the front is not gone
+    /// through again.
     pub(crate) fn least_open(&mut self) -> Option<usize>
         ensures marks { self.new ≡ self.old }
-        ensures found { IfSome result (λ place. (place + 1 < 2 ^ 64) × (least_open_in 1 self.old ≡ Some (place + 1))) }
+        ensures found { IfSome result (λ place. (place + 1 < 2 ^ 64)
+            × (least_open_in 1 self.old ≡ Some (place + 1))) }
         ensures none { IfNone result (least_open_in 1 self.old ≡ None) }
     {
         match first_open(&self.marks, self.settled) {
@@ -83,8 +86,10 @@ impl Marks {
 fn first_open(marks: &[bool], start: usize) -> Option<usize>
     requires range { start ≤ length marks.now }
     requires front { take start marks.now ≡ replicate start true }
-    ensures found { IfSome result (λ p. (p < length marks.now) × (take p marks.now ≡ replicate p true) × (least_open_in 1 marks.now ≡ Some (p + 1))) }
-    ensures none { IfNone result ((take (length marks.now) marks.now ≡ replicate (length marks.now) true) × (least_open_in 1 marks.now ≡ None)) }
+    ensures found { IfSome result (λ p. (p < length marks.now) × (take p marks.now ≡ replicate p true)
+        × (least_open_in 1 marks.now ≡ Some (p + 1))) }
+    ensures none { IfNone result ((take (length marks.now) marks.now ≡ replicate (length marks.now) true)
+        × (least_open_in 1 marks.now ≡ None)) }
 {
     for place in start..marks.len() {
         if !marks[place] {

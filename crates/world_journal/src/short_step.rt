@@ -180,7 +180,8 @@ pub(crate) fn entry_of(
     posted: &[Posted],
     step: &ShortStep,
 ) -> Result<Option<Entry>, AllocError>
-    ensures { IfOk result (λ found. found ≡ entry_in (record { acts = acts.now; asides = asides.now; steps = steps.now; posted = posted.now }) step.now) }
+    ensures { IfOk result (λ found. found ≡ entry_in
+        (record { acts = acts.now; asides = asides.now; steps = steps.now; posted = posted.now }) step.now) }
 {
     let Some(happening) = happening_of(alloc, acts, steps, posted, step.cause)? else {
         return Ok(None);
@@ -201,7 +202,8 @@ pub(crate) fn entry_of(
 
 /// What a step shows; None, where what its reaction has besides is not there.
 pub(crate) fn shown_of<'a>(asides: &[Aside], step: &'a ShortStep) -> Option<Shown<'a>>
-    ensures { option_map shown_part result ≡ option_map (step_part step.now) (aside_in asides.now step.now.aside) }
+    ensures { option_map shown_part result ≡ option_map (step_part step.now)
+        (aside_in asides.now step.now.aside) }
 {
     let aside = aside_at(asides, step.aside)?;
     Some(Shown {

@@ -29,9 +29,19 @@ impl Model for Associations {
 
     ghost Value = { AssocList };
 
-    ghost view = { λ a. record { holders = a.active.entries; seats = a.suspended; moved = a.migrated.entries; migrates = a.migrates } };
+    ghost view = { λ a. record {
+      holders = a.active.entries;
+      seats = a.suspended;
+      moved = a.migrated.entries;
+      migrates = a.migrates;
+    } };
 
-    ghost invariant = { λ a. IsSound (record { holders = a.active.entries; seats = a.suspended; moved = a.migrated.entries; migrates = a.migrates }) };
+    ghost invariant = { λ a. IsSound (record {
+      holders = a.active.entries;
+      seats = a.suspended;
+      moved = a.migrated.entries;
+      migrates = a.migrates;
+    }) };
 }
 
 impl Associations {
@@ -108,10 +118,11 @@ impl Associations {
         self.active(thread).is_some() || self.has_seat(thread, xid)
     }
 
-    /// A start without TMRESUME. Proto: the thread is active in a branch, or has suspended this one. RmErr: it
-    /// holds nothing and 256 threads hold associations. Either changes nothing.
+    /// A start without TMRESUME. Proto: the thread is active in a branch, or has suspended this one. RmErr:
+    /// it holds nothing and 256 threads hold associations. Either changes nothing.
     pub fn start(&mut self, thread: u32, xid: &Xid) -> Result<Code, AllocError>
-        ensures answer { IfOk result (Steps self.old self.new thread xid.now (start_plan self.old thread xid.now)) }
+        ensures answer { IfOk result (Steps self.old self.new thread xid.now
+            (start_plan self.old thread xid.now)) }
         ensures err { OnErr result (self.new ≡ self.old) }
     {
         if self.is_busy(thread, xid) {
@@ -124,12 +135,13 @@ impl Associations {
         Ok(Code::Ok)
     }
 
-    /// A start TMRESUME of a branch that is lost (in S4) or not: the thread's own suspended association, else
-    /// the oldest migrated one of the branch. A lost one goes, and the answer is RbRollback. Proto: the thread is
-    /// active in a branch, or there is none to resume. RmErr: it holds nothing and 256 threads hold associations.
-    /// The last two change nothing.
+    /// A start TMRESUME of a branch that is lost (in S4) or not: the thread's own suspended association,
+    /// else the oldest migrated one of the branch. A lost one goes, and the answer is RbRollback. Proto: the
+    /// thread is active in a branch, or there is none to resume. RmErr: it holds nothing and 256 threads
+    /// hold associations. The last two change nothing.
     pub fn resume(&mut self, thread: u32, xid: &Xid, lost: bool) -> Result<Code, AllocError>
-        ensures answer { IfOk result (Steps self.old self.new thread xid.now (resume_plan self.old thread xid.now lost)) }
+        ensures answer { IfOk result (Steps self.old self.new thread xid.now
+            (resume_plan self.old thread xid.now lost)) }
         ensures err { OnErr result (self.new ≡ self.old) }
     {
         if self.active(thread).is_some() {
@@ -149,7 +161,8 @@ impl Associations {
     fn resume_migrated(&mut self, thread: u32, xid: &Xid, lost: bool) -> Result<Code, AllocError>
         requires free { active_of self.old thread ≡ None }
         requires own { has_seat self.old thread xid.now ≡ false }
-        ensures answer { IfOk result (Steps self.old self.new thread xid.now (moved_plan self.old thread xid.now lost)) }
+        ensures answer { IfOk result (Steps self.old self.new thread xid.now
+            (moved_plan self.old thread xid.now lost)) }
         ensures err { OnErr result (self.new ≡ self.old) }
     {
         if self.migrations(xid) == 0 {
@@ -166,10 +179,10 @@ impl Associations {
         Ok(Code::Ok)
     }
 
-    /// An end TMSUSPEND, with TMMIGRATE or not, of a branch that is lost (in S4) or not. A lost association goes,
-    /// and the answer is RbRollback. NoMigrate: the manager does not migrate, and the thread alone may resume.
-    /// Proto: the thread is not active in the branch. RmErr: it is suspended for migration 2^64 - 1 times. The
-    /// last two change nothing.
+    /// An end TMSUSPEND, with TMMIGRATE or not, of a branch that is lost (in S4) or not. A lost association
+    /// goes, and the answer is RbRollback. NoMigrate: the manager does not migrate, and the thread alone may
+    /// resume. Proto: the thread is not active in the branch. RmErr: it is suspended for migration 2^64 - 1
+    /// times. The last two change nothing.
     pub fn suspend(
         &mut self,
         thread: u32,
@@ -177,7 +190,8 @@ impl Associations {
         lost: bool,
         migrate: bool,
     ) -> Result<Code, AllocError>
-        ensures answer { IfOk result (Steps self.old self.new thread xid.now (suspend_plan self.old thread xid.now lost migrate)) }
+        ensures answer { IfOk result (Steps self.old self.new thread xid.now
+            (suspend_plan self.old thread xid.now lost migrate)) }
         ensures err { OnErr result (self.new ≡ self.old) }
     {
         if !self.is_active(thread, xid) {
@@ -202,10 +216,11 @@ impl Associations {
         Ok(Code::Ok)
     }
 
-    /// An end TMSUCCESS, or else TMFAIL, of a branch that is lost (in S4) or not. RbRollback: it is lost, or the
-    /// work failed. Proto: the thread holds no association with the branch, and nothing changes.
+    /// An end TMSUCCESS, or else TMFAIL, of a branch that is lost (in S4) or not. RbRollback: it is lost, or
+    /// the work failed. Proto: the thread holds no association with the branch, and nothing changes.
     pub fn end(&mut self, thread: u32, xid: &Xid, lost: bool, succeeds: bool) -> Code
-        ensures { Steps self.old self.new thread xid.now (end_plan self.old thread xid.now lost succeeds) result }
+        ensures { Steps self.old self.new thread xid.now
+            (end_plan self.old thread xid.now lost succeeds) result }
     {
         if self.is_active(thread, xid) {
             self.leave(thread, xid);

@@ -9,7 +9,8 @@ ghost use Rattle.xa_assoc.specs.Associations.{AssocList, IsRowOf, start_plan, re
 pub fn walks_rows()
     ensures start { (a : AssocList) (t : ℕ) (x : AnyXid) → IsRowOf call.Start (start_plan a t x) }
     ensures join { (a : AssocList) (t : ℕ) (x : AnyXid) → IsRowOf call.StartJoin (start_plan a t x) }
-    ensures resume { (a : AssocList) (t : ℕ) (x : AnyXid) (lost : Bool) → IsRowOf call.StartResume (resume_plan a t x lost) }
+    ensures resume { (a : AssocList) (t : ℕ) (x : AnyXid) (lost : Bool)
+        → IsRowOf call.StartResume (resume_plan a t x lost) }
     ensures suspend { (a : AssocList) (t : ℕ) (x : AnyXid) (lost migrate : Bool)
         → IsRowOf (if migrate then call.EndMigrate else call.EndSuspend) (suspend_plan a t x lost migrate) }
     ensures end { (a : AssocList) (t : ℕ) (x : AnyXid) (lost succeeds : Bool)

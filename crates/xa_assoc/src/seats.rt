@@ -121,7 +121,8 @@ pub(crate) fn recount<K: Eq + Hash + Drop>(
     count: u64,
 ) -> Result<(), AllocError>
     ensures own { OnOk result (count_of K.eq counts.new.entries key ≡ count) }
-    ensures others { OnOk result ((l : K) → K.eq key l ≡ false → count_of K.eq counts.new.entries l ≡ count_of K.eq counts.old.entries l) }
+    ensures others { OnOk result ((l : K) → K.eq key l ≡ false → count_of K.eq counts.new.entries l
+        ≡ count_of K.eq counts.old.entries l) }
     ensures err { OnErr result (counts.new.entries ≡ counts.old.entries) }
     ensures fewer { count ≤ count_of K.eq counts.old.entries key → IsOk result }
     ensures room { 0 < spare counts.old → IsOk result }

@@ -142,14 +142,17 @@ impl Branches {
     }
 
     /// Makes a row of the table for a known branch: its answer, and the state behind it. NotA: the branch is
-    /// not known. DupId: it is known, and the call is a start that neither joins nor resumes. Proto: the table
-    /// has no such row. None of the three changes anything.
+    /// not known. DupId: it is known, and the call is a start that neither joins nor resumes. Proto: the
+    /// table has no such row. None of the three changes anything.
     pub fn step(&mut self, xid: &Xid, call: Call, row: (Code, BranchState)) -> Code
-        ensures row { is_known self.old.branches xid.now ≡ true → Contains (branch_rows (state_in self.old.branches xid.now) call) row
+        ensures row { is_known self.old.branches xid.now ≡ true
+            → Contains (branch_rows (state_in self.old.branches xid.now) call) row
             → (result ≡ row.0) × Moves self.old self.new xid.now row.1 }
-        ensures off { is_known self.old.branches xid.now ≡ true → (Contains (branch_rows (state_in self.old.branches xid.now) call) row → ⊥)
+        ensures off { is_known self.old.branches xid.now ≡ true
+            → (Contains (branch_rows (state_in self.old.branches xid.now) call) row → ⊥)
             → (result ≡ off_row call) × (self.new ≡ self.old) }
-        ensures unknown { is_known self.old.branches xid.now ≡ false → (result ≡ Code.NotA) × (self.new ≡ self.old) }
+        ensures unknown { is_known self.old.branches xid.now ≡ false
+            → (result ≡ Code.NotA) × (self.new ≡ self.old) }
     {
         let Some(from) = self.states.get(xid).copied() else {
             return Code::NotA;
@@ -168,8 +171,10 @@ impl Branches {
     /// An operator's decision about a prepared branch, which leads it from S3 to S5. False: it is not in S3,
     /// and nothing changes.
     pub fn decided(&mut self, xid: &Xid) -> bool
-        ensures decided { result ≡ true → (state_in self.old.branches xid.now ≡ BranchState.S3) × Moves self.old self.new xid.now BranchState.S5 }
-        ensures refused { result ≡ false → (state_in self.old.branches xid.now ≢ BranchState.S3) × (self.new ≡ self.old) }
+        ensures decided { result ≡ true → (state_in self.old.branches xid.now ≡ BranchState.S3)
+            × Moves self.old self.new xid.now BranchState.S5 }
+        ensures refused { result ≡ false → (state_in self.old.branches xid.now
+            ≢ BranchState.S3) × (self.new ≡ self.old) }
     {
         if self.state(xid) != BranchState::S3 {
             return false;
@@ -190,10 +195,10 @@ impl Branches {
         }
     }
 
-    /// Gives a thread the next of the branches in S3 and S5, at most so many, in order of beginning. TMSTARTRSCAN
-    /// begins a scan over them as they are now, in place of one that is open; TMENDRSCAN closes it behind the
-    /// call. Inval: no scan is open and none begins. RmErr: a scan begins, 256 threads have one and this thread
-    /// has none. A refusal changes nothing.
+    /// Gives a thread the next of the branches in S3 and S5, at most so many, in order of beginning.
+    /// TMSTARTRSCAN begins a scan over them as they are now, in place of one that is open; TMENDRSCAN closes
+    /// it behind the call. Inval: no scan is open and none begins. RmErr: a scan begins, 256 threads have
+    /// one and this thread has none. A refusal changes nothing.
     pub fn scan(
         &mut self,
         thread: u32,

@@ -79,7 +79,8 @@ impl Scans {
         ends: bool,
     ) -> Result<Vec<Xid>, AllocError>
         ensures given { IfOk result (λ v. v.items ≡ take count rest.now) }
-        ensures left { OnOk result (Leaves self.old self.new thread (if ends then None else Some (drop count rest.now))) }
+        ensures left { OnOk result (Leaves self.old self.new thread
+            (if ends then None else Some (drop count rest.now))) }
         ensures err { OnErr result (self.new ≡ self.old) }
     {
         let (given, left) = rest.split_at(rest.len().min(count as usize));

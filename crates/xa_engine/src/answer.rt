@@ -37,7 +37,8 @@ pub(crate) enum Answer {
     NotDecided(DecideError),
 }
 
-/// The number by which the output names why a manager did not restart; 0 for want of memory, which no output names.
+/// The number by which the output names why a manager did not restart; 0 for want of memory, which no output
+/// names.
 fn restart_number(error: RestartError) -> u64
     ensures { result ≡ restart_number error }
 {
@@ -49,7 +50,8 @@ fn restart_number(error: RestartError) -> u64
     }
 }
 
-/// The number by which the output names why a log was not trimmed; 0 for want of memory, which no output names.
+/// The number by which the output names why a log was not trimmed; 0 for want of memory, which no output
+/// names.
 fn trim_number(error: TrimError) -> u64
     ensures { result ≡ trim_number error }
 {
@@ -60,7 +62,8 @@ fn trim_number(error: TrimError) -> u64
     }
 }
 
-/// The number by which the output names why a branch was not decided; 0 for want of memory, which no output names.
+/// The number by which the output names why a branch was not decided; 0 for want of memory, which no output
+/// names.
 fn decide_number(error: DecideError) -> u64
     ensures { result ≡ decide_number error }
 {

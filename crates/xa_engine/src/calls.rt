@@ -106,7 +106,8 @@ fn get(manager: &mut Manager, thread: u32, key: &[u8]) -> Result<Answer, AllocEr
 }
 
 fn put(manager: &mut Manager, thread: u32, key: &[u8], value: &[u8]) -> Result<Answer, AllocError>
-    ensures { IfOk result (λ answer. IsWritten manager.old manager.new thread key.now (Some value.now) answer) }
+    ensures { IfOk result (λ answer. IsWritten manager.old manager.new thread
+        key.now (Some value.now) answer) }
 {
     match manager.put(thread, key, value) {
         Ok(()) => Ok(Answer::Done),

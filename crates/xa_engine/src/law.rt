@@ -7,9 +7,9 @@ ghost use Rattle.xa_engine.specs.declared.answer.Answer.{Answer as AnyAnswer};
 ghost use Rattle.xa_engine.specs.Histories.{IsHistory};
 ghost use Rattle.xa_engine.specs.Runs.{IsFresh, Leads};
 
-/// Whatever requests are made of a new manager, what they do to the tables of XA is a legal history: each projection walks
-/// rows of the tables and what restarts leave, and each answer off the rows is that of the first check that applies, or the
-/// manager's own.
+/// Whatever requests are made of a new manager, what they do to the tables of XA is a legal history: each
+/// projection walks rows of the tables and what restarts leave, and each answer off the rows is that of the
+/// first check that applies, or the manager's own.
 pub fn histories_are_legal()
     ensures { (m n : KvSight) (requests : List AnyRequest) (answers : List AnyAnswer)
         → IsFresh m → Leads m requests answers n → IsHistory m requests answers n }

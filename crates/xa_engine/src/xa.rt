@@ -16,9 +16,9 @@ use std::alloc::{AllocError, Global};
 use std::io::{Read, Write};
 use trace_lines::{push, push_number};
 
-/// Reads an XA script, makes its requests of a key store whose log is in memory, and writes their answers; or one line
-/// that says why the script is refused. After a failed read, or where memory is refused, nothing was written; after a
-/// failed write, a beginning of the text.
+/// Reads an XA script, makes its requests of a key store whose log is in memory, and writes their answers;
+/// or one line that says why the script is refused. After a failed read, or where memory is refused, nothing
+/// was written; after a failed write, a beginning of the text.
 pub fn run_xa<R: Read, W: Write>(
     alloc: Global,
     reader: &mut R,
@@ -27,11 +27,14 @@ pub fn run_xa<R: Read, W: Write>(
     ensures written { IfOk result (λ status. (input : List ℕ) × (text : List ℕ)
         × IsInput (R.remaining reader.old) input × IsReport status input text
         × Appends (W.contents writer.old) (W.contents writer.new) text) }
-    ensures cut { IfErr result (λ e. e ≡ Failure.Write → (input : List ℕ) × (text : List ℕ) × (status : AnyStatus)
+    ensures cut { IfErr result (λ e. e ≡ Failure.Write → (input : List ℕ)
+        × (text : List ℕ) × (status : AnyStatus)
         × IsInput (R.remaining reader.old) input × IsReport status input text
         × WritesFront (W.contents writer.old) (W.contents writer.new) text) }
-    ensures unread { IfErr result (λ e. e ≡ Failure.Read → Keeps (W.contents writer.old) (W.contents writer.new)) }
-    ensures memory { IfErr result (λ e. e ≡ Failure.Memory → Keeps (W.contents writer.old) (W.contents writer.new)) }
+    ensures unread { IfErr result (λ e. e ≡ Failure.Read
+        → Keeps (W.contents writer.old) (W.contents writer.new)) }
+    ensures memory { IfErr result (λ e. e ≡ Failure.Memory
+        → Keeps (W.contents writer.old) (W.contents writer.new)) }
 {
     let input = read_all(alloc, reader)?;
     let (text, status) = report(alloc, &input)?;

@@ -70,7 +70,8 @@ impl Heuristics {
     /// A decided branch is told an outcome: the first one counts. It takes no memory.
     pub fn told(&mut self, xid: &Xid, outcome: Outcome)
         requires { is_some (decision_in self.old xid.now) ≡ true }
-        ensures { Notes self.old self.new xid.now (Some (told_behind outcome (decision_or (decision_in self.old xid.now)))) }
+        ensures { Notes self.old self.new xid.now
+            (Some (told_behind outcome (decision_or (decision_in self.old xid.now)))) }
     {
         let decision = self.known(xid).told_behind(outcome);
         let _ = self.decisions.insert(*xid, decision).unwrap();

@@ -6,8 +6,9 @@ ghost use Rattle.xa_states.specs.Answers.{IsNew};
 ghost use Rattle.xa_law.specs.Moves.{Leads, Move};
 ghost use Rattle.xa_law.specs.Histories.{IsLegalHistory};
 
-/// Whatever happens at a new manager, the history is legal: each projection walks rows of the tables and the two moves
-/// without a call, and each answer off the rows is that of the first check that applies, or the manager's own.
+/// Whatever happens at a new manager, the history is legal: each projection walks rows of the tables and the
+/// two moves without a call, and each answer off the rows is that of the first check that applies, or the
+/// manager's own.
 pub fn histories_are_legal()
     ensures { (m n : AnyStates) (moves : List Move) → IsNew m → Leads m moves n → IsLegalHistory m moves n }
 {}

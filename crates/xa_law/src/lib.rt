@@ -1,4 +1,5 @@
-//! Laws of histories: what any list of calls, decisions and restarts does to the tables of a resource manager.
+//! Laws of histories: what any list of calls, decisions and restarts does to the tables of a resource
+//! manager.
 #![tactic(auto)]
 
 mod law;

@@ -2,7 +2,8 @@
 
 ghost use Rattle.xa_law.specs.Rows.{RefusalsAreChecks, TurnsAreRows};
 
-/// What a key store makes of a call that finishes a branch is a row of the table of branches wherever it has any.
+/// What a key store makes of a call that finishes a branch is a row of the table of branches wherever it has
+/// any.
 pub fn turns_are_rows()
     ensures { TurnsAreRows }
 {}

@@ -44,7 +44,8 @@ impl From<AllocError> for WorkError {
 }
 
 impl WorkError {
-    /// The number by which a script's output names it, from 1 to 6; 0 for want of memory, which no output names.
+    /// The number by which a script's output names it, from 1 to 6; 0 for want of memory, which no output
+    /// names.
     pub fn number(&self) -> u32
         ensures { result ≡ number_of self.now }
     {

@@ -126,10 +126,10 @@ impl States {
         Code::Ok
     }
 
-    /// A start or an end of a thread's work in a branch, whole. Inval, Async: the flags. Proto: the manager is
-    /// not open, or no row applies. Inval: the null XID. DupId, NotA: the branch is known, or is not. RmErr:
-    /// 1,024 branches, 256 threads with associations or 2^64 - 1 migrations of the branch. A refusal changes
-    /// nothing, nor does want of memory, which an end with TMSUCCESS or TMFAIL never meets.
+    /// A start or an end of a thread's work in a branch, whole. Inval, Async: the flags. Proto: the manager
+    /// is not open, or no row applies. Inval: the null XID. DupId, NotA: the branch is known, or is not.
+    /// RmErr: 1,024 branches, 256 threads with associations or 2^64 - 1 migrations of the branch. A refusal
+    /// changes nothing, nor does want of memory, which an end with TMSUCCESS or TMFAIL never meets.
     pub fn work_call(
         &mut self,
         verb: Verb,
@@ -186,8 +186,8 @@ impl States {
     }
 
     /// Takes the row of a call that finishes a branch, which `ready` let through: its answer, and the state
-    /// behind it. It takes no memory. NotA: the branch is not known. Proto (at a start DupId): the table has no
-    /// such row. A refusal changes nothing.
+    /// behind it. It takes no memory. NotA: the branch is not known. Proto (at a start DupId): the table has
+    /// no such row. A refusal changes nothing.
     pub fn finish(&mut self, xid: &Xid, call: Call, row: (Code, BranchState)) -> Code
         ensures row { is_known self.old.branches.branches xid.now ≡ true
             → Contains (branch_rows (state_at self.old xid.now) call) row

@@ -26,9 +26,9 @@ impl Xid {
     /// The XID that these bytes are.
     ///
     /// Refused are, in this order, fewer than six bytes (Truncated), a negative format unless it is -1 with
-    /// both lengths 0 (BadFormat), a gtrid that is not 1 to 64 bytes long (GtridLength), a bqual longer than 64
-    /// bytes (BqualLength), too few bytes for both (Truncated), and bytes behind them (Trailing). No memory is
-    /// taken.
+    /// both lengths 0 (BadFormat), a gtrid that is not 1 to 64 bytes long (GtridLength), a bqual longer than
+    /// 64 bytes (BqualLength), too few bytes for both (Truncated), and bytes behind them (Trailing). No
+    /// memory is taken.
     pub fn from_bytes(bytes: &[u8]) -> Result<Xid, XidError>
         ensures ok { IfOk result (λ xid. IsXid xid × (bytes.now ≡ xid_bytes xid)) }
         ensures err { IfErr result (λ error. bytes_fault bytes.now ≡ Some error) }

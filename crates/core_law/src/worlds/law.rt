@@ -18,36 +18,46 @@ pub fn opened_trees_stand_for_the_first_run()
     ensures { (tree : List TreeEntry) (s : WorldState) → IsOpened s tree → Follows [] opened_world s }
 {}
 
-/// Where the state of a tree stands for a run, what an event makes of it stands for one that goes on; so does what a refused
-/// event leaves, unless a device failed in it; and so do lists of events.
+/// Where the state of a tree stands for a run, what an event makes of it stands for one that goes on; so
+/// does what a refused event leaves, unless a device failed in it; and so do lists of events.
 pub fn runs_go_on()
-    ensures applied { (s t : WorldState) (event : Event) (es : List Made) (w : World) → IsTree s.tree → Follows es w s
+    ensures applied { (s t : WorldState) (event : Event) (es : List Made) (w : World)
+        → IsTree s.tree → Follows es w s
         → Applies s event t → GoesOn es w t }
-    ensures stopped { (s t : WorldState) (event : Event) (e : StepError) (es : List Made) (w : World) → IsTree s.tree
+    ensures stopped { (s t : WorldState) (event : Event) (e : StepError)
+        (es : List Made) (w : World) → IsTree s.tree
         → e ≢ Device → Follows es w s → Stops s event e t → GoesOn es w t }
-    ensures led { (s t : WorldState) (events : List Event) (es : List Made) (w : World) → IsTree s.tree → Follows es w s
+    ensures led { (s t : WorldState) (events : List Event) (es : List Made) (w : World)
+        → IsTree s.tree → Follows es w s
         → Leads s events t → GoesOn es w t }
-    ensures led_until { (s t : WorldState) (events : List Event) (n : ℕ) (e : StepError) (es : List Made) (w : World)
+    ensures led_until { (s t : WorldState) (events : List Event) (n : ℕ) (e : StepError)
+        (es : List Made) (w : World)
         → IsTree s.tree → e ≢ Device → Follows es w s → LeadsUntil s events n e t → GoesOn es w t }
 {}
 
-/// The same where devices fail. A tree whose processes have opened empty logs stands for the run with no moves, and a state
-/// that stands for a run, and has entered no step in which a device failed, for one in which devices may have failed. Where it
-/// so stands, what an event makes of it, what a refused event leaves, whatever refused it, and what lists of events lead to
-/// stand for one that goes on; and the headline holds of that run.
+/// The same where devices fail. A tree whose processes have opened empty logs stands for the run with no
+/// moves, and a state that stands for a run, and has entered no step in which a device failed, for one in
+/// which devices may have failed. Where it so stands, what an event makes of it, what a refused event
+/// leaves, whatever refused it, and what lists of events lead to stand for one that goes on; and the
+/// headline holds of that run.
 pub fn runs_go_on_behind_faults()
-    ensures opened { (tree : List TreeEntry) (s : WorldState) → IsOpened s tree → FollowsBehindFaults [] opened_world s }
-    ensures followed { (s : WorldState) (es : List Made) (w : World) → Follows es w s → unfailed s.entries ≡ s.entries
+    ensures opened { (tree : List TreeEntry) (s : WorldState) → IsOpened s tree
+        → FollowsBehindFaults [] opened_world s }
+    ensures followed { (s : WorldState) (es : List Made) (w : World) → Follows es w s
+        → unfailed s.entries ≡ s.entries
         → FollowsBehindFaults es w s }
     ensures applied { (s t : WorldState) (event : Event) (es : List Made) (w : World) → IsTree s.tree
         → FollowsBehindFaults es w s → Applies s event t → GoesOnBehindFaults es w t }
-    ensures stopped { (s t : WorldState) (event : Event) (e : StepError) (es : List Made) (w : World) → IsTree s.tree
+    ensures stopped { (s t : WorldState) (event : Event) (e : StepError)
+        (es : List Made) (w : World) → IsTree s.tree
         → FollowsBehindFaults es w s → Stops s event e t → GoesOnBehindFaults es w t }
     ensures led { (s t : WorldState) (events : List Event) (es : List Made) (w : World) → IsTree s.tree
         → FollowsBehindFaults es w s → Leads s events t → GoesOnBehindFaults es w t }
-    ensures led_until { (s t : WorldState) (events : List Event) (n : ℕ) (e : StepError) (es : List Made) (w : World)
+    ensures led_until { (s t : WorldState) (events : List Event) (n : ℕ) (e : StepError)
+        (es : List Made) (w : World)
         → IsTree s.tree → FollowsBehindFaults es w s → LeadsUntil s events n e t → GoesOnBehindFaults es w t }
-    ensures headline { (s : WorldState) (es : List Made) (w : World) → IsTree s.tree → FollowsBehindFaults es w s
+    ensures headline { (s : WorldState) (es : List Made) (w : World) → IsTree s.tree
+        → FollowsBehindFaults es w s
         → Headline s.tree es w }
 {}
 
@@ -56,10 +66,12 @@ pub fn the_headline_holds()
     ensures { (s : WorldState) (es : List Made) (w : World) → IsTree s.tree → Follows es w s → IsModelled s }
 {}
 
-/// What any list of events leads an opened tree to, up to the one that is refused, is a run of the model, of which the
-/// headline holds; and an event that is refused for itself is one that the model refuses there by the same error.
+/// What any list of events leads an opened tree to, up to the one that is refused, is a run of the model, of
+/// which the headline holds; and an event that is refused for itself is one that the model refuses there by
+/// the same error.
 pub fn every_run_is_a_run_of_the_model()
-    ensures { (tree : List TreeEntry) (start end : WorldState) (events : List Event) (refusal : Refusal) → IsTree tree
+    ensures { (tree : List TreeEntry) (start end : WorldState) (events : List Event)
+        (refusal : Refusal) → IsTree tree
         → IsOpened start tree → LeadsTo start events refusal end → IsForItself refusal
         → IsRunOf tree events refusal end }
 {}

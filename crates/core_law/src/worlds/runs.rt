@@ -28,40 +28,43 @@ pub fn faults_move_runs()
     ensures { FaultsMoveRuns }
 {}
 
-/// In every run of every tree each listed process keeps records of its own cases alone, and an Opened stands in its
-/// log; and while its device did not fail, an open case has on its lists what it should, at a manager no record.
+/// In every run of every tree each listed process keeps records of its own cases alone, and an Opened stands
+/// in its log; and while its device did not fail, an open case has on its lists what it should, at a manager
+/// no record.
 pub fn runs_keep_their_records()
     ensures own { RunsKeepOwn }
     ensures opened { RunsHaveOpened }
     ensures open { RunsKeepOpen }
 {}
 
-/// Behind every run of every tree, a restart of a listed process, where it stands for the model's process there, is a
-/// move of the model's world: it shows the same, and the process stands for what the move leaves. So the run goes on.
+/// Behind every run of every tree, a restart of a listed process, where it stands for the model's process
+/// there, is a move of the model's world: it shows the same, and the process stands for what the move
+/// leaves. So the run goes on.
 pub fn restarts_move_runs()
     ensures { RestartsMoveRuns }
 {}
 
-/// A device's failure in the restart is a move of the model's world with a fault in it, and the process stands for
-/// what that leaves.
+/// A device's failure in the restart is a move of the model's world with a fault in it, and the process
+/// stands for what that leaves.
 pub fn restart_faults_move_runs()
     ensures { RestartFaultsMoveRuns }
 {}
 
-/// Behind every run of every tree, a trim of a listed process that is up, where it stands for the model's process there
-/// and the records of its log can stand in one, is a move of the model's world: as many records remain, and the process
-/// stands for what the move leaves.
+/// Behind every run of every tree, a trim of a listed process that is up, where it stands for the model's
+/// process there and the records of its log can stand in one, is a move of the model's world: as many
+/// records remain, and the process stands for what the move leaves.
 pub fn trims_move_runs()
     ensures { TrimsMoveRuns }
 {}
 
-/// A device's failure in the trim is a move of the model's world with a fault in it, and the process stands for what
-/// that leaves.
+/// A device's failure in the trim is a move of the model's world with a fault in it, and the process stands
+/// for what that leaves.
 pub fn trim_faults_move_runs()
     ensures { TrimFaultsMoveRuns }
 {}
 
-/// A trim that a failed process refuses is no move of the model's world, and the process still stands for the model's.
+/// A trim that a failed process refuses is no move of the model's world, and the process still stands for
+/// the model's.
 pub fn trim_refusals_move_nothing()
     ensures { TrimRefusalsMoveNothing }
 {}

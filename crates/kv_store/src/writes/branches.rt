@@ -84,12 +84,14 @@ impl BranchWrites {
         }
     }
 
-    /// A write of a branch that has room for it, in the place of an earlier one of its key. It takes no memory.
+    /// A write of a branch that has room for it, in the place of an earlier one of its key. It takes no
+    /// memory.
     pub fn put(&mut self, xid: &Xid, write: Write)
         requires room { 1 ≤ room_of self.old xid.now }
         requires limit { is_within_limit (writes_of self.old xid.now) write.key ≡ true }
         requires sound { IsSoundWrite write }
-        ensures { Leaves self.old self.new xid.now (with_write (writes_of self.old xid.now) write.key write.value) }
+        ensures { Leaves self.old self.new xid.now
+            (with_write (writes_of self.old xid.now) write.key write.value) }
     {
         match self.lists.get_mut(xid) {
             Some(list) => put(list, write),

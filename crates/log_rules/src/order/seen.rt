@@ -89,7 +89,12 @@ impl Model for Seen {
 
     ghost Value = { SeenLog };
 
-    ghost view = { λ s. record { boot = s.boot; before = s.before; ranks = s.ranks.entries; live = s.live.entries } };
+    ghost view = { λ s. record {
+      boot = s.boot;
+      before = s.before;
+      ranks = s.ranks.entries;
+      live = s.live.entries;
+    } };
 
     ghost invariant = { λ s. IsKept s.holders.entries s.live.entries };
 }
@@ -242,7 +247,8 @@ impl Seen {
         }
     }
 
-    /// The branches that are open or heuristic, in the order of their promises, and whether an operator decided them.
+    /// The branches that are open or heuristic, in the order of their promises, and whether an operator
+    /// decided them.
     pub fn left(&self) -> Result<Vec<(Xid, bool)>, AllocError>
         ensures { IfOk result (λ left. left.items ≡ left_by self.now) }
     {
@@ -324,7 +330,8 @@ impl Seen {
     /// A branch is not open any more: an operator decided it, or it was told the outcome since.
     fn set_mark(&mut self, xid: Xid, mark: Mark) -> Result<(), ReadFault>
         requires { opens mark ≡ false }
-        ensures ok { OnOk result (self.new ≡ with_promise self.old xid (record { mark = mark; writes = [] })) }
+        ensures ok { OnOk result (self.new ≡ with_promise self.old xid
+            (record { mark = mark; writes = [] })) }
         ensures err { IfErr result (λ e. e ≡ ReadFault.Memory) }
     {
         let writes = Sequence::new(self.alloc);
@@ -336,7 +343,8 @@ impl Seen {
     /// A branch promises writes whose keys are free.
     fn promise(&mut self, xid: Xid, writes: Writes) -> Result<(), ReadFault>
         requires { keys_free (promises self.old) writes ≡ true }
-        ensures ok { OnOk result (self.new ≡ with_promise self.old xid (record { mark = Mark.Open; writes = writes })) }
+        ensures ok { OnOk result (self.new ≡ with_promise self.old xid
+            (record { mark = Mark.Open; writes = writes })) }
         ensures err { IfErr result (λ e. e ≡ ReadFault.Memory) }
     {
         list_keys(self.alloc, &mut self.holders, writes.as_slice(), &xid)?;
@@ -437,7 +445,8 @@ impl Seen {
     fn plain(&mut self, parent: Option<ProcessId>, entry: &Record) -> Result<(), ReadFault>
         requires { IsPlain entry.now }
         ensures ok { OnOk result (followed self.old parent entry.now ≡ Some self.new) }
-        ensures err { IfErr result (λ e. e ≡ ReadFault.Malformed → followed self.old parent entry.now ≡ None) }
+        ensures err { IfErr result (λ e. e ≡ ReadFault.Malformed
+            → followed self.old parent entry.now ≡ None) }
     {
         match entry {
             Record::Opened(boot) => self.opened(*boot),
@@ -475,8 +484,8 @@ impl Seen {
         }
     }
 
-    /// Takes the next record of the log. Malformed comes exactly where it may not follow the records so far. Behind an
-    /// error nothing more is known.
+    /// Takes the next record of the log. Malformed comes exactly where it may not follow the records so far.
+    /// Behind an error nothing more is known.
     #[tactic(auto, unfolding(crate::specs::order::Orders::after))]
     pub fn take(&mut self, next: LogRecord) -> Result<(), ReadFault>
         ensures ok { OnOk result (after self.old next ≡ Some self.new) }

@@ -27,8 +27,8 @@ pub enum Said {
     Over,
 }
 
-/// What a log says of a name, and the place of the record that last prepared it: how many records stand before it, 0
-/// where there is none.
+/// What a log says of a name, and the place of the record that last prepared it: how many records stand
+/// before it, 0 where there is none.
 #[derive(Clone, Copy)]
 pub struct Life {
     said: Said,

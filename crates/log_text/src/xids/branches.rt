@@ -88,7 +88,8 @@ fn ticket_name(parent: ProcessId, ticket: Ticket) -> [u8; 24]
 
 /// The transaction that a name reads as, if it has a transaction's 20 bytes.
 fn txn_read(presumption: Presumption, name: &[u8]) -> Option<Txn>
-    ensures { (x : AnyTxn) → FitsTxn x → x.presumption ≡ presumption → txn_bytes x ≡ name.now → result ≡ Some x }
+    ensures { (x : AnyTxn) → FitsTxn x → x.presumption ≡ presumption → txn_bytes x
+        ≡ name.now → result ≡ Some x }
 {
     if name.len() != 20 {
         return None;
@@ -117,7 +118,8 @@ fn ticket_read(name: &[u8]) -> (ProcessId, Ticket)
 /// What a branch's name reads as, if it has the 24 bytes of a ticket below a parent, or none.
 #[tactic(auto, using(crate::proofs::xids::BranchLaws::no_ticket))]
 fn below_read(name: &[u8]) -> Option<Option<(ProcessId, Ticket)>>
-    ensures { (b : Option (AnyProcess × AnyTicket)) → FitsBelow b → below_bytes b ≡ name.now → result ≡ Some b }
+    ensures { (b : Option (AnyProcess × AnyTicket)) → FitsBelow b → below_bytes b
+        ≡ name.now → result ≡ Some b }
 {
     if name.is_empty() {
         Some(None)
@@ -146,11 +148,12 @@ fn is_same(a: &Xid, b: &Xid) -> bool
     a == b
 }
 
-/// The transaction of a case's XID, and below the root the parent and the ticket. `ForeignXid` comes exactly where no
-/// case has this XID. It takes no memory.
+/// The transaction of a case's XID, and below the root the parent and the ticket. `ForeignXid` comes exactly
+/// where no case has this XID. It takes no memory.
 pub fn read_branch(xid: &Xid) -> Result<(Txn, Option<(ProcessId, Ticket)>), ForeignXid>
     ensures found { IfOk result (λ named. branch_parts named.0 named.1 ≡ xid.now) }
-    ensures foreign { OnErr result ((x : AnyTxn) (b : Option (AnyProcess × AnyTicket)) → FitsTxn x → FitsBelow b
+    ensures foreign { OnErr result ((x : AnyTxn)
+        (b : Option (AnyProcess × AnyTicket)) → FitsTxn x → FitsBelow b
         → branch_parts x b ≢ xid.now) }
 {
     let Some((txn, below)) = case_read(xid) else {

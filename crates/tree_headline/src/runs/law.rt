@@ -8,21 +8,23 @@ ghost use Rattle.tree_model.specs.World.{IsRun, Made, World};
 ghost use Rattle.tree_model.specs.declared.trees.TreeEntry.{TreeEntry};
 ghost use Rattle.tree_nodes.specs.WorldHolds.{AboutGiven, AllGo, WorldHolds};
 
-/// Over every run of every tree, with cascades, restarts, trims, losses, repeats, faults, inquiries and operators'
-/// decisions, under both presumptions mixed: no two processes end one transaction differently except by a manager's
-/// heuristic decision; commit is decided only where every participant voted yes or read-only; every answer that finds its
-/// asker in doubt tells the root's outcome, now and in every later world; a mismatch stands in its log until it is
-/// forgotten; and an operator's record comes from that operator alone (R*).
+/// Over every run of every tree, with cascades, restarts, trims, losses, repeats, faults, inquiries and
+/// operators' decisions, under both presumptions mixed: no two processes end one transaction differently
+/// except by a manager's heuristic decision; commit is decided only where every participant voted yes or
+/// read-only; every answer that finds its asker in doubt tells the root's outcome, now and in every later
+/// world; a mismatch stands in its log until it is forgotten; and an operator's record comes from that
+/// operator alone (R*).
 pub fn headline()
     ensures { (tree : List TreeEntry) (es : List Made) (w : World) → IsTree tree → IsRun tree es w
         → Headline tree es w }
 {}
 
-/// Behind every run of every tree in which no process is failed, the audit of the logs' kept records gives each case that
-/// it lists the outcome of its transaction, although roots have forgotten and trimmed; and the mismatches that it shows are
-/// just those that stand.
+/// Behind every run of every tree in which no process is failed, the audit of the logs' kept records gives
+/// each case that it lists the outcome of its transaction, although roots have forgotten and trimmed; and
+/// the mismatches that it shows are just those that stand.
 pub fn audits_are_true()
-    ensures { (tree : List TreeEntry) (es : List Made) (w : World) → IsTree tree → IsRun tree es w → AllUp tree w
+    ensures { (tree : List TreeEntry) (es : List Made) (w : World) → IsTree tree
+        → IsRun tree es w → AllUp tree w
         → AuditsAreTrue tree w }
 {}
 
@@ -32,8 +34,8 @@ pub fn the_world_holds()
         → WorldHolds tree w }
 {}
 
-/// Each step of each coordinator keeps its part of the world's invariant, and the invariant of each pair of which it has a
-/// half: of the root, and of a cascaded one.
+/// Each step of each coordinator keeps its part of the world's invariant, and the invariant of each pair of
+/// which it has a half: of the root, and of a cascaded one.
 pub fn coordinators_keep_their_pairs()
     ensures root { (tree : List TreeEntry) → IsTree tree → RootLaws tree }
     ensures cascaded { (tree : List TreeEntry) → IsTree tree → CascadedLaws tree }

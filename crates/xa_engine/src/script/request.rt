@@ -56,8 +56,8 @@ pub enum Request {
         thread: u32,
         op: Op,
     },
-    /// The manager stops and restarts. Of the bytes of its log that are not forced so many are kept, the first
-    /// ones; all of them, where it is None.
+    /// The manager stops and restarts. Of the bytes of its log that are not forced so many are kept, the
+    /// first ones; all of them, where it is None.
     Restart {
         keep: Option<u64>,
     },
@@ -280,7 +280,8 @@ fn outcome_of(word: &str) -> Option<Outcome>
 /// The branch of an operator's decision, and the outcome.
 fn decision_of(rest: &str) -> Option<(Xid, Outcome)>
     ensures found { IfSome result (λ p. SpellsDecision rest.now p.0 p.1) }
-    ensures none { IfNone result ((xid : AnyXid) (outcome : AnyOutcome) → SpellsDecision rest.now xid outcome → ⊥) }
+    ensures none { IfNone result ((xid : AnyXid) (outcome : AnyOutcome)
+        → SpellsDecision rest.now xid outcome → ⊥) }
 {
     let (xid, word) = cut(rest, ' ')?;
     let Ok(xid) = Xid::parse(xid) else {
