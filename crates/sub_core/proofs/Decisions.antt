@@ -33,7 +33,8 @@ use Rattle.sub_deeds.specs.Deeds.{Comes, Decides, Finishes, NotDecided, NotFinis
 use Rattle.sub_table.specs.declared.branch.Branch.{Branch}
 use Rattle.sub_table.specs.declared.branch.Stage.TheVariants.{Heuristic}
 use Rattle.sub_table.specs.Tables.{BranchTable, IsKept, Notes, Retires, kept_view, nothing, ticket_in, view_in}
-use Rattle.sub_core.specs.Subordinates.{Hears, IsAt, IsNamed, IsTied, NotHeard, NotTurned, OthersWriteNothing, SubState, Turns, Writes, core_of, decided, decision_kind, logged_alone, outcome_reply, prepared, shown, turn_for}
+use Rattle.sub_core.specs.Subordinates.{Hears, IsAt, IsNamed, IsTied, NotHeard, NotTurned, OthersWriteNothing, SubState, Turns, Writes, core_of, decided, decision_kind, logged_alone, outcome_reply, prepared, turn_for}
+use Rattle.sub_deeds.specs.Replies.{shown}
 use Rattle.sub_core.specs.Steps.{Acts, NotActed, turn_at}
 use Rattle.sub_core.proofs.Ties.{behind, moved_tied}
 use Rattle.sub_core.proofs.Rows.{handled}

@@ -22,7 +22,8 @@ use Rattle.sub_table.specs.declared.branch.Branch.{Branch}
 use Rattle.sub_table.specs.declared.branch.Stage.{Stage}
 use Rattle.sub_table.specs.declared.branch.Stage.TheVariants.{Active}
 use Rattle.sub_table.specs.Tables.{BranchTable, Notes, kept_view, stage_view, ticket_in}
-use Rattle.sub_core.specs.Subordinates.{Hears, IsAt, IsTied, SubState, Turns, active, core_of, shown, takes_work, turn_for, written_behind, xid_of}
+use Rattle.sub_core.specs.Subordinates.{Hears, IsAt, IsTied, SubState, Turns, active, core_of, takes_work, turn_for, written_behind, xid_of}
+use Rattle.sub_deeds.specs.Replies.{shown}
 use Rattle.sub_core.proofs.Ties.{behind, moved_tied}
 use Rattle.sub_core.proofs.Rows.{handled, no_view}
 use Rattle.sub_core.proofs.Staying.{no_record}

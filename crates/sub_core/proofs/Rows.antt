@@ -12,7 +12,8 @@ use Rattle.core_model.specs.Turns.{Handles}
 use Rattle.core_model.specs.Makes.{retired_by}
 use Rattle.manager_model.specs.Sights.{ManagerSight, SameManager}
 use Rattle.sub_table.specs.Tables.{BranchTable, ticket_in, view_in}
-use Rattle.sub_core.specs.Subordinates.{SubState, Turns, core_of, shown}
+use Rattle.sub_core.specs.Subordinates.{SubState, Turns, core_of}
+use Rattle.sub_deeds.specs.Replies.{shown}
 use Rattle.sub_core.proofs.Ties.{behind}
 
 pub no_view : SameView unknown_view unknown_view

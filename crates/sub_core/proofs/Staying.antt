@@ -23,7 +23,8 @@ use Rattle.sub_table.specs.declared.branch.Branch.{Branch}
 use Rattle.sub_table.specs.declared.branch.Stage.{Stage}
 use Rattle.sub_table.specs.declared.branch.Stage.TheVariants.{Active, Heuristic, Prepared}
 use Rattle.sub_table.specs.Tables.{BranchTable, IsKept, branch_in, kept_view, retired_at, takes, ticket_in, view_in}
-use Rattle.sub_core.specs.Subordinates.{Hears, IsAt, SubState, Turns, Writes, active, core_of, decided, prepared, shown, takes_work, turn_for, xid_of}
+use Rattle.sub_core.specs.Subordinates.{Hears, IsAt, SubState, Turns, Writes, active, core_of, decided, prepared, takes_work, turn_for, xid_of}
+use Rattle.sub_deeds.specs.Replies.{shown}
 use Rattle.sub_core.proofs.Ties.{one}
 use Rattle.sub_core.proofs.Rows.{handled}
 use Rattle.sub_core.proofs.Outcomes.{never_retired, retired_abort, untouched}

@@ -1,5 +1,5 @@
 -- A subordinate: a process below a parent, with a resource manager.
-use Rattle.std.specs.Prelude.{◌≡◌, ◌≢◌, ◌≤◌, ◌&&◌, ℕ, Bool, true, false, is_none, if◌then◌else◌, Option, Some, None, List, [], ◌∷◌, map}
+use Rattle.std.specs.Prelude.{◌≡◌, ◌≢◌, ◌≤◌, ◌&&◌, ℕ, Bool, true, false, is_none, if◌then◌else◌, Option, Some, None, List, [], ◌∷◌}
 use Rattle.xa_tables.specs.declared.states.BranchState.{BranchState}
 use Rattle.xa_tables.specs.declared.states.BranchState.TheVariants.{S2, S3, S4, S5}
 use Rattle.xa_xid.specs.declared.xid.Xid.{Xid}
@@ -30,13 +30,14 @@ use Rattle.tree_model.specs.declared.names.Outcome.TheVariants.{Committed, Abort
 use Rattle.tree_model.specs.ManagerRows.{is_acknowledged}
 use Rattle.tree_model.specs.CoordinatorRows.{post}
 use Rattle.tree_model.specs.Names.{child_case}
-use Rattle.tree_model.specs.Nodes.{AtLeaf, DataAnswer, Effect, Place, ReadsOnly, Written, logged_of, reaction_of}
+use Rattle.tree_model.specs.Nodes.{AtLeaf, DataAnswer, Effect, Place, ReadsOnly, reaction_of}
 use Rattle.tree_model.specs.LogNames.{name_xid}
 use Rattle.tree_model.specs.Plays.{held_writes, op_writes}
 use Rattle.tree_model.specs.Reactions.{Does}
 use Rattle.tree_model.specs.Standings.{unknown_view}
 use Rattle.log_text.specs.Parts.{name_in}
 use Rattle.core_model.specs.States.{CoreState, SameCore}
+use Rattle.sub_deeds.specs.Replies.{shown}
 use Rattle.core_model.specs.Turns.{Refuses, Turn, manager_turn, next_ticket, reacted}
 use Rattle.core_model.specs.Makes.{BreaksIn, IssuesTicket, Moves}
 use Rattle.manager_model.specs.Sights.{ManagerSight}
@@ -220,10 +221,6 @@ Joins old new d false =
 -- why a message was not heard, and what that leaves
 abbrev pub NotHeard : SubState → SubState → Message → StepError → Type 0
 NotHeard old new m e = NotTurned old new (turn_for old m) e
-
--- the reaction that shows these records and these messages
-abbrev pub shown : List Written → List Envelope → Reaction
-shown ws ls = record { begun = None; written = map logged_of ws; told = None; messages = ls; kept = None }
 
 -- the reaction that shows one record of a case and one message
 abbrev pub logged_reply : RecordKind → Case → Bool → ProcessId → ProcessId → Message → Reaction

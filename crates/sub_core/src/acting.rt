@@ -7,9 +7,9 @@ ghost use Rattle.sub_table.specs.Tables.{branch_in, kept_view};
 ghost use Rattle.sub_core.specs.Subordinates.{seen};
 ghost use Rattle.sub_core.specs.Steps.{Acts, NotActed, is_refusal};
 
-use crate::replies::reply;
 use crate::subordinate::{Subordinate, find_branch};
 use manager_model::ResourceManager;
+use sub_deeds::reply;
 use sub_table::{Branch, Stage};
 use tree_model::{Act, Case, Message, Reaction, StepError};
 

@@ -10,11 +10,10 @@ ghost use Rattle.sub_core.specs.Subordinates.{Hears, IsAt, NotHeard, decided, de
 ghost use Rattle.sub_core.specs.Steps.{Acts, NotActed};
 
 use crate::ending::{acknowledges, ends_by};
-use crate::replies::{logged, silence};
 use crate::subordinate::{Subordinate, find_branch};
 use manager_model::ResourceManager;
 use std::alloc::{AllocError, Global};
-use sub_deeds::{decide, forget, tell};
+use sub_deeds::{decide, forget, logged, silence, tell};
 use sub_table::Stage;
 use tree_model::{Case, Outcome, Reaction, RecordKind, StepError};
 use xa_xid::Xid;

@@ -6,13 +6,13 @@ ghost use Rattle.tree_model.specs.declared.messages.Message.TheVariants as messa
 ghost use Rattle.tree_model.specs.declared.records.RecordKind.TheVariants as kind;
 ghost use Rattle.tree_model.specs.ManagerRows.{is_acknowledged};
 ghost use Rattle.sub_table.specs.Tables.{IsKept};
-ghost use Rattle.sub_core.specs.Subordinates.{Hears, IsAt, NotHeard, acknowledged, active, outcome_reply, prepared, seen, shown};
+ghost use Rattle.sub_core.specs.Subordinates.{Hears, IsAt, NotHeard, acknowledged, active, outcome_reply, prepared, seen};
+ghost use Rattle.sub_deeds.specs.Replies.{shown};
 
-use crate::replies::{letter, logged, reply, silence};
 use crate::subordinate::Subordinate;
 use manager_model::ResourceManager;
 use std::alloc::{AllocError, Global};
-use sub_deeds::{commit, roll_back};
+use sub_deeds::{commit, letter, logged, reply, roll_back, silence};
 use tree_model::{
     Case, Envelopes, Message, Outcome, Presumption, ProcessId, Reaction, RecordKind, Sequence,
     StepError,

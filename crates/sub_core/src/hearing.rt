@@ -5,9 +5,9 @@ ghost use Rattle.tree_model.specs.declared.messages.Message.TheVariants as messa
 ghost use Rattle.sub_core.specs.Subordinates.{Hears, NotHeard, seen};
 
 use crate::ending::acknowledges;
-use crate::replies::{reply, silence};
 use crate::subordinate::{Subordinate, find_branch};
 use manager_model::ResourceManager;
+use sub_deeds::{reply, silence};
 use sub_table::Stage;
 use tree_model::{Case, Message, Outcome, Reaction, StepError};
 

@@ -8,12 +8,11 @@ ghost use Rattle.core_model.specs.Turns.{next_ticket};
 ghost use Rattle.sub_table.specs.Tables.{IsKept, ticket_in};
 ghost use Rattle.sub_core.specs.Subordinates.{Hears, IsNamed, Joins, NotHeard, core_of, seen};
 
-use crate::replies::{reply, silence};
 use crate::subordinate::Subordinate;
 use log_text::name_xid;
 use manager_model::ResourceManager;
 use std::alloc::AllocError;
-use sub_deeds::begin;
+use sub_deeds::{begin, reply, silence};
 use tree_model::{Branch, Case, Message, ProcessId, Reaction, StepError, Ticket, Txn};
 use xa_xid::Xid;
 

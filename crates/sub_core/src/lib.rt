@@ -7,7 +7,6 @@ mod deciding;
 mod ending;
 mod hearing;
 mod joining;
-mod replies;
 mod restarting;
 mod stepping;
 mod subordinate;

@@ -7,9 +7,9 @@ ghost use Rattle.core_model.specs.Makes.{Makes, NotMade};
 ghost use Rattle.sub_core.specs.Subordinates.{Hears, NotHeard, seen};
 ghost use Rattle.sub_core.specs.Steps.{Leaves, data_answer, state};
 
-use crate::replies::silence;
 use crate::subordinate::Subordinate;
 use manager_model::ResourceManager;
+use sub_deeds::silence;
 use tree_model::{Act, Input, Message, Reaction, StepError, Tree};
 
 /// Whether the child that an act names is listed; a message names none.

@@ -6,11 +6,10 @@ ghost use Rattle.tree_model.specs.declared.names.Case.{Case as AnyCase};
 ghost use Rattle.tree_model.specs.declared.records.RecordKind.TheVariants as kind;
 ghost use Rattle.sub_core.specs.Subordinates.{Hears, IsAt, NotHeard, active, logged_reply, seen};
 
-use crate::replies::{letter, logged, reply, silence};
 use crate::subordinate::Subordinate;
 use manager_model::ResourceManager;
 use std::alloc::{AllocError, Global};
-use sub_deeds::promise;
+use sub_deeds::{letter, logged, promise, reply, silence};
 use tree_model::{Case, Message, ProcessId, Reaction, RecordKind, StepError, Vote};
 use xa_xid::Xid;
 

@@ -4,10 +4,9 @@ ghost use Rattle.std.specs.Prelude.{◌≡◌, ◌+◌, false, IfErr, IfOk};
 ghost use Rattle.tree_model.specs.declared.messages.Message.TheVariants as message;
 ghost use Rattle.sub_core.specs.Subordinates.{Hears, IsAt, NotHeard, active, seen};
 
-use crate::replies::silence;
 use crate::subordinate::{Subordinate, find_branch};
 use manager_model::ResourceManager;
-use sub_deeds::work;
+use sub_deeds::{silence, work};
 use tree_model::{Case, Op, Reaction, StepError};
 use xa_xid::Xid;
 

@@ -1,6 +1,8 @@
-//! What a subordinate does with its manager in one event.
+//! What a subordinate does with its manager in one event, and what it shows of one.
 #![tactic(auto)]
 
 mod deeds;
+mod replies;
 
 pub use deeds::{begin, commit, decide, forget, promise, roll_back, tell, work};
+pub use replies::{letter, logged, reply, silence};

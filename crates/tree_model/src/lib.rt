@@ -2,7 +2,6 @@
 #![tactic(auto)]
 
 mod events;
-pub mod law;
 mod lists;
 mod messages;
 mod names;

@@ -1,5 +1,7 @@
-//! Whole runs of the model, each with the trace that it comes out as.
+//! What the definitions of the model come to: laws of them, whole runs, each with the trace that it comes out
+//! as, and wrong steps.
 #![tactic(auto)]
 
+pub mod definitions;
 pub mod law;
 pub mod wrong;

@@ -4,7 +4,8 @@ use Rattle.tree_model.specs.declared.events.Reaction.{Reaction}
 use Rattle.tree_model.specs.declared.messages.Message.TheVariants.{Join, Joined}
 use Rattle.tree_model.specs.CoordinatorRows.{post}
 use Rattle.core_model.specs.Turns.{next_ticket}
-use Rattle.sub_core.specs.Subordinates.{Hears, Joins, SubState, core_of, seen, shown}
+use Rattle.sub_core.specs.Subordinates.{Hears, Joins, SubState, core_of, seen}
+use Rattle.sub_deeds.specs.Replies.{shown}
 use Rattle.sub_core.proofs.Joins.{issued, refused}
 use Rattle.sub_core.proofs.subordinate.Subordinate.issue.Goals as goal
 use Rattle.sub_core.proofs.subordinate.Subordinate.issue.Goals.{then-branch, else-branch}

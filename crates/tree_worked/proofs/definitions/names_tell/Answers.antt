@@ -1,5 +1,5 @@
 use Rattle.tree_model.proofs.NameTests.{process_tells, txn_tells, ticket_tells, case_tells}
-use Rattle.tree_model.proofs.law.names_tell.Goals as goal
+use Rattle.tree_worked.proofs.definitions.names_tell.Goals as goal
 
 pub returns : goal.returns
 returns c = record {

@@ -3,7 +3,7 @@
 ghost use Rattle.std.specs.Prelude.{◌≡◌, IfOk, [], ◌∷◌};
 ghost use Rattle.tree_model.specs.CoordinatorRows.{post};
 ghost use Rattle.tree_model.specs.declared.records.Subject.TheVariants as subject;
-ghost use Rattle.sub_core.specs.Subordinates.{shown};
+ghost use Rattle.sub_deeds.specs.Replies.{shown};
 
 use std::alloc::{AllocError, Global};
 use tree_model::{
@@ -11,7 +11,7 @@ use tree_model::{
 };
 
 /// A reaction that shows nothing. It takes no memory.
-pub(crate) fn silence(alloc: Global) -> Reaction
+pub fn silence(alloc: Global) -> Reaction
     ensures { result ≡ shown [] [] }
 {
     Reaction {
@@ -24,7 +24,7 @@ pub(crate) fn silence(alloc: Global) -> Reaction
 }
 
 /// One message.
-pub(crate) fn letter(
+pub fn letter(
     from: ProcessId,
     to: ProcessId,
     message: Message,
@@ -38,7 +38,7 @@ pub(crate) fn letter(
 }
 
 /// A reaction with one message.
-pub(crate) fn reply(
+pub fn reply(
     from: ProcessId,
     to: ProcessId,
     message: Message,
@@ -54,7 +54,7 @@ pub(crate) fn reply(
 }
 
 /// The record of a branch, as a reaction shows it.
-pub(crate) fn logged(
+pub fn logged(
     kind: RecordKind,
     case: Case,
     forced: bool,

@@ -1,5 +1,5 @@
 use Rattle.tree_model.proofs.ManagerViewLaws.{manager_views}
-use Rattle.tree_model.proofs.law.manager_views_follow_the_table.Goals as goal
+use Rattle.tree_worked.proofs.definitions.manager_views_follow_the_table.Goals as goal
 
 pub returns : goal.returns
 returns c = λ me p tree n d. manager_views me p tree n d

@@ -1,6 +1,6 @@
 use Rattle.tree_model.proofs.RootViewLaws.{root_views}
 use Rattle.tree_model.proofs.BeginLaws.{root_begins}
-use Rattle.tree_model.proofs.law.root_views_follow_the_table.Goals as goal
+use Rattle.tree_worked.proofs.definitions.root_views_follow_the_table.Goals as goal
 
 pub returns : goal.returns
 returns c = record {

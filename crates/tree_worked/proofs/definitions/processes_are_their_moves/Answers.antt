@@ -1,5 +1,5 @@
 use Rattle.tree_model.proofs.RunLaws.{node_by_run, net_by_run}
-use Rattle.tree_model.proofs.law.processes_are_their_moves.Goals as goal
+use Rattle.tree_worked.proofs.definitions.processes_are_their_moves.Goals as goal
 
 pub returns : goal.returns
 returns c = record {
