@@ -72,8 +72,8 @@ impl<L: LogStore> World<L> {
         self.running.journal.sent()
     }
 
-    /// Lets the tree go, and all that it keeps. A caller that lets one go by this call need not see what
-    /// that comes to: it is proved here, once.
+    /// Lets the tree go, and all that it keeps. A caller that does it so need not see what that comes to: it
+    /// is proved here, once.
     pub fn close(self)
     where
         L: Drop,
