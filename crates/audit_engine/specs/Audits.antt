@@ -24,8 +24,8 @@ use Rattle.audit_engine.specs.declared.ending.Ending.TheVariants as ending
 unfoldable pub report_text : List Line → List ℕ
 report_text ls = lines_text ls ++ count_text (mismatches_in ls)
 
--- the lines of cases in these logs of this tree, each explained that is in doubt or shows a mismatch, and behind
--- them the number of mismatches
+-- the lines of cases in these logs of this tree, each explained that is in doubt or shows a mismatch, and
+-- behind them the number of mismatches
 unfoldable pub explained_text : List TreeEntry → Logs → List Line → List ℕ
 explained_text tree logs ls = flat_map (explained_line tree logs) ls ++ count_text (mismatches_in ls)
 
@@ -41,7 +41,8 @@ abbrev pub audit_lines : List TreeEntry → List ProcessLog → List Line
 audit_lines tree logs = lines_of tree (kept_lists tree logs)
 
 -- no log is damaged, and the text is the report
-pub record Reports (d : Detail) (tree : List TreeEntry) (logs : List ProcessLog) (text : List ℕ) : Type 0 where
+pub record Reports (d : Detail) (tree : List TreeEntry) (logs : List ProcessLog)
+    (text : List ℕ) : Type 0 where
   pub sound : first_damage tree logs ≡ None
   pub report : text ≡ detailed_text d tree (kept_lists tree logs) (audit_lines tree logs)
 
@@ -82,8 +83,8 @@ IsAuditReport d ending.Agrees input text = AuditsLogs d ending.Agrees input text
 IsAuditReport d ending.Differs input text = AuditsLogs d ending.Differs input text
 IsAuditReport d ending.Refused input text = IsRefusal d input text
 
--- the text is a report of the tree and the logs that the input says, and its lines are true of every run of the
--- model that left these logs
+-- the text is a report of the tree and the logs that the input says, and its lines are true of every run of
+-- the model that left these logs
 pub record ReportsRuns (d : Detail) (input text : List ℕ) : Type 0 where
   pub tree : List TreeEntry
   pub logs : List ProcessLog

@@ -54,7 +54,8 @@ found_in logs x (Some t) p = finds (notes_of (logs p)) x t
 abbrev pub steps_within : ℕ → List TreeEntry → Logs → Case → List Step
 steps_within zero tree logs c = []
 steps_within (suc k) tree logs c =
-    steps_by (steps_within k tree logs) (found_in logs c.txn c.ticket) c.ticket (parent_of tree (process_of c))
+    steps_by (steps_within k tree logs) (found_in logs c.txn c.ticket) c.ticket
+    (parent_of tree (process_of c))
 
 -- the steps from a case upward: a tree has no more levels than processes
 unfoldable pub chain_of : List TreeEntry → Logs → Case → List Step
@@ -62,7 +63,8 @@ chain_of tree logs c = steps_within (length tree) tree logs c
 
 -- What is to be done.
 
--- ask for the outcome of a case in doubt; restart its process where it has no ticket, since it has nobody to ask
+-- ask for the outcome of a case in doubt; restart its process where it has no ticket, since it has nobody to
+-- ask
 abbrev pub asks : Case → Option Ticket → Deed
 asks c None = Restart (process_of c)
 asks c (Some t) = Ask c
@@ -73,8 +75,8 @@ deed_by c p (Kept d Collecting) more = Restart p
 deed_by c p (Kept d Prepare) more = more d
 deed_by c p f more = asks c c.ticket
 
--- what is to be done about a case in doubt behind these steps: the last case in doubt asks, or the process that
--- collects votes is restarted
+-- what is to be done about a case in doubt behind these steps: the last case in doubt asks, or the process
+-- that collects votes is restarted
 abbrev pub deed_behind : Case → List Step → Deed
 deed_behind c [] = asks c c.ticket
 deed_behind c (s ∷ ss) = deed_by c s.process s.found (λ d. deed_behind d ss)

@@ -18,8 +18,8 @@ abbrev pub bounds : ℕ → List ℕ → List ℕ
 bounds at [] = at ∷ []
 bounds at (n ∷ ns) = at ∷ bounds (at + n) ns
 
--- the points of a process whose unforced records have these sizes: it keeps none of them, or the first, and so
--- on to all
+-- the points of a process whose unforced records have these sizes: it keeps none of them, or the first, and
+-- so on to all
 abbrev pub points_at : ProcessId → List ℕ → List Point
 points_at q sizes = map (point_at q) (bounds 0 sizes)
 

@@ -16,9 +16,10 @@ use Rattle.crash_engine.specs.declared.trial.Found.{Found}
 use Rattle.crash_engine.specs.declared.trial.Found.TheVariants as found
 use Rattle.crash_engine.specs.declared.trial.Trial.{Trial}
 
--- a tree opened, and these events led it, up to the refused one, if one was, to this state, which stands for a
--- run of the model of which the headline holds
-pub record Ran (tree : List TreeEntry) (events : List Event) (refusal : Refusal) (end : WorldState) : Type 0 where
+-- a tree opened, and these events led it, up to the refused one, if one was, to this state, which stands for
+-- a run of the model of which the headline holds
+pub record Ran (tree : List TreeEntry) (events : List Event) (refusal : Refusal)
+    (end : WorldState) : Type 0 where
   pub start : WorldState
   pub opens : IsOpened start tree
   pub leads : LeadsTo start events refusal end
@@ -66,7 +67,8 @@ AreTried tree events _ _ = ⊥
 
 -- each of these points behind these events was tried, behind what was tried before
 abbrev pub AddsTrials : List TreeEntry → List Event → List Point → List Trial → List Trial → Type 0
-AddsTrials tree events ps old new = (behind : List Trial) × (new ≡ old ++ behind) × AreTried tree events ps behind
+AddsTrials tree events ps old new = (behind : List Trial) × (new ≡ old ++ behind)
+    × AreTried tree events ps behind
 
 -- these events lead to a state of which each point was tried
 pub record TriesAll (tree : List TreeEntry) (events : List Event) (ts : List Trial) : Type 0 where
@@ -94,4 +96,5 @@ Adds tree events (Some refused) old new = (new ≡ old) × IsRefused tree events
 abbrev pub GoesOver : List TreeEntry → List Event → Refusal → List Trial → Type 0
 GoesOver tree events None ts = GoesThrough tree events (length events) ts
 GoesOver tree events (Some refused) ts =
-    (n : ℕ) × (n < length events) × GoesThrough tree events n ts × IsRefused tree (take (suc n) events) refused
+    (n : ℕ) × (n < length events) × GoesThrough tree events n ts
+    × IsRefused tree (take (suc n) events) refused

@@ -13,8 +13,8 @@ use Rattle.kv_locks.specs.Locks.{LockTable, holders_of, holds}
 use Rattle.kv_store.specs.Versions.{VersionTable}
 use Rattle.kv_store.specs.writes.Writes.{SameWrites, WriteTable, writes_of}
 
--- what a contract sees: the tables of calls, what each branch at work has written, the locks, the data, and what
--- operators decided
+-- what a contract sees: the tables of calls, what each branch at work has written, the locks, the data, and
+-- what operators decided
 pub record KeySight : Type 0 where
   pub tables : States
   pub writes : WriteTable

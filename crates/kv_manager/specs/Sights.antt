@@ -30,7 +30,8 @@ pub record KvSight : Type 0 where
 abbrev pub logged : KvSight → Data
 logged s = data_of (records_of s.log.sight.kept)
 
--- a branch's last record says that an operator decided it, and its records that it was decided so, and told this
+-- a branch's last record says that an operator decided it, and its records that it was decided so, and told
+-- this
 pub record SaysDecided (ls : List LogRecord) (x : Xid) (d : Decision) : Type 0 where
   pub says : says_decided (mark_at ls x) ≡ true
   pub how : d ≡ decided_in ls x

@@ -84,7 +84,8 @@ pub data Finishes (old new : KvSight) (v : Verb) (x : Xid) (flags : ℕ) (answer
   Taken : old.log.sight.failed ≡ false → (due : Call × Turn) → IsDue old.store v x flags due
       → Takes old new x due.1 answer → Finishes old new v x flags answer
 
--- the turn of a call on a known branch, or of an operator's decision, which is a row of the table; the log stands
+-- the turn of a call on a known branch, or of an operator's decision, which is a row of the table; the log
+-- stands
 pub record IsDueTurn (s : KvSight) (x : Xid) (c : Call) (turn : Turn) : Type 0 where
   pub works : s.log.sight.failed ≡ false
   pub known : is_known s.store.tables.branches.branches x ≡ true

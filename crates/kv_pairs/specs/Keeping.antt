@@ -35,8 +35,8 @@ trim_of ls = front_of_trim ls ++ map unnamed (base_records (data_of ls))
 abbrev pub mark_at : List LogRecord → Xid → Mark
 mark_at ls x = mark_of (Foreign x) (map by_xid ls)
 
--- these records make the same data; each branch that is open by the first has the same writes, its last record
--- says the same, and so do its records of an operator's decision
+-- these records make the same data; each branch that is open by the first has the same writes, its last
+-- record says the same, and so do its records of an operator's decision
 pub record KeepsData (ls ks : List LogRecord) : Type 0 where
   pub count : (data_of ks).count ≡ (data_of ls).count
   pub pairs : (data_of ks).pairs ≡ (data_of ls).pairs

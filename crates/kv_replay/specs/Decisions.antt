@@ -38,8 +38,8 @@ says_decided _ = false
 abbrev pub decided_in : List LogRecord → Xid → Decision
 decided_in ls x = decision_of (Foreign x) (map by_xid ls)
 
--- what operators decided by the records of a log, each branch by its XID; of one whose last record says that an
--- operator decided it, it is known how
+-- what operators decided by the records of a log, each branch by its XID; of one whose last record says that
+-- an operator decided it, it is known how
 pub record KnowDecided (ls : List LogRecord) (t : DecisionTable) : Type 0 where
   pub each : (x : Xid) → decision_or (decision_in t x) ≡ decided_in ls x
   pub known : (x : Xid) → says_decided (mark_of (Foreign x) (map by_xid ls)) ≡ true

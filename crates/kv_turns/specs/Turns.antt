@@ -69,8 +69,8 @@ abbrev pub direct_turn : Bool → Turn
 direct_turn false = silent code.Ok S0
 direct_turn true = writes Direct true S0
 
--- a prepared branch rolls back: forced, unless the presumption covers it; one that an operator decided is told;
--- of any other nothing is written
+-- a prepared branch rolls back: forced, unless the presumption covers it; one that an operator decided is
+-- told; of any other nothing is written
 abbrev pub rollback_turn : BranchState → Branch → Decision → Turn
 rollback_turn S3 b d = writes RolledBack (is_acknowledged (presumption_of b) AbortedOutcome) S0
 rollback_turn S5 b d = tell_turn b AbortedOutcome d d.told

@@ -53,6 +53,7 @@ pub record DecideFails (old new : ManagerSight) (x : Xid) (o : Outcome) : Type 0
 -- why a branch was not decided, and what that leaves
 abbrev pub NotDecided : ManagerSight → ManagerSight → Xid → Outcome → DecideError → Type 0
 NotDecided old new x o Failed = (old.log.failed ≡ true) × SameManager old new
-NotDecided old new x o NotInDoubt = (old.log.failed ≡ false) × (state_at old.tables x ≢ S3) × SameManager old new
+NotDecided old new x o NotInDoubt = (old.log.failed ≡ false)
+    × (state_at old.tables x ≢ S3) × SameManager old new
 NotDecided old new x o Memory = SameManager old new
 NotDecided old new x o Device = DecideFails old new x o

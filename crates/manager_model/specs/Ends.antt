@@ -78,8 +78,8 @@ abbrev pub unless_empty : (List Write → Record) → List Write → List Writte
 unless_empty entry [] = []
 unless_empty entry (w ∷ ws) = forced (entry (w ∷ ws))
 
--- whether the record of what a decided branch was told is forced: as its outcome would be; of a branch that is
--- no case's always
+-- whether the record of what a decided branch was told is forced: as its outcome would be; of a branch that
+-- is no case's always
 abbrev pub is_told_forced : Branch → Outcome → Bool
 is_told_forced (CaseBranch c) o = is_acknowledged c.txn.presumption o
 is_told_forced (Foreign x) o = true

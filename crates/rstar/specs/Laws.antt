@@ -17,8 +17,8 @@ use Rattle.tree_engine.specs.declared.tree.Output.TheVariants.{Logs}
 use Rattle.tree_engine.specs.Trees.{RunsScript}
 use Rattle.core_law.specs.worlds.Sayings.{Saying}
 
--- the report tells lines that are true in this world, in as much detail as was asked for, and the audit ends as
--- one does with so many mismatches
+-- the report tells lines that are true in this world, in as much detail as was asked for, and the audit ends
+-- as one does with so many mismatches
 pub record ReportsTruly (d : Detail) (tree : List TreeEntry) (logs : List ProcessLog) (w : World)
     (ending : Ending) (report : List ℕ) : Type 0 where
   pub lines : List Line
@@ -26,8 +26,8 @@ pub record ReportsTruly (d : Detail) (tree : List TreeEntry) (logs : List Proces
   pub ends : ending ≡ ending_by (mismatches_in lines)
   pub lines_true : AreTrue w lines
 
--- The text says this tree and some logs of it. Where each of these is sound, the report is true in this world;
--- else it is the line of the first that is damaged.
+-- The text says this tree and some logs of it. Where each of these is sound, the report is true in this
+-- world; else it is the line of the first that is damaged.
 pub record AuditsTruly (d : Detail) (tree : List TreeEntry) (w : World) (text : List ℕ) (ending : Ending)
     (report : List ℕ) : Type 0 where
   pub logs : List ProcessLog

@@ -56,8 +56,8 @@ other Aborted = Committed
 abbrev pub is_against : List TreeEntry → Logs → Case → Outcome → Bool
 is_against tree logs c o = has (is_decided c (other o)) (since_promise c (logs (process_of c)))
 
--- the line of a case: how it stands by its own records, its own decision, its outcome, and whether an operator
--- decided against that
+-- the line of a case: how it stands by its own records, its own decision, its outcome, and whether an
+-- operator decided against that
 abbrev pub line_of : List TreeEntry → Logs → Case → Line
 line_of tree logs c = record {
   case = c;

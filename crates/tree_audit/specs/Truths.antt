@@ -13,8 +13,8 @@ use Rattle.tree_headline.specs.auditor.Audits.{AllUp, Logs}
 use Rattle.tree_audit.specs.Reports.{kept_lists}
 use Rattle.tree_audit.specs.declared.report.Line.{Line}
 
--- these moves are a run of the model to this world, in which no process of the tree is failed, and the list of
--- each listed process is what that process keeps there
+-- these moves are a run of the model to this world, in which no process of the tree is failed, and the list
+-- of each listed process is what that process keeps there
 pub record AreKeptBehind (tree : List TreeEntry) (es : List Made) (w : World) (logs : Logs) : Type 0 where
   pub is_run : IsRun tree es w
   pub all_up : AllUp tree w
@@ -32,8 +32,8 @@ pub record StandsAgainst (w : World) (c : Case) (o : Outcome) : Type 0 where
   pub mismatch : Mismatch w c o
   pub stands : DecisionStands (w.at (process_of c)) c o
 
--- In this world each line's outcome is that of its transaction; one that shows a mismatch is of a case that an
--- operator decided against it, which stands; and of each such case a line shows it.
+-- In this world each line's outcome is that of its transaction; one that shows a mismatch is of a case that
+-- an operator decided against it, which stands; and of each such case a line shows it.
 pub record AreTrue (w : World) (lines : List Line) : Type 0 where
   pub outcomes : (l : Line) → Contains lines l → l.outcome ≡ outcome_of w l.case.txn
   pub mismatches_stand : (l : Line) → Contains lines l → l.mismatch ≡ true

@@ -114,5 +114,9 @@ together a b = record {
 abbrev pub row_behind : Entry → ProcessCounts → ProcessCounts
 row_behind e row =
     if same_process e.step.process row.process
-    then record { process = row.process; counts = together row.counts (counts_of e.reaction.written e.reaction.messages) }
+    then record {
+      process = row.process;
+      counts = together row.counts
+          (counts_of e.reaction.written e.reaction.messages);
+    }
     else row

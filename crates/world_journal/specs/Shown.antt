@@ -12,5 +12,11 @@ entry_part e = (e.step.process, e.reaction)
 abbrev pub shown_part : Shown → ProcessId × Reaction
 shown_part s = (
   s.process,
-  record { begun = s.begun; written = s.written.now; told = s.told; messages = s.messages.now; kept = s.kept },
+  record {
+    begun = s.begun;
+    written = s.written.now;
+    told = s.told;
+    messages = s.messages.now;
+    kept = s.kept;
+  },
 )

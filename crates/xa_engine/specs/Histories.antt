@@ -23,8 +23,8 @@ verb_of Rollback = verb.Rollback
 verb_of Forget = verb.Forget
 
 -- a request with its answer is this move of the tables: a call with its answer, an operator's decision, or a
--- restart with the branches that it leaves in doubt; an operation on data, a trim, and a decision or a restart
--- that is refused leave them alone
+-- restart with the branches that it leaves in doubt; an operation on data, a trim, and a decision or a
+-- restart that is refused leave them alone
 abbrev pub Shows : Request → Answer → Move → Type 0
 Shows (Open flags migrates) (Code c) move = move ≡ OpenMove flags.0 migrates c
 Shows (Close flags) (Code c) move = move ≡ CloseMove flags.0 c
